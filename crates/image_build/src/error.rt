@@ -1,0 +1,62 @@
+//! Why an image could not be made.
+
+ghost use Rattle.std.specs.Prelude.{◌≡◌};
+ghost use Rattle.image_build.specs.declared.error.ImageError.TheVariants.{Memory};
+ghost use Rattle.image_build.specs.declared.error.ReplayError.TheVariants.{Memory as OutOfMemory, Trace as OfTrace};
+
+use std::alloc::AllocError;
+use thiserror::Error;
+use trace_codec::TraceError;
+
+/// A refusal.
+#[derive(Clone, Copy, Debug, PartialEq, Eq, Error)]
+pub enum ImageError {
+    /// A growth was refused.
+    #[error("memory")]
+    Memory,
+}
+
+impl From<AllocError> for ImageError {
+    ghost from_gives = { λ _ e. e ≡ Memory };
+
+    fn from(_error: AllocError) -> ImageError {
+        ImageError::Memory
+    }
+}
+
+/// Why memory could not be made of bytes that may spell a trace.
+#[derive(Clone, Copy, Debug, PartialEq, Eq, Error)]
+pub enum ReplayError {
+    /// The bytes are no trace.
+    #[error("trace {0}")]
+    Trace(TraceError),
+    /// A growth was refused.
+    #[error("memory")]
+    Memory,
+}
+
+impl From<TraceError> for ReplayError {
+    ghost from_gives = { λ e f. f ≡ OfTrace e };
+
+    fn from(error: TraceError) -> ReplayError {
+        ReplayError::Trace(error)
+    }
+}
+
+impl From<AllocError> for ReplayError {
+    ghost from_gives = { λ _ f. f ≡ OutOfMemory };
+
+    fn from(_error: AllocError) -> ReplayError {
+        ReplayError::Memory
+    }
+}
+
+impl From<ImageError> for ReplayError {
+    ghost from_gives = { λ _ f. f ≡ OutOfMemory };
+
+    fn from(error: ImageError) -> ReplayError {
+        match error {
+            ImageError::Memory => ReplayError::Memory,
+        }
+    }
+}

@@ -1,0 +1,73 @@
+//! An image of a guest's memory.
+
+ghost use Rattle.std.specs.Prelude.{◌≡◌, ◌<◌, ◌↔◌, IsTrue};
+ghost use Rattle.migration_model.specs.Memory.{GuestMemory, IsMemory, memory_with, page_of};
+
+use std::marker::Model;
+use trace_codec::Shape;
+
+/// All of a guest's memory: page after page, in one flat run of bytes.
+#[derive(Debug, Drop)]
+pub struct Image {
+    shift: u8,
+    pages: u32,
+    bytes: Vec<u8>,
+}
+
+impl Model for Image {
+    ghost Value = { GuestMemory };
+
+    ghost view = { λ m. memory_with m.shift m.pages m.bytes.items };
+
+    ghost invariant = { λ m. IsMemory m.shift m.pages m.bytes.items };
+}
+
+impl Image {
+    /// The memory of a guest of this size with these bytes.
+    pub(crate) fn of(shift: u8, pages: u32, bytes: Vec<u8>) -> Image
+        requires { IsMemory shift pages bytes.items }
+        ensures { result ≡ memory_with shift pages bytes.items }
+    {
+        Image {
+            shift,
+            pages,
+            bytes,
+        }
+    }
+
+    /// The bytes of all pages.
+    pub fn bytes(&self) -> &[u8]
+        ensures { result.now ≡ self.now.bytes }
+    {
+        &self.bytes
+    }
+
+    /// The bytes of all pages, given away.
+    pub fn into_bytes(self) -> Vec<u8>
+        ensures { result.items ≡ self.bytes }
+    {
+        let Image {
+            shift: _,
+            pages: _,
+            bytes,
+        } = self;
+        bytes
+    }
+
+    /// Whether the image has as many pages as the shape says, and of that size.
+    pub fn fits(&self, shape: &Shape) -> bool
+        ensures { IsTrue result ↔ ((self.now.shift ≡ shape.now.shift) × (self.now.pages ≡ shape.now.pages)) }
+    {
+        self.shift == shape.shift && self.pages == shape.pages
+    }
+
+    /// The bytes of one page.
+    pub fn page(&self, page: u32) -> &[u8]
+        requires { page < self.now.pages }
+        ensures { result.now ≡ page_of self.now page }
+    {
+        let start = (page as usize) << self.shift;
+        let end = start + (1usize << self.shift);
+        &self.bytes[start..end]
+    }
+}

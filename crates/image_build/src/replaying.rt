@@ -1,0 +1,120 @@
+//! Memory as the writes of a trace leave it.
+
+ghost use Rattle.std.specs.Prelude.{◌≡◌, ◌+◌, ◌*◌, ◌^◌, ◌≤◌, [], IfErr, IfOk, MatchResult, length, vec_len};
+ghost use Rattle.migration_model.specs.Memory.{image_before, image_of, put, zeros};
+ghost use Rattle.migration_model.specs.Trace.{GuestTrace, Spells};
+ghost use Rattle.image_build.specs.Replay.{RefusesReplay};
+
+use crate::error::{ImageError, ReplayError};
+use crate::image::Image;
+use std::alloc::{AllocError, Global};
+use trace_codec::{Shape, Trace, TraceReader, TraceView};
+
+/// Memory of this shape before any write.
+fn blank(alloc: Global, shape: Shape) -> Result<Vec<u8>, AllocError>
+    ensures { IfOk result (λ v. v.items ≡ (zeros shape.shift shape.pages).bytes) }
+{
+    Vec::from_elem(alloc, 0, (shape.pages as usize) << shape.shift)
+}
+
+/// Where an offset of a page stands in memory.
+fn place_of(shape: Shape, page: u32, offset: u16) -> usize
+    ensures { result ≡ page * 2 ^ shape.shift + offset }
+{
+    page as usize * shape.page_size() + offset as usize
+}
+
+/// Puts bytes over those that stand from a place on.
+fn write_over(memory: &mut Vec<u8>, place: usize, bytes: &[u8])
+    requires { place + length bytes.now ≤ vec_len memory.old }
+    ensures { memory.new.items ≡ put memory.old.items place bytes.now }
+{
+    memory[place..place + bytes.len()].copy_from_slice(bytes);
+}
+
+/// Memory after all writes of a trace.
+pub fn replay(alloc: Global, trace: &Trace) -> Result<Image, ImageError>
+    ensures { IfOk result (λ image. image ≡ image_of trace.now) }
+{
+    let shape = trace.shape();
+    let mut memory = blank(alloc, shape)?;
+    for write in &trace.writes {
+        let place = place_of(shape, write.page, write.offset);
+        write_over(&mut memory, place, &write.bytes);
+    }
+    Ok(Image::of(shape.shift, shape.pages, memory))
+}
+
+/// Memory after the writes before a tick.
+pub fn replay_before(alloc: Global, trace: &Trace, tick: u64) -> Result<Image, ImageError>
+    ensures { IfOk result (λ image. image ≡ image_before trace.now tick) }
+{
+    let shape = trace.shape();
+    let mut memory = blank(alloc, shape)?;
+    for write in &trace.writes {
+        if write.tick < tick {
+            let place = place_of(shape, write.page, write.offset);
+            write_over(&mut memory, place, &write.bytes);
+        }
+    }
+    Ok(Image::of(shape.shift, shape.pages, memory))
+}
+
+/// Memory after all writes of a trace that is left in its bytes.
+pub fn replay_view(alloc: Global, trace: &TraceView<'_>) -> Result<Image, ImageError>
+    ensures { IfOk result (λ image. image ≡ image_of trace.now) }
+{
+    let shape = trace.shape();
+    let mut memory = blank(alloc, shape)?;
+    for write in trace.records() {
+        let place = place_of(shape, write.page, write.offset);
+        write_over(&mut memory, place, write.bytes);
+    }
+    Ok(Image::of(shape.shift, shape.pages, memory))
+}
+
+/// Memory after all writes, each put there as it is read.
+fn replay_reader(alloc: Global, reader: TraceReader<'_>) -> Result<Image, ReplayError>
+    requires { reader.writes ≡ [] }
+    ensures made { IfOk result (λ image. (trace : GuestTrace) × Spells reader.entry.bytes trace × (image ≡ image_of trace)) }
+    ensures refused { IfErr result (RefusesReplay reader.entry.bytes) }
+{
+    let mut reader = reader;
+    let shape = reader.shape();
+    let mut memory = blank(alloc, shape)?;
+    for _ in 0..shape.writes {
+        let write = reader.read_record()?;
+        let place = place_of(shape, write.page, write.offset);
+        write_over(&mut memory, place, write.bytes);
+    }
+    reader.finish()?;
+    Ok(Image::of(shape.shift, shape.pages, memory))
+}
+
+/// Memory that is no greater than the text, or than this, is made while the text is tested.
+const SMALL: usize = 1_048_576;
+
+/// Memory after all writes of the trace that the bytes spell, if they do. Where memory is greater than the text, the text
+/// is tested first, so that no text makes the program take more memory than it has bytes and then refuse it.
+fn replay_text(alloc: Global, bytes: &[u8]) -> Result<Image, ReplayError>
+    ensures made { IfOk result (λ image. (trace : GuestTrace) × Spells bytes.now trace × (image ≡ image_of trace)) }
+    ensures refused { IfErr result (RefusesReplay bytes.now) }
+{
+    let reader = TraceReader::new(bytes)?;
+    let shape = reader.shape();
+    if shape.pages as usize * shape.page_size() <= bytes.len().max(SMALL) {
+        return replay_reader(alloc, reader);
+    }
+    let trace = TraceView::parse(bytes)?;
+    Ok(replay_view(alloc, &trace)?)
+}
+
+/// Memory after all writes of the trace that the bytes spell, in the fastest way: no write is copied but into memory.
+pub fn replay_bytes(alloc: Global, bytes: &[u8]) -> Result<Image, ReplayError>
+    ensures made { IfOk result (λ image. (trace : GuestTrace) × Spells bytes.now trace × (image ≡ image_of trace)) }
+    ensures refused { IfErr result (RefusesReplay bytes.now) }
+    ensures only { (trace : GuestTrace) → Spells bytes.now trace
+        → MatchResult result (λ image. image ≡ image_of trace) (λ e. e ≡ ReplayError.Memory) }
+{
+    replay_text(alloc, bytes)
+}

@@ -1,0 +1,4 @@
+pub mod Numbers
+pub mod Writes
+pub mod Traces
+pub mod Order

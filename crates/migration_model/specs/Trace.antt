@@ -1,0 +1,76 @@
+-- Recorded traces of guest writes, and the one spelling of each. The format is this project's own.
+use Rattle.std.specs.Prelude.{◌≡◌, ℕ, ◌+◌, ◌^◌, ◌<◌, ◌≤◌, List, [], ◌∷◌, ◌++◌, length}
+use Rattle.std.specs.Int.{w16, w32, w64}
+use Rattle.std.specs.List.{All, flat_map, fold}
+use Rattle.std.specs.List.Sorted.{IsNonDecreasingBy}
+use Rattle.migration_model.specs.Numbers.{text_of}
+
+-- one write of the guest: at a tick, these bytes from an offset of a page on
+pub record GuestWrite : Type 0 where
+  pub tick : ℕ
+  pub page : ℕ
+  pub offset : ℕ
+  pub bytes : List ℕ
+
+-- a guest of pages of 2 ^ shift bytes, and its writes in order
+pub record GuestTrace : Type 0 where
+  pub shift : ℕ
+  pub pages : ℕ
+  pub writes : List GuestWrite
+
+abbrev pub write_with : ℕ → ℕ → ℕ → List ℕ → GuestWrite
+write_with tick page offset bytes = record { tick = tick; page = page; offset = offset; bytes = bytes }
+
+abbrev pub trace_with : ℕ → ℕ → List GuestWrite → GuestTrace
+trace_with shift pages writes = record { shift = shift; pages = pages; writes = writes }
+
+-- the sizes that a guest may have
+pub record IsGuestSize (shift pages : ℕ) : Type 0 where
+  pub shift_low : 4 ≤ shift
+  pub shift_high : shift ≤ 12
+  pub pages_low : 1 ≤ pages
+  pub pages_high : pages ≤ 65_536
+
+-- a write that a guest of this size may make: some bytes, within one of its pages
+pub record IsGuestWrite (shift pages : ℕ) (write : GuestWrite) : Type 0 where
+  pub tick : write.tick < 2 ^ 40
+  pub page : write.page < pages
+  pub some : 1 ≤ length write.bytes
+  pub within : write.offset + length write.bytes ≤ 2 ^ shift
+
+-- writes of such a guest in order: no tick is below one before it
+pub record AreGuestWrites (shift pages : ℕ) (writes : List GuestWrite) : Type 0 where
+  pub each : All (IsGuestWrite shift pages) writes
+  pub in_order : IsNonDecreasingBy (λ write. write.tick) writes
+
+-- the tick of the last write, or 0 where there is none
+abbrev pub last_tick : List GuestWrite → ℕ
+last_tick writes = fold (λ tick write. write.tick) 0 writes
+
+-- a write on the trace: tick, page, offset and length, and then its bytes
+unfoldable pub write_text : GuestWrite → List ℕ
+write_text write = text_of w64 write.tick ++ (text_of w32 write.page ++ (text_of w16 write.offset
+    ++ (text_of w16 (length write.bytes) ++ write.bytes)))
+
+-- the first bytes of each trace: "PCWT" and the version 1
+abbrev pub magic : List ℕ
+magic = 80 ∷ 67 ∷ 87 ∷ 84 ∷ 1 ∷ []
+
+-- the head of a trace: those bytes, the shift, two bytes 0, and how many pages and writes there are
+unfoldable pub header_text : ℕ → ℕ → ℕ → List ℕ
+header_text shift pages writes = magic ++ shift ∷ 0 ∷ 0 ∷ (text_of w32 pages ++ text_of w32 writes)
+
+unfoldable pub trace_text : GuestTrace → List ℕ
+trace_text trace = header_text trace.shift trace.pages (length trace.writes) ++ flat_map write_text trace.writes
+
+-- what a trace may be
+pub record IsTrace (trace : GuestTrace) : Type 0 where
+  pub size : IsGuestSize trace.shift trace.pages
+  pub count : length trace.writes ≤ 2 ^ 20
+  pub writes : AreGuestWrites trace.shift trace.pages trace.writes
+  pub short : length (trace_text trace) ≤ 2 ^ 28
+
+-- these bytes are the spelling of this trace
+pub record Spells (bytes : List ℕ) (trace : GuestTrace) : Type 0 where
+  pub is_trace : IsTrace trace
+  pub text : bytes ≡ trace_text trace

@@ -1,0 +1,40 @@
+-- What a job writes, and why it does not.
+use Rattle.std.specs.Prelude.{◌≡◌, ℕ, List, Option, IfSome, ⊤}
+use Rattle.migration_model.specs.Trace.{GuestTrace, Spells}
+use Rattle.migration_model.specs.Memory.{image_of}
+use Rattle.trace_codec.specs.Refusals.{Refuses}
+use Rattle.trace_codec.specs.Source.{SourceRefuses, IsOutside}
+use Rattle.precopy.specs.declared.job.Job.{Job}
+use Rattle.precopy.specs.declared.job.Job.TheVariants as jobs
+use Rattle.precopy.specs.declared.job.RunError.{RunError}
+use Rattle.precopy.specs.declared.job.RunError.TheVariants as errors
+
+-- the whole output of a job over a trace
+abbrev pub output_of : Job → GuestTrace → List ℕ
+output_of jobs.Image trace = (image_of trace).bytes
+
+-- The output of a job for what a source held: bytes that spell a trace, and all of its bytes, where they are known.
+pub record IsOutput (known : Option (List ℕ)) (job : Job) (output : List ℕ) : Type 0 where
+  pub bytes : List ℕ
+  pub trace : GuestTrace
+  pub all : IfSome known (λ held. held ≡ bytes)
+  pub spells : Spells bytes trace
+  pub output_is : output ≡ output_of job trace
+
+-- A trace is refused only for a cause that stands in what the source held, or for one outside of it.
+abbrev pub RefusesRun : Option (List ℕ) → RunError → Type 0
+RefusesRun known (errors.Trace e) = SourceRefuses known e
+RefusesRun known errors.Memory = ⊤
+RefusesRun known errors.Write = ⊤
+
+-- memory ran out, or a read or a write failed
+abbrev pub IsOutsideRun : RunError → Type 0
+IsOutsideRun (errors.Trace e) = IsOutside e
+IsOutsideRun errors.Memory = ⊤
+IsOutsideRun errors.Write = ⊤
+
+-- a text is refused as a trace for this, or memory ran out
+abbrev pub RefusesText : List ℕ → RunError → Type 0
+RefusesText bytes (errors.Trace e) = Refuses bytes e
+RefusesText bytes errors.Memory = ⊤
+RefusesText bytes errors.Write = ⊥

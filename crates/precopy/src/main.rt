@@ -1,0 +1,34 @@
+//! `precopy`: what a pre-copy migration of a recorded guest would do.
+#![tactic(auto)]
+
+mod command;
+mod job;
+mod running;
+mod sink;
+mod starting;
+mod test_sink;
+
+pub use command::WordsError;
+use command::words;
+pub use job::{Job, RunError};
+pub use running::run;
+pub use sink::{FromWrite, Sink};
+use starting::refuse;
+pub use starting::start;
+use std::process::ExitCode;
+pub use test_sink::TestSink;
+use trace_codec::FromRead;
+
+fn main(rt: HostRuntime) -> ExitCode {
+    let mut source = FromRead::new(rt.stdin());
+    let mut sink = FromWrite::new(rt.stdout());
+    let mut faults = FromWrite::new(rt.stderr());
+    let status = match words(&rt) {
+        Ok(words) => start(rt.alloc(), words, &mut source, &mut sink, &mut faults),
+        Err(error) => refuse(error, &mut sink, &mut faults),
+    };
+    ExitCode::from(status)
+}
+
+#[cfg(test)]
+mod tests;

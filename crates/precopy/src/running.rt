@@ -1,0 +1,124 @@
+//! A job, from the bytes read to the bytes written.
+
+ghost use Rattle.std.specs.Prelude.{◌≡◌, ◌≢◌, ◌↔◌, ℕ, List, IfErr, IfOk, OnErr, OnOk, Err, Some, false, true};
+ghost use Rattle.std.specs.Io.KnownBytes.{Appends, Keeps};
+ghost use Rattle.migration_model.specs.Trace.{GuestTrace, Spells};
+ghost use Rattle.migration_model.specs.Memory.{image_of};
+ghost use Rattle.trace_codec.specs.declared.error.TraceError.TheVariants.{ReadFault};
+ghost use Rattle.image_build.specs.Replay.{RefusesReplay};
+ghost use Rattle.precopy.specs.Sink.{AppendsPart};
+ghost use Rattle.precopy.specs.Output.{IsOutput, IsOutsideRun, RefusesRun, RefusesText, output_of};
+
+use crate::job::{Job, RunError};
+use crate::sink::Sink;
+use image_build::{ReplayError, replay_bytes};
+use std::alloc::Global;
+use trace_codec::{Source, read_bytes};
+
+/// Writes all of some bytes and flushes.
+pub(crate) fn write_out<K: Sink>(sink: &mut K, bytes: &[u8]) -> Result<(), RunError>
+    requires { K.has_failed sink.old ≡ false }
+    ensures written { OnOk result (Appends (K.contents sink.old) (K.contents sink.new) bytes.now) }
+    ensures flushed { OnOk result (K.is_flushed sink.new ≡ true) }
+    ensures unfailed { OnOk result (K.has_failed sink.new ≡ false) }
+    ensures part { OnErr result (AppendsPart (K.contents sink.old) (K.contents sink.new) bytes.now) }
+    ensures error { IfErr result (λ e. e ≡ RunError.Write) }
+    ensures failed { OnErr result (K.has_failed sink.new ≡ true) }
+{
+    let mut done = 0usize;
+    while done < bytes.len() {
+        let (_, rest) = bytes.split_at(done);
+        match sink.write(rest) {
+            None => return Err(RunError::Write),
+            Some(count) => done += count,
+        }
+    }
+    if sink.flush() {
+        Ok(())
+    } else {
+        Err(RunError::Write)
+    }
+}
+
+/// The same refusal, as one of a run.
+fn run_error_of(error: ReplayError) -> RunError
+    ensures refused { (bytes : List ℕ) → RefusesReplay bytes error → RefusesText bytes result }
+    ensures memory { error ≡ ReplayError.Memory → result ≡ RunError.Memory }
+{
+    match error {
+        ReplayError::Trace(error) => RunError::Trace(error),
+        ReplayError::Memory => RunError::Memory,
+    }
+}
+
+/// The memory after all writes of the trace that the bytes spell.
+fn image_output(alloc: Global, bytes: &[u8]) -> Result<Vec<u8>, RunError>
+    ensures made { IfOk result (λ v. (trace : GuestTrace) × Spells bytes.now trace × (v.items ≡ (image_of trace).bytes)) }
+    ensures refused { IfErr result (RefusesText bytes.now) }
+    ensures only { (trace : GuestTrace) → Spells bytes.now trace → IfErr result (λ e. e ≡ RunError.Memory) }
+{
+    match replay_bytes(alloc, bytes) {
+        Ok(image) => Ok(image.into_bytes()),
+        Err(error) => Err(run_error_of(error)),
+    }
+}
+
+/// The output of a job over the trace that the bytes spell.
+fn output(alloc: Global, job: &Job, bytes: &[u8]) -> Result<Vec<u8>, RunError>
+    ensures made { IfOk result (λ v. (trace : GuestTrace) × Spells bytes.now trace × (v.items ≡ output_of job.now trace)) }
+    ensures refused { IfErr result (RefusesText bytes.now) }
+    ensures only { (trace : GuestTrace) → Spells bytes.now trace → IfErr result (λ e. e ≡ RunError.Memory) }
+{
+    match job {
+        Job::Image => image_output(alloc, bytes),
+    }
+}
+
+/// The output of a job over the trace that a source holds.
+fn read_output<S: Source>(alloc: Global, job: &Job, source: &mut S) -> Result<Vec<u8>, RunError>
+    requires { S.has_failed source.old ≡ false }
+    ensures made { IfOk result (λ v. IsOutput (S.remaining source.old) job.now v.items) }
+    ensures refused { IfErr result (RefusesRun (S.remaining source.old)) }
+    ensures unwritten { IfErr result (λ e. e ≢ RunError.Write) }
+    ensures only { (bytes : List ℕ) (trace : GuestTrace) → S.remaining source.old ≡ Some bytes → Spells bytes trace
+        → IfErr result IsOutsideRun }
+    ensures read_failed { (result ≡ Err (RunError.Trace ReadFault)) ↔ (S.has_failed source.new ≡ true) }
+{
+    match read_bytes(alloc, source) {
+        Ok(bytes) => output(alloc, job, &bytes),
+        Err(error) => Err(RunError::Trace(error)),
+    }
+}
+
+/// Runs one job: reads a trace to the end of the source, makes the whole output, and then writes it and flushes. Nothing
+/// is written before the output is whole, so each error but `Write` leaves nothing written, and that one a beginning.
+pub fn run<S: Source, K: Sink>(
+    alloc: Global,
+    job: &Job,
+    source: &mut S,
+    sink: &mut K,
+) -> Result<(), RunError>
+    requires unread { S.has_failed source.old ≡ false }
+    requires unwritten { K.has_failed sink.old ≡ false }
+    // Exactly the output of what was read is written, and flushed.
+    ensures written { OnOk result ((output : List ℕ) × IsOutput (S.remaining source.old) job.now output
+        × Appends (K.contents sink.old) (K.contents sink.new) output) }
+    ensures flushed { OnOk result (K.is_flushed sink.new ≡ true) }
+
+    // What an error leaves written.
+    ensures part { result ≡ Err RunError.Write → (output : List ℕ) × IsOutput (S.remaining source.old) job.now output
+        × AppendsPart (K.contents sink.old) (K.contents sink.new) output }
+    ensures unwritten { IfErr result (λ e. e ≢ RunError.Write → Keeps (K.contents sink.old) (K.contents sink.new)) }
+
+    // When each error comes.
+    ensures refused { IfErr result (RefusesRun (S.remaining source.old)) }
+    ensures only { (bytes : List ℕ) (trace : GuestTrace) → S.remaining source.old ≡ Some bytes → Spells bytes trace
+        → IfErr result IsOutsideRun }
+    ensures read_failed { (result ≡ Err (RunError.Trace ReadFault)) ↔ (S.has_failed source.new ≡ true) }
+    ensures write_failed { (result ≡ Err RunError.Write) ↔ (K.has_failed sink.new ≡ true) }
+{
+    match read_output(alloc, job, source) {
+        Ok(output) => write_out(sink, &output),
+        Err(error) => Err(error),
+    }
+}

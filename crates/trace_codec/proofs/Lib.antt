@@ -1,0 +1,6 @@
+pub mod Steps
+pub mod Headers
+pub mod Found
+pub mod Never
+pub mod Sources
+pub mod Readers

@@ -1,0 +1,63 @@
+-- Why bytes are refused as a trace: the first cause that stands in them. This project's own.
+use Rattle.std.specs.Prelude.{◌≡◌, ◌<◌, ◌≤◌, ℕ, ◌+◌, ◌^◌, ◌==◌, ◌&&◌, ◌⊎◌, nat_lt, nat_le, not, Bool, if◌then◌else◌, List, ◌++◌, length, drop, slice_index, Option, Some, None}
+use Rattle.std.specs.Int.{w32}
+use Rattle.std.specs.List.{flat_map}
+use Rattle.migration_model.specs.Numbers.{number_in}
+use Rattle.migration_model.specs.Trace.{GuestWrite, IsGuestSize, AreGuestWrites, last_tick, header_text, write_text}
+use Rattle.migration_model.specs.TraceReading.{tick_in, page_in, offset_in, length_in}
+use Rattle.trace_codec.specs.declared.error.TraceError.{TraceError}
+use Rattle.trace_codec.specs.declared.error.TraceError.TheVariants.{TooLong, ShortHeader, BadMagic, BadVersion, BadShift, BadReserved, BadPages, TooManyWrites, ShortRecord, TickOrder, TickTooLarge, PageOutOfRange, EmptyWrite, OutOfPage, TrailingBytes, Memory}
+
+-- the bytes begin with "PCWT"
+abbrev pub is_magic : List ℕ → Bool
+is_magic bytes = (slice_index bytes 0 == 80) && (slice_index bytes 1 == 67) && (slice_index bytes 2 == 87) && (slice_index bytes 3 == 84)
+
+-- what the first 16 bytes are refused for
+abbrev pub header_refusal : List ℕ → Option TraceError
+header_refusal bytes =
+    if nat_lt (2 ^ 28) (length bytes) then Some TooLong
+    else (if nat_lt (length bytes) 16 then Some ShortHeader
+    else (if not (is_magic bytes) then Some BadMagic
+    else (if not (slice_index bytes 4 == 1) then Some BadVersion
+    else (if not (nat_le 4 (slice_index bytes 5) && nat_le (slice_index bytes 5) 12) then Some BadShift
+    else (if not ((slice_index bytes 6 == 0) && (slice_index bytes 7 == 0)) then Some BadReserved
+    else (if not (nat_le 1 (number_in w32 (drop 8 bytes)) && nat_le (number_in w32 (drop 8 bytes)) 65_536) then Some BadPages
+    else (if nat_lt (2 ^ 20) (number_in w32 (drop 12 bytes)) then Some TooManyWrites
+    else None)))))))
+
+-- what the write at the front of these bytes is refused for: write i of a guest of this size, the one before at this tick
+abbrev pub write_refusal : ℕ → ℕ → ℕ → ℕ → List ℕ → Option TraceError
+write_refusal shift pages before i bytes =
+    if nat_lt (length bytes) 16 then Some (ShortRecord i)
+    else (if nat_lt (length bytes) (16 + length_in bytes) then Some (ShortRecord i)
+    else (if nat_lt (tick_in bytes) before then Some (TickOrder i)
+    else (if nat_le (2 ^ 40) (tick_in bytes) then Some (TickTooLarge i)
+    else (if nat_le pages (page_in bytes) then Some (PageOutOfRange i)
+    else (if length_in bytes == 0 then Some (EmptyWrite i)
+    else (if nat_lt (2 ^ shift) (offset_in bytes + length_in bytes) then Some (OutOfPage i)
+    else None))))))
+
+-- The bytes begin as a trace: with a header, and then some writes that may follow one another.
+pub record Begins (bytes : List ℕ) : Type 0 where
+  pub shift : ℕ
+  pub pages : ℕ
+  pub count : ℕ
+  pub writes : List GuestWrite
+  pub rest : List ℕ
+  pub short : length bytes ≤ 2 ^ 28
+  pub size : IsGuestSize shift pages
+  pub few : count ≤ 2 ^ 20
+  pub fit : AreGuestWrites shift pages writes
+  pub parts : bytes ≡ header_text shift pages count ++ (flat_map write_text writes ++ rest)
+
+-- The first cause that stands in the bytes: in the header; in a write, all before it being right; or bytes behind the
+-- last write.
+pub data Refuses (bytes : List ℕ) (e : TraceError) : Type 0 where
+  in_header : header_refusal bytes ≡ Some e → Refuses bytes e
+  in_write : (b : Begins bytes) → length b.writes < b.count
+      → write_refusal b.shift b.pages (last_tick b.writes) (length b.writes) b.rest ≡ Some e → Refuses bytes e
+  behind : (b : Begins bytes) → length b.writes ≡ b.count → 0 < length b.rest → e ≡ TrailingBytes → Refuses bytes e
+
+-- memory ran out, or that is the cause
+abbrev pub RefusesUnlessMemory : List ℕ → TraceError → Type 0
+RefusesUnlessMemory bytes e = (e ≡ Memory) ⊎ Refuses bytes e

@@ -1,0 +1,27 @@
+//! Traces of guest writes: their format read from bytes and from a source of bytes.
+#![tactic(auto)]
+
+mod decoding;
+mod error;
+mod fields;
+mod reader;
+mod reading;
+mod records;
+mod shape;
+mod source;
+mod test_source;
+mod trace;
+mod view;
+mod write;
+
+pub use decoding::decode;
+pub use error::TraceError;
+pub use reader::TraceReader;
+pub use reading::{read_bytes, read_trace};
+pub use records::Records;
+pub use shape::Shape;
+pub use source::{FromRead, Source};
+pub use test_source::TestSource;
+pub use trace::Trace;
+pub use view::TraceView;
+pub use write::{Write, WriteView};

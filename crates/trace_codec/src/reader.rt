@@ -1,0 +1,91 @@
+//! A trace read write by write, each tested as it is reached.
+
+ghost use Rattle.std.specs.Prelude.{◌≡◌, ◌<◌, ◌++◌, ◌∷◌, [], IfErr, IfOk, OnErr, OnOk, drop, length};
+ghost use Rattle.migration_model.specs.Trace.{IsGuestWrite, Spells, trace_with};
+ghost use Rattle.migration_model.specs.TraceReading.{writes_in};
+ghost use Rattle.trace_codec.specs.Reading.{IsReading, ReaderState, reader_state};
+ghost use Rattle.trace_codec.specs.Refusals.{Refuses};
+ghost use Rattle.trace_codec.specs.Writes.{shown};
+
+use crate::error::TraceError;
+use crate::fields::{checked_write, shape_of};
+use crate::records::first_write;
+use crate::shape::Shape;
+use crate::write::WriteView;
+use std::marker::Model;
+
+/// A reader on its way through the bytes of a trace, for a caller that can undo what it did with the first writes where
+/// a later one is refused. It takes no memory.
+#[derive(Drop)]
+pub struct TraceReader<'a> {
+    bytes: &'a [u8],
+    shape: Shape,
+    index: u32,
+    last: u64,
+    rest: &'a [u8],
+}
+
+impl<'a> Model for TraceReader<'a> {
+    ghost Value = { ReaderState };
+
+    ghost view = { λ r. reader_state r.bytes.now r.shape.shift r.shape.pages r.shape.writes (writes_in r.index (drop 16 r.bytes.now)) };
+
+    ghost invariant = { λ r. IsReading r.bytes.now r.shape.shift r.shape.pages r.shape.writes r.index r.last r.rest.now };
+}
+
+impl<'a> TraceReader<'a> {
+    /// A reader in front of the first write.
+    pub fn new(bytes: &'a [u8]) -> Result<TraceReader<'a>, TraceError>
+        ensures bytes { IfOk result (λ r. r.bytes ≡ bytes.entry.now) }
+        ensures writes { IfOk result (λ r. r.writes ≡ []) }
+        ensures refused { IfErr result (Refuses bytes.entry.now) }
+    {
+        let shape = shape_of(bytes)?;
+        let (_, rest) = bytes.split_at(16);
+        Ok(TraceReader {
+            bytes,
+            shape,
+            index: 0,
+            last: 0,
+            rest,
+        })
+    }
+
+    /// How large the header says that the trace is.
+    pub fn shape(&self) -> Shape
+        ensures shift { result.shift ≡ self.now.shift }
+        ensures pages { result.pages ≡ self.now.pages }
+        ensures writes { result.writes ≡ self.now.count }
+    {
+        self.shape
+    }
+
+    /// The next write, within the guest's pages and not before the one in front of it. After a refusal the reader is as
+    /// before.
+    pub fn read_record(&mut self) -> Result<WriteView<'a>, TraceError>
+        requires { length self.old.writes < self.old.count }
+        ensures read { IfOk result (λ write. self.new ≡ record self.old { writes = self.old.writes ++ shown write ∷ [] }) }
+        ensures fits { IfOk result (λ write. IsGuestWrite self.old.shift self.old.pages (shown write)) }
+        ensures refused { IfErr result (Refuses self.old.bytes) }
+        ensures kept { OnErr result (self.new ≡ self.old) }
+    {
+        let (tick, rest) = checked_write(self.shape, self.last, self.index, self.rest)?;
+        let (write, _) = first_write(self.rest);
+        self.index += 1;
+        self.last = tick;
+        self.rest = rest;
+        Ok(write)
+    }
+
+    /// Tests that nothing stands behind the last write.
+    pub fn finish(self) -> Result<(), TraceError>
+        requires { length self.writes ≡ self.count }
+        ensures spelled { OnOk result (Spells self.entry.bytes (trace_with self.entry.shift self.entry.pages self.entry.writes)) }
+        ensures refused { IfErr result (Refuses self.entry.bytes) }
+    {
+        if !self.rest.is_empty() {
+            return Err(TraceError::TrailingBytes);
+        }
+        Ok(())
+    }
+}

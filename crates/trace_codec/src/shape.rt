@@ -1,0 +1,25 @@
+//! The sizes of a trace.
+
+ghost use Rattle.std.specs.Prelude.{◌≡◌, ◌≤◌, ◌^◌};
+
+/// How large a trace is: pages of `2^shift` bytes, how many pages, and how many writes.
+#[derive(Clone, Copy, Debug, PartialEq, Eq)]
+pub struct Shape {
+    pub shift: u8,
+    pub pages: u32,
+    pub writes: u32,
+    pub ghost shift_low: { 4 ≤ shift },
+    pub ghost shift_high: { shift ≤ 12 },
+    pub ghost pages_low: { 1 ≤ pages },
+    pub ghost pages_high: { pages ≤ 65_536 },
+    pub ghost writes_high: { writes ≤ 2 ^ 20 },
+}
+
+impl Shape {
+    /// The bytes of one page.
+    pub fn page_size(&self) -> usize
+        ensures { result ≡ 2 ^ self.now.shift }
+    {
+        1usize << self.shift
+    }
+}

@@ -1,0 +1,101 @@
+//! A trace that is left where its bytes stand.
+
+ghost use Rattle.std.specs.Prelude.{◌≡◌, IfErr, IfOk, Ok, OnOk, length};
+ghost use Rattle.migration_model.specs.Trace.{GuestTrace, IsTrace, Spells, trace_with};
+ghost use Rattle.migration_model.specs.TraceReading.{writes_in};
+ghost use Rattle.trace_codec.specs.Reading.{IsBody, IsView, RefusesBody};
+ghost use Rattle.trace_codec.specs.Refusals.{Refuses};
+
+use crate::error::TraceError;
+use crate::fields::{checked_write, shape_of};
+use crate::records::Records;
+use crate::shape::Shape;
+use crate::trace::Trace;
+use std::alloc::{AllocError, Global};
+use std::marker::Model;
+
+/// Tests the writes of a trace of this shape, which are all that the bytes may hold.
+fn check_writes(shape: Shape, bytes: &[u8]) -> Result<(), TraceError>
+    ensures refused { IfErr result (RefusesBody shape.shift shape.pages shape.writes bytes.now) }
+    ensures accepted { OnOk result (IsBody shape.shift shape.pages shape.writes bytes.now) }
+{
+    let mut last = 0;
+    let mut rest = bytes;
+    for index in 0..shape.writes {
+        let (tick, after) = checked_write(shape, last, index, rest)?;
+        last = tick;
+        rest = after;
+    }
+    if !rest.is_empty() {
+        return Err(TraceError::TrailingBytes);
+    }
+    Ok(())
+}
+
+/// A trace that is left where its bytes stand: nothing is copied, and no memory is taken.
+#[derive(Drop)]
+pub struct TraceView<'a> {
+    shape: Shape,
+    body: &'a [u8],
+}
+
+impl<'a> Model for TraceView<'a> {
+    ghost Value = { GuestTrace };
+
+    ghost view = { λ v. trace_with v.shape.shift v.shape.pages (writes_in v.shape.writes v.body.now) };
+
+    ghost invariant = { λ v. IsView v.shape.shift v.shape.pages v.shape.writes v.body.now };
+}
+
+impl<'a> TraceView<'a> {
+    fn whole(bytes: &'a [u8]) -> Result<TraceView<'a>, TraceError>
+        ensures found { IfOk result (λ trace. Spells bytes.now trace) }
+        ensures refused { IfErr result (Refuses bytes.now) }
+    {
+        let shape = shape_of(bytes)?;
+        let (_, body) = bytes.split_at(16);
+        check_writes(shape, body)?;
+        Ok(TraceView { shape, body })
+    }
+
+    /// Reads a trace off its bytes, in one pass over the records. `E16` and `E17` are never answered.
+    pub fn parse(bytes: &'a [u8]) -> Result<TraceView<'a>, TraceError>
+        ensures found { IfOk result (λ trace. Spells bytes.now trace) }
+        ensures refused { IfErr result (Refuses bytes.now) }
+        ensures only { (trace : GuestTrace) → Spells bytes.now trace → result ≡ Ok trace }
+    {
+        TraceView::whole(bytes)
+    }
+
+    /// How large the trace is.
+    pub fn shape(&self) -> Shape
+        ensures shift { result.shift ≡ self.now.shift }
+        ensures pages { result.pages ≡ self.now.pages }
+        ensures writes { result.writes ≡ length self.now.writes }
+        ensures is_trace { IsTrace self.now }
+    {
+        self.shape
+    }
+
+    /// The writes in order.
+    pub fn records(&self) -> Records<'a>
+        ensures { result ≡ self.now.writes }
+    {
+        Records::of(self.shape.writes, self.body)
+    }
+
+    /// The same trace with writes of its own, each of whose bytes are copied once.
+    pub fn to_trace(&self, alloc: Global) -> Result<Trace, AllocError>
+        ensures { IfOk result (λ trace. trace ≡ self.now) }
+    {
+        let mut writes = Vec::with_capacity(alloc, self.shape.writes as usize)?;
+        for record in self.records() {
+            writes.push(record.to_write(alloc)?)?;
+        }
+        Ok(Trace {
+            shift: self.shape.shift,
+            pages: self.shape.pages,
+            writes,
+        })
+    }
+}
