@@ -1,7 +1,10 @@
 -- What a job writes, and why it does not.
-use Rattle.std.specs.Prelude.{◌≡◌, ℕ, List, Option, IfSome, ⊤}
+use Rattle.std.specs.Prelude.{◌≡◌, ℕ, List, Option, IfSome, ⊤, length}
 use Rattle.migration_model.specs.Trace.{GuestTrace, Spells}
 use Rattle.migration_model.specs.Memory.{image_of}
+use Rattle.migration_model.specs.Rates.{MigrationSettings}
+use Rattle.migration_model.specs.Windows.{working_sets_of}
+use Rattle.sweep_report.specs.Texts.{report_of}
 use Rattle.trace_codec.specs.Refusals.{Refuses}
 use Rattle.trace_codec.specs.Source.{SourceRefuses, IsOutside}
 use Rattle.precopy.specs.declared.job.Job.{Job}
@@ -9,9 +12,14 @@ use Rattle.precopy.specs.declared.job.Job.TheVariants as jobs
 use Rattle.precopy.specs.declared.job.RunError.{RunError}
 use Rattle.precopy.specs.declared.job.RunError.TheVariants as errors
 
+-- the text of a report with these settings
+abbrev pub report_text_of : GuestTrace → MigrationSettings → List ℕ
+report_text_of trace settings = report_of trace.shift trace.pages (length trace.writes) settings.hot (working_sets_of trace settings)
+
 -- the whole output of a job over a trace
 abbrev pub output_of : Job → GuestTrace → List ℕ
 output_of jobs.Image trace = (image_of trace).bytes
+output_of (jobs.Report settings) trace = report_text_of trace settings
 
 -- The output of a job for what a source held: bytes that spell a trace, and all of its bytes, where they are known.
 pub record IsOutput (known : Option (List ℕ)) (job : Job) (output : List ℕ) : Type 0 where

@@ -1,8 +1,10 @@
 //! The command line: words in, a job or a refusal out.
 
 use crate::job::Job;
+use crate::options::{settings_of, with_report};
 use clap::error::ErrorKind;
 use clap::{Command, Error};
+use rate_limit::SettingsError;
 use std::alloc::{AllocError, AllocFailed, Global};
 use std::rt::Env;
 use std::{env, io};
@@ -16,6 +18,8 @@ pub enum WordsError {
     Help(String),
     /// Words that the command line does not have, with the text to be shown.
     Usage(String),
+    /// A setting is out of its range.
+    Settings(SettingsError),
 }
 
 impl From<AllocError> for WordsError {
@@ -47,10 +51,14 @@ fn commands<'a>(alloc: Global) -> Result<Command<'a>, AllocError> {
     let image = Command::new(alloc, "image").about(
         "Writes the memory after all writes of the trace on standard input",
     );
+    let report = Command::new(alloc, "report").about(
+        "Writes the working sets of the trace on standard input",
+    );
     Command::new(alloc, "precopy")
         .about("Predicts and performs pre-copy migrations over a trace of guest writes")
         .subcommand_required(true)
-        .subcommand(image)
+        .subcommand(image)?
+        .subcommand(with_report(alloc, report)?)
 }
 
 /// The text that `clap` has for a refusal.
@@ -67,8 +75,15 @@ fn refusal_of(alloc: Global, error: &Error) -> WordsError {
 
 /// The job that the words ask for, the program's name being the first.
 pub(crate) fn job_of(alloc: Global, words: &[String]) -> Result<Job, WordsError> {
-    match commands(alloc)?.try_get_matches_from(words) {
-        Ok(_) => Ok(Job::Image),
-        Err(error) => Err(refusal_of(alloc, &error)),
+    let matches = match commands(alloc)?.try_get_matches_from(words) {
+        Ok(matches) => matches,
+        Err(error) => return Err(refusal_of(alloc, &error)),
+    };
+    match matches.subcommand() {
+        Some(("report", options)) => match settings_of(options) {
+            Ok(settings) => Ok(Job::Report(settings)),
+            Err(error) => Err(WordsError::Settings(error)),
+        },
+        _ => Ok(Job::Image),
     }
 }

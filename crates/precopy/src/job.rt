@@ -1,5 +1,6 @@
 //! What the program can do, and why it did not.
 
+use rate_limit::Settings;
 use thiserror::Error;
 use trace_codec::TraceError;
 
@@ -8,6 +9,8 @@ use trace_codec::TraceError;
 pub enum Job {
     /// Writes the memory after all writes of the trace.
     Image,
+    /// Writes a report on the trace.
+    Report(Settings),
 }
 
 /// Why a run ended without its output. Its text follows `precopy: ` in a fault line.

@@ -3,6 +3,7 @@
 
 mod command;
 mod job;
+mod options;
 mod running;
 mod sink;
 mod starting;

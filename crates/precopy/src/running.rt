@@ -6,14 +6,18 @@ ghost use Rattle.migration_model.specs.Trace.{GuestTrace, Spells};
 ghost use Rattle.migration_model.specs.Memory.{image_of};
 ghost use Rattle.trace_codec.specs.declared.error.TraceError.TheVariants.{ReadFault};
 ghost use Rattle.image_build.specs.Replay.{RefusesReplay};
+ghost use Rattle.working_sets.specs.Reading.{RefusesTables};
 ghost use Rattle.precopy.specs.Sink.{AppendsPart};
-ghost use Rattle.precopy.specs.Output.{IsOutput, IsOutsideRun, RefusesRun, RefusesText, output_of};
+ghost use Rattle.precopy.specs.Output.{IsOutput, IsOutsideRun, RefusesRun, RefusesText, output_of, report_text_of};
 
 use crate::job::{Job, RunError};
 use crate::sink::Sink;
 use image_build::{ReplayError, replay_bytes};
+use rate_limit::Settings;
 use std::alloc::Global;
+use sweep_report::report_text;
 use trace_codec::{Source, read_bytes};
+use working_sets::{ReadTablesError, tables_of_bytes};
 
 /// Writes all of some bytes and flushes.
 pub(crate) fn write_out<K: Sink>(sink: &mut K, bytes: &[u8]) -> Result<(), RunError>
@@ -63,6 +67,31 @@ fn image_output(alloc: Global, bytes: &[u8]) -> Result<Vec<u8>, RunError>
     }
 }
 
+/// The same refusal, as one of a run.
+fn run_error_of_tables(error: ReadTablesError) -> RunError
+    ensures refused { (bytes : List ℕ) → RefusesTables bytes error → RefusesText bytes result }
+    ensures memory { error ≡ ReadTablesError.Memory → result ≡ RunError.Memory }
+{
+    match error {
+        ReadTablesError::Trace(error) => RunError::Trace(error),
+        ReadTablesError::Memory => RunError::Memory,
+    }
+}
+
+/// The report on the trace that the bytes spell.
+fn report_output(alloc: Global, settings: &Settings, bytes: &[u8]) -> Result<Vec<u8>, RunError>
+    ensures made { IfOk result (λ v. (trace : GuestTrace) × Spells bytes.now trace × (v.items ≡ report_text_of trace settings.now)) }
+    ensures refused { IfErr result (RefusesText bytes.now) }
+    ensures only { (trace : GuestTrace) → Spells bytes.now trace → IfErr result (λ e. e ≡ RunError.Memory) }
+{
+    match tables_of_bytes(alloc, bytes, settings) {
+        Ok(found) => {
+            report_text(alloc, &found.shape, settings, &found.tables).or(Err(RunError::Memory))
+        }
+        Err(error) => Err(run_error_of_tables(error)),
+    }
+}
+
 /// The output of a job over the trace that the bytes spell.
 fn output(alloc: Global, job: &Job, bytes: &[u8]) -> Result<Vec<u8>, RunError>
     ensures made { IfOk result (λ v. (trace : GuestTrace) × Spells bytes.now trace × (v.items ≡ output_of job.now trace)) }
@@ -71,6 +100,7 @@ fn output(alloc: Global, job: &Job, bytes: &[u8]) -> Result<Vec<u8>, RunError>
 {
     match job {
         Job::Image => image_output(alloc, bytes),
+        Job::Report(settings) => report_output(alloc, settings, bytes),
     }
 }
 

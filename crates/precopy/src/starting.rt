@@ -1,6 +1,8 @@
 //! The program over words, a source and two sinks.
 
-ghost use Rattle.std.specs.Prelude.{◌≡◌, ◌≤◌, false, true};
+ghost use Rattle.std.specs.Prelude.{◌≡◌, ◌≤◌, ◌⊎◌, List, ℕ, false, true};
+ghost use Rattle.std.specs.Io.KnownBytes.{Appends};
+ghost use Rattle.precopy.specs.Output.{IsOutput};
 
 use crate::command::{WordsError, job_of};
 use crate::job::{Job, RunError};
@@ -42,6 +44,8 @@ fn run_job<S: Source, K: Sink, E: Sink>(
     requires untold { E.has_failed faults.old ≡ false }
     ensures status { result ≤ 1 }
     ensures flushed { result ≡ 0 → K.is_flushed sink.new ≡ true }
+    ensures written { result ≡ 0 → (output : List ℕ) × IsOutput (S.remaining source.old) job.now output
+        × Appends (K.contents sink.old) (K.contents sink.new) output }
 {
     match run(alloc, job, source, sink) {
         Ok(()) => 0,
@@ -77,6 +81,12 @@ pub(crate) fn refuse<K: Sink, E: Sink>(error: WordsError, sink: &mut K, faults: 
             show(faults, text.as_str());
             2
         }
+        WordsError::Settings(error) => {
+            let mut line = ArrayString::<64>::new();
+            let _ = write!(line, "precopy: settings {error}\n");
+            show(faults, line.as_str());
+            2
+        }
     }
 }
 
@@ -96,6 +106,9 @@ pub fn start<S: Source, K: Sink, E: Sink>(
     ensures status { result ≤ 2 }
     // Nothing that was written is kept back.
     ensures flushed { result ≡ 0 → K.is_flushed sink.new ≡ true }
+    // What was written is the output of a job over what was read; or else, as after a request for help, nothing was read.
+    ensures written { result ≡ 0 → ((job : Job) × (output : List ℕ) × IsOutput (S.remaining source.old) job output
+        × Appends (K.contents sink.old) (K.contents sink.new) output) ⊎ (source.new ≡ source.old) }
     // Words are refused before any byte of the trace is read, and nothing is written then.
     ensures refused { result ≡ 2 → (source.new ≡ source.old) × (sink.new ≡ sink.old) }
 {

@@ -3,7 +3,7 @@
 ghost use Rattle.std.specs.Prelude.{◌≡◌, false};
 
 use crate::{Job, RunError, TestSink, run, start};
-use image_build::{replay, replay_before};
+use image_build::{replay, replay_before, replay_bytes, replay_view};
 use std::alloc::{AllocError, Global};
 use std::test::Fail;
 use trace_codec::{TestSource, TraceError, TraceView, decode, read_trace};
@@ -217,6 +217,80 @@ fn leaves_a_beginning_where_a_write_fails(rt: HostRuntime) -> Result<(), Fail> {
     Ok(())
 }
 
+/// The report over a changed trace, by the command line.
+fn report(
+    alloc: Global,
+    bytes: Vec<u8>,
+    options: &[&str],
+) -> Result<(u8, TestSink, TestSink), AllocError> {
+    let mut words = words(alloc, "report")?;
+    for option in options {
+        words.push(option.to_string(alloc)?)?;
+    }
+    let mut source = TestSource::new(bytes, 102, None);
+    let mut output = sink(alloc);
+    let mut faults = sink(alloc);
+    let status = start(alloc, words, &mut source, &mut output, &mut faults);
+    Ok((status, output, faults))
+}
+
+#[test]
+fn reports_working_sets(rt: HostRuntime) -> Result<(), Fail> {
+    let alloc = rt.alloc();
+    let (status, output, _) = report(alloc, changed(alloc, 102, 0, &[], &[])?, &[])?;
+    assert_eq!(rt; status, 0);
+    assert_eq!(rt;
+        output.bytes(),
+        "trace pages 4 size 16 writes 5
+window 0 writes 2 pages 2 again 0 fresh 2
+window 1 writes 1 pages 1 again 1 fresh 0
+window 2 writes 2 pages 2 again 1 fresh 1
+hot 2 pages 1
+page 1
+"
+            .as_bytes()
+    );
+    let bytes = changed(alloc, 102, 0, &[], &[])?;
+    let (_, output, _) = report(alloc, bytes, &["--window=5000", "--hot", "1"])?;
+    assert_eq!(rt;
+        output.bytes(),
+        "trace pages 4 size 16 writes 5
+window 0 writes 5 pages 3 again 0 fresh 3
+hot 1 pages 3
+page 0
+page 1
+page 3
+"
+            .as_bytes()
+    );
+    let (_, output, _) = report(alloc, changed(alloc, 16, 12, &[0], &[])?, &[])?;
+    assert_eq!(rt;
+        output.bytes(),
+        b"trace pages 4 size 16 writes 0\nhot 2 pages 0\n".as_slice()
+    );
+    Ok(())
+}
+
+#[test]
+fn refuses_settings_before_the_trace(rt: HostRuntime) -> Result<(), Fail> {
+    let alloc = rt.alloc();
+    let cases: [(&str, &str); 5] = [
+        ("--min=0", "precopy: settings S1\n"),
+        ("--max=500", "precopy: settings S2\n"),
+        ("--rounds=65", "precopy: settings S5\n"),
+        ("--hot=0", "precopy: settings S7\n"),
+        ("--workers=17", "precopy: settings S9\n"),
+    ];
+    for (option, line) in cases {
+        // No trace at all: E1 where it was read.
+        let (status, output, faults) = report(alloc, Vec::new(alloc), &[option])?;
+        assert_eq!(rt; status, 2, "{option}");
+        assert_eq!(rt; faults.bytes(), line.as_bytes(), "{option}");
+        assert!(rt; output.bytes().is_empty(), "{option}");
+    }
+    Ok(())
+}
+
 #[test]
 fn says_why_it_ends(rt: HostRuntime) -> Result<(), Fail> {
     let alloc = rt.alloc();
@@ -258,7 +332,14 @@ fn views_and_pages(rt: HostRuntime) -> Result<(), Fail> {
         pages.push(write.page)?;
     }
     assert_eq!(rt; pages.as_slice(), [0, 1, 1, 3, 1].as_slice());
+    let image = replay_view(alloc, &view).ok().ok_or("memory")?;
+    assert_eq!(rt; image.bytes(), MEMORY.as_slice());
+    let image = replay_bytes(alloc, &bytes).ok().ok_or("memory")?;
+    assert_eq!(rt; image.into_bytes().as_slice(), MEMORY.as_slice());
     let trace = view.to_trace(alloc)?;
+    let write = trace.writes.get(3).ok_or("a fourth write")?;
+    assert_eq!(rt; (write.tick, write.offset), (2500, 2));
+    assert_eq!(rt; write.bytes.as_slice(), [4, 5].as_slice());
     let shape = trace.shape();
     let image = replay(alloc, &trace).ok().ok_or("memory")?;
     assert_eq!(rt; shape.pages, 4);

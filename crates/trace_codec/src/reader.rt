@@ -1,7 +1,7 @@
 //! A trace read write by write, each tested as it is reached.
 
 ghost use Rattle.std.specs.Prelude.{◌≡◌, ◌<◌, ◌++◌, ◌∷◌, [], IfErr, IfOk, OnErr, OnOk, drop, length};
-ghost use Rattle.migration_model.specs.Trace.{IsGuestWrite, Spells, trace_with};
+ghost use Rattle.migration_model.specs.Trace.{AreGuestWrites, IsGuestWrite, Spells, trace_with};
 ghost use Rattle.migration_model.specs.TraceReading.{writes_in};
 ghost use Rattle.trace_codec.specs.Reading.{IsReading, ReaderState, reader_state};
 ghost use Rattle.trace_codec.specs.Refusals.{Refuses};
@@ -66,6 +66,7 @@ impl<'a> TraceReader<'a> {
         requires { length self.old.writes < self.old.count }
         ensures read { IfOk result (λ write. self.new ≡ record self.old { writes = self.old.writes ++ shown write ∷ [] }) }
         ensures fits { IfOk result (λ write. IsGuestWrite self.old.shift self.old.pages (shown write)) }
+        ensures order { IfOk result (λ write. AreGuestWrites self.old.shift self.old.pages (self.old.writes ++ shown write ∷ [])) }
         ensures refused { IfErr result (Refuses self.old.bytes) }
         ensures kept { OnErr result (self.new ≡ self.old) }
     {

@@ -32,3 +32,14 @@ returns-clause-fits c =
     let pages = ap (λ (s : ReaderState). s.pages) c.self.view_is in
     rw (c.first_write.ensures.write, ← shift, ← pages)
     (IsRight-from_none c.self.inside.shape.shift c.self.inside.shape.pages c.self.inside.last c.self.inside.index c.self.inside.rest.now c.in_ok-tick.ensures.accepted).fits
+
+pub returns-clause-order : goal.returns-clause-order
+returns-clause-order c =
+    let inside = c.self.inside in
+    let read = read_count c.args.self.now _ _ _ _ _ c.self.view_is in
+    let count = ap (λ (s : ReaderState). s.count) c.self.view_is in
+    let more : inside.index < inside.shape.writes = omega (arith, c.requires, read, count) in
+    let shift = ap (λ (s : ReaderState). s.shift) c.self.view_is in
+    let pages = ap (λ (s : ReaderState). s.pages) c.self.view_is in
+    let writes = ap (λ (s : ReaderState). s.writes) (state_more c.args.self.now _ _ _ _ _ _ _ _ c.self.invariant c.self.view_is c.first_write.ensures.write) in
+    rw (← writes, ← shift, ← pages) (reads_on _ _ _ _ _ _ _ c.self.invariant more c.in_ok-tick.ensures.accepted).reads.fit

@@ -1,0 +1,7 @@
+pub mod Bits
+pub mod Moves
+pub mod EveryPage
+pub mod EveryPlace
+pub mod RealPages
+pub mod Runs
+pub mod Outcomes

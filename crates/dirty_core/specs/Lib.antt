@@ -1,0 +1,5 @@
+pub mod Pages
+pub mod Start
+pub mod Machine
+pub mod Runs
+pub mod Kept

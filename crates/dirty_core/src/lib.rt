@@ -1,0 +1,20 @@
+//! The dirty core: guests store and mark pages, copiers harvest, restore and read them, one event after another on one
+//! thread. No list of events loses a changed page.
+#![tactic(auto)]
+
+mod answer;
+mod event;
+mod machine;
+mod opening;
+mod refusal;
+mod running;
+#[cfg(test)]
+mod tests;
+mod words;
+
+pub use answer::Answer;
+pub use event::Event;
+pub use machine::{Core, step};
+pub use opening::{MAX_PAGES, MAX_SEATS, Opening};
+pub use refusal::CoreRefusal;
+pub use running::{every_page, run};

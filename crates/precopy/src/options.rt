@@ -1,0 +1,112 @@
+//! The options of the commands, and the settings that they make.
+
+use clap::{Arg, ArgAction, ArgMatches, Command};
+use rate_limit::{Asked, Settings, SettingsError};
+use std::alloc::{AllocError, Global};
+
+/// What is not given, and what a command does not take. The threshold is 256 KiB where a page has 4,096 bytes, as in
+/// Clark and others (2005), section on ending the pre-copy; the others are this project's own.
+const DEFAULTS: Asked = Asked {
+    min: 1000,
+    max: 5000,
+    increment: 500,
+    threshold: 64,
+    rounds: 30,
+    start: 0,
+    window: 1000,
+    hot: 2,
+    workers: 1,
+    streams: 1,
+    replayers: 1,
+    lane: 1024,
+    skip: false,
+};
+
+/// An option that takes a whole number.
+fn number<'a>(alloc: Global, name: &'a str, help: &'a str) -> Arg<'a> {
+    Arg::new(alloc, name)
+        .long(name)
+        .value_name("N")
+        .action(ArgAction::Set)
+        .value_parser(clap::value_parser!(u64))
+        .help(help)
+}
+
+/// The command with the options that say how a migration is paced.
+fn with_pace<'a>(alloc: Global, command: Command<'a>) -> Result<Command<'a>, AllocError> {
+    let skip = Arg::new(alloc, "skip")
+        .long("skip")
+        .action(ArgAction::SetTrue)
+        .help("Skip pages that are written again while a round sends its pages");
+    command
+        .arg(number(
+            alloc,
+            "min",
+            "Least rate, in pages per 1,000 ticks [default: 1000]",
+        ))?
+        .arg(number(
+            alloc,
+            "max",
+            "Greatest rate, in pages per 1,000 ticks [default: 5000]",
+        ))?
+        .arg(number(
+            alloc,
+            "inc",
+            "Added to a round's dirtying rate, in pages per 1,000 ticks [default: 500]",
+        ))?
+        .arg(number(
+            alloc,
+            "threshold",
+            "End where fewer pages were dirtied [default: 64]",
+        ))?
+        .arg(number(alloc, "rounds", "Most rounds [default: 30]"))?
+        .arg(number(
+            alloc,
+            "start",
+            "Tick at which the first round begins [default: 0]",
+        ))?
+        .arg(skip)
+}
+
+/// The command with the options of a report.
+pub(crate) fn with_report<'a>(
+    alloc: Global,
+    command: Command<'a>,
+) -> Result<Command<'a>, AllocError> {
+    with_pace(alloc, command)?
+        .arg(number(
+            alloc,
+            "window",
+            "Length of a window, in ticks [default: 1000]",
+        ))?
+        .arg(number(alloc, "hot", "Windows that make a page hot [default: 2]"))?
+        .arg(number(
+            alloc,
+            "workers",
+            "Threads that work side by side [default: 1]",
+        ))
+}
+
+/// The number that was given for an option, or the default.
+fn given(matches: &ArgMatches, name: &str, default: u64) -> u64 {
+    matches.get_one::<u64>(name).unwrap_or(default)
+}
+
+/// The settings that a command's options make, or the first that is out of its range.
+pub(crate) fn settings_of(matches: &ArgMatches) -> Result<Settings, SettingsError> {
+    Settings::new(Asked {
+        min: given(matches, "min", DEFAULTS.min),
+        max: given(matches, "max", DEFAULTS.max),
+        increment: given(matches, "inc", DEFAULTS.increment),
+        threshold: given(matches, "threshold", DEFAULTS.threshold),
+        rounds: given(matches, "rounds", DEFAULTS.rounds),
+        start: given(matches, "start", DEFAULTS.start),
+        window: given(matches, "window", DEFAULTS.window),
+        hot: given(matches, "hot", DEFAULTS.hot),
+        workers: given(matches, "workers", DEFAULTS.workers),
+        streams: given(matches, "streams", DEFAULTS.streams),
+        replayers: given(matches, "replayers", DEFAULTS.replayers),
+        lane: given(matches, "lane", DEFAULTS.lane),
+        skip: matches.get_flag("skip"),
+    })
+}

@@ -1,0 +1,71 @@
+-- Settings that are not refused are in range.
+use Rattle.std.proofs.Common.{◌≡◌, ℕ, ◌≤◌, Bool, true, false, cond, not, ◌&&◌, Option, Some, None, refl}
+use Rattle.std.proofs.lemmas.Bool.{leb-true, leb-false, ltb-false}
+use Rattle.migration_model.specs.Rates.{MigrationSettings, AreSettings}
+use Rattle.rate_limit.specs.Refusals.{is_between, refusal_of}
+use Rattle.rate_limit.specs.declared.error.SettingsError.{SettingsError}
+
+-- a test that let something pass
+passed : (b : Bool) (e : SettingsError) (others : Option SettingsError) → cond b (Some e) others ≡ None → (b ≡ false) × (others ≡ None)
+passed true e others is = absurd cc
+passed false e others is = (refl, is)
+
+granted : (b : Bool) → not b ≡ false → b ≡ true
+granted true is = refl
+granted false is = absurd cc
+
+both : (a b : Bool) → (a && b) ≡ true → (a ≡ true) × (b ≡ true)
+both true b is = (refl, is)
+both false b is = absurd cc
+
+between : (low high n : ℕ) → is_between low high n ≡ true → (low ≤ n) × (n ≤ high)
+between low high n is = let two = both _ _ is in (leb-true _ _ two.0, leb-true _ _ two.1)
+
+pub in_range_lem : (s : MigrationSettings) → refusal_of s ≡ None → AreSettings s
+in_range_lem s none =
+    let p1 = passed _ _ _ none in
+    let p2 = passed _ _ _ p1.1 in
+    let p3 = passed _ _ _ p2.1 in
+    let p4 = passed _ _ _ p3.1 in
+    let p5 = passed _ _ _ p4.1 in
+    let p6 = passed _ _ _ p5.1 in
+    let p7 = passed _ _ _ p6.1 in
+    let p8 = passed _ _ _ p7.1 in
+    let p9 = passed _ _ _ p8.1 in
+    let min = between _ _ _ (granted _ p1.0) in
+    let max = between _ _ _ (granted _ p2.0) in
+    let threshold = between _ _ _ (granted _ p4.0) in
+    let rounds = between _ _ _ (granted _ p5.0) in
+    let window = between _ _ _ (granted _ p6.0) in
+    let hot = between _ _ _ (granted _ p7.0) in
+    let all = both _ _ (granted _ p9.0) in
+    let three = both _ _ all.0 in
+    let two = both _ _ three.0 in
+    let workers = between _ _ _ two.0 in
+    let streams = between _ _ _ two.1 in
+    let replayers = between _ _ _ three.1 in
+    let lane = between _ _ _ all.1 in
+    record {
+      min_low = min.0;
+      min_high = min.1;
+      max_low = max.0;
+      max_high = max.1;
+      increment_high = ltb-false _ _ p3.0;
+      threshold_low = threshold.0;
+      threshold_high = threshold.1;
+      rounds_low = rounds.0;
+      rounds_high = rounds.1;
+      window_low = window.0;
+      window_high = window.1;
+      hot_low = hot.0;
+      hot_high = hot.1;
+      start_high = leb-false _ _ p8.0;
+      workers_low = workers.0;
+      workers_high = workers.1;
+      streams_low = streams.0;
+      streams_high = streams.1;
+      replayers_low = replayers.0;
+      replayers_high = replayers.1;
+      lane_low = lane.0;
+      lane_high = lane.1;
+    }

@@ -1,0 +1,39 @@
+//! What comes after a round.
+
+use std::fmt;
+
+/// Why pre-copying ends. Its text is the word that reports have for it.
+#[derive(Clone, Copy, Debug, PartialEq, Eq)]
+pub enum Reason {
+    /// Fewer pages than the threshold were dirtied.
+    Few,
+    /// The next rate would be greater than the greatest.
+    Fast,
+    /// As many rounds as were asked for are done.
+    Rounds,
+}
+
+/// What comes after a round.
+#[derive(Clone, Copy, Debug, PartialEq, Eq)]
+pub enum Next {
+    /// A further round, at this rate in pages per 1,000 ticks.
+    Go(u64),
+    /// The stop.
+    Stop(Reason),
+}
+
+impl fmt::Display for Reason {
+    ghost use Rattle.std.specs.Prelude.{Some};
+    ghost use Rattle.migration_model.specs.Rates.{word_of};
+    ghost use Rattle.rate_limit.specs.Pacing.{reason_of};
+
+    ghost output = { λ reason. Some (word_of (reason_of reason)) };
+
+    fn fmt<W: fmt::Write>(&self, f: &mut fmt::Formatter<W>) -> fmt::Result {
+        match self {
+            Reason::Few => write!(f, "few"),
+            Reason::Fast => write!(f, "fast"),
+            Reason::Rounds => write!(f, "rounds"),
+        }
+    }
+}

@@ -1,0 +1,73 @@
+//! Lines of words and numbers.
+
+ghost use Rattle.std.specs.Prelude.{◌≡◌, ◌^◌, ◌++◌, ◌∷◌, [], OnOk};
+ghost use Rattle.sweep_report.specs.Lines.{field, hot_line, page_line, trace_line, window_line};
+
+use itoa::Buffer;
+use std::alloc::AllocError;
+use trace_codec::Shape;
+use working_sets::Window;
+
+/// Adds some words and a number behind them.
+#[tactic(auto, unfolding(crate::specs::Lines::field))]
+fn push_field(text: &mut Vec<u8>, words: &str, number: u64) -> Result<(), AllocError>
+    ensures { OnOk result (text.new.items ≡ text.old.items ++ field words.now number) }
+{
+    text.extend_from_slice(words.as_bytes())?;
+    let mut digits = Buffer::new();
+    text.extend_from_slice(digits.format(number).as_bytes())
+}
+
+/// Ends a line.
+fn end_line(text: &mut Vec<u8>) -> Result<(), AllocError>
+    ensures { OnOk result (text.new.items ≡ text.old.items ++ 10 ∷ []) }
+{
+    Ok(text.push(b'\n')?)
+}
+
+/// Adds the line on what a trace is, by how many pages of how many bytes it has, and how many writes.
+fn push_sizes(text: &mut Vec<u8>, pages: u32, size: usize, writes: u32) -> Result<(), AllocError>
+    ensures { OnOk result (text.new.items ≡ text.old.items ++ trace_line pages size writes) }
+{
+    push_field(text, "trace pages ", pages as u64)?;
+    push_field(text, " size ", size as u64)?;
+    push_field(text, " writes ", writes as u64)?;
+    end_line(text)?;
+    Ok(())
+}
+
+/// Adds the line on what a trace is.
+pub(crate) fn push_trace(text: &mut Vec<u8>, shape: &Shape) -> Result<(), AllocError>
+    ensures { OnOk result (text.new.items ≡ text.old.items ++ trace_line shape.now.pages (2 ^ shape.now.shift) shape.now.writes) }
+{
+    push_sizes(text, shape.pages, shape.page_size(), shape.writes)
+}
+
+/// Adds the line on a window.
+pub(crate) fn push_window(text: &mut Vec<u8>, window: &Window) -> Result<(), AllocError>
+    ensures { OnOk result (text.new.items ≡ text.old.items ++ window_line window.now) }
+{
+    push_field(text, "window ", window.number)?;
+    push_field(text, " writes ", window.writes as u64)?;
+    push_field(text, " pages ", window.pages as u64)?;
+    push_field(text, " again ", window.again as u64)?;
+    push_field(text, " fresh ", window.fresh as u64)?;
+    end_line(text)
+}
+
+/// Adds the line on how many pages are hot.
+pub(crate) fn push_hot(text: &mut Vec<u8>, hot: u64, pages: usize) -> Result<(), AllocError>
+    ensures { OnOk result (text.new.items ≡ text.old.items ++ hot_line hot pages) }
+{
+    push_field(text, "hot ", hot)?;
+    push_field(text, " pages ", pages as u64)?;
+    end_line(text)
+}
+
+/// Adds the line on one hot page.
+pub(crate) fn push_page(text: &mut Vec<u8>, page: u32) -> Result<(), AllocError>
+    ensures { OnOk result (text.new.items ≡ text.old.items ++ page_line page) }
+{
+    push_field(text, "page ", page as u64)?;
+    end_line(text)
+}

@@ -1,0 +1,51 @@
+//! The report.
+
+ghost use Rattle.std.specs.Prelude.{◌≡◌, ◌++◌, IfOk, OnOk};
+ghost use Rattle.std.specs.List.{flat_map};
+ghost use Rattle.sweep_report.specs.Lines.{page_line, window_line};
+ghost use Rattle.sweep_report.specs.Texts.{report_of};
+
+use crate::error::SweepError;
+use crate::lines::{push_hot, push_page, push_trace, push_window};
+use rate_limit::Settings;
+use std::alloc::{AllocError, Global};
+use trace_codec::Shape;
+use working_sets::{Tables, Window};
+
+/// Adds a line for each window.
+fn push_windows(text: &mut Vec<u8>, windows: &[Window]) -> Result<(), AllocError>
+    ensures { OnOk result (text.new.items ≡ text.old.items ++ flat_map window_line windows.now) }
+{
+    for window in windows {
+        push_window(text, window)?;
+    }
+    Ok(())
+}
+
+/// Adds a line for each hot page.
+fn push_pages(text: &mut Vec<u8>, pages: &[u32]) -> Result<(), AllocError>
+    ensures { OnOk result (text.new.items ≡ text.old.items ++ flat_map page_line pages.now) }
+{
+    for page in pages {
+        push_page(text, *page)?;
+    }
+    Ok(())
+}
+
+/// The text of a report on the working sets of a trace of this shape: ASCII, a line for each window with a write and for
+/// each hot page.
+pub fn report_text(
+    alloc: Global,
+    shape: &Shape,
+    settings: &Settings,
+    tables: &Tables,
+) -> Result<Vec<u8>, SweepError>
+    ensures { IfOk result (λ text. text.items ≡ report_of shape.now.shift shape.now.pages shape.now.writes settings.now.hot tables.now) }
+{
+    let mut text = Vec::new(alloc);
+    push_trace(&mut text, shape)?;
+    push_windows(&mut text, &tables.windows)?;
+    push_hot(&mut text, settings.asked().hot, tables.hot.len())?;
+    push_pages(&mut text, &tables.hot)?;
+    Ok(text)
+}

@@ -1,0 +1,10 @@
+pub mod Counts
+pub mod Written
+pub mod Last
+pub mod Rows
+pub mod Shown
+pub mod Pass
+pub mod Kept
+pub mod Whole
+pub mod OtherWords
+pub mod Readings

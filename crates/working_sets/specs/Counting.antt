@@ -1,0 +1,97 @@
+-- The state of one pass over writes, and its steps. No contract of a public call speaks of it.
+use Rattle.std.specs.Prelude.{ℕ, ◌+◌, ◌*◌, ◌/◌, ◌^◌, ◌<◌, ◌≤◌, ◌&&◌, length, ◌==◌, nat_lt, nat_le, not, Bool, cond, if◌then◌else◌, List, [], ◌∷◌, ◌++◌, slice_index_or, slice_set, replicate}
+use Rattle.std.specs.List.{filter, range_with_len}
+use Rattle.migration_model.specs.Windows.{WindowRow, WorkingSets}
+
+-- of a page: 1 more than the last window that it is in, or 0, and how many windows it is in
+pub record PageMark : Type 0 where
+  pub last : ℕ
+  pub windows : ℕ
+
+-- The length of a window, the tick at which the open window ends, the rows of the windows that are closed, the row so
+-- far of the open one, and the marks of the pages.
+pub record Counting : Type 0 where
+  pub window : ℕ
+  pub end : ℕ
+  pub rows : List WindowRow
+  pub row : WindowRow
+  pub marks : List PageMark
+
+-- the row of a window with no write
+abbrev pub blank : ℕ → WindowRow
+blank number = record { number = number; writes = 0; pages = 0; again = 0; fresh = 0 }
+
+abbrev pub unmarked : PageMark
+unmarked = record { last = 0; windows = 0 }
+
+-- how much a test adds to a count
+abbrev pub one_if : Bool → ℕ
+one_if b = cond b 1 0
+
+-- rows with one more, where it has a write
+abbrev pub with_row : List WindowRow → WindowRow → List WindowRow
+with_row rows row = if nat_le 1 row.writes then rows ++ row ∷ [] else rows
+
+-- a row after one more write, to a page whose mark has this last window
+abbrev pub counted : WindowRow → ℕ → WindowRow
+counted row last = record {
+  number = row.number;
+  writes = row.writes + 1;
+  pages = row.pages + one_if (not (last == row.number + 1));
+  again = row.again + one_if ((last == row.number) && not (last == 0));
+  fresh = row.fresh + one_if (last == 0);
+}
+
+-- a page's mark after a write in the window of this number
+abbrev pub marked : PageMark → ℕ → PageMark
+marked mark number = record { last = number + 1; windows = mark.windows + one_if (not (mark.last == number + 1)) }
+
+-- the state as it is for a tick: the open window is the one that holds it
+abbrev pub turned : Counting → ℕ → Counting
+turned s tick =
+    if nat_lt tick s.end then s
+    else record s {
+      end = (tick / s.window + 1) * s.window;
+      rows = with_row s.rows s.row;
+      row = blank (tick / s.window);
+    }
+
+-- the mark of a page
+abbrev pub mark_of : Counting → ℕ → PageMark
+mark_of s page = slice_index_or s.marks page unmarked
+
+-- the state after a write to the page in the open window
+abbrev pub written : Counting → ℕ → Counting
+written s page = record s {
+  row = counted s.row (mark_of s page).last;
+  marks = slice_set s.marks page (marked (mark_of s page) s.row.number);
+}
+
+-- the state before any write
+abbrev pub started : ℕ → ℕ → Counting
+started window pages = record { window = window; end = window; rows = []; row = blank 0; marks = replicate pages unmarked }
+
+-- the counts of a row can grow by 1
+pub record HasRoom (row : WindowRow) : Type 0 where
+  pub number : row.number + 1 < 2 ^ 64
+  pub writes : row.writes + 1 < 2 ^ 32
+  pub pages : row.pages + 1 < 2 ^ 32
+  pub again : row.again + 1 < 2 ^ 32
+  pub fresh : row.fresh + 1 < 2 ^ 32
+
+-- what the state has to be for a write at this tick to this page
+pub record CanAdd (s : Counting) (tick page : ℕ) : Type 0 where
+  pub page_low : page < length s.marks
+  pub tick_low : tick < 2 ^ 40
+  pub window_some : 1 ≤ s.window
+  pub window_few : s.window ≤ 2 ^ 40
+  pub row : HasRoom s.row
+  pub mark : (mark_of s page).windows + 1 < 2 ^ 64
+
+-- the pages whose marks have at least so many windows, rising
+abbrev pub hot_of : List PageMark → ℕ → List ℕ
+hot_of marks hot = filter (λ page. nat_le hot (slice_index_or marks page unmarked).windows) (range_with_len 0 (length marks))
+
+-- what is told after the last write
+abbrev pub finished : Counting → ℕ → WorkingSets
+finished s hot = record { windows = with_row s.rows s.row; hot = hot_of s.marks hot }

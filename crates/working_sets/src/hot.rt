@@ -1,0 +1,29 @@
+//! The pages that are written in many windows.
+
+ghost use Rattle.std.specs.Prelude.{◌≡◌, ◌^◌, ◌<◌, ◌∷◌, ◌++◌, [], IfOk, OnOk, if◌then◌else◌, length};
+ghost use Rattle.working_sets.specs.Counting.{hot_of};
+
+use crate::counting::Mark;
+use std::alloc::{AllocError, Global};
+
+/// Keeps a page, or not.
+fn push_if(pages: &mut Vec<u32>, keep: bool, page: u32) -> Result<(), AllocError>
+    ensures { OnOk result (pages.new.items ≡ (if keep then pages.old.items ++ page ∷ [] else pages.old.items)) }
+{
+    if keep {
+        pages.push(page)?;
+    }
+    Ok(())
+}
+
+/// The pages that are in at least so many windows, rising.
+pub(crate) fn hot_pages(alloc: Global, marks: &[Mark], hot: u64) -> Result<Vec<u32>, AllocError>
+    requires { length marks.now < 2 ^ 32 }
+    ensures { IfOk result (λ pages. pages.items ≡ hot_of marks.now hot) }
+{
+    let mut pages = Vec::new(alloc);
+    for page in 0..marks.len() as u32 {
+        push_if(&mut pages, marks[page as usize].is_hot(hot), page)?;
+    }
+    Ok(pages)
+}

@@ -1,0 +1,55 @@
+//! Rows of windows, and what is told of a trace.
+
+use std::marker::Model;
+use trace_codec::Shape;
+
+/// What is told of one window.
+#[derive(Clone, Copy, Debug, PartialEq, Eq)]
+pub struct Window {
+    /// The window's number, from 0: the ticks before it divided by the length of a window.
+    pub number: u64,
+    /// How many writes it has.
+    pub writes: u32,
+    /// How many pages are written in it.
+    pub pages: u32,
+    /// How many of those pages are written in the window before too.
+    pub again: u32,
+    /// How many of those pages are written in no earlier window.
+    pub fresh: u32,
+}
+
+impl Model for Window {
+    ghost use Rattle.migration_model.specs.Windows.{WindowRow};
+
+    ghost Value = { WindowRow };
+
+    ghost view = { λ w. record { number = w.number; writes = w.writes; pages = w.pages; again = w.again; fresh = w.fresh } };
+
+    ghost inverse = { λ w. record { number = w.number; writes = w.writes; pages = w.pages; again = w.again; fresh = w.fresh } };
+}
+
+/// What is told of a trace.
+#[derive(Debug, Drop)]
+pub struct Tables {
+    /// The rows of the windows with at least one write, by rising number.
+    pub windows: Vec<Window>,
+    /// The hot pages, rising.
+    pub hot: Vec<u32>,
+}
+
+impl Model for Tables {
+    ghost use Rattle.migration_model.specs.Windows.{WorkingSets};
+
+    ghost Value = { WorkingSets };
+
+    ghost view = { λ t. record { windows = t.windows.items; hot = t.hot.items } };
+}
+
+/// What is told of a trace that is left in its bytes.
+#[derive(Debug, Drop)]
+pub struct TraceTables {
+    /// How large the trace is.
+    pub shape: Shape,
+    /// Its tables.
+    pub tables: Tables,
+}
