@@ -33,11 +33,11 @@ and_true true = refl
 and_true false = refl
 
 -- the pages of a word that was written
-here : (ws : List ℕ) (i n page : ℕ) → i < length ws → page / 64 ≡ i → in_words (set ws i n) page ≡ eqb (bit_at n (page % 64)) 1
+pub here : (ws : List ℕ) (i n page : ℕ) → i < length ws → page / 64 ≡ i → in_words (set ws i n) page ≡ eqb (bit_at n (page % 64)) 1
 here ws i n page within e = rw (e, get_or-set_same) refl
 
 -- and all other pages
-elsewhere : (ws : List ℕ) (i n page : ℕ) → page / 64 ≢ i → in_words (set ws i n) page ≡ in_words ws page
+pub elsewhere : (ws : List ℕ) (i n page : ℕ) → page / 64 ≢ i → in_words (set ws i n) page ≡ in_words ws page
 elsewhere ws i n page ne = rw get_or-set_other refl
 
 pub added : (ws : List ℕ) (i b page : ℕ) → i < length ws
@@ -64,10 +64,9 @@ removed ws i b page within fits = elim (cases_eq (page / 64) i) [
 ]
 
 -- one bit of a word is one page
-pub one_bit : (page other : ℕ) → bit_pages (page / 64) (1 * 2 ^ (page % 64) % 18_446_744_073_709_551_616) other ≡ one_page page other
-one_bit page other =
-    rw (one_shl (page % 64) 64 (mod_below page 64 (omega arith)))
-    (elim (cases_eq (other / 64) (page / 64)) [
+pub page_bit_pages : (page other : ℕ) → bit_pages (page / 64) (2 ^ (page % 64)) other ≡ one_page page other
+page_bit_pages page other =
+    elim (cases_eq (other / 64) (page / 64)) [
       | inl e ↦ elim (cases_eq (other % 64) (page % 64)) [
         | inl f ↦
             let same : other ≡ page = omega (arith, div-add-mod' other 64, div-add-mod' page 64) in
@@ -79,7 +78,14 @@ one_bit page other =
       | inr ne ↦
           let apart : other ≡ page → ⊥ = λ same. ne (ap (λ n. n / 64) same) in
           rw (ne_eqb (other / 64) (page / 64) ne) (sym (ne_eqb other page apart))
-    ])
+    ]
+
+-- the bit as a shift gives it
+pub shifted_page_bit : (page : ℕ) → 1 * 2 ^ (page % 64) % 18_446_744_073_709_551_616 ≡ 2 ^ (page % 64)
+shifted_page_bit page = one_shl (page % 64) 64 (mod_below page 64 (omega arith))
+
+pub one_bit : (page other : ℕ) → bit_pages (page / 64) (1 * 2 ^ (page % 64) % 18_446_744_073_709_551_616) other ≡ one_page page other
+one_bit page other = ap (λ n. bit_pages (page / 64) n other) (shifted_page_bit page) ∙ page_bit_pages page other
 
 -- ---- a test of some bits
 

@@ -67,7 +67,7 @@ still_held f i v n page held kept = elim (cases_eq n i) [
   | inr ne ↦ set_else f i v n page ne ∙ held
 ]
 
-cases_four : {A B C D R : Type 0} → (A → R) → (B → R) → (C → R) → (D → R) → A ⊎ (B ⊎ (C ⊎ D)) → R
+pub cases_four : {A B C D R : Type 0} → (A → R) → (B → R) → (C → R) → (D → R) → A ⊎ (B ⊎ (C ⊎ D)) → R
 cases_four a b c d (inl x) = a x
 cases_four a b c d (inr (inl x)) = b x
 cases_four a b c d (inr (inr (inl x))) = c x
@@ -84,7 +84,7 @@ pub no_page_is : (o : Option ℕ) (q : ℕ) → o ≡ None → o ≡ Some q → 
 no_page_is o q a b = absurd cc
 
 -- a page of one set that is not in another
-minus_from : (a b : Bool) → a ≡ true → (b ≡ true → ⊥) → (a && not b) ≡ true
+pub minus_from : (a b : Bool) → a ≡ true → (b ≡ true → ⊥) → (a && not b) ≡ true
 minus_from true true is none = absurd (none refl)
 minus_from true false is none = refl
 minus_from false b is none = absurd cc
@@ -105,7 +105,7 @@ stored_here core guest page place other owner e =
     ap (λ p. is_some (last_visit (put core.stores guest ((page, place) ∷ core.stores guest) (guest_of core.sizes p)) p)) e
     ∙ ap is_some (seat_visited core.stores guest page place (guest_of core.sizes page) owner)
 
-stored_still : (core : DirtyCore) (guest page place other : ℕ) → guest_of core.sizes page ≡ guest → IsTrue (is_stored core other)
+pub stored_still : (core : DirtyCore) (guest page place other : ℕ) → guest_of core.sizes page ≡ guest → IsTrue (is_stored core other)
     → IsTrue (is_stored (after core (Store guest page place)) other)
 stored_still core guest page place other owner was = elim (cases_eq other page) [
   | inl e ↦ stored_here core guest page place other owner e

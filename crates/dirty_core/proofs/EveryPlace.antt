@@ -1,5 +1,5 @@
 -- What the history tells of every page's place after each legal list of events.
-use Rattle.std.proofs.Common.{◌≡◌, ℕ, ◌<◌, List, [], ◌∷◌, refl, sym, ap, subst, ◌∙◌, inl, inr}
+use Rattle.std.proofs.Common.{◌≡◌, ℕ, ◌<◌, ◌≤◌, List, [], ◌∷◌, refl, sym, ap, subst, ◌∙◌, arith, inl, inr}
 use Rattle.std.specs.Prelude.{◌⊎◌, unwrap_or, slice_index}
 use Rattle.std.specs.List.{fold}
 use Rattle.std.proofs.lemmas.Bool.{cases_eq, eq-eqb, ne_eqb}
@@ -8,7 +8,7 @@ use Rattle.dirty_core.specs.declared.event.Event.TheVariants.{Store, Mark, Harve
 use Rattle.dirty_core.specs.declared.refusal.CoreRefusal.TheVariants.{NotOwner, OldPlace}
 use Rattle.dirty_core.specs.Start.{Start, GuestOwns, guest_of, copier_of}
 use Rattle.dirty_core.specs.Machine.{DirtyCore, Visits, last_visit, put, Needs, after}
-use Rattle.dirty_core.specs.Runs.{opened, core_after, IsLegalFrom, IsLegal, place_after, Rises, IsVisited, KnowsPlace}
+use Rattle.dirty_core.specs.Runs.{opened, core_after, IsLegalFrom, IsLegal, place_after, Rises, IsVisited, KnowsPlace, IsOverReads}
 use Rattle.dirty_core.proofs.EveryPage.{put_at, put_else, seat_visited, seat_not_visited, either}
 
 -- a place after some visits is the place before them, or that of one of them
@@ -102,3 +102,43 @@ Knows-run start core (event ∷ events) q legal known =
 pub KnowsPlace-run : (start : Start) (events : List Event) → IsLegal start events → (page : ℕ) → KnowsPlace start (core_after start events) page
 KnowsPlace-run start events legal page =
     Knows-run start (opened start) events page legal (record { place = refl; rises = tt; read = λ n visited. absurd visited })
+
+-- ---- no place read is above the current one
+
+before_below : (before : ℕ) (visits : Visits) (page : ℕ) → Rises before visits page → before ≤ place_after before visits page
+before_below before [] page rises = omega arith
+before_below before (visit ∷ others) page rises =
+    let low = before_below before others page rises.1 in
+    elim (cases_eq visit.0 page) [
+      | inl e ↦ let over = rises.0 e in rw (eq-eqb visit.0 page e) (omega (arith, low, over))
+      | inr ne ↦ rw (ne_eqb visit.0 page ne) low
+    ]
+
+visit_below : (before : ℕ) (visits : Visits) (page place : ℕ) → Rises before visits page → IsVisited visits page place → place ≤ place_after before visits page
+visit_below before [] page place rises visited = absurd visited
+visit_below before (visit ∷ others) page place rises (inl here) =
+    let is : visit.1 ≡ place = here.1 in
+    rw (eq-eqb visit.0 page here.0) (omega (arith, is))
+visit_below before (visit ∷ others) page place rises (inr there) =
+    let low = visit_below before others page place rises.1 there in
+    elim (cases_eq visit.0 page) [
+      | inl e ↦ let over = rises.0 e in rw (eq-eqb visit.0 page e) (omega (arith, low, over))
+      | inr ne ↦ rw (ne_eqb visit.0 page ne) low
+    ]
+
+pub IsOverReads-known : (start : Start) (core : DirtyCore) (page : ℕ) → KnowsPlace start core page → IsOverReads start core page
+IsOverReads-known start core page known =
+    let first : ℕ = slice_index start.places page in
+    let stores : Visits = core.stores (guest_of core.sizes page) in
+    let low = before_below first stores page known.rises in
+    let is = known.place in
+    record {
+      opening = omega (arith, low, is);
+      read = λ place visited. either
+          (λ same. let e : place ≡ first = same in omega (arith, low, is, e))
+          (λ stored. let below = visit_below first stores page place known.rises stored in omega (arith, below, is))
+          (known.read place visited);
+    }
+
+pub IsOverReads-run : (start : Start) (events : List Event) → IsLegal start events → (page : ℕ) → IsOverReads start (core_after start events) page
+IsOverReads-run start events legal page = IsOverReads-known start (core_after start events) page (KnowsPlace-run start events legal page)

@@ -146,7 +146,7 @@ none_else n i v = elim (cases_lt i n) [
   | inr past ↦ get_or_past (replicate n v) i v (rw length-replicate past)
 ]
 
-no_words : (n page : ℕ) → in_words (replicate n 0) page ≡ false
+pub no_words : (n page : ℕ) → in_words (replicate n 0) page ≡ false
 no_words n page =
     let zero_word : get_or (replicate n 0) (page / 64) 0 ≡ 0 = none_else n (page / 64) 0 in
     ap (λ x. eqb (bit_at x (page % 64)) 1) zero_word ∙ ap (λ x. eqb x 1) (bit_at-zero (page % 64))
@@ -166,7 +166,7 @@ Keeps-opened start n copiers places dirty held pending p d h q c = Keeps-from_no
 
 -- ---- the six events
 
-Needs-store : (core : DirtyCore) (guest page place : ℕ) → GuestOwns core.sizes guest page → core.pending guest ≡ None → core.place page < place
+pub Needs-store : (core : DirtyCore) (guest page place : ℕ) → GuestOwns core.sizes guest page → core.pending guest ≡ None → core.place page < place
     → Needs core (Store guest page place)
 Needs-store core guest page place owns none over NotOwner = owns
 Needs-store core guest page place owns none over Pending = none
@@ -187,7 +187,7 @@ stored k guest page place owns none over = Goes-from_moves _ _ _ _ (λ history. 
   };
 })
 
-Needs-mark : (core : DirtyCore) (guest : ℕ) → guest < core.sizes.guests → IsSome (core.pending guest) → Needs core (Mark guest)
+pub Needs-mark : (core : DirtyCore) (guest : ℕ) → guest < core.sizes.guests → IsSome (core.pending guest) → Needs core (Mark guest)
 Needs-mark core guest real some NotOwner = real
 Needs-mark core guest real some NothingPending = some
 Needs-mark core guest real some _ = tt
@@ -207,7 +207,7 @@ marked k guest page dirty real some pages = Goes-from_moves _ _ _ _ (λ history.
   };
 })
 
-Needs-harvest : (core : DirtyCore) (copier word : ℕ) → CopierOwns core.sizes copier word → Needs core (Harvest copier word)
+pub Needs-harvest : (core : DirtyCore) (copier word : ℕ) → CopierOwns core.sizes copier word → Needs core (Harvest copier word)
 Needs-harvest core copier word owns NotOwner = owns
 Needs-harvest core copier word owns _ = tt
 
@@ -232,7 +232,7 @@ harvested k copier word bits dirty held owns fits pages cleared more = Goes-from
   };
 })
 
-Needs-peek : (core : DirtyCore) (copier word : ℕ) → CopierOwns core.sizes copier word → Needs core (Peek copier word)
+pub Needs-peek : (core : DirtyCore) (copier word : ℕ) → CopierOwns core.sizes copier word → Needs core (Peek copier word)
 Needs-peek core copier word owns NotOwner = owns
 Needs-peek core copier word owns _ = tt
 
@@ -245,7 +245,7 @@ peeked k copier word bits owns fits pages = Goes-from_moves _ _ _ _ (λ history.
   now = record { sizes = refl; place = λ p. refl; marked = λ p. refl; pending = λ g. refl; held = λ c p. refl };
 })
 
-Needs-restore : (core : DirtyCore) (copier word bits : ℕ) → CopierOwns core.sizes copier word → IsWithin (bit_pages word bits) (core.held copier)
+pub Needs-restore : (core : DirtyCore) (copier word bits : ℕ) → CopierOwns core.sizes copier word → IsWithin (bit_pages word bits) (core.held copier)
     → Needs core (Restore copier word bits)
 Needs-restore core copier word bits owns within NotOwner = owns
 Needs-restore core copier word bits owns within NotHeld = within
@@ -274,7 +274,7 @@ restored k copier word bits dirty held owns within less more =
       };
     })
 
-Needs-read : (core : DirtyCore) (copier page : ℕ) → CopierOwnsPage core.sizes copier page → IsTrue (core.held copier page) → Needs core (Read copier page)
+pub Needs-read : (core : DirtyCore) (copier page : ℕ) → CopierOwnsPage core.sizes copier page → IsTrue (core.held copier page) → Needs core (Read copier page)
 Needs-read core copier page owns held NotOwner = owns
 Needs-read core copier page owns held NotHeld = held
 Needs-read core copier page owns held _ = tt

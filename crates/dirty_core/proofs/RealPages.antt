@@ -6,7 +6,7 @@ use Rattle.std.proofs.lemmas.Bool.{cases_eq, eqb-true, and_parts, or_cases}
 use Rattle.dirty_core.specs.declared.event.Event.{Event}
 use Rattle.dirty_core.specs.declared.event.Event.TheVariants.{Store, Mark, Harvest, Peek, Restore, Read}
 use Rattle.dirty_core.specs.declared.refusal.CoreRefusal.TheVariants.{NotOwner, NothingPending, NotHeld}
-use Rattle.dirty_core.specs.Pages.{PageSet, one_page, word_pages, bit_pages, union, common, minus}
+use Rattle.dirty_core.specs.Pages.{PageSet, in_words, one_page, word_pages, bit_pages, union, common, minus}
 use Rattle.dirty_core.specs.Start.{Start, IsStart, GuestOwns, sizes_of}
 use Rattle.dirty_core.specs.Machine.{DirtyCore, put, with_pending, Needs, after}
 use Rattle.dirty_core.specs.Runs.{opened, core_after, IsLegalFrom, IsLegal, IsReal}
@@ -101,3 +101,20 @@ sizes-run core (event ∷ events) = sizes-run (after core event) events ∙ size
 
 pub sizes-core_after : (start : Start) (events : List Event) → (core_after start events).sizes ≡ sizes_of start
 sizes-core_after start events = sizes-run (opened start) events
+
+-- ---- nor which pages were marked at opening
+
+at_opening-after : (core : DirtyCore) (event : Event) → (after core event).at_opening ≡ core.at_opening
+at_opening-after core (Store guest page place) = refl
+at_opening-after core (Mark guest) = refl
+at_opening-after core (Harvest copier word) = refl
+at_opening-after core (Peek copier word) = refl
+at_opening-after core (Restore copier word bits) = refl
+at_opening-after core (Read copier page) = refl
+
+at_opening-run : (core : DirtyCore) (events : List Event) → (fold after core events).at_opening ≡ core.at_opening
+at_opening-run core [] = refl
+at_opening-run core (event ∷ events) = at_opening-run (after core event) events ∙ at_opening-after core event
+
+pub at_opening-core_after : (start : Start) (events : List Event) → (core_after start events).at_opening ≡ in_words start.dirty
+at_opening-core_after start events = at_opening-run (opened start) events

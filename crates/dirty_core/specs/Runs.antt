@@ -1,5 +1,5 @@
 -- Whole runs of the dirty core, and what holds of every page after each. This project's own.
-use Rattle.std.specs.Prelude.{◌<◌, unwrap_or, ◌≡◌, ◌⊎◌, ℕ, IsTrue, List, [], ◌∷◌, Some, None, take, slice_index, slice_get}
+use Rattle.std.specs.Prelude.{◌<◌, ◌≤◌, unwrap_or, ◌≡◌, ◌⊎◌, ℕ, IsTrue, List, [], ◌∷◌, Some, None, take, slice_index, slice_get}
 use Rattle.std.specs.List.{fold}
 use Rattle.dirty_core.specs.declared.event.Event.{Event}
 use Rattle.dirty_core.specs.declared.refusal.CoreRefusal.{CoreRefusal}
@@ -78,6 +78,11 @@ pub record KnowsPlace (start : Start) (core : DirtyCore) (page : ℕ) : Type 0 w
   -- each place read is the opening's or was stored
   pub read : (place : ℕ) → IsVisited (core.reads (copier_of core.sizes page)) page place
       → (place ≡ slice_index start.places page) ⊎ IsVisited (core.stores (guest_of core.sizes page)) page place
+
+-- the place of a page is no less than the opening's, and than any at which its copier has read it
+pub record IsOverReads (start : Start) (core : DirtyCore) (page : ℕ) : Type 0 where
+  pub opening : slice_index start.places page ≤ core.place page
+  pub read : (place : ℕ) → IsVisited (core.reads (copier_of core.sizes page)) page place → place ≤ core.place page
 
 -- what else is known of one page's mark: a pending page was stored, and a returned page is marked, since its copier
 -- alone unmarks it

@@ -18,3 +18,4 @@ pub use machine::{Core, step};
 pub use opening::{MAX_PAGES, MAX_SEATS, Opening};
 pub use refusal::CoreRefusal;
 pub use running::{every_page, run};
+pub use words::ends_before;

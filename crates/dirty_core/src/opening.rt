@@ -91,4 +91,19 @@ impl Opening {
     {
         self.copiers
     }
+
+    /// The places and the marked pages, as they were given.
+    pub fn into_parts(self) -> (Vec<u32>, Vec<u64>)
+        ensures places { result.0.items ≡ self.places }
+        ensures dirty { result.1.items ≡ self.dirty }
+        ensures start { IsStart self }
+    {
+        let Opening {
+            places,
+            dirty,
+            guests: _,
+            copiers: _,
+        } = self;
+        (places, dirty)
+    }
 }

@@ -2,9 +2,10 @@
 
 ghost use Rattle.std.specs.Prelude.{◌≡◌, ℕ, List, IfOk, IfErr, OnOk};
 ghost use Rattle.dirty_core.specs.declared.event.Event.{Event as AnyEvent};
+ghost use Rattle.dirty_core.specs.Pages.{in_words};
 ghost use Rattle.dirty_core.specs.Start.{Start, IsStart, sizes_of};
 ghost use Rattle.dirty_core.specs.Kept.{Keeps, kept_sizes};
-ghost use Rattle.dirty_core.specs.Runs.{core_after, IsLegal, CaughtUp, OnlyDue, KnowsMark, KnowsPlace, IsReal, RunRefuses};
+ghost use Rattle.dirty_core.specs.Runs.{core_after, IsLegal, CaughtUp, OnlyDue, KnowsMark, KnowsPlace, IsOverReads, IsReal, RunRefuses};
 
 use crate::event::Event;
 use crate::machine::{Core, step};
@@ -44,6 +45,9 @@ pub fn every_page()
     ensures real { (start : Start) (events : List AnyEvent) → IsStart start → IsLegal start events
         → (page : ℕ) → IsReal (core_after start events) page }
     ensures sizes { (start : Start) (events : List AnyEvent) → (core_after start events).sizes ≡ sizes_of start }
+    ensures at_opening { (start : Start) (events : List AnyEvent) → (core_after start events).at_opening ≡ in_words start.dirty }
     ensures place { (start : Start) (events : List AnyEvent) → IsLegal start events
         → (page : ℕ) → KnowsPlace start (core_after start events) page }
+    ensures over { (start : Start) (events : List AnyEvent) → IsLegal start events
+        → (page : ℕ) → IsOverReads start (core_after start events) page }
 {}

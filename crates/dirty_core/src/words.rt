@@ -74,7 +74,7 @@ pub(crate) fn clear_word(words: &mut Vec<u64>, word: usize)
 }
 
 /// Whether all pages of the set are below `pages`, for which there are just as many words as they need.
-pub(crate) fn ends_before(words: &[u64], pages: usize) -> bool
+pub fn ends_before(words: &[u64], pages: usize) -> bool
     requires some { 1 ≤ pages }
     requires words { length words.now ≡ (pages + 63) / 64 }
     ensures { IsTrue result ↔ ((page : ℕ) → IsTrue (in_words words.now page) → page < pages) }

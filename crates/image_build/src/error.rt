@@ -4,13 +4,16 @@ ghost use Rattle.std.specs.Prelude.{◌≡◌};
 ghost use Rattle.image_build.specs.declared.error.ImageError.TheVariants.{Memory};
 ghost use Rattle.image_build.specs.declared.error.ReplayError.TheVariants.{Memory as OutOfMemory, Trace as OfTrace};
 
-use std::alloc::AllocError;
+use std::alloc::{AllocError, AllocFailed};
 use thiserror::Error;
 use trace_codec::TraceError;
 
 /// A refusal.
 #[derive(Clone, Copy, Debug, PartialEq, Eq, Error)]
 pub enum ImageError {
+    /// The page is in no part.
+    #[error("missing {0}")]
+    Missing(u32),
     /// A growth was refused.
     #[error("memory")]
     Memory,
@@ -20,6 +23,14 @@ impl From<AllocError> for ImageError {
     ghost from_gives = { λ _ e. e ≡ Memory };
 
     fn from(_error: AllocError) -> ImageError {
+        ImageError::Memory
+    }
+}
+
+impl<T: Drop> From<AllocFailed<T>> for ImageError {
+    ghost from_gives = { λ _ e. e ≡ Memory };
+
+    fn from(_error: AllocFailed<T>) -> ImageError {
         ImageError::Memory
     }
 }
@@ -48,15 +59,5 @@ impl From<AllocError> for ReplayError {
 
     fn from(_error: AllocError) -> ReplayError {
         ReplayError::Memory
-    }
-}
-
-impl From<ImageError> for ReplayError {
-    ghost from_gives = { λ _ f. f ≡ OutOfMemory };
-
-    fn from(error: ImageError) -> ReplayError {
-        match error {
-            ImageError::Memory => ReplayError::Memory,
-        }
     }
 }

@@ -1,8 +1,10 @@
 //! An image of a guest's memory.
 
-ghost use Rattle.std.specs.Prelude.{◌≡◌, ◌<◌, ◌↔◌, IsTrue};
+ghost use Rattle.std.specs.Prelude.{◌≡◌, ◌<◌, ◌↔◌, IsTrue, MatchResult};
 ghost use Rattle.migration_model.specs.Memory.{GuestMemory, IsMemory, memory_with, page_of};
 
+use crate::error::ImageError;
+use std::alloc::Global;
 use std::marker::Model;
 use trace_codec::Shape;
 
@@ -33,6 +35,17 @@ impl Image {
             pages,
             bytes,
         }
+    }
+
+    /// An equal image.
+    pub fn copy(&self, alloc: Global) -> Result<Image, ImageError>
+        ensures { MatchResult result (λ image. image ≡ self.now) (λ e. e ≡ ImageError.Memory) }
+    {
+        Ok(Image {
+            shift: self.shift,
+            pages: self.pages,
+            bytes: Vec::from_slice(alloc, &self.bytes)?,
+        })
     }
 
     /// The bytes of all pages.

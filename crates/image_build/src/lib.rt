@@ -1,10 +1,14 @@
-//! A guest's memory, made from a trace.
+//! A guest's memory, made from a trace or from parts.
 #![tactic(auto)]
 
 mod error;
 mod image;
+mod joining;
 mod replaying;
+#[cfg(test)]
+mod tests;
 
 pub use error::{ImageError, ReplayError};
 pub use image::Image;
+pub use joining::of_parts;
 pub use replaying::{replay, replay_before, replay_bytes, replay_view};

@@ -34,7 +34,7 @@ fn write_over(memory: &mut Vec<u8>, place: usize, bytes: &[u8])
 
 /// Memory after all writes of a trace.
 pub fn replay(alloc: Global, trace: &Trace) -> Result<Image, ImageError>
-    ensures { IfOk result (λ image. image ≡ image_of trace.now) }
+    ensures { MatchResult result (λ image. image ≡ image_of trace.now) (λ e. e ≡ ImageError.Memory) }
 {
     let shape = trace.shape();
     let mut memory = blank(alloc, shape)?;
@@ -47,7 +47,7 @@ pub fn replay(alloc: Global, trace: &Trace) -> Result<Image, ImageError>
 
 /// Memory after the writes before a tick.
 pub fn replay_before(alloc: Global, trace: &Trace, tick: u64) -> Result<Image, ImageError>
-    ensures { IfOk result (λ image. image ≡ image_before trace.now tick) }
+    ensures { MatchResult result (λ image. image ≡ image_before trace.now tick) (λ e. e ≡ ImageError.Memory) }
 {
     let shape = trace.shape();
     let mut memory = blank(alloc, shape)?;
@@ -60,8 +60,7 @@ pub fn replay_before(alloc: Global, trace: &Trace, tick: u64) -> Result<Image, I
     Ok(Image::of(shape.shift, shape.pages, memory))
 }
 
-/// Memory after all writes of a trace that is left in its bytes.
-pub fn replay_view(alloc: Global, trace: &TraceView<'_>) -> Result<Image, ImageError>
+fn view_memory(alloc: Global, trace: &TraceView<'_>) -> Result<Image, AllocError>
     ensures { IfOk result (λ image. image ≡ image_of trace.now) }
 {
     let shape = trace.shape();
@@ -71,6 +70,13 @@ pub fn replay_view(alloc: Global, trace: &TraceView<'_>) -> Result<Image, ImageE
         write_over(&mut memory, place, write.bytes);
     }
     Ok(Image::of(shape.shift, shape.pages, memory))
+}
+
+/// Memory after all writes of a trace that is left in its bytes.
+pub fn replay_view(alloc: Global, trace: &TraceView<'_>) -> Result<Image, ImageError>
+    ensures { MatchResult result (λ image. image ≡ image_of trace.now) (λ e. e ≡ ImageError.Memory) }
+{
+    Ok(view_memory(alloc, trace)?)
 }
 
 /// Memory after all writes, each put there as it is read.
@@ -106,7 +112,7 @@ fn replay_text(alloc: Global, bytes: &[u8]) -> Result<Image, ReplayError>
         return replay_reader(alloc, reader);
     }
     let trace = TraceView::parse(bytes)?;
-    Ok(replay_view(alloc, &trace)?)
+    Ok(view_memory(alloc, &trace)?)
 }
 
 /// Memory after all writes of the trace that the bytes spell, in the fastest way: no write is copied but into memory.

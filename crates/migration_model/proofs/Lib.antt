@@ -2,3 +2,9 @@ pub mod Numbers
 pub mod Writes
 pub mod Traces
 pub mod Order
+pub mod Touches
+pub mod Ranges
+pub mod Frames
+pub mod Parts
+pub mod AnyOrder
+pub mod Current

@@ -3,5 +3,10 @@ pub mod Trace
 pub mod TraceReading
 pub mod Memory
 pub mod Versions
+pub mod Frames
+pub mod Parts
+pub mod Images
 pub mod Rates
+pub mod Touches
 pub mod Windows
+pub mod Rounds

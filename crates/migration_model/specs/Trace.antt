@@ -43,9 +43,13 @@ pub record AreGuestWrites (shift pages : ℕ) (writes : List GuestWrite) : Type 
   pub each : All (IsGuestWrite shift pages) writes
   pub in_order : IsNonDecreasingBy (λ write. write.tick) writes
 
+-- the number of the last of a list, or 0 where there is none
+abbrev pub last_by : {X : Type 0} → (X → ℕ) → List X → ℕ
+last_by number xs = fold (λ last x. number x) 0 xs
+
 -- the tick of the last write, or 0 where there is none
 abbrev pub last_tick : List GuestWrite → ℕ
-last_tick writes = fold (λ tick write. write.tick) 0 writes
+last_tick writes = last_by (λ write. write.tick) writes
 
 -- a write on the trace: tick, page, offset and length, and then its bytes
 unfoldable pub write_text : GuestWrite → List ℕ

@@ -3,8 +3,15 @@
 //! A law is a function with an empty body: its contract is the law, and a call brings it into the caller's proof.
 #![tactic(auto)]
 
-ghost use Rattle.std.specs.Prelude.{◌≡◌, ℕ, List};
+ghost use Rattle.std.specs.Prelude.{◌≡◌, ◌↔◌, ◌<◌, ◌≤◌, ◌^◌, ℕ, ◌++◌, IsTrue, List, [], length, slice_index_or};
+ghost use Rattle.std.specs.List.{All, Contains};
+ghost use Rattle.migration_model.specs.Frames.{GuestShape, IsGuestShape, IsFrame, PageFrame, SpellsFrame, SpellsStream, content_of, frame_text};
+ghost use Rattle.migration_model.specs.Images.{AreCurrent, HaveFirst, memory_in};
+ghost use Rattle.migration_model.specs.Memory.{page_of};
+ghost use Rattle.migration_model.specs.Parts.{Agree, FramesAgree, GuestPart, IsPart, join, join_all, part_of, with_frame, with_frames};
 ghost use Rattle.migration_model.specs.Trace.{GuestTrace, Spells};
+ghost use Rattle.migration_model.specs.Touches.{is_written, touches_of};
+ghost use Rattle.migration_model.specs.Versions.{IsWritten, page_at};
 
 /// One trace has one spelling.
 pub fn one_spelling()
@@ -14,4 +21,63 @@ pub fn one_spelling()
 /// One text spells one trace.
 pub fn one_trace()
     ensures { (bytes : List ℕ) (s t : GuestTrace) → Spells bytes s → Spells bytes t → s ≡ t }
+{}
+
+/// The test that windows and rounds are made of says which pages are written in a range of ticks.
+#[tactic(auto, using(crate::proofs::Touches::written_is_lem))]
+pub fn written_as_a_test()
+    ensures { (trace : GuestTrace) (from to page : ℕ) → IsTrue (is_written (touches_of trace) from to page) ↔ IsWritten trace from to page }
+{}
+
+/// A page, a stamp and the bytes of the page have a spelling as a frame, and only one.
+pub fn one_frame_spelling()
+    ensures some { (shape : GuestShape) (page stamp : ℕ) (content : List ℕ)
+        → page < shape.pages → stamp ≤ shape.writes → length content ≡ 2 ^ shape.shift
+        → (frame : PageFrame) × (frame.page ≡ page) × (frame.stamp ≡ stamp) × (content_of shape frame ≡ content)
+        × SpellsFrame shape (frame_text frame) frame }
+    ensures one { (shape : GuestShape) (a b : List ℕ) (f g : PageFrame) → SpellsFrame shape a f → SpellsFrame shape b g
+        → f.page ≡ g.page → f.stamp ≡ g.stamp → content_of shape f ≡ content_of shape g → a ≡ b }
+{}
+
+/// One text spells one frame, and one stream is of one list of frames.
+pub fn one_frame()
+    ensures frame { (shape : GuestShape) (bytes : List ℕ) (f g : PageFrame) → IsGuestShape shape
+        → SpellsFrame shape bytes f → SpellsFrame shape bytes g → f ≡ g }
+    ensures stream { (shape : GuestShape) (bytes : List ℕ) (fs gs : List PageFrame) → IsGuestShape shape
+        → SpellsStream shape bytes fs → SpellsStream shape bytes gs → fs ≡ gs }
+{}
+
+/// For one shape no frame's spelling begins another's.
+pub fn no_frame_begins_another()
+    ensures { (shape : GuestShape) (a b rest : List ℕ) (f g : PageFrame) → IsGuestShape shape
+        → SpellsFrame shape a f → SpellsFrame shape b g → b ≡ a ++ rest → rest ≡ [] }
+{}
+
+/// Parts may be joined in any order, and any of them again: of parts that agree only what was joined counts. That it is
+/// associative and idempotent holds of all parts.
+pub fn parts_join_in_any_order()
+    ensures associative { (a b c : GuestPart) → join (join a b) c ≡ join a (join b c) }
+    ensures commutative { (a b : GuestPart) → Agree a b → join a b ≡ join b a }
+    ensures idempotent { (a : GuestPart) → join a a ≡ a }
+{}
+
+/// A frame that comes to a part is joined to it, as the part that has this frame's page and no other.
+pub fn frames_are_joined()
+    ensures { (part : GuestPart) (frame : PageFrame) → IsPart part → IsFrame part.shape frame
+        → with_frame part frame ≡ join part (part_of part.shape frame) }
+{}
+
+/// Frames that agree may come to a part in any order, and any of them again: only which came counts.
+pub fn frames_come_in_any_order()
+    ensures { (part : GuestPart) (fs gs : List PageFrame) → FramesAgree part.shape (fs ++ gs)
+        → All (Contains gs) fs → All (Contains fs) gs → with_frames part fs ≡ with_frames part gs }
+{}
+
+/// Honest parts that have the current copy of every page, and no later one, make memory in which each page is at its version.
+pub fn current_copies_make_memory()
+    ensures whole { (trace : GuestTrace) (shape : GuestShape) (versions : List ℕ) (parts : List GuestPart)
+        → AreCurrent trace shape versions parts → HaveFirst parts shape.pages }
+    ensures pages { (trace : GuestTrace) (shape : GuestShape) (versions : List ℕ) (parts : List GuestPart) (page : ℕ)
+        → AreCurrent trace shape versions parts → page < shape.pages
+        → page_of (memory_in (join_all shape parts)) page ≡ page_at trace page (slice_index_or versions page 0) }
 {}

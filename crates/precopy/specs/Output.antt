@@ -3,23 +3,28 @@ use Rattle.std.specs.Prelude.{◌≡◌, ℕ, List, Option, IfSome, ⊤, length}
 use Rattle.migration_model.specs.Trace.{GuestTrace, Spells}
 use Rattle.migration_model.specs.Memory.{image_of}
 use Rattle.migration_model.specs.Rates.{MigrationSettings}
+use Rattle.migration_model.specs.Rounds.{IsPlan, MigrationPlan}
+use Rattle.migration_model.specs.Touches.{touches_of}
 use Rattle.migration_model.specs.Windows.{working_sets_of}
 use Rattle.sweep_report.specs.Texts.{report_of}
-use Rattle.trace_codec.specs.Refusals.{Refuses}
+use Rattle.trace_codec.specs.Refusals.{RefusesUnlessMemory}
 use Rattle.trace_codec.specs.Source.{SourceRefuses, IsOutside}
+use Rattle.trace_codec.specs.declared.error.TraceError.TheVariants.{Memory}
 use Rattle.precopy.specs.declared.job.Job.{Job}
 use Rattle.precopy.specs.declared.job.Job.TheVariants as jobs
 use Rattle.precopy.specs.declared.job.RunError.{RunError}
 use Rattle.precopy.specs.declared.job.RunError.TheVariants as errors
 
--- the text of a report with these settings
-abbrev pub report_text_of : GuestTrace → MigrationSettings → List ℕ
-report_text_of trace settings = report_of trace.shift trace.pages (length trace.writes) settings.hot (working_sets_of trace settings)
+-- the text of a report on a trace with these settings: its working sets, and its plan
+pub record IsReport (trace : GuestTrace) (settings : MigrationSettings) (text : List ℕ) : Type 0 where
+  pub plan : MigrationPlan
+  pub is_plan : IsPlan trace.pages (touches_of trace) settings plan
+  pub text_is : text ≡ report_of trace.shift trace.pages (length trace.writes) settings.hot (working_sets_of trace.pages (touches_of trace) settings) plan
 
 -- the whole output of a job over a trace
-abbrev pub output_of : Job → GuestTrace → List ℕ
-output_of jobs.Image trace = (image_of trace).bytes
-output_of (jobs.Report settings) trace = report_text_of trace settings
+abbrev pub IsOutputOf : Job → GuestTrace → List ℕ → Type 0
+IsOutputOf jobs.Image trace output = output ≡ (image_of trace).bytes
+IsOutputOf (jobs.Report settings) trace output = IsReport trace settings output
 
 -- The output of a job for what a source held: bytes that spell a trace, and all of its bytes, where they are known.
 pub record IsOutput (known : Option (List ℕ)) (job : Job) (output : List ℕ) : Type 0 where
@@ -27,7 +32,7 @@ pub record IsOutput (known : Option (List ℕ)) (job : Job) (output : List ℕ) 
   pub trace : GuestTrace
   pub all : IfSome known (λ held. held ≡ bytes)
   pub spells : Spells bytes trace
-  pub output_is : output ≡ output_of job trace
+  pub is_output : IsOutputOf job trace output
 
 -- A trace is refused only for a cause that stands in what the source held, or for one outside of it.
 abbrev pub RefusesRun : Option (List ℕ) → RunError → Type 0
@@ -43,6 +48,12 @@ IsOutsideRun errors.Write = ⊤
 
 -- a text is refused as a trace for this, or memory ran out
 abbrev pub RefusesText : List ℕ → RunError → Type 0
-RefusesText bytes (errors.Trace e) = Refuses bytes e
+RefusesText bytes (errors.Trace e) = RefusesUnlessMemory bytes e
 RefusesText bytes errors.Memory = ⊤
 RefusesText bytes errors.Write = ⊥
+
+-- memory ran out
+abbrev pub IsWantOfMemory : RunError → Type 0
+IsWantOfMemory (errors.Trace e) = e ≡ Memory
+IsWantOfMemory errors.Memory = ⊤
+IsWantOfMemory errors.Write = ⊥

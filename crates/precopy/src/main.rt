@@ -8,6 +8,8 @@ mod running;
 mod sink;
 mod starting;
 mod test_sink;
+#[cfg(test)]
+mod tests;
 
 pub use command::WordsError;
 use command::words;
@@ -30,6 +32,3 @@ fn main(rt: HostRuntime) -> ExitCode {
     };
     ExitCode::from(status)
 }
-
-#[cfg(test)]
-mod tests;

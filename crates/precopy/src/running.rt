@@ -4,20 +4,21 @@ ghost use Rattle.std.specs.Prelude.{◌≡◌, ◌≢◌, ◌↔◌, ℕ, List, 
 ghost use Rattle.std.specs.Io.KnownBytes.{Appends, Keeps};
 ghost use Rattle.migration_model.specs.Trace.{GuestTrace, Spells};
 ghost use Rattle.migration_model.specs.Memory.{image_of};
+ghost use Rattle.migration_model.specs.Touches.{touches_in};
 ghost use Rattle.trace_codec.specs.declared.error.TraceError.TheVariants.{ReadFault};
 ghost use Rattle.image_build.specs.Replay.{RefusesReplay};
-ghost use Rattle.working_sets.specs.Reading.{RefusesTables};
 ghost use Rattle.precopy.specs.Sink.{AppendsPart};
-ghost use Rattle.precopy.specs.Output.{IsOutput, IsOutsideRun, RefusesRun, RefusesText, output_of, report_text_of};
+ghost use Rattle.precopy.specs.Output.{IsOutput, IsOutputOf, IsOutsideRun, IsReport, IsWantOfMemory, RefusesRun, RefusesText};
 
 use crate::job::{Job, RunError};
 use crate::sink::Sink;
 use image_build::{ReplayError, replay_bytes};
 use rate_limit::Settings;
+use round_planner::plan;
 use std::alloc::Global;
 use sweep_report::report_text;
-use trace_codec::{Source, read_bytes};
-use working_sets::{ReadTablesError, tables_of_bytes};
+use trace_codec::{Source, TouchLog, read_bytes};
+use working_sets::tables;
 
 /// Writes all of some bytes and flushes.
 pub(crate) fn write_out<K: Sink>(sink: &mut K, bytes: &[u8]) -> Result<(), RunError>
@@ -67,36 +68,33 @@ fn image_output(alloc: Global, bytes: &[u8]) -> Result<Vec<u8>, RunError>
     }
 }
 
-/// The same refusal, as one of a run.
-fn run_error_of_tables(error: ReadTablesError) -> RunError
-    ensures refused { (bytes : List ℕ) → RefusesTables bytes error → RefusesText bytes result }
-    ensures memory { error ≡ ReadTablesError.Memory → result ≡ RunError.Memory }
+/// The report on what is touched of a trace.
+fn report_of_log(alloc: Global, settings: &Settings, log: &TouchLog) -> Result<Vec<u8>, RunError>
+    ensures made { IfOk result (λ v. (trace : GuestTrace) → log.now ≡ touches_in trace → IsReport trace settings.now v.items) }
+    ensures memory { IfErr result (λ e. e ≡ RunError.Memory) }
 {
-    match error {
-        ReadTablesError::Trace(error) => RunError::Trace(error),
-        ReadTablesError::Memory => RunError::Memory,
-    }
+    let tables = tables(alloc, log, settings).or(Err(RunError::Memory))?;
+    let planned = plan(alloc, log, settings).or(Err(RunError::Memory))?;
+    report_text(alloc, &log.shape(), settings, &tables, &planned).or(Err(RunError::Memory))
 }
 
 /// The report on the trace that the bytes spell.
 fn report_output(alloc: Global, settings: &Settings, bytes: &[u8]) -> Result<Vec<u8>, RunError>
-    ensures made { IfOk result (λ v. (trace : GuestTrace) × Spells bytes.now trace × (v.items ≡ report_text_of trace settings.now)) }
+    ensures made { IfOk result (λ v. (trace : GuestTrace) × Spells bytes.now trace × IsReport trace settings.now v.items) }
     ensures refused { IfErr result (RefusesText bytes.now) }
-    ensures only { (trace : GuestTrace) → Spells bytes.now trace → IfErr result (λ e. e ≡ RunError.Memory) }
+    ensures only { (trace : GuestTrace) → Spells bytes.now trace → IfErr result IsWantOfMemory }
 {
-    match tables_of_bytes(alloc, bytes, settings) {
-        Ok(found) => {
-            report_text(alloc, &found.shape, settings, &found.tables).or(Err(RunError::Memory))
-        }
-        Err(error) => Err(run_error_of_tables(error)),
+    match TouchLog::parse(alloc, bytes) {
+        Ok(log) => report_of_log(alloc, settings, &log),
+        Err(refusal) => Err(RunError::Trace(refusal)),
     }
 }
 
 /// The output of a job over the trace that the bytes spell.
 fn output(alloc: Global, job: &Job, bytes: &[u8]) -> Result<Vec<u8>, RunError>
-    ensures made { IfOk result (λ v. (trace : GuestTrace) × Spells bytes.now trace × (v.items ≡ output_of job.now trace)) }
+    ensures made { IfOk result (λ v. (trace : GuestTrace) × Spells bytes.now trace × IsOutputOf job.now trace v.items) }
     ensures refused { IfErr result (RefusesText bytes.now) }
-    ensures only { (trace : GuestTrace) → Spells bytes.now trace → IfErr result (λ e. e ≡ RunError.Memory) }
+    ensures only { (trace : GuestTrace) → Spells bytes.now trace → IfErr result IsWantOfMemory }
 {
     match job {
         Job::Image => image_output(alloc, bytes),

@@ -6,7 +6,7 @@ use crate::{Job, RunError, TestSink, run, start};
 use image_build::{replay, replay_before, replay_bytes, replay_view};
 use std::alloc::{AllocError, Global};
 use std::test::Fail;
-use trace_codec::{TestSource, TraceError, TraceView, decode, read_trace};
+use trace_codec::{TestSource, Trace, TraceError, TraceView, decode, encode, read_trace};
 
 /// Pages of 16 bytes, 4 pages, 5 writes.
 static TRACE: [u8; 102] = [
@@ -217,6 +217,15 @@ fn leaves_a_beginning_where_a_write_fails(rt: HostRuntime) -> Result<(), Fail> {
     Ok(())
 }
 
+/// Slow rates, which the worked rounds have.
+static SLOW: [&str; 5] = [
+    "--min=2",
+    "--max=4",
+    "--inc=1",
+    "--threshold=1",
+    "--rounds=8",
+];
+
 /// The report over a changed trace, by the command line.
 fn report(
     alloc: Global,
@@ -237,7 +246,8 @@ fn report(
 #[test]
 fn reports_working_sets(rt: HostRuntime) -> Result<(), Fail> {
     let alloc = rt.alloc();
-    let (status, output, _) = report(alloc, changed(alloc, 102, 0, &[], &[])?, &[])?;
+    let bytes = changed(alloc, 102, 0, &[], &[])?;
+    let (status, output, _) = report(alloc, bytes, &SLOW)?;
     assert_eq!(rt; status, 0);
     assert_eq!(rt;
         output.bytes(),
@@ -247,6 +257,10 @@ window 1 writes 1 pages 1 again 1 fresh 0
 window 2 writes 2 pages 2 again 1 fresh 1
 hot 2 pages 1
 page 1
+round 0 from 0 to 2000 rate 2 pages 4 sent 4 dirtied 2
+round 1 from 2000 to 3000 rate 2 pages 2 sent 2 dirtied 2
+round 2 from 3000 to 3667 rate 3 pages 2 sent 2 dirtied 0
+stop few at 3667 pages 0 down 0 total 8
 "
             .as_bytes()
     );
@@ -260,14 +274,86 @@ hot 1 pages 3
 page 0
 page 1
 page 3
+round 0 from 0 to 4 rate 1000 pages 4 sent 4 dirtied 1
+stop few at 4 pages 1 down 1 total 5
 "
             .as_bytes()
     );
-    let (_, output, _) = report(alloc, changed(alloc, 16, 12, &[0], &[])?, &[])?;
+    let (_, output, _) = report(alloc, changed(alloc, 16, 12, &[0], &[])?, &SLOW)?;
     assert_eq!(rt;
         output.bytes(),
-        b"trace pages 4 size 16 writes 0\nhot 2 pages 0\n".as_slice()
+        "trace pages 4 size 16 writes 0
+hot 2 pages 0
+round 0 from 0 to 2000 rate 2 pages 4 sent 4 dirtied 0
+stop few at 2000 pages 0 down 0 total 4
+"
+            .as_bytes()
     );
+    Ok(())
+}
+
+#[test]
+fn reports_skipped_pages(rt: HostRuntime) -> Result<(), Fail> {
+    let alloc = rt.alloc();
+    let mut bytes = changed(alloc, 102, 0, &[], &[])?;
+    // The last two writes come a tick earlier.
+    for place in [67, 85] {
+        match bytes.get_mut(place) {
+            Some(byte) => *byte = 0xc3,
+            None => return Err("a shorter trace".into()),
+        }
+    }
+    let options = [
+        "--min=2",
+        "--max=4",
+        "--inc=1",
+        "--threshold=1",
+        "--rounds=8",
+        "--skip",
+    ];
+    let (status, output, _) = report(alloc, bytes, &options)?;
+    assert_eq!(rt; status, 0);
+    assert_eq!(rt;
+        output.bytes(),
+        "trace pages 4 size 16 writes 5
+window 0 writes 2 pages 2 again 0 fresh 2
+window 1 writes 1 pages 1 again 1 fresh 0
+window 2 writes 2 pages 2 again 1 fresh 1
+hot 2 pages 1
+page 1
+round 0 from 0 to 2000 rate 2 pages 4 sent 4 dirtied 2
+round 1 from 2000 to 2500 rate 2 pages 2 sent 1 dirtied 2
+stop fast at 2500 pages 2 down 500 total 7
+"
+            .as_bytes()
+    );
+    Ok(())
+}
+
+#[test]
+fn traces_from_writes(rt: HostRuntime) -> Result<(), Fail> {
+    let alloc = rt.alloc();
+    let trace = decode(alloc, &TRACE).ok().ok_or("a trace")?;
+    let text = encode(alloc, &trace).ok().ok_or("a spelling")?;
+    assert_eq!(rt; text.as_slice(), TRACE.as_slice());
+    let Trace {
+        shift,
+        pages,
+        writes,
+    } = trace;
+    assert_eq!(rt;
+        Trace::new(shift, 3, writes).err(),
+        Some(TraceError::PageOutOfRange(3))
+    );
+    assert_eq!(rt;
+        Trace::new(13, pages, Vec::new(alloc)).err(),
+        Some(TraceError::BadShift)
+    );
+    assert_eq!(rt;
+        Trace::new(4, 0, Vec::new(alloc)).err(),
+        Some(TraceError::BadPages)
+    );
+    assert!(rt; Trace::new(4, 1, Vec::new(alloc)).is_ok());
     Ok(())
 }
 

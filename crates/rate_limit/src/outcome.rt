@@ -22,6 +22,23 @@ pub enum Next {
     Stop(Reason),
 }
 
+impl Reason {
+    ghost use Rattle.std.specs.Prelude.{◌≡◌};
+    ghost use Rattle.migration_model.specs.Rates.{word_of};
+    ghost use Rattle.rate_limit.specs.Pacing.{reason_of};
+
+    /// The word that reports have for it: `few`, `fast` or `rounds`.
+    pub fn word(&self) -> &'static str
+        ensures { result.now ≡ word_of (reason_of self.now) }
+    {
+        match self {
+            Reason::Few => "few",
+            Reason::Fast => "fast",
+            Reason::Rounds => "rounds",
+        }
+    }
+}
+
 impl fmt::Display for Reason {
     ghost use Rattle.std.specs.Prelude.{Some};
     ghost use Rattle.migration_model.specs.Rates.{word_of};
@@ -30,10 +47,6 @@ impl fmt::Display for Reason {
     ghost output = { λ reason. Some (word_of (reason_of reason)) };
 
     fn fmt<W: fmt::Write>(&self, f: &mut fmt::Formatter<W>) -> fmt::Result {
-        match self {
-            Reason::Few => write!(f, "few"),
-            Reason::Fast => write!(f, "fast"),
-            Reason::Rounds => write!(f, "rounds"),
-        }
+        f.write_str(self.word())
     }
 }

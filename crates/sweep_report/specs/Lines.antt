@@ -1,7 +1,9 @@
 -- The lines of a report: words and numbers in turn, one space between them, and a line feed. This project's own.
-use Rattle.std.specs.Prelude.{ℕ, List, [], ◌∷◌, ◌++◌, codes}
+use Rattle.std.specs.Prelude.{ℕ, List, [], ◌∷◌, ◌++◌, length, codes}
 use Rattle.std.specs.Fmt.{decimal}
 use Rattle.std.specs.List.{flat_map}
+use Rattle.migration_model.specs.Rates.{word_of}
+use Rattle.migration_model.specs.Rounds.{PlannedRound, MigrationPlan, total_of}
 use Rattle.migration_model.specs.Windows.{WindowRow}
 
 -- some words and a number behind them
@@ -26,3 +28,14 @@ hot_line hot pages = line (field (codes "hot ") hot ∷ field (codes " pages ") 
 
 abbrev pub page_line : ℕ → List ℕ
 page_line page = line (field (codes "page ") page ∷ [])
+
+-- a round of a plan, by its number
+abbrev pub round_line : ℕ → PlannedRound → List ℕ
+round_line number round = line (field (codes "round ") number ∷ field (codes " from ") round.from ∷ field (codes " to ") round.to
+    ∷ field (codes " rate ") round.rate ∷ field (codes " pages ") (length round.pages) ∷ field (codes " sent ") (length round.sent)
+    ∷ field (codes " dirtied ") round.dirtied ∷ [])
+
+-- the end of a plan: why and when it stops, what is left then and how long that takes, and all that is sent
+abbrev pub stop_line : MigrationPlan → List ℕ
+stop_line plan = line ((codes "stop " ++ word_of plan.reason) ∷ field (codes " at ") plan.stop ∷ field (codes " pages ") (length plan.last)
+    ∷ field (codes " down ") plan.down ∷ field (codes " total ") (total_of plan) ∷ [])

@@ -1,12 +1,21 @@
 -- Whole texts, line by line. This project's own.
 use Rattle.std.specs.Prelude.{ℕ, ◌^◌, List, ◌++◌, length}
-use Rattle.std.specs.List.{flat_map}
+use Rattle.std.specs.List.{flat_map, enumerate_from}
+use Rattle.migration_model.specs.Rounds.{PlannedRound, MigrationPlan}
 use Rattle.migration_model.specs.Windows.{WorkingSets}
-use Rattle.sweep_report.specs.Lines.{trace_line, window_line, hot_line, page_line}
+use Rattle.sweep_report.specs.Lines.{trace_line, window_line, hot_line, page_line, round_line, stop_line}
 
 -- the report over working sets: what the trace is, each window with a write, and the pages that are in at least `hot` windows
 abbrev pub sets_text : ℕ → WorkingSets → List ℕ
 sets_text hot sets = flat_map window_line sets.windows ++ (hot_line hot (length sets.hot) ++ flat_map page_line sets.hot)
 
-abbrev pub report_of : ℕ → ℕ → ℕ → ℕ → WorkingSets → List ℕ
-report_of shift pages writes hot sets = trace_line pages (2 ^ shift) writes ++ sets_text hot sets
+-- the lines of some rounds, numbered from the first
+abbrev pub round_lines : List PlannedRound → List ℕ
+round_lines rounds = flat_map (λ at. round_line at.0 at.1) (enumerate_from 0 rounds)
+
+-- a plan: each of its rounds, and its end
+abbrev pub plan_text : MigrationPlan → List ℕ
+plan_text plan = round_lines plan.rounds ++ stop_line plan
+
+abbrev pub report_of : ℕ → ℕ → ℕ → ℕ → WorkingSets → MigrationPlan → List ℕ
+report_of shift pages writes hot sets plan = trace_line pages (2 ^ shift) writes ++ (sets_text hot sets ++ plan_text plan)

@@ -1,9 +1,10 @@
 //! Lines of words and numbers.
 
 ghost use Rattle.std.specs.Prelude.{◌≡◌, ◌^◌, ◌++◌, ◌∷◌, [], OnOk};
-ghost use Rattle.sweep_report.specs.Lines.{field, hot_line, page_line, trace_line, window_line};
+ghost use Rattle.sweep_report.specs.Lines.{field, hot_line, page_line, round_line, stop_line, trace_line, window_line};
 
 use itoa::Buffer;
+use round_planner::{Plan, Round};
 use std::alloc::AllocError;
 use trace_codec::Shape;
 use working_sets::Window;
@@ -69,5 +70,33 @@ pub(crate) fn push_page(text: &mut Vec<u8>, page: u32) -> Result<(), AllocError>
     ensures { OnOk result (text.new.items ≡ text.old.items ++ page_line page) }
 {
     push_field(text, "page ", page as u64)?;
+    end_line(text)
+}
+
+/// Adds the line on a round of a plan.
+pub(crate) fn push_round(text: &mut Vec<u8>, number: usize, round: &Round) -> Result<(), AllocError>
+    ensures { OnOk result (text.new.items ≡ text.old.items ++ round_line number round.now) }
+{
+    push_field(text, "round ", number as u64)?;
+    push_field(text, " from ", round.from)?;
+    push_field(text, " to ", round.to)?;
+    push_field(text, " rate ", round.rate)?;
+    push_field(text, " pages ", round.pages.len() as u64)?;
+    push_field(text, " sent ", round.sent.len() as u64)?;
+    push_field(text, " dirtied ", round.dirtied as u64)?;
+    end_line(text)?;
+    Ok(())
+}
+
+/// Adds the line on the end of a plan.
+pub(crate) fn push_stop(text: &mut Vec<u8>, plan: &Plan) -> Result<(), AllocError>
+    ensures { OnOk result (text.new.items ≡ text.old.items ++ stop_line plan.now) }
+{
+    text.extend_from_slice("stop ".as_bytes())?;
+    text.extend_from_slice(plan.reason.word().as_bytes())?;
+    push_field(text, " at ", plan.stop)?;
+    push_field(text, " pages ", plan.last.len() as u64)?;
+    push_field(text, " down ", plan.down)?;
+    push_field(text, " total ", plan.total())?;
     end_line(text)
 }

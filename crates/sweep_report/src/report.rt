@@ -3,11 +3,12 @@
 ghost use Rattle.std.specs.Prelude.{◌≡◌, ◌++◌, IfOk, OnOk};
 ghost use Rattle.std.specs.List.{flat_map};
 ghost use Rattle.sweep_report.specs.Lines.{page_line, window_line};
-ghost use Rattle.sweep_report.specs.Texts.{report_of};
+ghost use Rattle.sweep_report.specs.Texts.{report_of, round_lines};
 
 use crate::error::SweepError;
-use crate::lines::{push_hot, push_page, push_trace, push_window};
+use crate::lines::{push_hot, push_page, push_round, push_stop, push_trace, push_window};
 use rate_limit::Settings;
+use round_planner::{Plan, Round};
 use std::alloc::{AllocError, Global};
 use trace_codec::Shape;
 use working_sets::{Tables, Window};
@@ -32,20 +33,33 @@ fn push_pages(text: &mut Vec<u8>, pages: &[u32]) -> Result<(), AllocError>
     Ok(())
 }
 
-/// The text of a report on the working sets of a trace of this shape: ASCII, a line for each window with a write and for
-/// each hot page.
+/// Adds a line for each round.
+fn push_rounds(text: &mut Vec<u8>, rounds: &[Round]) -> Result<(), AllocError>
+    ensures { OnOk result (text.new.items ≡ text.old.items ++ round_lines rounds.now) }
+{
+    for (number, round) in rounds.iter().enumerate() {
+        push_round(text, number, round)?;
+    }
+    Ok(())
+}
+
+/// The text of a report on the working sets and the plan of a trace of this shape: ASCII, a line for each window with a
+/// write, for each hot page and for each round, and one for the stop.
 pub fn report_text(
     alloc: Global,
     shape: &Shape,
     settings: &Settings,
     tables: &Tables,
+    plan: &Plan,
 ) -> Result<Vec<u8>, SweepError>
-    ensures { IfOk result (λ text. text.items ≡ report_of shape.now.shift shape.now.pages shape.now.writes settings.now.hot tables.now) }
+    ensures { IfOk result (λ text. text.items ≡ report_of shape.now.shift shape.now.pages shape.now.writes settings.now.hot tables.now plan.now) }
 {
     let mut text = Vec::new(alloc);
     push_trace(&mut text, shape)?;
     push_windows(&mut text, &tables.windows)?;
     push_hot(&mut text, settings.asked().hot, tables.hot.len())?;
     push_pages(&mut text, &tables.hot)?;
+    push_rounds(&mut text, &plan.rounds)?;
+    push_stop(&mut text, plan)?;
     Ok(text)
 }

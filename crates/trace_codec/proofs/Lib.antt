@@ -4,3 +4,5 @@ pub mod Found
 pub mod Never
 pub mod Sources
 pub mod Readers
+pub mod Spelling
+pub mod Made

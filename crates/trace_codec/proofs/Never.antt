@@ -1,5 +1,5 @@
 -- No spelling of a trace is refused.
-use Rattle.std.proofs.Common.{◌≡◌, ℕ, ◌+◌, ◌^◌, ◌<◌, ◌≤◌, Bool, false, cond, not, ◌&&◌, leb, eqb, List, [], ◌∷◌, ◌++◌, length, get_or, drop, Option, Some, None, Result, Ok, Err, refl, sym, ap, subst, ◌∙◌, arith}
+use Rattle.std.proofs.Common.{◌≡◌, ℕ, ◌+◌, ◌^◌, ◌<◌, ◌≤◌, Bool, false, cond, not, ◌&&◌, leb, eqb, List, [], ◌∷◌, ◌++◌, length, get_or, drop, Option, Some, None, Result, Ok, Err, refl, sym, ap, subst, ◌∙◌, inl, inr, arith}
 use Rattle.std.specs.Prelude.{IfOk, IfErr}
 use Rattle.std.specs.Int.{w32}
 use Rattle.std.specs.List.{flat_map}
@@ -7,14 +7,15 @@ use Rattle.std.proofs.lemmas.Bool.{le-ltb, le-leb, lt-leb, ne_eqb}
 use Rattle.std.proofs.lemmas.List.{get_or_at, length-append, nil_from_length}
 use Rattle.std.proofs.lemmas.List.Elements.{All-same}
 use Rattle.std.specs.List.Sorted.{IsNonDecreasingBy}
-use Rattle.migration_model.proofs.Order.{last_tick-le, in_order-front}
+use Rattle.migration_model.proofs.Order.{last_by-le, in_order-front}
 use Rattle.migration_model.specs.Numbers.{text_of, number_in}
 use Rattle.migration_model.specs.Trace.{GuestWrite, GuestTrace, IsGuestSize, IsGuestWrite, write_text, header_text, trace_text, last_tick, Spells}
 use Rattle.migration_model.specs.TraceReading.{tick_in, page_in, offset_in, length_in, write_in}
 use Rattle.migration_model.proofs.Writes.{HasPlaces, HasPlaces-from_guest, write_again, len_again, length-write_text, front_writes}
 use Rattle.migration_model.proofs.Traces.{spelling_reads_back, shift_again, pages_again, count_again, body_again, AllHavePlaces, one_trace_lem}
-use Rattle.trace_codec.specs.Refusals.{is_magic, header_refusal, write_refusal, Begins, Refuses, in_header, in_write, behind}
+use Rattle.trace_codec.specs.Refusals.{is_magic, header_refusal, write_refusal, Begins, Refuses, RefusesUnlessMemory, in_header, in_write, behind}
 use Rattle.trace_codec.specs.declared.error.TraceError.{TraceError}
+use Rattle.trace_codec.specs.declared.error.TraceError.TheVariants.{Memory}
 
 -- a test that lets something pass
 passes : (b : Bool) (e : TraceError) (others : Option TraceError) → b ≡ false → others ≡ None → cond b (Some e) others ≡ None
@@ -97,7 +98,7 @@ next_passes bytes trace b spells shift pages (write ∷ others) writes rest more
     let size : IsGuestSize b.shift b.pages = b.size in
     rw rest (write_passes b.shift b.pages (last_tick b.writes) (length b.writes) write (flat_map write_text others)
     (HasPlaces-from_guest b.shift b.pages write size fits) fits
-    (last_tick-le write.tick b.writes (in_order-front b.writes write others order)))
+    (last_by-le (λ w. w.tick) write.tick b.writes (in_order-front (λ w. w.tick) b.writes write others order)))
 
 pub never_refused : (bytes : List ℕ) (trace : GuestTrace) (e : TraceError) → Spells bytes trace → Refuses bytes e → ⊥
 never_refused bytes trace e spells (in_header is) = absurd (cc (header_passes bytes trace spells))
@@ -115,3 +116,10 @@ pub is_only : (bytes : List ℕ) (r : Result GuestTrace TraceError) → IfOk r (
     → (trace : GuestTrace) → Spells bytes trace → r ≡ Ok trace
 is_only bytes (Ok found) spells refused trace is = ap (λ t. Ok t) (one_trace_lem bytes found trace spells is)
 is_only bytes (Err e) spells refused trace is = absurd (never_refused bytes trace e is refused)
+
+-- so of a spelled trace nothing but memory is refused
+pub only_memory : {X : Type 0} (bytes : List ℕ) (r : Result X TraceError) → IfErr r (RefusesUnlessMemory bytes)
+    → (trace : GuestTrace) → Spells bytes trace → IfErr r (λ e. e ≡ Memory)
+only_memory bytes (Ok found) refused trace is = tt
+only_memory bytes (Err e) (inl memory) trace is = memory
+only_memory bytes (Err e) (inr refused) trace is = absurd (never_refused bytes trace e is refused)

@@ -7,7 +7,7 @@ use Rattle.std.proofs.lemmas.Bool.{eqb-false, ltb-false, leb-false}
 use Rattle.migration_model.specs.Trace.{IsGuestWrite}
 use Rattle.migration_model.specs.TraceReading.{tick_in, offset_in, length_in, write_in, rest_after, writes_in, rest_of}
 use Rattle.migration_model.proofs.Writes.{writes_in_more, rest_of_more}
-use Rattle.migration_model.proofs.Order.{last_tick-push, in_order-push}
+use Rattle.migration_model.proofs.Order.{last_by-push, in_order-push}
 use Rattle.trace_codec.specs.Reading.{HoldsWrites, ReadsTo}
 use Rattle.trace_codec.specs.Refusals.{write_refusal}
 use Rattle.trace_codec.specs.declared.error.TraceError.{TraceError}
@@ -62,9 +62,9 @@ ReadsTo-more shift pages n bytes last rest so_far right =
       holds = rw add-one (HoldsWrites-next n bytes so_far.holds (rw so_far.rest_is at right.whole));
       fit = rw here (record {
         each = All-push (IsGuestWrite shift pages) (writes_in n bytes) (write_in rest) so_far.fit.each right.fits;
-        in_order = in_order-push (writes_in n bytes) (write_in rest) so_far.fit.in_order below;
+        in_order = in_order-push (λ w. w.tick) (writes_in n bytes) (write_in rest) so_far.fit.in_order below;
       });
-      last_is = rw here (sym (last_tick-push (writes_in n bytes) (write_in rest)));
+      last_is = rw here (sym (last_by-push (λ w. w.tick) (writes_in n bytes) (write_in rest)));
       below = rw here (All-push (λ w. w.tick ≤ tick_in rest) (writes_in n bytes) (write_in rest) below (omega arith));
       rest_is = ap rest_after so_far.rest_is ∙ sym (rest_of_more n bytes);
     }

@@ -1,9 +1,9 @@
 -- Why bytes are refused as a trace: the first cause that stands in them. This project's own.
-use Rattle.std.specs.Prelude.{◌≡◌, ◌<◌, ◌≤◌, ℕ, ◌+◌, ◌^◌, ◌==◌, ◌&&◌, ◌⊎◌, nat_lt, nat_le, not, Bool, if◌then◌else◌, List, ◌++◌, length, drop, slice_index, Option, Some, None}
+use Rattle.std.specs.Prelude.{◌≡◌, ◌<◌, ◌≤◌, ℕ, ◌+◌, ◌^◌, ◌==◌, ◌&&◌, ◌⊎◌, nat_lt, nat_le, not, Bool, if◌then◌else◌, List, ◌∷◌, ◌++◌, length, drop, slice_index, Option, Some, None}
 use Rattle.std.specs.Int.{w32}
 use Rattle.std.specs.List.{flat_map}
 use Rattle.migration_model.specs.Numbers.{number_in}
-use Rattle.migration_model.specs.Trace.{GuestWrite, IsGuestSize, AreGuestWrites, last_tick, header_text, write_text}
+use Rattle.migration_model.specs.Trace.{GuestWrite, GuestTrace, IsGuestSize, AreGuestWrites, last_tick, header_text, write_text, trace_text}
 use Rattle.migration_model.specs.TraceReading.{tick_in, page_in, offset_in, length_in}
 use Rattle.trace_codec.specs.declared.error.TraceError.{TraceError}
 use Rattle.trace_codec.specs.declared.error.TraceError.TheVariants.{TooLong, ShortHeader, BadMagic, BadVersion, BadShift, BadReserved, BadPages, TooManyWrites, ShortRecord, TickOrder, TickTooLarge, PageOutOfRange, EmptyWrite, OutOfPage, TrailingBytes, Memory}
@@ -61,3 +61,43 @@ pub data Refuses (bytes : List ℕ) (e : TraceError) : Type 0 where
 -- memory ran out, or that is the cause
 abbrev pub RefusesUnlessMemory : List ℕ → TraceError → Type 0
 RefusesUnlessMemory bytes e = (e ≡ Memory) ⊎ Refuses bytes e
+
+-- ---- of a trace that is not spelled yet
+
+-- what the sizes of a trace are refused for, whose spelling is short enough or not
+abbrev pub sizes_refusal : Bool → ℕ → ℕ → ℕ → Option TraceError
+sizes_refusal short shift pages writes =
+    if not short then Some TooLong
+    else (if not (nat_le 4 shift && nat_le shift 12) then Some BadShift
+    else (if not (nat_le 1 pages && nat_le pages 65_536) then Some BadPages
+    else (if nat_lt (2 ^ 20) writes then Some TooManyWrites
+    else None)))
+
+-- the spelling of a trace is no longer than one may be
+abbrev pub is_short : GuestTrace → Bool
+is_short trace = nat_le (length (trace_text trace)) (2 ^ 28)
+
+-- what a write is refused for: write i of a guest of this size, the one before at this tick
+abbrev pub record_refusal : ℕ → ℕ → ℕ → ℕ → GuestWrite → Option TraceError
+record_refusal shift pages before i write =
+    if nat_lt write.tick before then Some (TickOrder i)
+    else (if nat_le (2 ^ 40) write.tick then Some (TickTooLarge i)
+    else (if nat_le pages write.page then Some (PageOutOfRange i)
+    else (if length write.bytes == 0 then Some (EmptyWrite i)
+    else (if nat_lt (2 ^ shift) (write.offset + length write.bytes) then Some (OutOfPage i)
+    else None))))
+
+-- the first write that is refused, all before it being right
+pub record RefusesRecord (shift pages : ℕ) (writes : List GuestWrite) (e : TraceError) : Type 0 where
+  pub before : List GuestWrite
+  pub write : GuestWrite
+  pub after : List GuestWrite
+  pub parts : writes ≡ before ++ write ∷ after
+  pub fit : AreGuestWrites shift pages before
+  pub refused : record_refusal shift pages (last_tick before) (length before) write ≡ Some e
+
+-- the first cause that stands in a trace: in its sizes, or in a write
+pub data RefusesTrace (trace : GuestTrace) (e : TraceError) : Type 0 where
+  in_sizes : sizes_refusal (is_short trace) trace.shift trace.pages (length trace.writes) ≡ Some e → RefusesTrace trace e
+  in_record : sizes_refusal (is_short trace) trace.shift trace.pages (length trace.writes) ≡ None
+      → RefusesRecord trace.shift trace.pages trace.writes e → RefusesTrace trace e

@@ -1,7 +1,9 @@
 //! Traces of guest writes: their format read from bytes and from a source of bytes.
 #![tactic(auto)]
 
+mod building;
 mod decoding;
+mod encoding;
 mod error;
 mod fields;
 mod reader;
@@ -10,11 +12,14 @@ mod records;
 mod shape;
 mod source;
 mod test_source;
+mod timeline;
+mod touch_log;
 mod trace;
 mod view;
 mod write;
 
 pub use decoding::decode;
+pub use encoding::encode;
 pub use error::TraceError;
 pub use reader::TraceReader;
 pub use reading::{read_bytes, read_trace};
@@ -22,6 +27,8 @@ pub use records::Records;
 pub use shape::Shape;
 pub use source::{FromRead, Source};
 pub use test_source::TestSource;
+pub use timeline::{Timeline, Touch};
+pub use touch_log::TouchLog;
 pub use trace::Trace;
 pub use view::TraceView;
 pub use write::{Write, WriteView};

@@ -1,8 +1,11 @@
 //! A trace that owns its writes.
 
-ghost use Rattle.std.specs.Prelude.{◌≡◌, length};
+ghost use Rattle.std.specs.Prelude.{◌≡◌, length, IfErr, IfOk, IsOk};
 ghost use Rattle.migration_model.specs.Trace.{GuestTrace, IsTrace, trace_with};
+ghost use Rattle.trace_codec.specs.Refusals.{RefusesTrace};
 
+use crate::building::check_trace;
+use crate::error::TraceError;
 use crate::shape::Shape;
 use crate::write::Write;
 use std::marker::Model;
@@ -25,6 +28,22 @@ impl Model for Trace {
 }
 
 impl Trace {
+    /// A trace of these writes. It is refused for `E15` where its spelling would be too long, then for its sizes (`E4`,
+    /// `E6`, `E7`) and then record by record (`E9` to `E13`); records count from 0. It takes no memory.
+    pub fn new(shift: u8, pages: u32, writes: Vec<Write>) -> Result<Trace, TraceError>
+        ensures made { IfOk result (λ trace. trace ≡ trace_with shift pages writes.items) }
+        ensures valid { IfOk result IsTrace }
+        ensures refused { IfErr result (RefusesTrace (trace_with shift pages writes.items)) }
+        ensures accepted { IsTrace (trace_with shift pages writes.items) → IsOk result }
+    {
+        check_trace(shift, pages, &writes)?;
+        Ok(Trace {
+            shift,
+            pages,
+            writes,
+        })
+    }
+
     /// How large the trace is.
     pub fn shape(&self) -> Shape
         ensures shift { result.shift ≡ self.now.shift }

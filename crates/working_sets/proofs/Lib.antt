@@ -7,4 +7,3 @@ pub mod Pass
 pub mod Kept
 pub mod Whole
 pub mod OtherWords
-pub mod Readings

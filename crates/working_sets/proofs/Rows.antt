@@ -5,7 +5,7 @@ use Rattle.std.proofs.Math.Nat.{mul-le-mul_right}
 use Rattle.std.proofs.lemmas.Bool.{cases_eq, eq-eqb, ne_eqb, and_left, and_right}
 use Rattle.std.proofs.lemmas.List.Sums.{sum_by_push, sum_by-le, count_by-le-length}
 use Rattle.std.proofs.lemmas.List.Elements.{All-weaker}
-use Rattle.migration_model.specs.Trace.{GuestWrite}
+use Rattle.migration_model.specs.Touches.{GuestTouch}
 use Rattle.migration_model.specs.Windows.{WindowRow, row_of}
 use Rattle.working_sets.specs.Counting.{blank, counted, one_if}
 use Rattle.working_sets.proofs.Counts.{count_change, count_none, count_le}
@@ -67,7 +67,7 @@ counts_back this before earlier j last in_this in_before in_earlier low nonzero 
       fresh = rw (in_this, some, in_earlier) refl;
     }
 
-pub counts_at : (w j page last : ℕ) (writes : List GuestWrite) → IsLast w writes page last → last ≤ j + 1
+pub counts_at : (w j page last : ℕ) (writes : List GuestTouch) → IsLast w writes page last → last ≤ j + 1
     → Counts (hits (in_window w j) page writes) (hits (in_window_before w j) page writes) (hits (in_earlier_window w j) page writes) j last
 counts_at w j page last writes is low = elim (cases_eq last (j + 1)) [
   | inl same ↦ counts_already _ _ _ j last (hits_already w j page last writes is same) same
@@ -87,7 +87,7 @@ counts_at w j page last writes is low = elim (cases_eq last (j + 1)) [
 ]
 
 -- one write more in window j
-pub row_of-push : (w pages j last : ℕ) (writes : List GuestWrite) (write : GuestWrite) → in_window w j write.tick ≡ true → write.page < pages
+pub row_of-push : (w pages j last : ℕ) (writes : List GuestTouch) (write : GuestTouch) → in_window w j write.tick ≡ true → write.page < pages
     → IsLast w writes write.page last → last ≤ j + 1 → row_of (writes ++ write ∷ []) pages w j ≡ counted (row_of writes pages w j) last
 unfolding row_of
 row_of-push w pages j last writes write inside below is low =
@@ -107,7 +107,7 @@ row_of-push w pages j last writes write inside below is low =
     let other_earlier : (p : ℕ) → (p ≡ page → ⊥) → hits (in_earlier_window w j) p more ≡ hits (in_earlier_window w j) p writes =
     λ p apart. hits_push_other (in_earlier_window w j) p writes write (λ e. apart (sym e)) in
     let count_writes : count_by (λ x. in_window w j x.tick) more ≡ count_by (λ x. in_window w j x.tick) writes + one_if (in_window w j write.tick) =
-    sum_by_push (λ (x : GuestWrite). cond (in_window w j x.tick) 1 0) writes write in
+    sum_by_push (λ (x : GuestTouch). cond (in_window w j x.tick) 1 0) writes write in
     let count_pages = count_change (λ p. hits (in_window w j) p writes) (λ p. hits (in_window w j) p more) 0 pages page (omega arith) (omega arith) other_this in
     let count_again = count_change (λ p. hits (in_window w j) p writes && hits (in_window_before w j) p writes)
     (λ p. hits (in_window w j) p more && hits (in_window_before w j) p more) 0 pages page (omega arith) (omega arith)
@@ -128,7 +128,7 @@ row_of-push w pages j last writes write inside below is low =
     (omega (arith, count_fresh, one_fresh, adds.fresh))
 
 -- one write more behind window j
-pub row_of_past : (w pages j : ℕ) (writes : List GuestWrite) (write : GuestWrite) → (j + 1) * w ≤ write.tick
+pub row_of_past : (w pages j : ℕ) (writes : List GuestTouch) (write : GuestTouch) → (j + 1) * w ≤ write.tick
     → row_of (writes ++ write ∷ []) pages w j ≡ row_of writes pages w j
 unfolding row_of
 row_of_past w pages j writes write late =
@@ -141,7 +141,7 @@ row_of_past w pages j writes write late =
     let earlier : (p : ℕ) → hits (in_earlier_window w j) p more ≡ hits (in_earlier_window w j) p writes =
     λ p. hits_push_out (in_earlier_window w j) p writes write (above_earlier_window w j write.tick (omega arith)) in
     let count_writes : count_by (λ x. in_window w j x.tick) more ≡ count_by (λ x. in_window w j x.tick) writes + one_if (in_window w j write.tick) =
-    sum_by_push (λ (x : GuestWrite). cond (in_window w j x.tick) 1 0) writes write in
+    sum_by_push (λ (x : GuestTouch). cond (in_window w j x.tick) 1 0) writes write in
     let none : one_if (in_window w j write.tick) ≡ 0 = ap one_if (above_window w j write.tick late) in
     same_row _ _ refl
     (omega (arith, count_writes, none))
@@ -149,16 +149,16 @@ row_of_past w pages j writes write late =
     (λ i. count_by (λ p. this p i && before p i) (range_with_len 0 pages))
     (λ i. count_by (λ p. this p i && not (earlier p i)) (range_with_len 0 pages))
 
-count_by_none : (test : GuestWrite → Bool) (writes : List GuestWrite) → All (λ x. test x ≡ false) writes → count_by test writes ≡ 0
+count_by_none : (test : GuestTouch → Bool) (writes : List GuestTouch) → All (λ x. test x ≡ false) writes → count_by test writes ≡ 0
 count_by_none test writes fails =
-    let one : GuestWrite → ℕ = λ x. cond (test x) 1 0 in
+    let one : GuestTouch → ℕ = λ x. cond (test x) 1 0 in
     let small : All (λ x. cond (test x) 1 0 ≤ 0) writes =
     All-weaker (λ x. test x ≡ false) (λ x. cond (test x) 1 0 ≤ 0) (λ x fail. let zero : one_if (test x) ≡ 0 = ap one_if fail in omega arith) writes fails in
     let bound : sum_by one writes ≤ length writes * 0 = sum_by-le one 0 writes small in
     omega arith
 
 -- a window behind all writes
-pub row_of_behind : (w pages j : ℕ) (writes : List GuestWrite) → All (λ x. x.tick < j * w) writes → row_of writes pages w j ≡ blank j
+pub row_of_behind : (w pages j : ℕ) (writes : List GuestTouch) → All (λ x. x.tick < j * w) writes → row_of writes pages w j ≡ blank j
 unfolding row_of
 row_of_behind w pages j writes before =
     let out : All (λ x. in_window w j x.tick ≡ false) writes =
@@ -177,7 +177,7 @@ pub record IsSmall (writes pages : ℕ) (row : WindowRow) : Type 0 where
   pub again_high : row.again ≤ pages
   pub fresh_high : row.fresh ≤ pages
 
-pub IsSmall-row_of : (w pages j : ℕ) (writes : List GuestWrite) → IsSmall (length writes) pages (row_of writes pages w j)
+pub IsSmall-row_of : (w pages j : ℕ) (writes : List GuestTouch) → IsSmall (length writes) pages (row_of writes pages w j)
 unfolding row_of
 IsSmall-row_of w pages j writes = record {
   writes_high = count_by-le-length (λ x. in_window w j x.tick) writes;

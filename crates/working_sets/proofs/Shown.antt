@@ -7,7 +7,8 @@ use Rattle.std.proofs.lemmas.Nat.{le-div, div_below}
 use Rattle.std.proofs.lemmas.List.{append-nil, get_or-set_same, get_or-set_other, get_or-replicate, length-set, length-replicate}
 use Rattle.std.proofs.lemmas.List.Elements.{All-nil, All-push, All-weaker}
 use Rattle.std.proofs.lemmas.List.FromFn.{filter_of_map_range_with_len_more}
-use Rattle.migration_model.specs.Trace.{GuestWrite, last_tick}
+use Rattle.migration_model.specs.Trace.{last_by}
+use Rattle.migration_model.specs.Touches.{GuestTouch}
 use Rattle.migration_model.specs.Windows.{WindowRow, row_of, rows_of, windows_with}
 use Rattle.working_sets.specs.Counting.{PageMark, Counting, blank, unmarked, one_if, with_row, counted, marked, mark_of, turned, written, started}
 use Rattle.working_sets.proofs.Counts.{count_agree, count_change, count_extend, map_agree, filter_extend}
@@ -20,20 +21,20 @@ abbrev pub has_write : WindowRow → Bool
 has_write row = leb 1 row.writes
 
 -- the rows with a write of the first n windows
-abbrev pub rows_below : List GuestWrite → ℕ → ℕ → ℕ → List WindowRow
+abbrev pub rows_below : List GuestTouch → ℕ → ℕ → ℕ → List WindowRow
 rows_below writes pages w n = filter has_write (map (row_of writes pages w) (range_with_len 0 n))
 
 -- in how many of the first n windows a page is
-abbrev pub windows_below : List GuestWrite → ℕ → ℕ → ℕ → ℕ
+abbrev pub windows_below : List GuestTouch → ℕ → ℕ → ℕ → ℕ
 windows_below writes w page n = count_by (λ i. hits (in_window w i) page writes) (range_with_len 0 n)
 
 -- what a page's mark says, the window of this number being open
-pub record IsMark (w : ℕ) (writes : List GuestWrite) (number page : ℕ) (mark : PageMark) : Type 0 where
+pub record IsMark (w : ℕ) (writes : List GuestTouch) (number page : ℕ) (mark : PageMark) : Type 0 where
   pub last : IsLast w writes page mark.last
   pub low : mark.last ≤ number + 1
   pub windows : mark.windows ≡ windows_below writes w page (number + 1)
 
-pub record Shows (pages : ℕ) (done : List GuestWrite) (s : Counting) : Type 0 where
+pub record Shows (pages : ℕ) (done : List GuestTouch) (s : Counting) : Type 0 where
   pub some : 1 ≤ s.window
   pub end_is : s.end ≡ (s.row.number + 1) * s.window
   pub below : All (λ x. x.tick < (s.row.number + 1) * s.window) done
@@ -48,8 +49,8 @@ pub Shows_start : (w pages : ℕ) → 1 ≤ w → Shows pages [] (started w page
 Shows_start w pages some = record {
   some = some;
   end_is = omega arith;
-  below = All-nil (λ (x : GuestWrite). x.tick < (0 + 1) * w);
-  row_is = sym (row_of_behind w pages 0 [] (All-nil (λ (x : GuestWrite). x.tick < 0 * w)));
+  below = All-nil (λ (x : GuestTouch). x.tick < (0 + 1) * w);
+  row_is = sym (row_of_behind w pages 0 [] (All-nil (λ (x : GuestTouch). x.tick < 0 * w)));
   rows_are = refl;
   len = length-replicate pages unmarked;
   each = λ page d low. rw (get_or-replicate pages page unmarked d low) (record { last = IsLast_none w page; low = omega arith; windows = refl });
@@ -58,12 +59,12 @@ Shows_start w pages some = record {
 -- ---- a window closes
 
 -- windows behind all writes have no write, and no page
-behind : (w n i : ℕ) (writes : List GuestWrite) → All (λ x. x.tick < (n + 1) * w) writes → n + 1 ≤ i → All (λ x. x.tick < i * w) writes
+behind : (w n i : ℕ) (writes : List GuestTouch) → All (λ x. x.tick < (n + 1) * w) writes → n + 1 ≤ i → All (λ x. x.tick < i * w) writes
 behind w n i writes below low =
     let mono : (n + 1) * w ≤ i * w = mul-le-mul_right w low in
     All-weaker (λ x. x.tick < (n + 1) * w) (λ x. x.tick < i * w) (λ x early. omega arith) writes below
 
-no_page_behind : (w n i page : ℕ) (writes : List GuestWrite) → All (λ x. x.tick < (n + 1) * w) writes → n + 1 ≤ i → hits (in_window w i) page writes ≡ false
+no_page_behind : (w n i page : ℕ) (writes : List GuestTouch) → All (λ x. x.tick < (n + 1) * w) writes → n + 1 ≤ i → hits (in_window w i) page writes ≡ false
 no_page_behind w n i page writes below low =
     hits_past (in_window w i) page writes
     (All-weaker (λ x. x.tick < i * w) (λ x. in_window w i x.tick ≡ false) (λ x early. below_window w i x.tick early) writes (behind w n i writes below low))
@@ -73,7 +74,7 @@ cond-append true xs ys = refl
 cond-append false xs ys = sym (append-nil xs)
 
 -- the rows up to the open window, with it
-pub rows_closed : (w pages n m : ℕ) (writes : List GuestWrite) (rows : List WindowRow) (row : WindowRow) → All (λ x. x.tick < (n + 1) * w) writes → n + 1 ≤ m
+pub rows_closed : (w pages n m : ℕ) (writes : List GuestTouch) (rows : List WindowRow) (row : WindowRow) → All (λ x. x.tick < (n + 1) * w) writes → n + 1 ≤ m
     → row ≡ row_of writes pages w n → rows ≡ rows_below writes pages w n → with_row rows row ≡ rows_below writes pages w m
 rows_closed w pages n m writes rows row below low row_is rows_are =
     let none : (i : ℕ) → n + 1 ≤ i → has_write (row_of writes pages w i) ≡ false =
@@ -95,7 +96,7 @@ late s tick = record s {
   row = blank (tick / s.window);
 }
 
-Shows_late : (pages tick : ℕ) (done : List GuestWrite) (s : Counting) → Shows pages done s → s.end ≤ tick → Shows pages done (late s tick)
+Shows_late : (pages tick : ℕ) (done : List GuestTouch) (s : Counting) → Shows pages done s → s.end ≤ tick → Shows pages done (late s tick)
 unfolding late
 Shows_late pages tick done s shows past =
     let w = s.window in
@@ -122,7 +123,7 @@ Shows_late pages tick done s shows past =
           };
     }
 
-pub Shows_turned : (pages tick : ℕ) (done : List GuestWrite) (s : Counting) → Shows pages done s → Shows pages done (turned s tick)
+pub Shows_turned : (pages tick : ℕ) (done : List GuestTouch) (s : Counting) → Shows pages done s → Shows pages done (turned s tick)
 unfolding late
 Shows_turned pages tick done s shows =
     cond_both (ltb tick s.end) s (late s tick) (λ x. Shows pages done x) (λ _. shows) (λ e. Shows_late pages tick done s shows (ltb-false _ _ e))
@@ -144,7 +145,7 @@ quotient_is t w n some low high =
     let under : t / w < n + 1 = div_below t w (n + 1) (omega arith) high in
     omega arith
 
-pub Holds_turned : (pages tick : ℕ) (done : List GuestWrite) (s : Counting) → Shows pages done s → s.row.number * s.window ≤ tick → Holds (turned s tick) tick
+pub Holds_turned : (pages tick : ℕ) (done : List GuestTouch) (s : Counting) → Shows pages done s → s.row.number * s.window ≤ tick → Holds (turned s tick) tick
 unfolding late
 Holds_turned pages tick done s shows low =
     cond_both (ltb tick s.end) s (late s tick) (λ x. Holds x tick)
@@ -153,7 +154,7 @@ Holds_turned pages tick done s shows low =
 
 -- ---- one more write
 
-IsMark_here : (w number page : ℕ) (done : List GuestWrite) (write : GuestWrite) (mark : PageMark) → All (λ x. x.tick < (number + 1) * w) done
+IsMark_here : (w number page : ℕ) (done : List GuestTouch) (write : GuestTouch) (mark : PageMark) → All (λ x. x.tick < (number + 1) * w) done
     → number * w ≤ write.tick → write.tick < (number + 1) * w → write.page ≡ page → IsMark w done number page mark
     → IsMark w (done ++ write ∷ []) number page (marked mark number)
 IsMark_here w number page done write mark below low high same is =
@@ -176,7 +177,7 @@ IsMark_here w number page done write mark below low high same is =
       windows = omega (arith, change, now, adds.pages, is.windows);
     }
 
-IsMark_other : (w number page : ℕ) (done : List GuestWrite) (write : GuestWrite) (mark : PageMark) → (write.page ≡ page → ⊥) → IsMark w done number page mark
+IsMark_other : (w number page : ℕ) (done : List GuestTouch) (write : GuestTouch) (mark : PageMark) → (write.page ≡ page → ⊥) → IsMark w done number page mark
     → IsMark w (done ++ write ∷ []) number page mark
 IsMark_other w number page done write mark other is = record {
   last = IsLast_other w page mark.last done write is.last other;
@@ -185,7 +186,7 @@ IsMark_other w number page done write mark other is = record {
       (λ i low high. hits_push_other (in_window w i) page done write other));
 }
 
-pub Shows-push : (pages : ℕ) (done : List GuestWrite) (write : GuestWrite) (s : Counting) → Shows pages done s → Holds s write.tick → write.page < pages
+pub Shows-push : (pages : ℕ) (done : List GuestTouch) (write : GuestTouch) (s : Counting) → Shows pages done s → Holds s write.tick → write.page < pages
     → Shows pages (done ++ write ∷ []) (written s write.page)
 Shows-push pages done write s shows holds within =
     let w = s.window in
@@ -217,14 +218,14 @@ Shows-push pages done write s shows holds within =
 
 -- ---- the end
 
-pub rows_of_shown : (pages : ℕ) (writes : List GuestWrite) (s : Counting) → Shows pages writes s → s.row.number ≡ last_tick writes / s.window
+pub rows_of_shown : (pages : ℕ) (writes : List GuestTouch) (s : Counting) → Shows pages writes s → s.row.number ≡ last_by (λ t. t.tick) writes / s.window
     → with_row s.rows s.row ≡ rows_of writes pages s.window
 unfolding rows_of
 rows_of_shown pages writes s shows at =
     rows_closed s.window pages s.row.number (s.row.number + 1) writes s.rows s.row shows.below (omega arith) shows.row_is shows.rows_are
     ∙ ap (λ n. rows_below writes pages s.window (n + 1)) at
 
-pub windows_with_shown : (pages : ℕ) (writes : List GuestWrite) (s : Counting) → Shows pages writes s → s.row.number ≡ last_tick writes / s.window
+pub windows_with_shown : (pages : ℕ) (writes : List GuestTouch) (s : Counting) → Shows pages writes s → s.row.number ≡ last_by (λ t. t.tick) writes / s.window
     → (page : ℕ) → page < pages → (mark_of s page).windows ≡ windows_with writes s.window page
 unfolding windows_with
 windows_with_shown pages writes s shows at page low =

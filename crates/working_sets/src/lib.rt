@@ -10,7 +10,7 @@ mod making;
 mod tests;
 mod window;
 
-pub use error::{ReadTablesError, TablesError};
-pub use laws::{each_write_has_its_row, written_as_a_test};
-pub use making::{tables, tables_of_bytes};
-pub use window::{Tables, TraceTables, Window};
+pub use error::TablesError;
+pub use laws::each_write_has_its_row;
+pub use making::tables;
+pub use window::{Tables, Window};

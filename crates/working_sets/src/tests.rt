@@ -1,10 +1,10 @@
 //! Worked examples.
 
-use crate::{Tables, Window, tables, tables_of_bytes};
+use crate::{Tables, Window, tables};
 use rate_limit::{Asked, Settings, SettingsError};
 use std::alloc::Global;
 use std::test::Fail;
-use trace_codec::decode;
+use trace_codec::{TouchLog, decode};
 
 /// A guest of 4 pages of 16 bytes, which writes pages 0 and 1 at ticks 0 and 5, page 1 at tick 1200, and pages 3 and 1
 /// at tick 2500.
@@ -55,54 +55,55 @@ fn row(number: u64, writes: u32, pages: u32, again: u32, fresh: u32) -> Window {
     }
 }
 
-/// The tables of a trace with writes of its own, and of the same trace left in its bytes.
+/// The tables of a trace, and of its touches alone.
 fn both(alloc: Global, bytes: &[u8], window: u64, hot: u64) -> Result<(Tables, Tables), Fail> {
     let settings = settings(window, hot)?;
     let trace = decode(alloc, bytes)?;
     let owned = tables(alloc, &trace, &settings)?;
-    let left = tables_of_bytes(alloc, bytes, &settings)?;
-    Ok((owned, left.tables))
+    let log = TouchLog::parse(alloc, bytes)?;
+    let touched = tables(alloc, &log, &settings)?;
+    Ok((owned, touched))
 }
 
 #[test]
 fn windows_of_a_thousand_ticks(rt: HostRuntime) -> Result<(), Fail> {
     let rows = [row(0, 2, 2, 0, 2), row(1, 1, 1, 1, 0), row(2, 2, 2, 1, 1)];
-    let (owned, left) = both(rt.alloc(), &TRACE, 1000, 2)?;
+    let (owned, touched) = both(rt.alloc(), &TRACE, 1000, 2)?;
     assert_eq!(rt; owned.windows.as_slice(), rows.as_slice());
     assert_eq!(rt; owned.hot.as_slice(), [1].as_slice());
-    assert_eq!(rt; left.windows.as_slice(), rows.as_slice());
-    assert_eq!(rt; left.hot.as_slice(), [1].as_slice());
+    assert_eq!(rt; touched.windows.as_slice(), rows.as_slice());
+    assert_eq!(rt; touched.hot.as_slice(), [1].as_slice());
     Ok(())
 }
 
 #[test]
 fn one_long_window(rt: HostRuntime) -> Result<(), Fail> {
     let rows = [row(0, 5, 3, 0, 3)];
-    let (owned, left) = both(rt.alloc(), &TRACE, 5000, 1)?;
+    let (owned, touched) = both(rt.alloc(), &TRACE, 5000, 1)?;
     assert_eq!(rt; owned.windows.as_slice(), rows.as_slice());
     assert_eq!(rt; owned.hot.as_slice(), [0, 1, 3].as_slice());
-    assert_eq!(rt; left.windows.as_slice(), rows.as_slice());
-    assert_eq!(rt; left.hot.as_slice(), [0, 1, 3].as_slice());
+    assert_eq!(rt; touched.windows.as_slice(), rows.as_slice());
+    assert_eq!(rt; touched.hot.as_slice(), [0, 1, 3].as_slice());
     Ok(())
 }
 
 #[test]
 fn no_writes_no_rows(rt: HostRuntime) -> Result<(), Fail> {
-    let (owned, left) = both(rt.alloc(), &NO_WRITES, 1000, 2)?;
+    let (owned, touched) = both(rt.alloc(), &NO_WRITES, 1000, 2)?;
     assert_eq!(rt; owned.windows.len(), 0);
     assert_eq!(rt; owned.hot.len(), 0);
-    assert_eq!(rt; left.windows.len(), 0);
-    assert_eq!(rt; left.hot.len(), 0);
+    assert_eq!(rt; touched.windows.len(), 0);
+    assert_eq!(rt; touched.hot.len(), 0);
     Ok(())
 }
 
 #[test]
 fn one_tick_windows_have_rows_only_where_writes_are(rt: HostRuntime) -> Result<(), Fail> {
     let rows = [row(0, 1, 1, 0, 1), row(1_099_511_627_775, 1, 1, 0, 0)];
-    let (owned, left) = both(rt.alloc(), &FAR_APART, 1, 2)?;
+    let (owned, touched) = both(rt.alloc(), &FAR_APART, 1, 2)?;
     assert_eq!(rt; owned.windows.as_slice(), rows.as_slice());
     assert_eq!(rt; owned.hot.as_slice(), [0].as_slice());
-    assert_eq!(rt; left.windows.as_slice(), rows.as_slice());
-    assert_eq!(rt; left.hot.as_slice(), [0].as_slice());
+    assert_eq!(rt; touched.windows.as_slice(), rows.as_slice());
+    assert_eq!(rt; touched.hot.as_slice(), [0].as_slice());
     Ok(())
 }

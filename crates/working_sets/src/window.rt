@@ -1,7 +1,6 @@
 //! Rows of windows, and what is told of a trace.
 
 use std::marker::Model;
-use trace_codec::Shape;
 
 /// What is told of one window.
 #[derive(Clone, Copy, Debug, PartialEq, Eq)]
@@ -43,13 +42,4 @@ impl Model for Tables {
     ghost Value = { WorkingSets };
 
     ghost view = { λ t. record { windows = t.windows.items; hot = t.hot.items } };
-}
-
-/// What is told of a trace that is left in its bytes.
-#[derive(Debug, Drop)]
-pub struct TraceTables {
-    /// How large the trace is.
-    pub shape: Shape,
-    /// Its tables.
-    pub tables: Tables,
 }

@@ -1,6 +1,6 @@
 use Rattle.dirty_core.proofs.EveryPage.{CaughtUp-run, OnlyDue-run, KnowsMark-run}
-use Rattle.dirty_core.proofs.EveryPlace.{KnowsPlace-run}
-use Rattle.dirty_core.proofs.RealPages.{IsReal-run, sizes-core_after}
+use Rattle.dirty_core.proofs.EveryPlace.{KnowsPlace-run, IsOverReads-run}
+use Rattle.dirty_core.proofs.RealPages.{IsReal-run, sizes-core_after, at_opening-core_after}
 use Rattle.dirty_core.proofs.running.every_page.Goals as goal
 
 pub returns-clause-caught_up : goal.returns-clause-caught_up
@@ -20,3 +20,9 @@ returns-clause-real c = IsReal-run
 
 pub returns-clause-sizes : goal.returns-clause-sizes
 returns-clause-sizes c = sizes-core_after
+
+pub returns-clause-over : goal.returns-clause-over
+returns-clause-over c = IsOverReads-run
+
+pub returns-clause-at_opening : goal.returns-clause-at_opening
+returns-clause-at_opening c = at_opening-core_after

@@ -1,6 +1,5 @@
-use Rattle.std.proofs.Common.{drop}
-use Rattle.working_sets.proofs.Whole.{PassesTrace}
+use Rattle.working_sets.proofs.Whole.{PassesTo}
 use Rattle.working_sets.proofs.making.tables.Given as goal
 
-abbrev pub invariant-loop-write : goal.invariant-loop-write
-invariant-loop-write l = PassesTrace l.trace l.settings (drop l.write-index l.write-items) l.pass
+abbrev pub invariant-loop-index : goal.invariant-loop-index
+invariant-loop-index g l = PassesTo (g.T.Timeline.pages l.timeline) (g.T.Timeline.touches l.timeline) l.settings l.index l.pass

@@ -1,0 +1,2 @@
+pub mod Tabled
+pub mod Taken

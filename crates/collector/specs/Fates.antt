@@ -1,0 +1,15 @@
+-- What becomes of a frame that comes to a part. This project's own.
+use Rattle.std.specs.Prelude.{◌≡◌, ℕ, ◌<◌, ◌≤◌, Option, None, IsSomeAnd, option_map}
+use Rattle.migration_model.specs.Parts.{GuestPart, copy_at}
+use Rattle.collector.specs.declared.fate.Fate.{Fate}
+use Rattle.collector.specs.declared.fate.Fate.TheVariants.{New, Newer, Old}
+
+-- the stamp that a part has of a page
+abbrev pub stamp_at : GuestPart → ℕ → Option ℕ
+stamp_at part page = option_map (λ copy. copy.stamp) (copy_at part page)
+
+-- the fate of a frame with this stamp, where that stamp of its page was kept, or none
+abbrev pub IsFate : Option ℕ → ℕ → Fate → Type 0
+IsFate kept stamp New = kept ≡ None
+IsFate kept stamp Newer = IsSomeAnd kept (λ s. s < stamp)
+IsFate kept stamp Old = IsSomeAnd kept (λ s. stamp ≤ s)

@@ -1,0 +1,24 @@
+-- A part that is kept as a table of frames by page.
+use Rattle.std.specs.Prelude.{◌≡◌, ℕ, ◌+◌, ◌-◌, ◌≤◌, max, List, ◌++◌, length, map, replicate, slice_index_or, Option, Some, None, IfSome, option_map}
+use Rattle.migration_model.specs.Frames.{GuestShape, PageFrame, IsFrame}
+use Rattle.migration_model.specs.Parts.{PageCopy, GuestPart, copy_in, with_frame}
+
+-- the copies that the table has, and none of the pages past its end
+abbrev pub copies_of : GuestShape → List (Option PageFrame) → List (Option PageCopy)
+copies_of shape table = map (option_map (copy_in shape)) table ++ replicate (shape.pages - length table) None
+
+-- each frame fits the shape and stands at its page
+pub record IsTable (shape : GuestShape) (table : List (Option PageFrame)) : Type 0 where
+  pub few : length table ≤ shape.pages
+  pub own : (page : ℕ) → IfSome (slice_index_or table page None) (λ frame. (frame.page ≡ page) × IsFrame shape frame)
+
+-- the table has more places than before, none of them past that of the page, and nothing in them
+pub record Grows (old new : List (Option PageFrame)) (page : ℕ) : Type 0 where
+  pub more : ℕ
+  pub items : new ≡ old ++ replicate more None
+  pub bound : length new ≤ max (length old) (page + 1)
+
+-- a part after one more place of a table
+abbrev pub with_slot : GuestPart → Option PageFrame → GuestPart
+with_slot part None = part
+with_slot part (Some frame) = with_frame part frame

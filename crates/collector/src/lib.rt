@@ -1,0 +1,13 @@
+//! Parts of a guest's memory, put together from frames in whatever order they come.
+#![tactic(auto)]
+
+mod error;
+mod fate;
+mod part;
+mod table;
+#[cfg(test)]
+mod tests;
+
+pub use error::PartError;
+pub use fate::Fate;
+pub use part::{Part, merge};

@@ -1,0 +1,187 @@
+//! A part of a guest's memory.
+
+ghost use Rattle.std.specs.Prelude.{◌≡◌, ◌≤◌, List, [], IfErr, IfOk, IfSome, MatchResult, None, OnErr, OnOk, drop, length, option_map};
+ghost use Rattle.migration_model.specs.Frames.{IsFrame, PageFrame, SpellsStream};
+ghost use Rattle.migration_model.specs.Parts.{GuestPart, IsPart, copy_at, copy_in, empty_part, join, part_with, with_frame, with_frames};
+ghost use Rattle.collector.specs.Fates.{IsFate, stamp_at};
+ghost use Rattle.collector.specs.Streams.{RefusesStream, TakesFrames};
+ghost use Rattle.collector.specs.Tables.{IsTable, copies_of, with_slot};
+ghost use Rattle.page_message.specs.Refusals.{RefusesFrame};
+ghost use Rattle.page_message.specs.Shapes.{shape_of};
+
+use crate::error::PartError;
+use crate::fate::Fate;
+use crate::table::{make_place, put_frame, stamp_in};
+use page_message::{Frame, FrameError, decode_frame};
+use std::alloc::Global;
+use std::marker::Model;
+use trace_codec::Shape;
+
+/// What came of a guest's memory: of each page the frame with the greatest stamp.
+///
+/// The frames stand in a table by page, which has places up to the last page that came, so that one is found in a step
+/// however many there are. No place is made before a page comes.
+#[derive(Debug, Drop)]
+pub struct Part {
+    alloc: Global,
+    shape: Shape,
+    frames: Vec<Option<Frame>>,
+}
+
+impl Model for Part {
+    ghost Value = { GuestPart };
+
+    ghost view = { λ p. part_with (shape_of p.shape) (copies_of (shape_of p.shape) p.frames.items) };
+
+    ghost invariant = { λ p. IsTable (shape_of p.shape) p.frames.items };
+}
+
+impl Part {
+    /// A part that has no page. It takes no memory.
+    pub fn new(alloc: Global, shape: Shape) -> Part
+        ensures { result ≡ empty_part (shape_of shape) }
+    {
+        Part {
+            alloc,
+            shape,
+            frames: Vec::new(alloc),
+        }
+    }
+
+    /// The shape of the trace that the part is of.
+    pub fn shape(&self) -> Shape
+        ensures shape { shape_of result ≡ self.now.shape }
+        ensures is_part { IsPart self.now }
+    {
+        self.shape
+    }
+
+    /// The stamp of a page, or None where the part does not have it.
+    pub fn stamp(&self, page: u32) -> Option<u32>
+        ensures { result ≡ stamp_at self.now page }
+    {
+        stamp_in(&self.frames, page as usize)
+    }
+
+    /// The frame of a page, or None where the part does not have it.
+    pub fn frame(&self, page: u32) -> Option<&Frame>
+        ensures copy { option_map (λ f. copy_in self.now.shape f.now) result ≡ copy_at self.now page }
+        ensures own { IfSome result (λ f. f.now.page ≡ page) }
+        ensures fits { IfSome result (λ f. IsFrame self.now.shape f.now) }
+    {
+        match self.frames.get(page as usize) {
+            Some(Some(frame)) => Some(frame),
+            _ => None,
+        }
+    }
+
+    /// The table of the part, given away.
+    fn into_frames(self) -> Vec<Option<Frame>>
+        ensures copies { copies_of self.shape result.items ≡ self.copies }
+        ensures table { IsTable self.shape result.items }
+    {
+        let Part {
+            alloc: _,
+            shape: _,
+            frames,
+        } = self;
+        frames
+    }
+
+    /// Takes a frame. Memory is refused only for a page that the part does not have, and the part is then as before.
+    pub fn accept(&mut self, frame: Frame) -> Result<Fate, PartError>
+        requires { IsFrame self.old.shape frame }
+        ensures kept { OnOk result (self.new ≡ with_frame self.old frame) }
+        ensures fate { IfOk result (IsFate (stamp_at self.old frame.page) frame.stamp) }
+        ensures unchanged { OnErr result (self.new ≡ self.old) }
+        ensures refused { OnErr result (copy_at self.old frame.page ≡ None) }
+    {
+        let page = frame.page as usize;
+        match stamp_in(&self.frames, page) {
+            None => {
+                make_place(&mut self.frames, page)?;
+                put_frame(&mut self.frames, page, frame);
+                Ok(Fate::New)
+            }
+            Some(stamp) if stamp < frame.stamp => {
+                put_frame(&mut self.frames, page, frame);
+                Ok(Fate::Newer)
+            }
+            Some(_) => Ok(Fate::Old),
+        }
+    }
+
+    /// Takes the frame at the front of some bytes, and answers how many of them it has.
+    fn accept_front(&mut self, bytes: &[u8]) -> Result<usize, FrameError>
+        ensures taken { IfOk result (λ size. TakesFrames self.old self.new bytes.now 1 (drop size bytes.now)) }
+        ensures some { IfOk result (λ size. 1 ≤ size) }
+        ensures within { IfOk result (λ size. size ≤ length bytes.now) }
+        ensures refused { IfErr result (RefusesFrame self.old.shape bytes.now) }
+        ensures unchanged { OnErr result (self.new ≡ self.old) }
+    {
+        let (frame, size) = decode_frame(self.alloc, &self.shape, bytes)?;
+        match self.accept(frame) {
+            Ok(_) => Ok(size),
+            Err(PartError::Memory) => Err(FrameError::Memory),
+        }
+    }
+
+    fn take_frames(&mut self, bytes: &[u8]) -> Result<usize, (usize, FrameError)>
+        ensures taken { IfOk result (λ count. TakesFrames self.old self.new bytes.now count []) }
+        ensures refused { IfErr result (RefusesStream self.old self.new bytes.now) }
+    {
+        let mut rest = bytes;
+        let mut count = 0usize;
+        while !rest.is_empty() {
+            match self.accept_front(rest) {
+                Ok(size) => {
+                    let (_, behind) = rest.split_at(size);
+                    rest = behind;
+                    count += 1;
+                }
+                Err(error) => return Err((count, error)),
+            }
+        }
+        Ok(count)
+    }
+
+    /// Takes frame after frame to the end of the bytes, and answers how many. A refusal is that of the first frame that is
+    /// refused, with its index, from 0; the frames in front of it are taken. Want of memory is `F6`.
+    pub fn accept_bytes(&mut self, bytes: &[u8]) -> Result<usize, (usize, FrameError)>
+        ensures taken { IfOk result (λ count. TakesFrames self.old self.new bytes.now count []) }
+        ensures refused { IfErr result (RefusesStream self.old self.new bytes.now) }
+        ensures only { (frames : List PageFrame) → SpellsStream self.old.shape bytes.now frames
+            → MatchResult result (λ count. (count ≡ length frames) × (self.new ≡ with_frames self.old frames))
+            (λ e. e.1 ≡ FrameError.Memory) }
+    {
+        // From here on it is known that the shape is one that a trace may have.
+        let _ = &self.shape;
+        self.take_frames(bytes)
+    }
+}
+
+/// Takes a frame, if there is one.
+fn accept_slot(part: &mut Part, slot: Option<Frame>) -> Result<(), PartError>
+    requires { IfSome slot (IsFrame part.old.shape) }
+    ensures { OnOk result (part.new ≡ with_slot part.old slot) }
+{
+    if let Some(frame) = slot {
+        part.accept(frame)?;
+    }
+    Ok(())
+}
+
+/// Of each page the copy with the greater stamp, and that of the first part where the stamps are equal. Each frame of the
+/// second part is moved once. After a refusal both parts are gone.
+pub fn merge(first: Part, second: Part) -> Result<Part, PartError>
+    requires { first.shape ≡ second.shape }
+    ensures { IfOk result (λ part. part ≡ join first second) }
+{
+    // From here on it is known that the table fits the shape.
+    let _ = &first.shape;
+    let mut first = first;
+    for slot in second.into_frames() {
+        accept_slot(&mut first, slot)?;
+    }
+    Ok(first)
+}

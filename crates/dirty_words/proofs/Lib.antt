@@ -1,0 +1,11 @@
+pub mod Seating
+pub mod Words
+pub mod Told
+pub mod Steps
+pub mod Kept
+pub mod Changes
+pub mod Calls
+pub mod Openings
+pub mod Lists
+pub mod Leaving
+pub mod Pairing

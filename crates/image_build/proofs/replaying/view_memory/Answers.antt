@@ -1,0 +1,25 @@
+use Rattle.std.proofs.Common.{arith}
+use Rattle.std.proofs.lemmas.List.Elements.{All-head, All-tail}
+use Rattle.migration_model.specs.Trace.{IsGuestWrite}
+use Rattle.migration_model.specs.Memory.{image_of}
+use Rattle.trace_codec.specs.Writes.{shown}
+use Rattle.image_build.proofs.Replays.{Becomes-next, write_fits}
+use Rattle.image_build.proofs.replaying.view_memory.Goals as goal
+
+pub write_over-requires : goal.write_over-requires
+write_over-requires c =
+    let shape = c.shape-shape.result in
+    let before = rw c.in-Some.ensures.steps at c.loop-write.invariant.becomes in
+    let fits = All-head (IsGuestWrite shape.shift shape.pages) (shown c.in-Some.write) c.next.new.self (rw c.in-Some.ensures.steps at c.loop-write.invariant.fit) in
+    omega (arith, c.place_of-place.ensures, write_fits shape.shift shape.pages c.loop-write.memory.items (shown c.in-Some.write) before.len fits, c.loop-write.memory.ok.0)
+
+pub loop-write-preserved : goal.loop-write-preserved
+loop-write-preserved c =
+    let shape = c.shape-shape.result in
+    let fit = rw c.in-Some.ensures.steps at c.loop-write.invariant.fit in
+    let fits = All-head (IsGuestWrite shape.shift shape.pages) (shown c.in-Some.write) c.next.new.self fit in
+    record {
+      becomes = Becomes-next shape.shift shape.pages c.loop-write.memory.items c.write_over.new.memory.items (shown c.in-Some.write) c.next.new.self (image_of c.args.trace.now)
+          (rw c.in-Some.ensures.steps at c.loop-write.invariant.becomes) fits (rw c.place_of-place.ensures at c.write_over.ensures);
+      fit = All-tail (IsGuestWrite shape.shift shape.pages) (shown c.in-Some.write) c.next.new.self fit;
+    }

@@ -1,0 +1,11 @@
+use Rattle.std.specs.List.{All}
+use Rattle.migration_model.specs.Memory.{image_of}
+use Rattle.migration_model.specs.Trace.{IsGuestWrite}
+use Rattle.image_build.proofs.Replays.{Becomes}
+use Rattle.image_build.proofs.replaying.view_memory.Given as goal
+
+abbrev pub invariant-loop-write : goal.invariant-loop-write
+invariant-loop-write l = record {
+  becomes : Becomes l.shape.shift l.shape.pages l.memory.items l.write-iterator (image_of l.trace);
+  fit : All (IsGuestWrite l.shape.shift l.shape.pages) l.write-iterator;
+}

@@ -1,0 +1,3 @@
+pub mod Zeros
+pub mod Steps
+pub mod Found

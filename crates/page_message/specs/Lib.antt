@@ -1,0 +1,4 @@
+pub mod Shapes
+pub mod Bodies
+pub mod Reading
+pub mod Refusals

@@ -1,0 +1,115 @@
+//! Frames from bytes.
+
+ghost use Rattle.std.specs.Prelude.{◌≡◌, ◌≤◌, ◌+◌, ◌^◌, ◌++◌, ◌==◌, ℕ, List, IfErr, IfOk, MatchResult, None, OnOk, Some, drop, length, take};
+ghost use Rattle.std.specs.List.{list_all};
+ghost use Rattle.std.specs.Int.{w32};
+ghost use Rattle.migration_model.specs.Frames.{IsFrame, PageFrame, SpellsFrame, frame_text};
+ghost use Rattle.migration_model.specs.Numbers.{number_in};
+ghost use Rattle.page_message.specs.Bodies.{body_of};
+ghost use Rattle.page_message.specs.Reading.{body_in, bytes_in, size_in};
+ghost use Rattle.page_message.specs.Refusals.{RefusesFrame, frame_refusal};
+ghost use Rattle.page_message.specs.Shapes.{shape_of};
+
+use crate::encoding::HEAD;
+use crate::error::FrameError;
+use crate::frame::{Body, Frame};
+use byteorder::{ByteOrder, LittleEndian};
+use std::alloc::{AllocError, Global};
+use trace_codec::Shape;
+use zero_pages::is_zero;
+
+#[tactic(auto, unfolding(migration_model::specs::Numbers::number_in))]
+fn u32_in(bytes: &[u8]) -> u32
+    requires { 4 ≤ length bytes.now }
+    ensures { result ≡ number_in w32 bytes.now }
+{
+    LittleEndian::read_u32(bytes)
+}
+
+/// The page behind the head.
+fn page_bytes<'a>(shape: &Shape, bytes: &'a [u8]) -> &'a [u8]
+    requires { 9 + 2 ^ shape.now.shift ≤ length bytes.now }
+    ensures { result.now ≡ take (2 ^ shape.now.shift) (drop 9 bytes.now) }
+{
+    let (_, behind) = bytes.split_at(HEAD);
+    let (page, _) = behind.split_at(shape.page_size());
+    page
+}
+
+/// Whether that page is all zeros.
+fn has_zeros(shape: &Shape, bytes: &[u8]) -> bool
+    requires { 9 + 2 ^ shape.now.shift ≤ length bytes.now }
+    ensures { result ≡ list_all (λ byte. byte == 0) (bytes_in (shape_of shape.now) bytes.now) }
+{
+    is_zero(page_bytes(shape, bytes))
+}
+
+/// How many bytes the frame at the front has, or what the bytes are refused for.
+fn checked_size(shape: &Shape, bytes: &[u8]) -> Result<usize, FrameError>
+    ensures refused { IfErr result (λ e. frame_refusal (shape_of shape.now) bytes.now ≡ Some e) }
+    ensures accepted { OnOk result (frame_refusal (shape_of shape.now) bytes.now ≡ None) }
+    ensures size { IfOk result (λ size. size ≡ size_in (shape_of shape.now) bytes.now) }
+{
+    if bytes.len() < HEAD {
+        return Err(FrameError::Short);
+    }
+    if u32_in(bytes) >= shape.pages {
+        return Err(FrameError::Page);
+    }
+    if u32_in(&bytes[4..]) > shape.writes {
+        return Err(FrameError::Stamp);
+    }
+    if bytes[8] > 1 {
+        return Err(FrameError::Kind);
+    }
+    if bytes[8] == 0 {
+        return Ok(HEAD);
+    }
+    let end = HEAD + shape.page_size();
+    if bytes.len() < end {
+        return Err(FrameError::Short);
+    }
+    if has_zeros(shape, bytes) {
+        return Err(FrameError::ZeroData);
+    }
+    Ok(end)
+}
+
+/// The body of the frame at the front of bytes that begin with one.
+fn body_at(alloc: Global, shape: &Shape, bytes: &[u8]) -> Result<Body, AllocError>
+    requires { frame_refusal (shape_of shape.now) bytes.now ≡ None }
+    ensures { IfOk result (λ body. body_of body ≡ body_in (shape_of shape.now) bytes.now) }
+{
+    if bytes[8] == 0 {
+        return Ok(Body::Zero);
+    }
+    let page = Vec::from_slice(alloc, page_bytes(shape, bytes))?;
+    Ok(Body::Data(page))
+}
+
+fn read_frame(alloc: Global, shape: &Shape, bytes: &[u8]) -> Result<(Frame, usize), FrameError>
+    ensures found { IfOk result (λ read. SpellsFrame (shape_of shape.now) (take read.1 bytes.now) read.0) }
+    ensures within { IfOk result (λ read. read.1 ≤ length bytes.now) }
+    ensures refused { IfErr result (RefusesFrame (shape_of shape.now) bytes.now) }
+{
+    let size = checked_size(shape, bytes)?;
+    let page = u32_in(bytes);
+    let stamp = u32_in(&bytes[4..]);
+    let body = body_at(alloc, shape, bytes)?;
+    Ok((Frame { page, stamp, body }, size))
+}
+
+/// The frame at the front of some bytes, and how many of them it has. A page's bytes are copied once.
+pub fn decode_frame(
+    alloc: Global,
+    shape: &Shape,
+    bytes: &[u8],
+) -> Result<(Frame, usize), FrameError>
+    ensures found { IfOk result (λ read. SpellsFrame (shape_of shape.now) (take read.1 bytes.now) read.0) }
+    ensures within { IfOk result (λ read. read.1 ≤ length bytes.now) }
+    ensures refused { IfErr result (RefusesFrame (shape_of shape.now) bytes.now) }
+    ensures only { (frame : PageFrame) (rest : List ℕ) → IsFrame (shape_of shape.now) frame → bytes.now ≡ frame_text frame ++ rest
+        → MatchResult result (λ read. (read.0 ≡ frame) × (read.1 ≡ length (frame_text frame))) (λ e. e ≡ FrameError.Memory) }
+{
+    read_frame(alloc, shape, bytes)
+}

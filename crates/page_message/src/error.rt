@@ -1,0 +1,39 @@
+//! Why bytes begin with no frame.
+
+ghost use Rattle.std.specs.Prelude.{◌≡◌};
+ghost use Rattle.page_message.specs.declared.error.FrameError.TheVariants.{Memory};
+
+use std::alloc::AllocError;
+use thiserror::Error;
+
+/// A refusal. Its text is its name. Where several causes stand in the bytes, the first in the order of the names' numbers
+/// is answered; a kind 1 with less than a page behind it is `F1` after `F4`.
+#[derive(Clone, Copy, Debug, PartialEq, Eq, Error)]
+pub enum FrameError {
+    /// Fewer than 9 bytes, or fewer behind a kind 1 than a page has.
+    #[error("F1")]
+    Short,
+    /// A page is not below the number of pages.
+    #[error("F2")]
+    Page,
+    /// A stamp is greater than the number of writes.
+    #[error("F3")]
+    Stamp,
+    /// A kind is not 0 or 1.
+    #[error("F4")]
+    Kind,
+    /// A kind 1 has a page of zeros behind it.
+    #[error("F5")]
+    ZeroData,
+    /// A growth was refused.
+    #[error("F6")]
+    Memory,
+}
+
+impl From<AllocError> for FrameError {
+    ghost from_gives = { λ _ e. e ≡ Memory };
+
+    fn from(_error: AllocError) -> FrameError {
+        FrameError::Memory
+    }
+}

@@ -1,0 +1,16 @@
+//! Frames: pages as they are sent, each at one of its versions.
+#![tactic(auto)]
+
+mod decoding;
+mod encoding;
+mod error;
+mod frame;
+mod making;
+#[cfg(test)]
+mod tests;
+
+pub use decoding::decode_frame;
+pub use encoding::encode_frame;
+pub use error::FrameError;
+pub use frame::{Body, Frame};
+pub use making::frame_of;

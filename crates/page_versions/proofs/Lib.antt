@@ -1,0 +1,5 @@
+pub mod Places
+pub mod Searches
+pub mod Pages
+pub mod Orders
+pub mod Stamps

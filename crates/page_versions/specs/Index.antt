@@ -1,0 +1,36 @@
+-- What an index of the writes of a trace tells. This project's own, as versions are.
+use Rattle.std.specs.Prelude.{◌≡◌, ℕ, ◌==◌, List, map}
+use Rattle.std.specs.List.{enumerate_from, filter}
+use Rattle.migration_model.specs.Trace.{GuestTrace}
+use Rattle.migration_model.specs.Touches.{GuestTouch, touches_of}
+
+-- when each write was and to which page, in the order of the trace, for a guest of so many pages
+pub record GuestIndex : Type 0 where
+  pub pages : ℕ
+  pub touches : List GuestTouch
+
+abbrev pub index_with : ℕ → List GuestTouch → GuestIndex
+index_with pages touches = record { pages = pages; touches = touches }
+
+-- the index has the trace's pages, and the tick and the page of each of its writes, in order
+abbrev pub IsIndexOf : GuestIndex → GuestTrace → Type 0
+IsIndexOf index trace = (index.pages ≡ trace.pages) × (index.touches ≡ touches_of trace)
+
+-- the places of the touches of a page, rising: 1 is that of the first touch of all
+abbrev pub places_in : List GuestTouch → ℕ → List ℕ
+places_in touches page = map (λ at. at.0) (filter (λ at. at.1.page == page) (enumerate_from 1 touches))
+
+-- the places of a trace's writes to a page, rising
+abbrev pub places_of : GuestTrace → ℕ → List ℕ
+places_of trace page = map (λ at. at.0) (filter (λ at. at.1.page == page) (enumerate_from 1 trace.writes))
+
+-- the place and the tick of each touch of a page, rising; of each of a trace's writes to it
+abbrev pub stamps_in : List GuestTouch → ℕ → List (ℕ × ℕ)
+stamps_in touches page = map (λ at. (at.0, at.1.tick)) (filter (λ at. at.1.page == page) (enumerate_from 1 touches))
+
+abbrev pub stamps_of : GuestTrace → ℕ → List (ℕ × ℕ)
+stamps_of trace page = map (λ at. (at.0, at.1.tick)) (filter (λ at. at.1.page == page) (enumerate_from 1 trace.writes))
+
+-- the index has the trace's pages and, for each page, the places and the ticks of its writes
+abbrev pub HasWritesOf : GuestIndex → GuestTrace → Type 0
+HasWritesOf index trace = (index.pages ≡ trace.pages) × ((page : ℕ) → stamps_in index.touches page ≡ stamps_of trace page)

@@ -1,0 +1,125 @@
+//! Where a trace writes each page.
+
+ghost use Rattle.std.specs.Prelude.{◌≡◌, ◌<◌, ◌≤◌, ◌↔◌, IfOk, IsTrue, length, nat_lt};
+ghost use Rattle.std.specs.List.{filter};
+ghost use Rattle.migration_model.specs.Trace.{GuestTrace};
+ghost use Rattle.migration_model.specs.Versions.{page_at, version_before as version_of};
+ghost use Rattle.page_versions.specs.Index.{GuestIndex, HasWritesOf, IsIndexOf, index_with, places_in, places_of};
+ghost use Rattle.page_versions.specs.Layout.{IsLaidOut};
+
+use crate::bytes::bytes_from;
+use crate::error::IndexError;
+use crate::making::{Parts, are_touches, parts_of, touches_in};
+use crate::searching::{greatest_before, places_after, places_to};
+use std::alloc::Global;
+use std::marker::Model;
+use std::thread::Threads;
+use trace_codec::{Touch, Trace};
+
+/// The writes of a trace by page: for each page the places of its writes, and their ticks. A write's place is 1 for the
+/// first write of the trace. The bytes that are written stay in the trace.
+#[derive(Debug, Drop)]
+pub struct PageIndex {
+    pages: u32,
+    touches: Vec<Touch>,
+    starts: Vec<u32>,
+    places: Vec<u32>,
+}
+
+impl Model for PageIndex {
+    ghost Value = { GuestIndex };
+
+    ghost view = { λ i. index_with i.pages i.touches.items };
+
+    ghost invariant = { λ i. IsLaidOut i.pages i.touches.items i.starts.items i.places.items };
+}
+
+impl PageIndex {
+    /// The index of a trace. Pairs of page and place are sorted, in several threads.
+    pub fn build(
+        rt: &(impl Threads + Sync),
+        alloc: Global,
+        trace: &Trace,
+    ) -> Result<PageIndex, IndexError>
+        ensures { IfOk result (λ index. IsIndexOf index trace.now) }
+    {
+        let touches = touches_in(alloc, trace)?;
+        let Parts { starts, places } = parts_of(rt, alloc, trace.pages, &touches)?;
+        Ok(PageIndex {
+            pages: trace.pages,
+            touches,
+            starts,
+            places,
+        })
+    }
+
+    /// The page's part of the places.
+    fn part(&self, page: u32) -> &[u32]
+        requires { page < self.now.pages }
+        ensures { result.now ≡ places_in self.now.touches page }
+    {
+        let start = self.starts[page as usize] as usize;
+        let end = self.starts[page as usize + 1] as usize;
+        &self.places[start..end]
+    }
+
+    /// The places of the page's writes, rising.
+    pub fn places(&self, page: u32) -> &[u32]
+        requires { page < self.now.pages }
+        ensures own { result.now ≡ places_in self.now.touches page }
+        ensures of_trace { (trace : GuestTrace) → IsIndexOf self.now trace → result.now ≡ places_of trace page }
+    {
+        self.part(page)
+    }
+
+    /// Those of the page's places that are greater than a version.
+    pub fn writes_after(&self, page: u32, version: u32) -> &[u32]
+        requires { page < self.now.pages }
+        ensures own { result.now ≡ filter (λ place. nat_lt version place) (places_in self.now.touches page) }
+        ensures of_trace { (trace : GuestTrace) → IsIndexOf self.now trace
+            → result.now ≡ filter (λ place. nat_lt version place) (places_of trace page) }
+    {
+        places_after(self.part(page), version)
+    }
+
+    /// The page's version before a tick: the greatest place of a write to it with a smaller tick, or 0 where there is
+    /// none. It is found by halves.
+    pub fn version_before(&self, page: u32, tick: u64) -> u32
+        requires { page < self.now.pages }
+        ensures { (trace : GuestTrace) → IsIndexOf self.now trace → result ≡ version_of trace page tick }
+    {
+        greatest_before(&self.touches, self.part(page), tick)
+    }
+
+    /// The page after the first `version` writes of the trace. Only the page's own writes are put there.
+    pub fn bytes_at(
+        &self,
+        alloc: Global,
+        trace: &Trace,
+        page: u32,
+        version: u32,
+    ) -> Result<Vec<u8>, IndexError>
+        requires of { IsIndexOf self.now trace.now }
+        requires page { page < self.now.pages }
+        requires version { version ≤ length trace.now.writes }
+        ensures { IfOk result (λ v. v.items ≡ page_at trace.now page version) }
+    {
+        bytes_from(alloc, trace, places_to(self.part(page), version))
+    }
+
+    /// Whether the index has the trace's pages and touches.
+    fn has_touches_of(&self, trace: &Trace) -> bool
+        ensures { IsTrue result ↔ IsIndexOf self.now trace.now }
+    {
+        self.pages == trace.pages && are_touches(&self.touches, &trace.writes)
+    }
+
+    /// Whether the index is of this trace: it has the trace's pages, and for each page the places and the ticks of its
+    /// writes. It takes no memory.
+    pub fn is_of(&self, trace: &Trace) -> bool
+        ensures index { IsTrue result ↔ IsIndexOf self.now trace.now }
+        ensures each_page { IsTrue result ↔ HasWritesOf self.now trace.now }
+    {
+        self.has_touches_of(trace)
+    }
+}

@@ -1,0 +1,15 @@
+//! The versions of pages: where a trace writes each page, and a page's bytes after so many of the trace's writes.
+#![tactic(auto)]
+
+mod bytes;
+mod error;
+mod index;
+mod making;
+mod searching;
+mod sorting;
+
+pub use error::IndexError;
+pub use index::PageIndex;
+
+#[cfg(test)]
+mod tests;

@@ -1,0 +1,4 @@
+pub mod Skims
+pub mod PageLists
+pub mod Plans
+pub mod Scans

@@ -1,0 +1,45 @@
+-- Lists of pages, and the ticks that they take.
+use Rattle.std.proofs.Common.{◌≡◌, ℕ, zero, suc, ◌+◌, ◌*◌, ◌/◌, ◌^◌, ◌<◌, ◌≤◌, Bool, true, false, cond, List, [], ◌∷◌, length, get_or, refl, sym, ap, ◌∙◌, arith}
+use Rattle.std.specs.List.{All, AllByRecursion, filter, range_with_len}
+use Rattle.std.proofs.Math.Nat.{div-mul-le_self, mul-le-mul_right, div-le_self}
+use Rattle.std.proofs.lemmas.Nat.{le-div}
+use Rattle.std.proofs.lemmas.List.Elements.{All-from_recursion}
+use Rattle.round_planner.specs.Scanning.{IsPageList}
+use Rattle.round_planner.proofs.Skims.{Rises, Rises-pages}
+
+low_kept : (b : Bool) (n x : ℕ) (xs : List ℕ) → x < n → AllByRecursion (λ p. p < n) xs → AllByRecursion (λ p. p < n) (cond b (x ∷ xs) xs)
+low_kept true n x xs low all = (low, all)
+low_kept false n x xs low all = all
+
+all_low : (test : ℕ → Bool) (n a m : ℕ) → a + m ≤ n → AllByRecursion (λ p. p < n) (filter test (range_with_len a m))
+all_low test n a zero bound = tt
+all_low test n a (suc m) bound = low_kept (test a) n a (filter test (range_with_len (a + 1) m)) (omega arith) (all_low test n (a + 1) m (omega arith))
+
+pub few_kept : (b : Bool) (x : ℕ) (xs : List ℕ) → length (cond b (x ∷ xs) xs) ≤ length xs + 1
+few_kept true x xs = omega arith
+few_kept false x xs = omega arith
+
+pub few_pages : (test : ℕ → Bool) (a m : ℕ) → length (filter test (range_with_len a m)) ≤ m
+few_pages test a zero = omega arith
+few_pages test a (suc m) = omega (arith, few_kept (test a) a (filter test (range_with_len (a + 1) m)), few_pages test (a + 1) m)
+
+pub list_low : (pages : ℕ) (list : List ℕ) → IsPageList pages list → All (λ p. p < pages) list
+list_low pages list is =
+    rw is.list_is (All-from_recursion (λ p. p < pages) (filter is.test (range_with_len 0 pages)) (all_low is.test pages 0 pages (omega arith)))
+
+pub list_few : (pages : ℕ) (list : List ℕ) → IsPageList pages list → length list ≤ 65_536
+list_few pages list is = omega (arith, ap length is.list_is, few_pages is.test 0 pages, is.few)
+
+pub list_rises : (pages : ℕ) (list : List ℕ) → IsPageList pages list → Rises 0 list
+list_rises pages list is = rw is.list_is (Rises-pages is.test pages)
+
+-- more pages take no less ticks
+pub ticks_grow : (from rate a b : ℕ) → 1 ≤ rate → a ≤ b → from + 1_000 * a / rate ≤ from + 1_000 * b / rate
+ticks_grow from rate a b some le =
+    let down : 1_000 * a / rate * rate ≤ 1_000 * a = div-mul-le_self (1_000 * a) rate in
+    let more : 1_000 * a / rate ≤ 1_000 * b / rate = le-div (1_000 * a / rate) (1_000 * b) rate (omega arith) (omega arith) in
+    omega arith
+
+-- and few enough for the numbers
+pub ticks_fit : (from rate sent : ℕ) → from < 2 ^ 42 → sent ≤ 65_536 → from + 1_000 * sent / rate < 2 ^ 43
+ticks_fit from rate sent low few = omega (arith, div-le_self (1_000 * sent) rate)

@@ -1,0 +1,9 @@
+use Rattle.std.proofs.Common.{rules, ◌≡◌, ◌∙◌, ℕ, false, ap, replicate}
+use Rattle.round_planner.proofs.Scans.{begun}
+use Rattle.round_planner.proofs.scan.Scan.new.Goals as goal
+
+pub returns : goal.returns
+returns g c =
+    let filled : c.in_ok-marks.marks.items ≡ replicate c.page_count.result false = search rules in
+    begun _ _ c.args.tick c.before-2.result c.in_ok-marks.marks.items c.before-2.ensures.bound c.before-2.ensures.point
+    (filled ∙ ap (λ (k : ℕ). replicate k false) c.page_count.ensures.pages)

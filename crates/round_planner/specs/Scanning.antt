@@ -1,0 +1,65 @@
+-- A walk over touches, on its way. No contract of a public call speaks of it.
+use Rattle.std.specs.Prelude.{◌≡◌, ℕ, ◌+◌, ◌*◌, ◌≤◌, ◌<◌, ◌&&◌, ◌==◌, ◌^◌, nat_lt, nat_le, true, false, Bool, List, length, take, slice_index_or}
+use Rattle.std.specs.List.{filter, list_any, range_with_len}
+use Rattle.std.specs.List.Sorted.{IsPartitionPoint}
+use Rattle.migration_model.specs.Rates.{MigrationSettings}
+use Rattle.migration_model.specs.Rounds.{NextRound, PlannedRound, IsRound}
+use Rattle.migration_model.specs.Touches.{GuestTouch, no_touch, pages_written}
+
+-- whether one of the first touches, so many, is to the page and at a tick from `from` on
+abbrev pub is_met : List GuestTouch → ℕ → ℕ → ℕ → Bool
+is_met touches from next page = list_any (λ touch. (touch.page == page) && nat_le from touch.tick) (take next touches)
+
+-- the marks are of the pages that are met
+pub record AreMet (pages : ℕ) (touches : List GuestTouch) (from next : ℕ) (marks : List Bool) : Type 0 where
+  pub len : length marks ≡ pages
+  pub marked : (page : ℕ) → page < pages → slice_index_or marks page false ≡ is_met touches from next page
+
+-- the walk stands at a tick: those touches are the ones before it
+pub record IsScan (pages : ℕ) (touches : List GuestTouch) (from tick next : ℕ) (marks : List Bool) : Type 0 where
+  pub order : from ≤ tick
+  pub bound : next ≤ length touches
+  pub point : IsPartitionPoint (λ touch. nat_lt touch.tick tick ≡ true) (λ touch. nat_lt touch.tick tick ≡ false) touches next
+  pub met : AreMet pages touches from next marks
+
+-- the same at some tick that is no later than this one
+pub record IsScanWithin (pages : ℕ) (touches : List GuestTouch) (from limit next : ℕ) (marks : List Bool) : Type 0 where
+  pub tick : ℕ
+  pub high : tick ≤ limit
+  pub scan : IsScan pages touches from tick next marks
+
+-- there is a mark for each page, and the walk is not past the last touch
+pub record HasRoom (pages : ℕ) (touches : List GuestTouch) (next : ℕ) (marks : List Bool) : Type 0 where
+  pub marks_len : length marks ≡ pages
+  pub next_high : next ≤ length touches
+
+-- touch `next` is to the page, and before the tick
+pub record IsNextBefore (pages : ℕ) (touches : List GuestTouch) (next tick page : ℕ) : Type 0 where
+  pub low : next < length touches
+  pub page_is : page ≡ (slice_index_or touches next no_touch).page
+  pub page_low : page < pages
+  pub early : (slice_index_or touches next no_touch).tick < tick
+
+-- some of the pages of a guest, rising
+pub record IsPageList (pages : ℕ) (list : List ℕ) : Type 0 where
+  pub test : ℕ → Bool
+  pub few : pages ≤ 65_536
+  pub list_is : list ≡ filter test (range_with_len 0 pages)
+
+-- a round that may come: it has pages, and its ticks are as many as those before it can have taken
+pub record CanCome (pages : ℕ) (s : MigrationSettings) (now : NextRound) : Type 0 where
+  pub list : IsPageList pages now.pages
+  pub some : 1 ≤ length now.pages
+  pub rate_low : 1 ≤ now.rate
+  pub from_high : now.from < 2 ^ 40 + now.done * 65_536_000 + 1
+  pub done_low : now.done < s.rounds
+  pub rounds_few : s.rounds ≤ 64
+
+-- the round that came, and what was written meanwhile
+pub record HasRun (pages : ℕ) (touches : List GuestTouch) (s : MigrationSettings) (now : NextRound) (round : PlannedRound) (dirtied : List ℕ) : Type 0 where
+  pub is_round : IsRound pages touches s now round
+  pub dirtied_are : dirtied ≡ pages_written pages touches round.from round.to
+  pub longer : round.from < round.to
+  pub short : round.to ≤ round.from + 65_536_000
+  pub few : length round.sent ≤ 65_536
+  pub small : pages ≤ 65_536

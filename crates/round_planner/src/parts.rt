@@ -1,0 +1,74 @@
+//! Plans and their rounds.
+
+ghost use Rattle.std.specs.Prelude.{◌≡◌, ◌≤◌, length};
+ghost use Rattle.std.specs.List.{All};
+
+use rate_limit::Reason;
+use std::marker::Model;
+
+/// One round of a plan. Pages rise.
+#[derive(Debug, Drop)]
+pub struct Round {
+    /// The round's first tick.
+    pub from: u64,
+    /// The first tick behind it.
+    pub to: u64,
+    /// Its rate, in pages per 1,000 ticks.
+    pub rate: u64,
+    /// The pages that it has.
+    pub pages: Vec<u32>,
+    /// Those of them that it sends.
+    pub sent: Vec<u32>,
+    /// How many pages are written while it lasts.
+    pub dirtied: u32,
+}
+
+impl Model for Round {
+    ghost use Rattle.migration_model.specs.Rounds.{PlannedRound};
+
+    ghost Value = { PlannedRound };
+
+    ghost view = { λ r. record { from = r.from; to = r.to; rate = r.rate; pages = r.pages.items; sent = r.sent.items; dirtied = r.dirtied } };
+}
+
+/// What a migration would do: its rounds, and what is left for when the guest is stopped.
+#[derive(Debug, Drop)]
+pub struct Plan {
+    /// The rounds, at least one.
+    pub rounds: Vec<Round>,
+    /// Why no further round comes.
+    pub reason: Reason,
+    /// The tick at which the guest is stopped.
+    pub stop: u64,
+    /// The pages that are sent then, rising.
+    pub last: Vec<u32>,
+    /// The downtime: how many ticks that takes at the greatest rate.
+    pub down: u64,
+}
+
+impl Model for Plan {
+    ghost use Rattle.migration_model.specs.Rounds.{MigrationPlan};
+    ghost use Rattle.rate_limit.specs.Pacing.{reason_of};
+    ghost use Rattle.round_planner.specs.Sizes.{IsSmallPlan};
+
+    ghost Value = { MigrationPlan };
+
+    ghost view = { λ p. record { rounds = p.rounds.items; reason = reason_of p.reason; stop = p.stop; last = p.last.items; down = p.down } };
+
+    ghost invariant = { λ p. IsSmallPlan p.rounds.items p.last.items };
+}
+
+impl Plan {
+    ghost use Rattle.migration_model.specs.Rounds.{total_of};
+
+    /// How many pages are sent, over all rounds and after the stop.
+    pub fn total(&self) -> u64
+        ensures { result ≡ total_of self.now }
+    {
+        let mut total = self.last.len() as u64;
+        for round in &self.rounds {
+            total += round.sent.len() as u64;
+        }
+        total
+    }
+}

@@ -1,0 +1,157 @@
+//! A plan, round by round.
+
+ghost use Rattle.std.specs.Prelude.{◌≡◌, ◌≤◌, ◌<◌, ◌+◌, ◌*◌, ◌/◌, ◌&&◌, ℕ, nat_le, IfErr, IfOk, length};
+ghost use Rattle.std.specs.List.{range_with_len};
+ghost use Rattle.migration_model.specs.Rates.{duration_of};
+ghost use Rattle.migration_model.specs.Rounds.{IsPlan, IsSent, plan_with};
+ghost use Rattle.rate_limit.specs.Pacing.{reason_of};
+ghost use Rattle.round_planner.specs.Scanning.{CanCome, HasRun, IsScan, IsScanWithin};
+ghost use Rattle.round_planner.specs.Sizes.{IsSmallPlan};
+
+use crate::error::PlanError;
+use crate::parts::{Plan, Round};
+use crate::scan::Scan;
+use rate_limit::{Next, Reason, Settings, duration, next};
+use std::alloc::{AllocError, Global};
+use std::marker::Model;
+use trace_codec::Timeline;
+
+/// The round that comes next.
+#[derive(Drop)]
+struct Coming {
+    done: u64,
+    from: u64,
+    rate: u64,
+    pages: Vec<u32>,
+}
+
+impl Model for Coming {
+    ghost use Rattle.migration_model.specs.Rounds.{NextRound};
+
+    ghost Value = { NextRound };
+
+    ghost view = { λ c. record { done = c.done; from = c.from; rate = c.rate; pages = c.pages.items } };
+}
+
+/// So many pages, rising.
+fn first_pages(alloc: Global, count: u32) -> Result<Vec<u32>, AllocError>
+    ensures { IfOk result (λ pages. pages.items ≡ range_with_len 0 count) }
+{
+    let mut pages = Vec::with_capacity(alloc, count as usize)?;
+    for page in 0..count {
+        pages.push(page)?;
+    }
+    Ok(pages)
+}
+
+/// Whether pages may be skipped in a round behind so many.
+fn may_skip(settings: &Settings, done: u64) -> bool
+    ensures { result ≡ settings.now.skip && nat_le 1 done }
+{
+    settings.asked().skip && done >= 1
+}
+
+/// The pages of a round that it sends.
+fn sent_pages<T: Timeline>(
+    alloc: Global,
+    timeline: &T,
+    settings: &Settings,
+    scan: &mut Scan,
+    coming: &Coming,
+) -> Result<Vec<u32>, AllocError>
+    requires scan { IsScan (T.pages timeline.now) (T.touches timeline.now) coming.now.from coming.now.from scan.old.next scan.old.marks.items }
+    requires coming { CanCome (T.pages timeline.now) settings.now coming.now }
+    ensures sent { IfOk result (λ sent. IsSent (settings.now.skip && nat_le 1 coming.now.done) (T.touches timeline.now) coming.now.from coming.now.rate coming.now.pages sent.items) }
+    ensures scan { IfOk result (λ sent. IsScanWithin (T.pages timeline.now) (T.touches timeline.now) coming.now.from
+        (coming.now.from + 1_000 * length sent.items / coming.now.rate) scan.new.next scan.new.marks.items) }
+{
+    if may_skip(settings, coming.done) {
+        return scan.skim(alloc, timeline, coming.from, coming.rate, &coming.pages);
+    }
+    let sent = Vec::from_slice(alloc, &coming.pages)?;
+    Ok(sent)
+}
+
+/// Runs a round: the round, and the pages that are written meanwhile.
+fn run_round<T: Timeline>(
+    alloc: Global,
+    timeline: &T,
+    settings: &Settings,
+    scan: &mut Scan,
+    coming: Coming,
+) -> Result<(Round, Vec<u32>), AllocError>
+    requires scan { IsScan (T.pages timeline.now) (T.touches timeline.now) coming.from coming.from scan.old.next scan.old.marks.items }
+    requires coming { CanCome (T.pages timeline.now) settings.now coming }
+    ensures ran { IfOk result (λ found. HasRun (T.pages timeline.now) (T.touches timeline.now) settings.now coming found.0 found.1.items) }
+    ensures scan { IfOk result (λ found. IsScan (T.pages timeline.now) (T.touches timeline.now) coming.from found.0.to scan.new.next scan.new.marks.items) }
+{
+    let sent = sent_pages(alloc, timeline, settings, scan, &coming)?;
+    let to = coming.from + duration(sent.len() as u32, coming.rate);
+    scan.advance(timeline, to);
+    let dirtied = scan.pages(alloc)?;
+    let round = Round {
+        from: coming.from,
+        to,
+        rate: coming.rate,
+        pages: coming.pages,
+        sent,
+        dirtied: dirtied.len() as u32,
+    };
+    Ok((round, dirtied))
+}
+
+/// What a migration comes to when it ends with a round, which goes on to `stop`.
+fn ended(settings: &Settings, rounds: Vec<Round>, reason: Reason, stop: u64, last: Vec<u32>) -> Plan
+    requires { IsSmallPlan rounds.items last.items }
+    ensures { result ≡ plan_with rounds.items (reason_of reason) stop last.items (duration_of (length last.items) settings.now.max) }
+{
+    let down = duration(last.len() as u32, settings.asked().max);
+    Plan {
+        rounds,
+        reason,
+        stop,
+        last,
+        down,
+    }
+}
+
+/// The plan of a migration. It costs as much as the touches in the ticks that its rounds cover, and a walk over one mark
+/// for each page in each round; the first of those touches is found by halves. `Memory` is answered where a list of
+/// pages or the rounds found no room.
+pub fn plan<T: Timeline>(
+    alloc: Global,
+    timeline: &T,
+    settings: &Settings,
+) -> Result<Plan, PlanError>
+    ensures answer { IfOk result (λ plan. IsPlan (T.pages timeline.now) (T.touches timeline.now) settings.now plan) }
+    ensures refusal { IfErr result (λ e. e ≡ PlanError.Memory) }
+{
+    let asked = settings.asked();
+    let mut scan = Scan::new(alloc, timeline, asked.start)?;
+    let mut rounds = Vec::new(alloc);
+    let mut coming = Coming {
+        done: 0,
+        from: asked.start,
+        rate: asked.min,
+        pages: first_pages(alloc, timeline.page_count())?,
+    };
+    loop {
+        let done = coming.done + 1;
+        let (round, dirtied) = run_round(alloc, timeline, settings, &mut scan, coming)?;
+        let to = round.to;
+        let after = next(settings, round.dirtied, to - round.from, done);
+        rounds.push(round)?;
+        match after {
+            Next::Stop(reason) => return Ok(ended(settings, rounds, reason, to, dirtied)),
+            Next::Go(rate) => {
+                scan.restart();
+                coming = Coming {
+                    done,
+                    from: to,
+                    rate,
+                    pages: dirtied,
+                };
+            }
+        }
+    }
+}

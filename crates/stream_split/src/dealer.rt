@@ -1,0 +1,43 @@
+//! Whose turn it is.
+
+ghost use Rattle.std.specs.Prelude.{◌≡◌, ◌≤◌, ◌<◌, ◌+◌, ◌%◌};
+ghost use Rattle.stream_split.specs.Deals.{Turn, turn_with};
+
+use std::marker::Model;
+
+/// Deals out streams in turn, starting with 0. It takes no memory.
+#[derive(Debug, Drop)]
+pub struct Dealer {
+    streams: usize,
+    next: usize,
+}
+
+impl Model for Dealer {
+    ghost Value = { Turn };
+
+    ghost view = { λ d. turn_with d.streams d.next };
+
+    ghost invariant = { λ d. (1 ≤ d.streams) × (d.streams ≤ 16) × (d.next < d.streams) };
+}
+
+impl Dealer {
+    /// A dealer to so many streams, before its first turn.
+    pub fn new(streams: usize) -> Dealer
+        requires some { 1 ≤ streams }
+        requires few { streams ≤ 16 }
+        ensures { result ≡ turn_with streams 0 }
+    {
+        Dealer { streams, next: 0 }
+    }
+
+    /// The stream whose turn it is. The next one's comes then, and after the last the first's.
+    pub fn deal(&mut self) -> usize
+        ensures next { result ≡ self.old.next }
+        ensures within { result < self.old.streams }
+        ensures turn { self.new ≡ turn_with self.old.streams ((self.old.next + 1) % self.old.streams) }
+    {
+        let stream = self.next;
+        self.next = (stream + 1) % self.streams;
+        stream
+    }
+}

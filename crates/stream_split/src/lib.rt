@@ -1,0 +1,12 @@
+//! Frames dealt out to streams.
+#![tactic(auto)]
+
+mod dealer;
+mod error;
+mod splitting;
+#[cfg(test)]
+mod tests;
+
+pub use dealer::Dealer;
+pub use error::SplitError;
+pub use splitting::split;

@@ -1,0 +1,86 @@
+//! When pages are written, without what is written.
+
+ghost use Rattle.std.specs.Prelude.{◌≡◌, ◌<◌, ◌≤◌, ℕ, true, false, nat_lt, List, length, slice_index_or};
+ghost use Rattle.std.specs.List.Sorted.{IsPartitionPoint};
+ghost use Rattle.migration_model.specs.Touches.{AreTouches, GuestTouch, no_touch, touches_of};
+
+use crate::trace::Trace;
+use crate::write::Write;
+use std::marker::Model;
+
+/// When a write was, and to which page.
+#[derive(Clone, Copy, Debug)]
+pub struct Touch {
+    pub tick: u64,
+    pub page: u32,
+}
+
+impl Model for Touch {
+    ghost use Rattle.migration_model.specs.Touches.{GuestTouch, touch_with};
+
+    ghost Value = { GuestTouch };
+
+    ghost view = { λ t. touch_with t.tick t.page };
+
+    ghost inverse = { λ t. record { tick = t.tick; page = t.page } };
+}
+
+/// What tells when each page of a guest was written: all that working sets and rounds look at.
+pub trait Timeline {
+    // The touches in order.
+    ghost touches: { Self → List GuestTouch };
+
+    // How many pages the guest has.
+    ghost pages: { Self → ℕ };
+
+    /// How many pages the guest has.
+    fn page_count(&self) -> u32
+        ensures pages { result ≡ pages self.now }
+        ensures some { 1 ≤ result }
+        ensures few { result ≤ 65_536 };
+
+    /// How many touches there are.
+    fn touch_count(&self) -> usize
+        ensures count { result ≡ length (touches self.now) }
+        ensures fits { AreTouches (pages self.now) (touches self.now) };
+
+    /// One touch. The first has index 0.
+    fn touch(&self, index: usize) -> Touch
+        requires { index < length (touches self.now) }
+        ensures { result ≡ slice_index_or (touches self.now) index no_touch };
+
+    /// How many touches there are before a tick, found by halves.
+    fn before(&self, tick: u64) -> usize
+        ensures bound { result ≤ length (touches self.now) }
+        ensures point { IsPartitionPoint (λ touch. nat_lt touch.tick tick ≡ true) (λ touch. nat_lt touch.tick tick ≡ false) (touches self.now) result };
+}
+
+impl Timeline for Trace {
+    ghost touches = { touches_of };
+
+    ghost pages = { λ t. t.pages };
+
+    fn page_count(&self) -> u32 {
+        self.pages
+    }
+
+    fn touch_count(&self) -> usize {
+        self.writes.len()
+    }
+
+    fn touch(&self, index: usize) -> Touch {
+        let write = &self.writes[index];
+        Touch {
+            tick: write.tick,
+            page: write.page,
+        }
+    }
+
+    fn before(&self, tick: u64) -> usize {
+        self.writes.as_slice().partition_point(
+            |write: &Write| -> bool
+                ensures { result ≡ nat_lt write.now.tick tick }
+            { write.tick < tick },
+        )
+    }
+}

@@ -1,0 +1,112 @@
+//! A trace without what was written.
+
+ghost use Rattle.std.specs.Prelude.{◌≡◌, [], IfErr, IfOk, length, nat_lt};
+ghost use Rattle.migration_model.specs.Trace.{GuestTrace, Spells};
+ghost use Rattle.migration_model.specs.Touches.{AreTouches, GuestTouches, touches_in, touches_with};
+ghost use Rattle.trace_codec.specs.Refusals.{RefusesUnlessMemory};
+
+use crate::error::TraceError;
+use crate::reader::TraceReader;
+use crate::shape::Shape;
+use crate::timeline::{Timeline, Touch};
+use std::alloc::Global;
+use std::marker::Model;
+
+/// The bytes of the shortest record: its numbers, and one byte that is written.
+const SHORTEST_RECORD: usize = 17;
+
+/// When each write of a trace was, and to which page: 16 bytes a write, however long the writes are.
+#[derive(Debug, Drop)]
+pub struct TouchLog {
+    shape: Shape,
+    touches: Vec<Touch>,
+}
+
+impl Model for TouchLog {
+    ghost Value = { GuestTouches };
+
+    ghost view = { λ l. touches_with l.shape.shift l.shape.pages l.touches.items };
+
+    ghost invariant = { λ l. (length l.touches.items ≡ l.shape.writes) × AreTouches l.shape.pages l.touches.items };
+}
+
+/// The log of the writes that a reader has in front of it, with room for so many at first.
+fn log_of_reader(
+    alloc: Global,
+    reader: TraceReader<'_>,
+    room: usize,
+) -> Result<TouchLog, TraceError>
+    requires { reader.writes ≡ [] }
+    ensures made { IfOk result (λ log. (trace : GuestTrace) × Spells reader.entry.bytes trace × (log ≡ touches_in trace)) }
+    ensures refused { IfErr result (RefusesUnlessMemory reader.entry.bytes) }
+{
+    let mut reader = reader;
+    let shape = reader.shape();
+    let mut touches = Vec::with_capacity(alloc, room)?;
+    for _ in 0..shape.writes {
+        let write = reader.read_record()?;
+        touches.push(Touch {
+            tick: write.tick,
+            page: write.page,
+        })?;
+    }
+    reader.finish()?;
+    Ok(TouchLog { shape, touches })
+}
+
+/// The log of the trace that the bytes spell.
+fn log_of_bytes(alloc: Global, bytes: &[u8]) -> Result<TouchLog, TraceError>
+    ensures made { IfOk result (λ log. (trace : GuestTrace) × Spells bytes.now trace × (log ≡ touches_in trace)) }
+    ensures refused { IfErr result (RefusesUnlessMemory bytes.now) }
+{
+    let reader = TraceReader::new(bytes)?;
+    let claimed = reader.shape().writes as usize;
+    log_of_reader(alloc, reader, claimed.min(bytes.len() / SHORTEST_RECORD))
+}
+
+impl TouchLog {
+    /// Reads off its bytes what a trace touches, in one pass over the records. `E17` is never answered. It takes no more
+    /// memory than the bytes have, whatever the header claims.
+    pub fn parse(alloc: Global, bytes: &[u8]) -> Result<TouchLog, TraceError>
+        ensures made { IfOk result (λ log. (trace : GuestTrace) × Spells bytes.now trace × (log ≡ touches_in trace)) }
+        ensures refused { IfErr result (RefusesUnlessMemory bytes.now) }
+        ensures only { (trace : GuestTrace) → Spells bytes.now trace → IfErr result (λ e. e ≡ TraceError.Memory) }
+    {
+        log_of_bytes(alloc, bytes)
+    }
+
+    /// How large the trace is.
+    pub fn shape(&self) -> Shape
+        ensures shift { result.shift ≡ self.now.shift }
+        ensures pages { result.pages ≡ self.now.pages }
+        ensures writes { result.writes ≡ length self.now.touches }
+    {
+        self.shape
+    }
+}
+
+impl Timeline for TouchLog {
+    ghost touches = { λ l. l.touches };
+
+    ghost pages = { λ l. l.pages };
+
+    fn page_count(&self) -> u32 {
+        self.shape.pages
+    }
+
+    fn touch_count(&self) -> usize {
+        self.touches.len()
+    }
+
+    fn touch(&self, index: usize) -> Touch {
+        self.touches[index]
+    }
+
+    fn before(&self, tick: u64) -> usize {
+        self.touches.as_slice().partition_point(
+            |touch: &Touch| -> bool
+                ensures { result ≡ nat_lt touch.now.tick tick }
+            { touch.tick < tick },
+        )
+    }
+}
