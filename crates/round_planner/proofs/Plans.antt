@@ -8,7 +8,7 @@ use Rattle.migration_model.specs.Rates.{MigrationSettings, AreSettings, StopReas
 use Rattle.migration_model.specs.Touches.{GuestTouch, is_written, pages_written}
 use Rattle.migration_model.specs.Rounds.{PlannedRound, MigrationPlan, plan_with, NextRound, pages_below, first_round, round_after, IsSent, IsRound, IsEnd, InEither, AreRounds, IsPlan}
 use Rattle.round_planner.specs.Scanning.{CanCome, HasRun, IsPageList}
-use Rattle.round_planner.proofs.Skims.{Rises, Rises-pages, Rises-range, sent_is_skim, sent_is_all, round_sends}
+use Rattle.round_planner.proofs.Skims.{Rises, Rises-pages, Rises-range, sent_is_skim, filter_all, sent_is_all, round_sends}
 use Rattle.round_planner.proofs.PageLists.{few_kept, list_few, list_rises}
 
 -- the pages sent are one list
@@ -151,10 +151,6 @@ ran pages touches s now round dirtied ticks ready sent from rate list to ticks_a
 
 -- ---- from round to round
 
-every : (xs : List ℕ) → filter (λ x. true) xs ≡ xs
-every [] = refl
-every (x ∷ xs) = ap (λ (l : List ℕ). x ∷ l) (every xs)
-
 -- a list of the pages that are written
 pub written_list : (pages : ℕ) (touches : List GuestTouch) (from to : ℕ) (list : List ℕ) → pages ≤ 65_536 → list ≡ pages_written pages touches from to → IsPageList pages list
 written_list pages touches from to list few is = record { test = is_written touches from to; few = few; list_is = is }
@@ -163,7 +159,7 @@ pub can_start : (pages : ℕ) (s : MigrationSettings) (now : NextRound) → AreS
 can_start pages s now are some few is =
     let list : now.pages ≡ range_with_len 0 pages = ap (λ (n : NextRound). n.pages) is in
     record {
-      list = record { test = λ page. true; few = few; list_is = list ∙ sym (every (range_with_len 0 pages)) };
+      list = record { test = λ page. true; few = few; list_is = list ∙ sym (filter_all (range_with_len 0 pages)) };
       some = omega (arith, ap length list, length-range_with_len 0 pages);
       rate_low = omega (arith, ap (λ (n : NextRound). n.rate) is, are.min_low);
       from_high = omega (arith, ap (λ (n : NextRound). n.from) is, are.start_high);

@@ -157,7 +157,7 @@ pub sent_is_skim : (touches : List GuestTouch) (from rate : ℕ) (pages sent : L
 sent_is_skim touches from rate pages sent rises is = only touches from rate pages sent 0 [] (AllBelow-nil 0) rises is
 
 -- where nothing is skipped, all pages are sent
-filter_all : (pages : List ℕ) → filter (λ page. true) pages ≡ pages
+pub filter_all : (pages : List ℕ) → filter (λ page. true) pages ≡ pages
 filter_all [] = refl
 filter_all (q ∷ pages) = ap (λ (l : List ℕ). q ∷ l) (filter_all pages)
 
