@@ -110,11 +110,6 @@ let_pass b e others is none = rw is none
 is_within : (low high n : ℕ) → low ≤ n → n ≤ high → not (leb low n && leb n high) ≡ false
 is_within low high n above below = rw (le-leb low n above, le-leb n high below) refl
 
-within_from : (low high n : ℕ) → not (leb low n && leb n high) ≡ false → (low ≤ n) × (n ≤ high)
-within_from low high n is =
-    let both = and_parts (leb low n) (leb n high) (not-false (leb low n && leb n high) is) in
-    (leb-true _ _ both.0, leb-true _ _ both.1)
-
 sizes_pass : (trace : GuestTrace) → IsTrace trace → sizes_refusal (is_short trace) trace.shift trace.pages (length trace.writes) ≡ None
 sizes_pass trace is =
     let_pass _ _ _ (ap not (le-leb (length (trace_text trace)) (2 ^ 28) is.short))
@@ -141,19 +136,3 @@ never_refuses trace e is (in_record none r) =
     let late : last_tick r.before ≤ r.write.tick = last_by-le (λ w. w.tick) r.write.tick r.before (in_order-front (λ w. w.tick) r.before r.write r.after order) in
     let passes = record_passes trace.shift trace.pages (last_tick r.before) (length r.before) r.write fits late in
     absurd (cc (r.refused, passes))
-
--- a trace is what was tested
-pub is_trace_made : (trace : GuestTrace) → sizes_refusal (is_short trace) trace.shift trace.pages (length trace.writes) ≡ None → AreGuestWrites trace.shift trace.pages trace.writes → IsTrace trace
-is_trace_made trace none fit =
-    let long = passed _ _ _ none in
-    let shift = passed _ _ _ long.1 in
-    let pages = passed _ _ _ shift.1 in
-    let writes = passed _ _ _ pages.1 in
-    let shifts = within_from _ _ _ shift.0 in
-    let sizes = within_from _ _ _ pages.0 in
-    record {
-      size = record { shift_low = shifts.0; shift_high = shifts.1; pages_low = sizes.0; pages_high = sizes.1 };
-      count = ltb-false _ _ writes.0;
-      writes = fit;
-      short = leb-true _ _ (not-false _ long.0);
-    }
