@@ -18,4 +18,4 @@ pub use machine::{Core, step};
 pub use opening::{MAX_PAGES, MAX_SEATS, Opening};
 pub use refusal::CoreRefusal;
 pub use running::{every_page, run};
-pub use words::ends_before;
+pub use words::{add_page, ends_before, has_page};

@@ -4,7 +4,7 @@ ghost use Rattle.std.specs.Prelude.{◌≡◌, ◌↔◌, ◌+◌, ◌/◌, ◌*
 ghost use Rattle.dirty_core.specs.Pages.{in_words, one_page, word_pages, bit_pages, union, common, minus, IsWithin, SamePages};
 
 /// Whether a page is in the set. No page past the words is.
-pub(crate) fn has_page(words: &[u64], page: u32) -> bool
+pub fn has_page(words: &[u64], page: u32) -> bool
     ensures { result ≡ in_words words.now page }
 {
     let word = (page / 64) as usize;
@@ -12,7 +12,7 @@ pub(crate) fn has_page(words: &[u64], page: u32) -> bool
 }
 
 /// Adds a page.
-pub(crate) fn add_page(words: &mut Vec<u64>, page: u32)
+pub fn add_page(words: &mut Vec<u64>, page: u32)
     requires { page / 64 < length words.old.items }
     ensures pages { SamePages (in_words words.new.items) (union (in_words words.old.items) (one_page page)) }
     ensures len { length words.new.items ≡ length words.old.items }

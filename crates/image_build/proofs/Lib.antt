@@ -1,2 +1,3 @@
 pub mod Replays
 pub mod Joined
+pub mod Resumed

@@ -1,11 +1,11 @@
 -- Memory on the way through the writes.
-use Rattle.std.proofs.Common.{◌≡◌, ℕ, suc, ◌+◌, ◌*◌, ◌^◌, ◌≤◌, List, [], ◌∷◌, ◌++◌, length, take, drop, Result, Ok, Err, refl, sym, ap, ◌∙◌, arith}
+use Rattle.std.proofs.Common.{◌≡◌, ℕ, suc, ◌+◌, ◌*◌, ◌^◌, ◌≤◌, List, [], ◌∷◌, ◌++◌, length, Result, Ok, Err, refl, sym, ap, ◌∙◌, arith}
 use Rattle.std.specs.List.{fold}
 use Rattle.std.proofs.Math.Nat.{mul-le-mul_right}
-use Rattle.std.proofs.lemmas.List.{length-append, length-drop, length-take}
 use Rattle.std.proofs.lemmas.List.Sums.{fold-append}
 use Rattle.std.specs.Prelude.{IfOk, IfErr, MatchResult}
 use Rattle.migration_model.specs.Trace.{GuestWrite, GuestTrace, IsGuestWrite, Spells}
+use Rattle.migration_model.proofs.Pages.{length-put}
 use Rattle.migration_model.proofs.Traces.{one_trace_lem}
 use Rattle.trace_codec.proofs.Never.{never_refused}
 use Rattle.image_build.specs.Replay.{RefusesReplay}
@@ -24,16 +24,6 @@ pub write_fits : (shift pages : ℕ) (memory : List ℕ) (write : GuestWrite) �
 write_fits shift pages memory write len fits =
     let below : suc write.page * 2 ^ shift ≤ pages * 2 ^ shift = mul-le-mul_right (2 ^ shift) fits.page in
     omega (arith, below, fits.within)
-
-pub length-put : (memory : List ℕ) (place : ℕ) (bytes : List ℕ) → place + length bytes ≤ length memory → length (put memory place bytes) ≡ length memory
-length-put memory place bytes fits =
-    omega (
-      arith,
-      length-append (take place memory) (bytes ++ drop (place + length bytes) memory),
-      length-append bytes (drop (place + length bytes) memory),
-      length-take place memory,
-      length-drop (place + length bytes) memory,
-    )
 
 pub Becomes-next : (shift pages : ℕ) (memory next : List ℕ) (write : GuestWrite) (left : List GuestWrite) (whole : GuestMemory)
     → Becomes shift pages memory (write ∷ left) whole → IsGuestWrite shift pages write

@@ -57,7 +57,8 @@ impl Image {
 
     /// The bytes of all pages, given away.
     pub fn into_bytes(self) -> Vec<u8>
-        ensures { result.items ≡ self.bytes }
+        ensures bytes { result.items ≡ self.bytes }
+        ensures is_memory { IsMemory self.shift self.pages self.bytes }
     {
         let Image {
             shift: _,

@@ -5,6 +5,7 @@ mod error;
 mod image;
 mod joining;
 mod replaying;
+mod resuming;
 #[cfg(test)]
 mod tests;
 
@@ -12,3 +13,4 @@ pub use error::{ImageError, ReplayError};
 pub use image::Image;
 pub use joining::of_parts;
 pub use replaying::{replay, replay_before, replay_bytes, replay_view};
+pub use resuming::resume;

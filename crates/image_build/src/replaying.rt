@@ -18,14 +18,14 @@ fn blank(alloc: Global, shape: Shape) -> Result<Vec<u8>, AllocError>
 }
 
 /// Where an offset of a page stands in memory.
-fn place_of(shape: Shape, page: u32, offset: u16) -> usize
+pub(crate) fn place_of(shape: Shape, page: u32, offset: u16) -> usize
     ensures { result ≡ page * 2 ^ shape.shift + offset }
 {
     page as usize * shape.page_size() + offset as usize
 }
 
 /// Puts bytes over those that stand from a place on.
-fn write_over(memory: &mut Vec<u8>, place: usize, bytes: &[u8])
+pub(crate) fn write_over(memory: &mut Vec<u8>, place: usize, bytes: &[u8])
     requires { place + length bytes.now ≤ vec_len memory.old }
     ensures { memory.new.items ≡ put memory.old.items place bytes.now }
 {

@@ -3,14 +3,16 @@ use Rattle.std.proofs.Common.{◌≡◌, ℕ, inl, inr, zero, suc, ◌+◌, ◌-
 use Rattle.std.specs.List.{All, fold, flat_map, between, range_with_len}
 use Rattle.std.proofs.Math.Seq.{drop-append-add, take-append_seam}
 use Rattle.std.proofs.lemmas.Bool.{cases_lt}
-use Rattle.std.proofs.lemmas.List.{get_or_default}
+use Rattle.std.proofs.lemmas.List.{get_or_default, length-append}
 use Rattle.std.proofs.lemmas.List.Elements.{All-head, All-tail}
 use Rattle.migration_model.specs.Frames.{GuestShape}
-use Rattle.migration_model.specs.Memory.{page_of}
-use Rattle.migration_model.specs.Trace.{GuestTrace}
-use Rattle.migration_model.specs.Versions.{page_at}
+use Rattle.migration_model.specs.Final.{shape_of_trace}
+use Rattle.migration_model.specs.Memory.{image_before, page_of}
+use Rattle.migration_model.specs.Trace.{GuestTrace, IsTrace}
+use Rattle.migration_model.specs.Versions.{page_at, version_before}
 use Rattle.migration_model.specs.Parts.{PageCopy, GuestPart, copy_at, IsCopy, empty_part, later, join, join_all, IsHonest}
 use Rattle.migration_model.specs.Images.{bytes_of, memory_in, bytes_of_first, HaveFirst, AreCurrent}
+use Rattle.migration_model.proofs.Pages.{memory_before}
 use Rattle.migration_model.proofs.Parts.{get_or-later_each, later_first, later_second}
 
 -- the copy is no later than this one, and this one where the stamps are equal
@@ -98,6 +100,12 @@ piece_at f size a (suc n) (suc p) low sizes =
     ∙ piece_at f size (a + 1) n p (omega arith) (λ q below. sizes q (omega arith))
     ∙ ap f (omega arith)
 
+length_pieces : (f : ℕ → List ℕ) (size a n : ℕ) → ((q : ℕ) → q < a + n → length (f q) ≡ size) → length (flat_map f (range_with_len a n)) ≡ n * size
+length_pieces f size a zero sizes = omega arith
+length_pieces f size a (suc n) sizes =
+    let rest = flat_map f (range_with_len (a + 1) n) in
+    omega (arith, length-append (f a) rest, sizes a (omega arith), length_pieces f size (a + 1) n (λ q low. sizes q (omega (arith, low))))
+
 bytes_of_this : (n s : ℕ) (w : List ℕ) (o : Option PageCopy) → IsThis n s w o → bytes_of o ≡ w
 bytes_of_this n s w None is = absurd is
 bytes_of_this n s w (Some c) is = is.content_is
@@ -138,9 +146,9 @@ lows : (trace : GuestTrace) (shape : GuestShape) (versions : List ℕ) (parts : 
     → All (λ part. IsLow (2 ^ shape.shift) (get_or versions p 0) (page_at trace p (get_or versions p 0)) (copy_at part p)) parts
 lows trace shape versions parts p are k d low =
     let part = get_or parts k d in
-    low_from trace shape part p (get_or versions p 0) (copy_at part p) (are.honest k d low) refl
-    (subst (λ (s : GuestShape). IfSome (copy_at part p) (IsCopy s)) (are.shapes k d low) ((are.are_parts k d low).copies p))
-    (are.bound p k d low)
+    low_from trace shape part p (get_or versions p 0) (copy_at part p) (are.not_beyond.honest k d low) refl
+    (subst (λ (s : GuestShape). IfSome (copy_at part p) (IsCopy s)) (are.not_beyond.shapes k d low) ((are.not_beyond.are_parts k d low).copies p))
+    (are.not_beyond.bound p k d low)
 
 joined_this : (trace : GuestTrace) (shape : GuestShape) (versions : List ℕ) (parts : List GuestPart) (p : ℕ) → AreCurrent trace shape versions parts → p < shape.pages
     → IsThis (2 ^ shape.shift) (get_or versions p 0) (page_at trace p (get_or versions p 0)) (copy_at (join_all shape parts) p)
@@ -180,3 +188,35 @@ pub current_whole : (trace : GuestTrace) (shape : GuestShape) (versions : List �
 current_whole trace shape versions parts are p low lacks =
     let found = are.current p low in
     some_there (copy_at found.1 p) (get_or versions p 0) found.4 (ap (λ (q : GuestPart). copy_at q p) (sym found.3) ∙ lacks found.0 found.1 found.2)
+
+-- it is as long as the guest's pages
+current_sizes : (trace : GuestTrace) (shape : GuestShape) (versions : List ℕ) (parts : List GuestPart) → AreCurrent trace shape versions parts
+    → length (memory_in (join_all shape parts)).bytes ≡ (memory_in (join_all shape parts)).pages * 2 ^ (memory_in (join_all shape parts)).shift
+current_sizes trace shape versions parts are =
+    let joined = join_all shape parts in
+    let same : joined.shape ≡ shape = shape-joined (empty_part shape) parts in
+    length_pieces (λ page. bytes_of (copy_at joined page)) (2 ^ joined.shape.shift) 0 joined.shape.pages
+    (λ q low. size_of_this (2 ^ joined.shape.shift) (get_or versions q 0) (page_at trace q (get_or versions q 0)) (copy_at joined q)
+    (subst (λ (s : GuestShape). IsThis (2 ^ s.shift) (get_or versions q 0) (page_at trace q (get_or versions q 0)) (copy_at joined q)) (sym same)
+    (joined_this trace shape versions parts q are (omega (arith, low, ap (λ (s : GuestShape). s.pages) same)))))
+
+pub current_size : (trace : GuestTrace) (shape : GuestShape) (versions : List ℕ) (parts : List GuestPart) → AreCurrent trace shape versions parts
+    → ((memory_in (join_all shape parts)).shift ≡ shape.shift) × ((memory_in (join_all shape parts)).pages ≡ shape.pages)
+    × (length (memory_in (join_all shape parts)).bytes ≡ shape.pages * 2 ^ shape.shift)
+current_size trace shape versions parts are =
+    let same : (join_all shape parts).shape ≡ shape = shape-joined (empty_part shape) parts in (
+      ap (λ (s : GuestShape). s.shift) same,
+      ap (λ (s : GuestShape). s.pages) same,
+      current_sizes trace shape versions parts are ∙ ap (λ (s : GuestShape). s.pages * 2 ^ s.shift) same,
+    )
+
+pub current_before : (trace : GuestTrace) (versions : List ℕ) (parts : List GuestPart) (tick : ℕ) → IsTrace trace
+    → AreCurrent trace (shape_of_trace trace) versions parts
+    → ((page : ℕ) → page < trace.pages → get_or versions page 0 ≡ version_before trace page tick)
+    → memory_in (join_all (shape_of_trace trace) parts) ≡ image_before trace tick
+current_before trace versions parts tick is are at =
+    let shape = shape_of_trace trace in
+    let same : (join_all shape parts).shape ≡ shape = shape-joined (empty_part shape) parts in
+    memory_before trace (memory_in (join_all shape parts)) tick is (ap (λ (s : GuestShape). s.shift) same) (ap (λ (s : GuestShape). s.pages) same)
+    (current_sizes trace shape versions parts are)
+    (λ page low. current_page trace shape versions parts page are low ∙ ap (page_at trace page) (at page low))

@@ -8,3 +8,7 @@ pub mod Frames
 pub mod Parts
 pub mod AnyOrder
 pub mod Current
+pub mod Placed
+pub mod Places
+pub mod Pages
+pub mod Final

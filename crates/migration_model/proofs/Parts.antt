@@ -128,7 +128,7 @@ Agree-from_honest trace a b shape honest_a honest_b =
       copies = λ page c d at_a at_b stamp. same_copy c d stamp (honest_a page c at_a ∙ ap (page_at trace page) stamp ∙ sym (honest_b page d at_b));
     }
 
-later_one : (a b : Option PageCopy) (c : PageCopy) → later a b ≡ Some c → (a ≡ Some c) ⊎ (b ≡ Some c)
+pub later_one : (a b : Option PageCopy) (c : PageCopy) → later a b ≡ Some c → (a ≡ Some c) ⊎ (b ≡ Some c)
 later_one None b c is = inr is
 later_one (Some a) None c is = inl is
 later_one (Some a) (Some b) c is = elim (cases_lt a.stamp b.stamp) [

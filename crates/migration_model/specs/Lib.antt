@@ -6,7 +6,11 @@ pub mod Versions
 pub mod Frames
 pub mod Parts
 pub mod Images
+pub mod Resumed
+pub mod Final
 pub mod Rates
 pub mod Touches
 pub mod Windows
 pub mod Rounds
+pub mod Live
+pub mod Sweeps

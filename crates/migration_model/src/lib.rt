@@ -3,15 +3,16 @@
 //! A law is a function with an empty body: its contract is the law, and a call brings it into the caller's proof.
 #![tactic(auto)]
 
-ghost use Rattle.std.specs.Prelude.{◌≡◌, ◌↔◌, ◌<◌, ◌≤◌, ◌^◌, ℕ, ◌++◌, IsTrue, List, [], length, slice_index_or};
+ghost use Rattle.std.specs.Prelude.{◌≡◌, ◌↔◌, ◌<◌, ◌≤◌, ◌*◌, ◌^◌, ℕ, ◌++◌, Bool, IsTrue, List, [], length, slice_index_or};
 ghost use Rattle.std.specs.List.{All, Contains};
 ghost use Rattle.migration_model.specs.Frames.{GuestShape, IsGuestShape, IsFrame, PageFrame, SpellsFrame, SpellsStream, content_of, frame_text};
-ghost use Rattle.migration_model.specs.Images.{AreCurrent, HaveFirst, memory_in};
-ghost use Rattle.migration_model.specs.Memory.{page_of};
+ghost use Rattle.migration_model.specs.Final.{IsFinalCopy, shape_of_trace};
+ghost use Rattle.migration_model.specs.Images.{AreCurrent, AreNotBeyond, HaveCurrent, HaveFirst, memory_in};
+ghost use Rattle.migration_model.specs.Memory.{GuestMemory, image_before, page_of};
 ghost use Rattle.migration_model.specs.Parts.{Agree, FramesAgree, GuestPart, IsPart, join, join_all, part_of, with_frame, with_frames};
-ghost use Rattle.migration_model.specs.Trace.{GuestTrace, Spells};
+ghost use Rattle.migration_model.specs.Trace.{GuestTrace, IsTrace, Spells};
 ghost use Rattle.migration_model.specs.Touches.{is_written, touches_of};
-ghost use Rattle.migration_model.specs.Versions.{IsWritten, page_at};
+ghost use Rattle.migration_model.specs.Versions.{IsWritten, page_at, version_before};
 
 /// One trace has one spelling.
 pub fn one_spelling()
@@ -74,10 +75,35 @@ pub fn frames_come_in_any_order()
 {}
 
 /// Honest parts that have the current copy of every page, and no later one, make memory in which each page is at its version.
+/// Where these are the versions before a tick, that is the memory before it.
 pub fn current_copies_make_memory()
     ensures whole { (trace : GuestTrace) (shape : GuestShape) (versions : List ℕ) (parts : List GuestPart)
         → AreCurrent trace shape versions parts → HaveFirst parts shape.pages }
     ensures pages { (trace : GuestTrace) (shape : GuestShape) (versions : List ℕ) (parts : List GuestPart) (page : ℕ)
         → AreCurrent trace shape versions parts → page < shape.pages
         → page_of (memory_in (join_all shape parts)) page ≡ page_at trace page (slice_index_or versions page 0) }
+    ensures size { (trace : GuestTrace) (shape : GuestShape) (versions : List ℕ) (parts : List GuestPart) → AreCurrent trace shape versions parts
+        → ((memory_in (join_all shape parts)).shift ≡ shape.shift) × ((memory_in (join_all shape parts)).pages ≡ shape.pages)
+        × (length (memory_in (join_all shape parts)).bytes ≡ shape.pages * 2 ^ shape.shift) }
+    ensures before { (trace : GuestTrace) (versions : List ℕ) (parts : List GuestPart) (tick : ℕ) → IsTrace trace
+        → AreCurrent trace (shape_of_trace trace) versions parts
+        → ((page : ℕ) → page < trace.pages → slice_index_or versions page 0 ≡ version_before trace page tick)
+        → memory_in (join_all (shape_of_trace trace) parts) ≡ image_before trace tick }
+{}
+
+/// A final copy needs the marked pages alone: if the parts were honest, no stamp in them was beyond its page's version, and
+/// every page that isn't marked had its current copy in some part, then every page has it now.
+pub fn final_copy_makes_current()
+    ensures { (trace : GuestTrace) (shape : GuestShape) (versions : List ℕ) (marked : ℕ → Bool) (old new : List GuestPart)
+        → AreNotBeyond trace shape versions old
+        → ((page : ℕ) → page < shape.pages → ¬ IsTrue (marked page) → HaveCurrent versions old page)
+        → IsFinalCopy trace versions marked old new → AreCurrent trace shape versions new }
+{}
+
+/// Memory in which each page is at its version before a tick is the memory before that tick.
+pub fn versions_make_memory()
+    ensures { (trace : GuestTrace) (memory : GuestMemory) (tick : ℕ) → IsTrace trace
+        → memory.shift ≡ trace.shift → memory.pages ≡ trace.pages → length memory.bytes ≡ memory.pages * 2 ^ memory.shift
+        → ((page : ℕ) → page < trace.pages → page_of memory page ≡ page_at trace page (version_before trace page tick))
+        → memory ≡ image_before trace tick }
 {}

@@ -3,3 +3,5 @@ pub mod Searches
 pub mod Pages
 pub mod Orders
 pub mod Stamps
+pub mod Keyed
+pub mod Laid

@@ -1,29 +1,14 @@
 -- Places of those elements of a list that pass a test.
-use Rattle.std.proofs.Common.{◌≡◌, ℕ, zero, suc, ◌+◌, ◌-◌, ◌<◌, ◌≤◌, Bool, true, false, cond, leb, eqb, ◌&&◌, List, [], ◌∷◌, length, take, map, get_or, refl, sym, ap, ◌∙◌, arith}
-use Rattle.std.specs.List.{All, filter, fold, enumerate_from}
+use Rattle.std.proofs.Common.{◌≡◌, ℕ, zero, suc, ◌+◌, ◌-◌, ◌<◌, ◌≤◌, Bool, true, false, cond, leb, ltb, eqb, ◌&&◌, List, [], ◌∷◌, length, take, drop, map, get_or, refl, sym, ap, ◌∙◌, arith}
+use Rattle.std.specs.List.{All, filter, fold}
 use Rattle.std.specs.List.Sorted.{IsNonDecreasingBy, IsNonDecreasing}
-use Rattle.std.proofs.lemmas.Bool.{cond_both, cond-true, cond-false, le-leb, lt-leb}
+use Rattle.std.proofs.lemmas.Bool.{cond_both, cond-true, cond-false, le-leb, lt-leb, le-ltb, lt-ltb}
 use Rattle.std.proofs.lemmas.List.Elements.{All-nil, All-cons, All-head, All-tail, All-weaker}
 use Rattle.migration_model.specs.Trace.{GuestTrace, GuestWrite}
 use Rattle.migration_model.specs.Touches.{GuestTouch, AreTouches, touch_of, touches_of, no_touch}
+use Rattle.migration_model.proofs.Places.{from, from_is}
 use Rattle.page_versions.specs.Index.{GuestIndex, IsIndexOf, places_in, places_of}
 use Rattle.page_versions.specs.Layout.{tick_at}
-
--- such places, where the first element has place s
-abbrev pub from : {X : Type 0} → (X → Bool) → ℕ → List X → List ℕ
-from q s [] = []
-from q s (x ∷ xs) = cond (q x) (s ∷ from q (s + 1) xs) (from q (s + 1) xs)
-
-map_cond : {X Y : Type 0} (f : X → Y) (b : Bool) (x : X) (xs : List X) → map f (cond b (x ∷ xs) xs) ≡ cond b (f x ∷ map f xs) (map f xs)
-map_cond f true x xs = refl
-map_cond f false x xs = refl
-
-pub from_is : {X : Type 0} (q : X → Bool) (s : ℕ) (xs : List X)
-    → map (λ (at : ℕ × X). at.0) (filter (λ (at : ℕ × X). q at.1) (enumerate_from s xs)) ≡ from q s xs
-from_is q s [] = refl
-from_is {X} q s (x ∷ xs) =
-    map_cond (λ (at : ℕ × X). at.0) (q x) (s, x) (filter (λ (at : ℕ × X). q at.1) (enumerate_from (s + 1) xs))
-    ∙ ap (λ (l : List ℕ). cond (q x) (s ∷ l) l) (from_is q (s + 1) xs)
 
 from_map : {X Y : Type 0} (f : X → Y) (q : Y → Bool) (s : ℕ) (xs : List X) → from q s (map f xs) ≡ from (λ x. q (f x)) s xs
 from_map f q s [] = refl
@@ -52,7 +37,7 @@ bounds q s (x ∷ xs) =
     cond_both (q x) (s ∷ from q (s + 1) xs) (from q (s + 1) xs) (λ (l : List ℕ). All (λ (v : ℕ). (s ≤ v) × (v < s + suc (length xs))) l)
     (λ _. All-cons (λ (v : ℕ). (s ≤ v) × (v < s + suc (length xs))) s (from q (s + 1) xs) (omega arith, omega arith) rest) (λ _. rest)
 
-rises-cons : (m : ℕ → ℕ) (x : ℕ) (xs : List ℕ) → All (λ y. m x ≤ m y) xs → IsNonDecreasingBy m xs → IsNonDecreasingBy m (x ∷ xs)
+pub rises-cons : (m : ℕ → ℕ) (x : ℕ) (xs : List ℕ) → All (λ y. m x ≤ m y) xs → IsNonDecreasingBy m xs → IsNonDecreasingBy m (x ∷ xs)
 rises-cons m x xs above order zero zero d le low = omega arith
 rises-cons m x xs above order zero (suc j) d le low = above j d (omega arith)
 rises-cons m x xs above order (suc i) zero d le low = absurd (omega arith)
@@ -103,6 +88,10 @@ filter_cond_true : (r : ℕ → Bool) (b : Bool) (s : ℕ) (l : List ℕ) → r 
 filter_cond_true r true s l is = ap (λ (t : Bool). cond t (s ∷ filter r l) (filter r l)) is
 filter_cond_true r false s l is = refl
 
+filter_cond_false : (r : ℕ → Bool) (b : Bool) (s : ℕ) (l : List ℕ) → r s ≡ false → filter r (cond b (s ∷ l) l) ≡ filter r l
+filter_cond_false r true s l is = ap (λ (t : Bool). cond t (s ∷ filter r l) (filter r l)) is
+filter_cond_false r false s l is = refl
+
 -- those up to a place are the places in a front of the list
 pub places_upto : {X : Type 0} (q : X → Bool) (s : ℕ) (xs : List X) (version k : ℕ) → version + 1 ≡ s + k
     → filter (λ (v : ℕ). leb v version) (from q s xs) ≡ from q s (take k xs)
@@ -113,6 +102,21 @@ places_upto q s [] version (suc k) is = refl
 places_upto q s (x ∷ xs) version (suc k) is =
     filter_cond_true (λ (v : ℕ). leb v version) (q x) s (from q (s + 1) xs) (le-leb s version (omega (arith, is)))
     ∙ ap (λ (l : List ℕ). cond (q x) (s ∷ l) l) (places_upto q (s + 1) xs version k (omega (arith, is)))
+
+-- those past a place are the places in the rest of it
+pub places_past : {X : Type 0} (q : X → Bool) (s : ℕ) (xs : List X) (version k : ℕ) → version + 1 ≡ s + k
+    → filter (λ (v : ℕ). ltb version v) (from q s xs) ≡ from q (s + k) (drop k xs)
+places_past q s xs version zero is =
+    let here : s ≡ s + 0 = omega arith in
+    filter_all (λ (v : ℕ). ltb version v) (from q s xs)
+    (All-weaker (λ (v : ℕ). (s ≤ v) × (v < s + length xs)) (λ (v : ℕ). ltb version v ≡ true) (λ v b. lt-ltb version v (omega (arith, is, b.0))) (from q s xs) (bounds q s xs))
+    ∙ ap (λ (n : ℕ). from q n xs) here
+places_past q s [] version (suc k) is = refl
+places_past q s (x ∷ xs) version (suc k) is =
+    let place : s + 1 + k ≡ s + suc k = omega arith in
+    filter_cond_false (λ (v : ℕ). ltb version v) (q x) s (from q (s + 1) xs) (le-ltb version s (omega (arith, is)))
+    ∙ places_past q (s + 1) xs version k (omega (arith, is))
+    ∙ ap (λ (n : ℕ). from q n (drop k xs)) place
 
 -- those whose elements pass one more test
 pub places_both : {X : Type 0} (q t : X → Bool) (r : ℕ → Bool) (s : ℕ) (xs : List X)

@@ -10,7 +10,8 @@ use Rattle.migration_model.specs.Touches.{GuestTouch, touch_of, no_touch}
 use Rattle.migration_model.specs.Versions.{version_before}
 use Rattle.page_versions.specs.Index.{GuestIndex, IsIndexOf, places_in}
 use Rattle.page_versions.specs.Layout.{tick_at}
-use Rattle.page_versions.proofs.Places.{from_is, filter_none, filter_all, places_both, places_of_index, places_of_is}
+use Rattle.migration_model.proofs.Places.{from_is}
+use Rattle.page_versions.proofs.Places.{filter_none, filter_all, places_both, places_of_index, places_of_is}
 
 pub filter_front : {X : Type 0} (p : X → Bool) (xs : List X) (n : ℕ) → n ≤ length xs
     → IsPartitionPoint (λ x. p x ≡ true) (λ x. p x ≡ false) xs n → filter p xs ≡ take n xs

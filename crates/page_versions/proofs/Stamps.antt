@@ -1,10 +1,10 @@
 -- For each page the places and the ticks of its writes: together they are all touches.
-use Rattle.std.proofs.Common.{◌≡◌, ℕ, zero, suc, ◌+◌, ◌<◌, ◌≤◌, Bool, true, false, cond, eqb, List, [], ◌∷◌, ◌++◌, ◌↔◌, length, take, map, get_or, inl, inr, refl, sym, ap, ◌∙◌, arith}
+use Rattle.std.proofs.Common.{◌≡◌, ℕ, ◌+◌, ◌≤◌, Bool, true, false, cond, eqb, List, [], ◌∷◌, ◌↔◌, length, map, inl, inr, refl, sym, ap, ◌∙◌, arith}
 use Rattle.std.specs.List.{filter, enumerate_from}
 use Rattle.std.proofs.lemmas.Bool.{cond-true, cond-false, eq-eqb, ne_eqb, cases_eq}
 use Rattle.migration_model.specs.Trace.{GuestTrace, GuestWrite}
 use Rattle.migration_model.specs.Touches.{GuestTouch, touch_of, touches_of, touch_with}
-use Rattle.page_versions.specs.Index.{GuestIndex, IsIndexOf, HasWritesOf, stamps_in, stamps_of}
+use Rattle.page_versions.specs.Index.{GuestIndex, IsIndexOf, HasWritesOf, stamps_in}
 
 -- the place and the tick of each touch of a page, where the first of all has place s
 abbrev from : ℕ → List GuestTouch → ℕ → List (ℕ × ℕ)

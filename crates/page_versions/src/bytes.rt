@@ -11,7 +11,7 @@ use std::alloc::Global;
 use trace_codec::{Trace, Write};
 
 /// Puts a write's bytes over those of its page.
-fn write_over(bytes: &mut Vec<u8>, write: &Write)
+pub fn write_over(bytes: &mut Vec<u8>, write: &Write)
     requires { write.now.offset + length write.now.bytes ≤ vec_len bytes.old }
     ensures { bytes.new.items ≡ put bytes.old.items write.now.offset write.now.bytes }
 {

@@ -9,7 +9,8 @@ ghost use Rattle.page_versions.specs.Layout.{IsLaidOut};
 
 use crate::bytes::bytes_from;
 use crate::error::IndexError;
-use crate::making::{Parts, are_touches, parts_of, touches_in};
+use crate::laying::Parts;
+use crate::making::{are_touches, parts_of, touches_in};
 use crate::searching::{greatest_before, places_after, places_to};
 use std::alloc::Global;
 use std::marker::Model;

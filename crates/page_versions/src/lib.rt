@@ -4,12 +4,15 @@
 mod bytes;
 mod error;
 mod index;
+mod laying;
 mod making;
 mod searching;
 mod sorting;
 
+pub use bytes::write_over;
 pub use error::IndexError;
 pub use index::PageIndex;
+pub use searching::places_to;
 
 #[cfg(test)]
 mod tests;

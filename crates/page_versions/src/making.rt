@@ -5,7 +5,8 @@ ghost use Rattle.migration_model.specs.Touches.{AreTouches, touch_of, touches_of
 ghost use Rattle.page_versions.specs.Layout.{IsLaidOut};
 
 use crate::error::IndexError;
-use crate::sorting::{pairs_of, places_only, sort_by_page, starts_of};
+use crate::laying::{Parts, lay_out};
+use crate::sorting::{keys_of, sort_keys};
 use std::alloc::{AllocError, Global};
 use std::thread::Threads;
 use trace_codec::{Touch, Trace, Write};
@@ -24,13 +25,6 @@ pub(crate) fn touches_in(alloc: Global, trace: &Trace) -> Result<Vec<Touch>, All
     Ok(touches)
 }
 
-/// Where each page's places begin, and the places.
-#[derive(Debug, Drop)]
-pub(crate) struct Parts {
-    pub starts: Vec<u32>,
-    pub places: Vec<u32>,
-}
-
 /// The places of the touches, page by page.
 pub(crate) fn parts_of(
     rt: &(impl Threads + Sync),
@@ -42,11 +36,9 @@ pub(crate) fn parts_of(
     requires fits { AreTouches pages touches.now }
     ensures { IfOk result (λ parts. IsLaidOut pages touches.now parts.starts.items parts.places.items) }
 {
-    let mut pairs = pairs_of(alloc, touches)?;
-    sort_by_page(rt, alloc, &mut pairs)?;
-    let starts = starts_of(alloc, pages, &pairs)?;
-    let places = places_only(alloc, &pairs)?;
-    Ok(Parts { starts, places })
+    let mut keys = keys_of(alloc, touches)?;
+    sort_keys(rt, &mut keys);
+    Ok(lay_out(alloc, pages, &keys)?)
 }
 
 /// Whether these are the touches of the writes.

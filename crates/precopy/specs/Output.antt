@@ -1,17 +1,20 @@
 -- What a job writes, and why it does not.
 use Rattle.std.specs.Prelude.{◌≡◌, ℕ, List, Option, IfSome, ⊤, length}
 use Rattle.migration_model.specs.Trace.{GuestTrace, Spells}
-use Rattle.migration_model.specs.Memory.{image_of}
+use Rattle.migration_model.specs.Memory.{image_before, image_of}
 use Rattle.migration_model.specs.Rates.{MigrationSettings}
 use Rattle.migration_model.specs.Rounds.{IsPlan, MigrationPlan}
+use Rattle.migration_model.specs.Sweeps.{SweepLine, AreLines}
 use Rattle.migration_model.specs.Touches.{touches_of}
 use Rattle.migration_model.specs.Windows.{working_sets_of}
-use Rattle.sweep_report.specs.Texts.{report_of}
+use Rattle.sweep_report.specs.Texts.{report_of, sweep_of}
 use Rattle.trace_codec.specs.Refusals.{RefusesUnlessMemory}
 use Rattle.trace_codec.specs.Source.{SourceRefuses, IsOutside}
 use Rattle.trace_codec.specs.declared.error.TraceError.TheVariants.{Memory}
 use Rattle.precopy.specs.declared.job.Job.{Job}
 use Rattle.precopy.specs.declared.job.Job.TheVariants as jobs
+use Rattle.precopy.specs.declared.job.Show.{Show}
+use Rattle.precopy.specs.declared.job.Show.TheVariants as shows
 use Rattle.precopy.specs.declared.job.RunError.{RunError}
 use Rattle.precopy.specs.declared.job.RunError.TheVariants as errors
 
@@ -21,10 +24,29 @@ pub record IsReport (trace : GuestTrace) (settings : MigrationSettings) (text : 
   pub is_plan : IsPlan trace.pages (touches_of trace) settings plan
   pub text_is : text ≡ report_of trace.shift trace.pages (length trace.writes) settings.hot (working_sets_of trace.pages (touches_of trace) settings) plan
 
+-- the text of a sweep of a trace over some cases: what the plan of each comes to, and the best of them
+pub record IsSweep (trace : GuestTrace) (cases : List MigrationSettings) (text : List ℕ) : Type 0 where
+  pub lines : List SweepLine
+  pub are_lines : AreLines trace.pages (touches_of trace) cases lines
+  pub text_is : text ≡ sweep_of lines
+
+-- the memory where the plan with these settings stops the guest
+pub record IsStopMemory (trace : GuestTrace) (settings : MigrationSettings) (bytes : List ℕ) : Type 0 where
+  pub plan : MigrationPlan
+  pub is_plan : IsPlan trace.pages (touches_of trace) settings plan
+  pub bytes_are : bytes ≡ (image_before trace plan.stop).bytes
+
+-- the memory of a live run that is written
+abbrev pub IsShown : Show → GuestTrace → MigrationSettings → List ℕ → Type 0
+IsShown shows.Stop trace settings bytes = IsStopMemory trace settings bytes
+IsShown shows.End trace settings bytes = bytes ≡ (image_of trace).bytes
+
 -- the whole output of a job over a trace
 abbrev pub IsOutputOf : Job → GuestTrace → List ℕ → Type 0
 IsOutputOf jobs.Image trace output = output ≡ (image_of trace).bytes
 IsOutputOf (jobs.Report settings) trace output = IsReport trace settings output
+IsOutputOf (jobs.Live settings show) trace output = IsShown show trace settings output
+IsOutputOf (jobs.Sweep cases workers) trace output = IsSweep trace cases.items output
 
 -- The output of a job for what a source held: bytes that spell a trace, and all of its bytes, where they are known.
 pub record IsOutput (known : Option (List ℕ)) (job : Job) (output : List ℕ) : Type 0 where
@@ -38,22 +60,30 @@ pub record IsOutput (known : Option (List ℕ)) (job : Job) (output : List ℕ) 
 abbrev pub RefusesRun : Option (List ℕ) → RunError → Type 0
 RefusesRun known (errors.Trace e) = SourceRefuses known e
 RefusesRun known errors.Memory = ⊤
+RefusesRun known errors.Thread = ⊤
+RefusesRun known (errors.Live e) = ⊤
 RefusesRun known errors.Write = ⊤
 
--- memory ran out, or a read or a write failed
+-- memory ran out, a thread was not to be had, or a read or a write failed
 abbrev pub IsOutsideRun : RunError → Type 0
 IsOutsideRun (errors.Trace e) = IsOutside e
 IsOutsideRun errors.Memory = ⊤
+IsOutsideRun errors.Thread = ⊤
+IsOutsideRun (errors.Live e) = ⊤
 IsOutsideRun errors.Write = ⊤
 
--- a text is refused as a trace for this, or memory ran out
+-- a text is refused as a trace for this, or a live run of one, or memory ran out
 abbrev pub RefusesText : List ℕ → RunError → Type 0
 RefusesText bytes (errors.Trace e) = RefusesUnlessMemory bytes e
 RefusesText bytes errors.Memory = ⊤
+RefusesText bytes errors.Thread = ⊥
+RefusesText bytes (errors.Live e) = ⊤
 RefusesText bytes errors.Write = ⊥
 
--- memory ran out
-abbrev pub IsWantOfMemory : RunError → Type 0
-IsWantOfMemory (errors.Trace e) = e ≡ Memory
-IsWantOfMemory errors.Memory = ⊤
-IsWantOfMemory errors.Write = ⊥
+-- memory ran out, or a live run was refused memory or a thread
+abbrev pub IsWant : RunError → Type 0
+IsWant (errors.Trace e) = e ≡ Memory
+IsWant errors.Memory = ⊤
+IsWant errors.Thread = ⊥
+IsWant (errors.Live e) = ⊤
+IsWant errors.Write = ⊥

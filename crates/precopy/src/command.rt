@@ -1,13 +1,15 @@
 //! The command line: words in, a job or a refusal out.
 
-use crate::job::Job;
-use crate::options::{settings_of, with_report};
+use crate::cases::{cases_of, with_cases};
+use crate::job::{Job, Show};
+use crate::options::{settings_of, sweep_options, with_live, with_report};
 use clap::error::ErrorKind;
-use clap::{Command, Error};
+use clap::{ArgMatches, Command};
 use rate_limit::SettingsError;
 use std::alloc::{AllocError, AllocFailed, Global};
 use std::rt::Env;
 use std::{env, io};
+use thiserror::Error;
 
 /// Why words make no job.
 #[derive(Debug, Drop)]
@@ -18,8 +20,25 @@ pub enum WordsError {
     Help(String),
     /// Words that the command line does not have, with the text to be shown.
     Usage(String),
+    /// Words that say what the program does not do.
+    Refused(WordsRefusal),
+}
+
+/// A refusal of words that the command line has. Its text follows `precopy: ` in a fault line.
+#[derive(Clone, Copy, Debug, PartialEq, Eq, Error)]
+pub enum WordsRefusal {
     /// A setting is out of its range.
+    #[error("settings {0}")]
     Settings(SettingsError),
+    /// There are more than 256 cases.
+    #[error("cases")]
+    TooManyCases,
+    /// This case, counting from 0, is not six numbers.
+    #[error("case {0}")]
+    Case(usize),
+    /// A setting of this case is out of its range.
+    #[error("case {0} {1}")]
+    CaseSettings(usize, SettingsError),
 }
 
 impl From<AllocError> for WordsError {
@@ -54,15 +73,23 @@ fn commands<'a>(alloc: Global) -> Result<Command<'a>, AllocError> {
     let report = Command::new(alloc, "report").about(
         "Writes the working sets of the trace on standard input",
     );
+    let live = Command::new(alloc, "live").about(
+        "Performs a migration over the trace on standard input, and writes the memory that it leaves",
+    );
+    let sweep = Command::new(alloc, "sweep").about(
+        "Writes what the plans of many cases come to, over the trace on standard input",
+    );
     Command::new(alloc, "precopy")
         .about("Predicts and performs pre-copy migrations over a trace of guest writes")
         .subcommand_required(true)
         .subcommand(image)?
-        .subcommand(with_report(alloc, report)?)
+        .subcommand(with_report(alloc, report)?)?
+        .subcommand(with_live(alloc, live)?)?
+        .subcommand(with_cases(alloc, sweep)?)
 }
 
 /// The text that `clap` has for a refusal.
-fn refusal_of(alloc: Global, error: &Error) -> WordsError {
+fn refusal_of(alloc: Global, error: &clap::Error) -> WordsError {
     if error.kind() == ErrorKind::OutOfMemory {
         return WordsError::Memory;
     }
@@ -73,6 +100,38 @@ fn refusal_of(alloc: Global, error: &Error) -> WordsError {
     }
 }
 
+/// The report that its options ask for.
+fn report_of(options: &ArgMatches) -> Result<Job, WordsError> {
+    match settings_of(options) {
+        Ok(settings) => Ok(Job::Report(settings)),
+        Err(error) => Err(WordsError::Refused(WordsRefusal::Settings(error))),
+    }
+}
+
+/// The live run that its options ask for.
+fn live_of(options: &ArgMatches) -> Result<Job, WordsError> {
+    let show = if options.get_flag("at-stop") {
+        Show::Stop
+    } else {
+        Show::End
+    };
+    match settings_of(options) {
+        Ok(settings) => Ok(Job::Live(settings, show)),
+        Err(error) => Err(WordsError::Refused(WordsRefusal::Settings(error))),
+    }
+}
+
+/// The sweep that its options and cases ask for.
+fn sweep_of(alloc: Global, options: &ArgMatches) -> Result<Job, WordsError> {
+    let asked = sweep_options(options);
+    let words = options.get_strs("case").unwrap_or(&[]);
+    let cases = cases_of(alloc, &asked, words)?;
+    Ok(Job::Sweep {
+        cases,
+        workers: asked.workers as usize,
+    })
+}
+
 /// The job that the words ask for, the program's name being the first.
 pub(crate) fn job_of(alloc: Global, words: &[String]) -> Result<Job, WordsError> {
     let matches = match commands(alloc)?.try_get_matches_from(words) {
@@ -80,10 +139,9 @@ pub(crate) fn job_of(alloc: Global, words: &[String]) -> Result<Job, WordsError>
         Err(error) => return Err(refusal_of(alloc, &error)),
     };
     match matches.subcommand() {
-        Some(("report", options)) => match settings_of(options) {
-            Ok(settings) => Ok(Job::Report(settings)),
-            Err(error) => Err(WordsError::Settings(error)),
-        },
+        Some(("report", options)) => report_of(options),
+        Some(("live", options)) => live_of(options),
+        Some(("sweep", options)) => sweep_of(alloc, options),
         _ => Ok(Job::Image),
     }
 }

@@ -1,5 +1,6 @@
 //! What the program can do, and why it did not.
 
+use live_engine::LiveError;
 use rate_limit::Settings;
 use thiserror::Error;
 use trace_codec::TraceError;
@@ -11,6 +12,23 @@ pub enum Job {
     Image,
     /// Writes a report on the trace.
     Report(Settings),
+    /// Performs a migration over the trace, and writes the memory that it leaves.
+    Live(Settings, Show),
+    /// Writes what the plan of each case comes to, and the best of them; with no case it writes nothing. Up to so many
+    /// workers, 1 to 16, plan side by side.
+    Sweep {
+        cases: Vec<Settings>,
+        workers: usize,
+    },
+}
+
+/// Which memory of a live run is written.
+#[derive(Clone, Copy, Debug, PartialEq, Eq)]
+pub enum Show {
+    /// The memory at the tick where the guest stopped.
+    Stop,
+    /// The memory after all writes.
+    End,
 }
 
 /// Why a run ended without its output. Its text follows `precopy: ` in a fault line.
@@ -22,6 +40,12 @@ pub enum RunError {
     /// A growth was refused.
     #[error("memory")]
     Memory,
+    /// A thread could not be started. No job answers it yet: where no thread is to be had, its work is done on the caller's.
+    #[error("thread")]
+    Thread,
+    /// The live run gave no memory: for want of room, or of a thread.
+    #[error("live {0}")]
+    Live(LiveError),
     /// The writer failed, took none of some bytes, or failed to flush.
     #[error("write")]
     Write,

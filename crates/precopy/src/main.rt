@@ -1,8 +1,12 @@
 //! `precopy`: what a pre-copy migration of a recorded guest would do.
 #![tactic(auto)]
 
+mod cases;
 mod command;
 mod job;
+mod live;
+#[cfg(test)]
+mod live_tests;
 mod options;
 mod running;
 mod sink;
@@ -11,9 +15,9 @@ mod test_sink;
 #[cfg(test)]
 mod tests;
 
-pub use command::WordsError;
 use command::words;
-pub use job::{Job, RunError};
+pub use command::{WordsError, WordsRefusal};
+pub use job::{Job, RunError, Show};
 pub use running::run;
 pub use sink::{FromWrite, Sink};
 use starting::refuse;
@@ -27,7 +31,7 @@ fn main(rt: HostRuntime) -> ExitCode {
     let mut sink = FromWrite::new(rt.stdout());
     let mut faults = FromWrite::new(rt.stderr());
     let status = match words(&rt) {
-        Ok(words) => start(rt.alloc(), words, &mut source, &mut sink, &mut faults),
+        Ok(words) => start(&rt, rt.alloc(), words, &mut source, &mut sink, &mut faults),
         Err(error) => refuse(error, &mut sink, &mut faults),
     };
     ExitCode::from(status)

@@ -32,6 +32,24 @@ fn number<'a>(alloc: Global, name: &'a str, help: &'a str) -> Arg<'a> {
         .help(help)
 }
 
+/// The option that says when a migration begins.
+pub(crate) fn start<'a>(alloc: Global) -> Arg<'a> {
+    number(
+        alloc,
+        "start",
+        "Tick at which the first round begins [default: 0]",
+    )
+}
+
+/// The option that says how many threads there may be.
+pub(crate) fn workers<'a>(alloc: Global) -> Arg<'a> {
+    number(
+        alloc,
+        "workers",
+        "Threads that work side by side [default: 1]",
+    )
+}
+
 /// The command with the options that say how a migration is paced.
 fn with_pace<'a>(alloc: Global, command: Command<'a>) -> Result<Command<'a>, AllocError> {
     let skip = Arg::new(alloc, "skip")
@@ -60,11 +78,7 @@ fn with_pace<'a>(alloc: Global, command: Command<'a>) -> Result<Command<'a>, All
             "End where fewer pages were dirtied [default: 64]",
         ))?
         .arg(number(alloc, "rounds", "Most rounds [default: 30]"))?
-        .arg(number(
-            alloc,
-            "start",
-            "Tick at which the first round begins [default: 0]",
-        ))?
+        .arg(start(alloc))?
         .arg(skip)
 }
 
@@ -80,16 +94,50 @@ pub(crate) fn with_report<'a>(
             "Length of a window, in ticks [default: 1000]",
         ))?
         .arg(number(alloc, "hot", "Windows that make a page hot [default: 2]"))?
+        .arg(workers(alloc))
+}
+
+/// The command with the options of a live run.
+pub(crate) fn with_live<'a>(
+    alloc: Global,
+    command: Command<'a>,
+) -> Result<Command<'a>, AllocError> {
+    let at_stop = Arg::new(alloc, "at-stop")
+        .long("at-stop")
+        .action(ArgAction::SetTrue)
+        .help("Write the memory at the tick where the guest stops");
+    with_pace(alloc, command)?
+        .arg(workers(alloc))?
         .arg(number(
             alloc,
-            "workers",
-            "Threads that work side by side [default: 1]",
-        ))
+            "streams",
+            "Streams that pages are sent over [default: 1]",
+        ))?
+        .arg(number(
+            alloc,
+            "replayers",
+            "Threads that change the guest's pages [default: 1]",
+        ))?
+        .arg(number(
+            alloc,
+            "lane",
+            "Frames that a lane has room for; without effect yet [default: 1024]",
+        ))?
+        .arg(at_stop)
 }
 
 /// The number that was given for an option, or the default.
 fn given(matches: &ArgMatches, name: &str, default: u64) -> u64 {
     matches.get_one::<u64>(name).unwrap_or(default)
+}
+
+/// What the options of a sweep ask for in each of its cases.
+pub(crate) fn sweep_options(matches: &ArgMatches) -> Asked {
+    Asked {
+        start: given(matches, "start", DEFAULTS.start),
+        workers: given(matches, "workers", DEFAULTS.workers),
+        ..DEFAULTS
+    }
 }
 
 /// The settings that a command's options make, or the first that is out of its range.

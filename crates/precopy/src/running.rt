@@ -4,21 +4,31 @@ ghost use Rattle.std.specs.Prelude.{◌≡◌, ◌≢◌, ◌↔◌, ℕ, List, 
 ghost use Rattle.std.specs.Io.KnownBytes.{Appends, Keeps};
 ghost use Rattle.migration_model.specs.Trace.{GuestTrace, Spells};
 ghost use Rattle.migration_model.specs.Memory.{image_of};
+ghost use Rattle.migration_model.specs.Rounds.{IsPlan};
 ghost use Rattle.migration_model.specs.Touches.{touches_in};
+ghost use Rattle.migration_model.specs.Windows.{working_sets_of};
 ghost use Rattle.trace_codec.specs.declared.error.TraceError.TheVariants.{ReadFault};
 ghost use Rattle.image_build.specs.Replay.{RefusesReplay};
 ghost use Rattle.precopy.specs.Sink.{AppendsPart};
-ghost use Rattle.precopy.specs.Output.{IsOutput, IsOutputOf, IsOutsideRun, IsReport, IsWantOfMemory, RefusesRun, RefusesText};
+ghost use Rattle.precopy.specs.Output.{IsOutput, IsOutputOf, IsOutsideRun, IsReport, IsSweep, IsWant, RefusesRun, RefusesText};
 
 use crate::job::{Job, RunError};
+use crate::live::live_output;
 use crate::sink::Sink;
 use image_build::{ReplayError, replay_bytes};
+use live_engine::Gate;
 use rate_limit::Settings;
-use round_planner::plan;
+use round_planner::{Plan, PlanError, par_plan};
 use std::alloc::Global;
-use sweep_report::report_text;
-use trace_codec::{Source, TouchLog, read_bytes};
-use working_sets::tables;
+use std::sync::Wait;
+use std::thread;
+use std::thread::Threads;
+use sweep_report::{report_text, sweep, sweep_text};
+use trace_codec::{Source, Timeline, TouchLog, read_bytes};
+use working_sets::{Tables, TablesError, par_tables};
+
+/// How many touches there have to be for tables and plan to be made side by side: fewer take less time than a thread's start.
+const WORTH_A_THREAD: usize = 1 << 18;
 
 /// Writes all of some bytes and flushes.
 pub(crate) fn write_out<K: Sink>(sink: &mut K, bytes: &[u8]) -> Result<(), RunError>
@@ -68,42 +78,123 @@ fn image_output(alloc: Global, bytes: &[u8]) -> Result<Vec<u8>, RunError>
     }
 }
 
+/// The tables of what is touched, and its plan: side by side, where there are two workers and enough to do.
+fn tables_and_plan<R: Threads + Sync>(
+    rt: &R,
+    alloc: Global,
+    settings: &Settings,
+    log: &TouchLog,
+) -> (Result<Tables, TablesError>, Result<Plan, PlanError>)
+    ensures tables { IfOk result.0 (λ tables. tables ≡ working_sets_of log.now.pages log.now.touches settings.now) }
+    ensures plan { IfOk result.1 (λ plan. IsPlan log.now.pages log.now.touches settings.now plan) }
+{
+    let workers = settings.asked().workers as usize;
+    let tables = || -> Result<Tables, TablesError>
+        ensures { IfOk result (λ tables. tables ≡ working_sets_of log.entry.now.pages log.entry.now.touches settings.entry.now) }
+    { par_tables(rt, alloc, log, settings, workers) };
+    let planned = || -> Result<Plan, PlanError>
+        ensures { IfOk result (λ plan. IsPlan log.entry.now.pages log.entry.now.touches settings.entry.now plan) }
+    { par_plan(rt, alloc, log, settings, workers) };
+    if workers < 2 || log.touch_count() < WORTH_A_THREAD {
+        return (tables(), planned());
+    }
+    thread::join(rt, tables, planned)
+}
+
 /// The report on what is touched of a trace.
-fn report_of_log(alloc: Global, settings: &Settings, log: &TouchLog) -> Result<Vec<u8>, RunError>
+fn report_of_log<R: Threads + Sync>(
+    rt: &R,
+    alloc: Global,
+    settings: &Settings,
+    log: &TouchLog,
+) -> Result<Vec<u8>, RunError>
     ensures made { IfOk result (λ v. (trace : GuestTrace) → log.now ≡ touches_in trace → IsReport trace settings.now v.items) }
     ensures memory { IfErr result (λ e. e ≡ RunError.Memory) }
 {
-    let tables = tables(alloc, log, settings).or(Err(RunError::Memory))?;
-    let planned = plan(alloc, log, settings).or(Err(RunError::Memory))?;
+    let (tables, planned) = tables_and_plan(rt, alloc, settings, log);
+    let tables = tables.or(Err(RunError::Memory))?;
+    let planned = planned.or(Err(RunError::Memory))?;
     report_text(alloc, &log.shape(), settings, &tables, &planned).or(Err(RunError::Memory))
 }
 
 /// The report on the trace that the bytes spell.
-fn report_output(alloc: Global, settings: &Settings, bytes: &[u8]) -> Result<Vec<u8>, RunError>
+fn report_output<R: Threads + Sync>(
+    rt: &R,
+    alloc: Global,
+    settings: &Settings,
+    bytes: &[u8],
+) -> Result<Vec<u8>, RunError>
     ensures made { IfOk result (λ v. (trace : GuestTrace) × Spells bytes.now trace × IsReport trace settings.now v.items) }
     ensures refused { IfErr result (RefusesText bytes.now) }
-    ensures only { (trace : GuestTrace) → Spells bytes.now trace → IfErr result IsWantOfMemory }
+    ensures only { (trace : GuestTrace) → Spells bytes.now trace → IfErr result IsWant }
 {
     match TouchLog::parse(alloc, bytes) {
-        Ok(log) => report_of_log(alloc, settings, &log),
+        Ok(log) => report_of_log(rt, alloc, settings, &log),
+        Err(refusal) => Err(RunError::Trace(refusal)),
+    }
+}
+
+/// The sweep over what is touched of a trace.
+fn sweep_of_log<R: Threads + Sync>(
+    rt: &R,
+    alloc: Global,
+    cases: &[Settings],
+    workers: usize,
+    log: &TouchLog,
+) -> Result<Vec<u8>, RunError>
+    ensures made { IfOk result (λ v. (trace : GuestTrace) → log.now ≡ touches_in trace → IsSweep trace cases.now v.items) }
+    ensures memory { IfErr result (λ e. e ≡ RunError.Memory) }
+{
+    let lines = sweep(rt, alloc, log, cases, workers).or(Err(RunError::Memory))?;
+    sweep_text(alloc, &lines).or(Err(RunError::Memory))
+}
+
+/// The sweep over the trace that the bytes spell.
+fn sweep_output<R: Threads + Sync>(
+    rt: &R,
+    alloc: Global,
+    cases: &[Settings],
+    workers: usize,
+    bytes: &[u8],
+) -> Result<Vec<u8>, RunError>
+    ensures made { IfOk result (λ v. (trace : GuestTrace) × Spells bytes.now trace × IsSweep trace cases.now v.items) }
+    ensures refused { IfErr result (RefusesText bytes.now) }
+    ensures only { (trace : GuestTrace) → Spells bytes.now trace → IfErr result IsWant }
+{
+    match TouchLog::parse(alloc, bytes) {
+        Ok(log) => sweep_of_log(rt, alloc, cases, workers, &log),
         Err(refusal) => Err(RunError::Trace(refusal)),
     }
 }
 
 /// The output of a job over the trace that the bytes spell.
-fn output(alloc: Global, job: &Job, bytes: &[u8]) -> Result<Vec<u8>, RunError>
+fn output<R: Threads + Wait + Sync, G: Gate>(
+    rt: &R,
+    alloc: Global,
+    job: &Job,
+    bytes: &[u8],
+    gate: &G,
+) -> Result<Vec<u8>, RunError>
     ensures made { IfOk result (λ v. (trace : GuestTrace) × Spells bytes.now trace × IsOutputOf job.now trace v.items) }
     ensures refused { IfErr result (RefusesText bytes.now) }
-    ensures only { (trace : GuestTrace) → Spells bytes.now trace → IfErr result IsWantOfMemory }
+    ensures only { (trace : GuestTrace) → Spells bytes.now trace → IfErr result IsWant }
 {
     match job {
         Job::Image => image_output(alloc, bytes),
-        Job::Report(settings) => report_output(alloc, settings, bytes),
+        Job::Report(settings) => report_output(rt, alloc, settings, bytes),
+        Job::Live(settings, show) => live_output(rt, alloc, settings, *show, bytes, gate),
+        Job::Sweep { cases, workers } => sweep_output(rt, alloc, cases, *workers, bytes),
     }
 }
 
 /// The output of a job over the trace that a source holds.
-fn read_output<S: Source>(alloc: Global, job: &Job, source: &mut S) -> Result<Vec<u8>, RunError>
+fn read_output<R: Threads + Wait + Sync, S: Source, G: Gate>(
+    rt: &R,
+    alloc: Global,
+    job: &Job,
+    source: &mut S,
+    gate: &G,
+) -> Result<Vec<u8>, RunError>
     requires { S.has_failed source.old ≡ false }
     ensures made { IfOk result (λ v. IsOutput (S.remaining source.old) job.now v.items) }
     ensures refused { IfErr result (RefusesRun (S.remaining source.old)) }
@@ -113,18 +204,21 @@ fn read_output<S: Source>(alloc: Global, job: &Job, source: &mut S) -> Result<Ve
     ensures read_failed { (result ≡ Err (RunError.Trace ReadFault)) ↔ (S.has_failed source.new ≡ true) }
 {
     match read_bytes(alloc, source) {
-        Ok(bytes) => output(alloc, job, &bytes),
+        Ok(bytes) => output(rt, alloc, job, &bytes, gate),
         Err(error) => Err(RunError::Trace(error)),
     }
 }
 
 /// Runs one job: reads a trace to the end of the source, makes the whole output, and then writes it and flushes. Nothing
-/// is written before the output is whole, so each error but `Write` leaves nothing written, and that one a beginning.
-pub fn run<S: Source, K: Sink>(
+/// is written before the output is whole, so each error but `Write` leaves nothing written, and that one a beginning. The
+/// threads of a live run call the gate; no other job does.
+pub fn run<R: Threads + Wait + Sync, S: Source, K: Sink, G: Gate>(
+    rt: &R,
     alloc: Global,
     job: &Job,
     source: &mut S,
     sink: &mut K,
+    gate: &G,
 ) -> Result<(), RunError>
     requires unread { S.has_failed source.old ≡ false }
     requires unwritten { K.has_failed sink.old ≡ false }
@@ -145,7 +239,7 @@ pub fn run<S: Source, K: Sink>(
     ensures read_failed { (result ≡ Err (RunError.Trace ReadFault)) ↔ (S.has_failed source.new ≡ true) }
     ensures write_failed { (result ≡ Err RunError.Write) ↔ (K.has_failed sink.new ≡ true) }
 {
-    match read_output(alloc, job, source) {
+    match read_output(rt, alloc, job, source, gate) {
         Ok(output) => write_out(sink, &output),
         Err(error) => Err(error),
     }

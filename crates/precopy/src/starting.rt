@@ -4,13 +4,16 @@ ghost use Rattle.std.specs.Prelude.{◌≡◌, ◌≤◌, ◌⊎◌, List, ℕ, 
 ghost use Rattle.std.specs.Io.KnownBytes.{Appends};
 ghost use Rattle.precopy.specs.Output.{IsOutput};
 
-use crate::command::{WordsError, job_of};
+use crate::command::{WordsError, WordsRefusal, job_of};
 use crate::job::{Job, RunError};
 use crate::running::{run, write_out};
 use crate::sink::Sink;
 use arrayvec::ArrayString;
+use live_engine::OpenGate;
 use std::alloc::Global;
 use std::fmt::Write;
+use std::sync::Wait;
+use std::thread::Threads;
 use trace_codec::Source;
 
 /// Writes a text of faults. Where that fails nobody can be told.
@@ -32,7 +35,8 @@ fn fault<E: Sink>(faults: &mut E, error: &RunError) -> u8
 }
 
 /// Runs a job, and answers the program's status.
-fn run_job<S: Source, K: Sink, E: Sink>(
+fn run_job<R: Threads + Wait + Sync, S: Source, K: Sink, E: Sink>(
+    rt: &R,
     alloc: Global,
     job: &Job,
     source: &mut S,
@@ -47,7 +51,7 @@ fn run_job<S: Source, K: Sink, E: Sink>(
     ensures written { result ≡ 0 → (output : List ℕ) × IsOutput (S.remaining source.old) job.now output
         × Appends (K.contents sink.old) (K.contents sink.new) output }
 {
-    match run(alloc, job, source, sink) {
+    match run(rt, alloc, job, source, sink, &OpenGate) {
         Ok(()) => 0,
         Err(error) => fault(faults, &error),
     }
@@ -66,6 +70,17 @@ fn run_help<K: Sink, E: Sink>(text: &str, sink: &mut K, faults: &mut E) -> u8
     }
 }
 
+/// Writes the line of refused words, which takes no memory, and answers the program's status.
+fn refuse_line<E: Sink>(refusal: &WordsRefusal, faults: &mut E) -> u8
+    requires { E.has_failed faults.old ≡ false }
+    ensures { result ≡ 2 }
+{
+    let mut line = ArrayString::<64>::new();
+    let _ = write!(line, "precopy: {refusal}\n");
+    show(faults, line.as_str());
+    2
+}
+
 /// Says why words make no job, and answers the program's status.
 pub(crate) fn refuse<K: Sink, E: Sink>(error: WordsError, sink: &mut K, faults: &mut E) -> u8
     requires unwritten { K.has_failed sink.old ≡ false }
@@ -81,19 +96,15 @@ pub(crate) fn refuse<K: Sink, E: Sink>(error: WordsError, sink: &mut K, faults: 
             show(faults, text.as_str());
             2
         }
-        WordsError::Settings(error) => {
-            let mut line = ArrayString::<64>::new();
-            let _ = write!(line, "precopy: settings {error}\n");
-            show(faults, line.as_str());
-            2
-        }
+        WordsError::Refused(refusal) => refuse_line(&refusal, faults),
     }
 }
 
 /// Runs the program: `words` are its name and its arguments, the trace comes from `source`, the output and a request
 /// for help go to `sink`, and the line of a fault or the text of a refused command line to `faults`. It answers the
 /// program's status: 0 is success, 1 a run that failed, 2 a refused command line. A failure of `faults` is passed over.
-pub fn start<S: Source, K: Sink, E: Sink>(
+pub fn start<R: Threads + Wait + Sync, S: Source, K: Sink, E: Sink>(
+    rt: &R,
     alloc: Global,
     words: Vec<String>,
     source: &mut S,
@@ -113,7 +124,7 @@ pub fn start<S: Source, K: Sink, E: Sink>(
     ensures refused { result ≡ 2 → (source.new ≡ source.old) × (sink.new ≡ sink.old) }
 {
     match job_of(alloc, &words) {
-        Ok(job) => run_job(alloc, &job, source, sink, faults),
+        Ok(job) => run_job(rt, alloc, &job, source, sink, faults),
         Err(error) => refuse(error, sink, faults),
     }
 }

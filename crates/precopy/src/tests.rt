@@ -4,12 +4,16 @@ ghost use Rattle.std.specs.Prelude.{◌≡◌, false};
 
 use crate::{Job, RunError, TestSink, run, start};
 use image_build::{replay, replay_before, replay_bytes, replay_view};
+use live_engine::OpenGate;
 use std::alloc::{AllocError, Global};
+use std::sync::Wait;
 use std::test::Fail;
+use std::thread::Threads;
 use trace_codec::{TestSource, Trace, TraceError, TraceView, decode, encode, read_trace};
 
-/// Pages of 16 bytes, 4 pages, 5 writes.
-static TRACE: [u8; 102] = [
+/// Pages of 16 bytes, 4 pages, 5 writes: of pages 0 and 1 at ticks 0 and 5, of page 1 at tick 1200, of pages 3 and 1 at
+/// tick 2500.
+pub(crate) static TRACE: [u8; 102] = [
     0x50, 0x43, 0x57, 0x54, 1, 4, 0, 0, 4, 0, 0, 0, 5, 0, 0, 0, //
     0, 0, 0, 0, 0, 0, 0, 0, 0, 0, 0, 0, 0, 0, 1, 0, 1, //
     5, 0, 0, 0, 0, 0, 0, 0, 1, 0, 0, 0, 15, 0, 1, 0, 2, //
@@ -19,7 +23,7 @@ static TRACE: [u8; 102] = [
 ];
 
 /// Its memory after all writes.
-static MEMORY: [u8; 64] = [
+pub(crate) static MEMORY: [u8; 64] = [
     1, 0, 0, 0, 0, 0, 0, 0, 0, 0, 0, 0, 0, 0, 0, 0, //
     0, 0, 0, 0, 0, 0, 0, 0, 0, 0, 0, 0, 0, 0, 0, 2, //
     0, 0, 0, 0, 0, 0, 0, 0, 0, 0, 0, 0, 0, 0, 0, 0, //
@@ -27,7 +31,7 @@ static MEMORY: [u8; 64] = [
 ];
 
 /// Its memory before tick 2000.
-static MEMORY_AT_2000: [u8; 64] = [
+pub(crate) static MEMORY_AT_2000: [u8; 64] = [
     1, 0, 0, 0, 0, 0, 0, 0, 0, 0, 0, 0, 0, 0, 0, 0, //
     3, 0, 0, 0, 0, 0, 0, 0, 0, 0, 0, 0, 0, 0, 0, 2, //
     0, 0, 0, 0, 0, 0, 0, 0, 0, 0, 0, 0, 0, 0, 0, 0, //
@@ -35,7 +39,7 @@ static MEMORY_AT_2000: [u8; 64] = [
 ];
 
 /// The first `len` bytes of the trace with `patch` over those from `place` on, and `more` behind them.
-fn changed(
+pub(crate) fn changed(
     alloc: Global,
     len: usize,
     place: usize,
@@ -65,7 +69,7 @@ fn words(alloc: Global, command: &str) -> Result<Vec<String>, AllocError> {
     Ok(words)
 }
 
-fn sink(alloc: Global) -> TestSink
+pub(crate) fn sink(alloc: Global) -> TestSink
     ensures { result.has_failed ≡ false }
 {
     TestSink::new(Vec::new(alloc), usize::MAX, None, false)
@@ -83,7 +87,10 @@ fn writes_memory(rt: HostRuntime) -> Result<(), Fail> {
     assert_eq!(rt; image.bytes(), MEMORY_AT_2000.as_slice());
     let mut source = TestSource::new(bytes, 7, None);
     let mut sink = TestSink::new(Vec::new(alloc), 10, None, false);
-    assert_eq!(rt; run(alloc, &Job::Image, &mut source, &mut sink), Ok(()));
+    assert_eq!(rt;
+        run(&rt, alloc, &Job::Image, &mut source, &mut sink, &OpenGate),
+        Ok(())
+    );
     assert_eq!(rt; sink.bytes(), MEMORY.as_slice());
     Ok(())
 }
@@ -94,7 +101,10 @@ fn writes_nothing_of_an_empty_trace(rt: HostRuntime) -> Result<(), Fail> {
     let bytes = changed(alloc, 16, 12, &[0], &[])?;
     let mut source = TestSource::new(bytes, 16, None);
     let mut sink = sink(alloc);
-    assert_eq!(rt; run(alloc, &Job::Image, &mut source, &mut sink), Ok(()));
+    assert_eq!(rt;
+        run(&rt, alloc, &Job::Image, &mut source, &mut sink, &OpenGate),
+        Ok(())
+    );
     assert_eq!(rt; sink.bytes(), [0; 64].as_slice());
     Ok(())
 }
@@ -191,7 +201,10 @@ fn reads_to_the_end(rt: HostRuntime) -> Result<(), Fail> {
     let mut source = TestSource::new(bytes, 50, Some(2));
     let mut sink = sink(alloc);
     let fault = Err(RunError::Trace(TraceError::ReadFault));
-    assert_eq!(rt; run(alloc, &Job::Image, &mut source, &mut sink), fault);
+    assert_eq!(rt;
+        run(&rt, alloc, &Job::Image, &mut source, &mut sink, &OpenGate),
+        fault
+    );
     assert!(rt; sink.bytes().is_empty());
     Ok(())
 }
@@ -203,7 +216,7 @@ fn leaves_a_beginning_where_a_write_fails(rt: HostRuntime) -> Result<(), Fail> {
     let mut source = TestSource::new(bytes, 102, None);
     let mut sink = TestSink::new(Vec::new(alloc), 10, Some(2), false);
     assert_eq!(rt;
-        run(alloc, &Job::Image, &mut source, &mut sink),
+        run(&rt, alloc, &Job::Image, &mut source, &mut sink, &OpenGate),
         Err(RunError::Write)
     );
     assert_eq!(rt; sink.bytes(), [1, 0, 0, 0, 0, 0, 0, 0, 0, 0].as_slice());
@@ -211,7 +224,7 @@ fn leaves_a_beginning_where_a_write_fails(rt: HostRuntime) -> Result<(), Fail> {
     let mut source = TestSource::new(bytes, 102, None);
     let mut sink = TestSink::new(Vec::new(alloc), 64, None, true);
     assert_eq!(rt;
-        run(alloc, &Job::Image, &mut source, &mut sink),
+        run(&rt, alloc, &Job::Image, &mut source, &mut sink, &OpenGate),
         Err(RunError::Write)
     );
     Ok(())
@@ -226,28 +239,51 @@ static SLOW: [&str; 5] = [
     "--rounds=8",
 ];
 
-/// The report over a changed trace, by the command line.
-fn report(
+/// What a command with these words does over some bytes: its status, its output and its faults.
+pub(crate) fn told<R: Threads + Wait + Sync>(
+    rt: &R,
     alloc: Global,
+    command: &str,
     bytes: Vec<u8>,
-    options: &[&str],
+    more: &[&str],
 ) -> Result<(u8, TestSink, TestSink), AllocError> {
-    let mut words = words(alloc, "report")?;
-    for option in options {
-        words.push(option.to_string(alloc)?)?;
+    let mut words = words(alloc, command)?;
+    for word in more {
+        words.push(word.to_string(alloc)?)?;
     }
     let mut source = TestSource::new(bytes, 102, None);
     let mut output = sink(alloc);
     let mut faults = sink(alloc);
-    let status = start(alloc, words, &mut source, &mut output, &mut faults);
+    let status = start(rt, alloc, words, &mut source, &mut output, &mut faults);
     Ok((status, output, faults))
 }
+
+/// The report over a changed trace, by the command line.
+fn report<R: Threads + Wait + Sync>(
+    rt: &R,
+    alloc: Global,
+    bytes: Vec<u8>,
+    options: &[&str],
+) -> Result<(u8, TestSink, TestSink), AllocError> {
+    told(rt, alloc, "report", bytes, options)
+}
+
+/// The report with windows of 5,000 ticks, in one of which a page is hot.
+static LONG_WINDOW: &str = "trace pages 4 size 16 writes 5
+window 0 writes 5 pages 3 again 0 fresh 3
+hot 1 pages 3
+page 0
+page 1
+page 3
+round 0 from 0 to 4 rate 1000 pages 4 sent 4 dirtied 1
+stop few at 4 pages 1 down 1 total 5
+";
 
 #[test]
 fn reports_working_sets(rt: HostRuntime) -> Result<(), Fail> {
     let alloc = rt.alloc();
     let bytes = changed(alloc, 102, 0, &[], &[])?;
-    let (status, output, _) = report(alloc, bytes, &SLOW)?;
+    let (status, output, _) = report(&rt, alloc, bytes, &SLOW)?;
     assert_eq!(rt; status, 0);
     assert_eq!(rt;
         output.bytes(),
@@ -264,22 +300,26 @@ stop few at 3667 pages 0 down 0 total 8
 "
             .as_bytes()
     );
-    let bytes = changed(alloc, 102, 0, &[], &[])?;
-    let (_, output, _) = report(alloc, bytes, &["--window=5000", "--hot", "1"])?;
-    assert_eq!(rt;
-        output.bytes(),
-        "trace pages 4 size 16 writes 5
-window 0 writes 5 pages 3 again 0 fresh 3
-hot 1 pages 3
-page 0
-page 1
-page 3
-round 0 from 0 to 4 rate 1000 pages 4 sent 4 dirtied 1
-stop few at 4 pages 1 down 1 total 5
-"
-            .as_bytes()
-    );
-    let (_, output, _) = report(alloc, changed(alloc, 16, 12, &[0], &[])?, &SLOW)?;
+    for workers in ["--workers=2", "--workers=16"] {
+        let bytes = changed(alloc, 102, 0, &[], &[])?;
+        let options = [
+            "--min=2",
+            "--max=4",
+            "--inc=1",
+            "--threshold=1",
+            "--rounds=8",
+            workers,
+        ];
+        let (_, same, _) = report(&rt, alloc, bytes, &options)?;
+        assert_eq!(rt; same.bytes(), output.bytes(), "{workers}");
+    }
+    for workers in ["--workers=1", "--workers=2", "--workers=16"] {
+        let bytes = changed(alloc, 102, 0, &[], &[])?;
+        let options = ["--window=5000", "--hot", "1", workers];
+        let (_, output, _) = report(&rt, alloc, bytes, &options)?;
+        assert_eq!(rt; output.bytes(), LONG_WINDOW.as_bytes(), "{workers}");
+    }
+    let (_, output, _) = report(&rt, alloc, changed(alloc, 16, 12, &[0], &[])?, &SLOW)?;
     assert_eq!(rt;
         output.bytes(),
         "trace pages 4 size 16 writes 0
@@ -311,7 +351,7 @@ fn reports_skipped_pages(rt: HostRuntime) -> Result<(), Fail> {
         "--rounds=8",
         "--skip",
     ];
-    let (status, output, _) = report(alloc, bytes, &options)?;
+    let (status, output, _) = report(&rt, alloc, bytes, &options)?;
     assert_eq!(rt; status, 0);
     assert_eq!(rt;
         output.bytes(),
@@ -327,6 +367,113 @@ stop fast at 2500 pages 2 down 500 total 7
 "
             .as_bytes()
     );
+    Ok(())
+}
+
+#[test]
+fn sweeps_cases(rt: HostRuntime) -> Result<(), Fail> {
+    let alloc = rt.alloc();
+    let three = ["02,4,1,1,8,0", "2,2,1,1,8,0", "2,4,1,3,8,000"];
+    let bytes = changed(alloc, 102, 0, &[], &[])?;
+    let (status, output, _) = told(&rt, alloc, "sweep", bytes, &three)?;
+    assert_eq!(rt; status, 0);
+    assert_eq!(rt;
+        output.bytes(),
+        "case 0 min 2 max 4 inc 1 threshold 1 limit 8 skip 0 rounds 3 stop few at 3667 down 0 total 8
+case 1 min 2 max 2 inc 1 threshold 1 limit 8 skip 0 rounds 2 stop fast at 3000 down 1000 total 8
+case 2 min 2 max 4 inc 1 threshold 3 limit 8 skip 0 rounds 1 stop few at 2000 down 500 total 6
+best 0
+"
+            .as_bytes()
+    );
+    let twice = [
+        "2,4,1,1,8,0",
+        "--workers=16",
+        "2,4,1,1,8,0",
+        "--start",
+        "3000",
+    ];
+    let bytes = changed(alloc, 102, 0, &[], &[])?;
+    let (status, output, _) = told(&rt, alloc, "sweep", bytes, &twice)?;
+    assert_eq!(rt; status, 0);
+    assert_eq!(rt;
+        output.bytes(),
+        "case 0 min 2 max 4 inc 1 threshold 1 limit 8 skip 0 rounds 1 stop few at 5000 down 0 total 4
+case 1 min 2 max 4 inc 1 threshold 1 limit 8 skip 0 rounds 1 stop few at 5000 down 0 total 4
+best 0
+"
+            .as_bytes()
+    );
+    Ok(())
+}
+
+#[test]
+fn sweeps_no_case(rt: HostRuntime) -> Result<(), Fail> {
+    let alloc = rt.alloc();
+    let job = Job::Sweep {
+        cases: Vec::new(alloc),
+        workers: 16,
+    };
+    let mut source = TestSource::new(changed(alloc, 102, 0, &[], &[])?, 102, None);
+    let mut output = sink(alloc);
+    assert_eq!(rt;
+        run(&rt, alloc, &job, &mut source, &mut output, &OpenGate),
+        Ok(())
+    );
+    assert!(rt; output.bytes().is_empty());
+    let mut source = TestSource::new(changed(alloc, 101, 0, &[], &[])?, 102, None);
+    assert_eq!(rt;
+        run(&rt, alloc, &job, &mut source, &mut output, &OpenGate),
+        Err(RunError::Trace(TraceError::ShortRecord(4)))
+    );
+    Ok(())
+}
+
+#[test]
+fn refuses_cases_before_the_trace(rt: HostRuntime) -> Result<(), Fail> {
+    let alloc = rt.alloc();
+    let refused: [(&[&str], &str); 12] = [
+        (&["2,4,1,1,8"], "precopy: case 0\n"),
+        (&["2,4,1,1,8,0,0"], "precopy: case 0\n"),
+        (&["2,4,1,1,8,2"], "precopy: case 0\n"),
+        (&["2,4,1,1,8,"], "precopy: case 0\n"),
+        (&["2,4,1,1,+8,0"], "precopy: case 0\n"),
+        (&["2,4,1,1,00000000000008,0"], "precopy: case 0\n"),
+        (&["-"], "precopy: case 0\n"),
+        (&["2,4,1,1,8,0", ""], "precopy: case 1\n"),
+        (&["2,4,1,1,8,0", "--", "-2,4,1,1,8,0"], "precopy: case 1\n"),
+        (&["2,4,1,1,8,0", "2,1,1,1,8,0"], "precopy: case 1 S2\n"),
+        (&["2,1,1,1,8,0", "2,4"], "precopy: case 0 S2\n"),
+        (&["--workers=17", "2,4,1,1,8,0"], "precopy: case 0 S9\n"),
+    ];
+    for (words, line) in refused {
+        // No trace at all: E1 where it was read.
+        let (status, output, faults) = told(&rt, alloc, "sweep", Vec::new(alloc), words)?;
+        assert_eq!(rt; status, 2, "{line}");
+        assert_eq!(rt; faults.bytes(), line.as_bytes(), "{line}");
+        assert!(rt; output.bytes().is_empty(), "{line}");
+    }
+    let usage: [&[&str]; 3] = [&[], &["-2,4,1,1,8,0"], &["2,4,1,1,8,0", "--start", "x"]];
+    for words in usage {
+        let (status, _, faults) = told(&rt, alloc, "sweep", Vec::new(alloc), words)?;
+        assert_eq!(rt; status, 2);
+        assert!(rt; !faults.bytes().starts_with(b"precopy: "));
+    }
+    Ok(())
+}
+
+#[test]
+fn refuses_too_many_cases(rt: HostRuntime) -> Result<(), Fail> {
+    let alloc = rt.alloc();
+    for (count, line) in [(256, "precopy: case 0\n"), (257, "precopy: cases\n")] {
+        let mut words = Vec::new(alloc);
+        for _ in 0..count {
+            words.push("2,4")?;
+        }
+        let (status, _, faults) = told(&rt, alloc, "sweep", Vec::new(alloc), &words)?;
+        assert_eq!(rt; status, 2, "{line}");
+        assert_eq!(rt; faults.bytes(), line.as_bytes(), "{line}");
+    }
     Ok(())
 }
 
@@ -369,7 +516,7 @@ fn refuses_settings_before_the_trace(rt: HostRuntime) -> Result<(), Fail> {
     ];
     for (option, line) in cases {
         // No trace at all: E1 where it was read.
-        let (status, output, faults) = report(alloc, Vec::new(alloc), &[option])?;
+        let (status, output, faults) = report(&rt, alloc, Vec::new(alloc), &[option])?;
         assert_eq!(rt; status, 2, "{option}");
         assert_eq!(rt; faults.bytes(), line.as_bytes(), "{option}");
         assert!(rt; output.bytes().is_empty(), "{option}");
@@ -391,7 +538,7 @@ fn says_why_it_ends(rt: HostRuntime) -> Result<(), Fail> {
         let mut output = sink(alloc);
         let mut faults = sink(alloc);
         let words = words(alloc, command)?;
-        let ended = start(alloc, words, &mut source, &mut output, &mut faults);
+        let ended = start(&rt, alloc, words, &mut source, &mut output, &mut faults);
         assert_eq!(rt; ended, status, "{command}");
         assert_eq!(rt; faults.bytes(), line.as_bytes(), "{command}");
         assert_eq!(rt; output.bytes().is_empty(), status != 0, "{command}");
@@ -401,7 +548,7 @@ fn says_why_it_ends(rt: HostRuntime) -> Result<(), Fail> {
     let mut faults = sink(alloc);
     let words = words(alloc, "memory")?;
     assert_eq!(rt;
-        start(alloc, words, &mut source, &mut output, &mut faults),
+        start(&rt, alloc, words, &mut source, &mut output, &mut faults),
         2
     );
     assert!(rt; output.bytes().is_empty() && !faults.bytes().is_empty());

@@ -2,3 +2,6 @@ pub mod Skims
 pub mod PageLists
 pub mod Plans
 pub mod Scans
+pub mod Columns
+pub mod Counted
+pub mod Outcomes

@@ -1,7 +1,7 @@
 -- Lists of pages, and the ticks that they take.
-use Rattle.std.proofs.Common.{◌≡◌, ℕ, zero, suc, ◌+◌, ◌*◌, ◌/◌, ◌^◌, ◌<◌, ◌≤◌, Bool, true, false, cond, List, [], ◌∷◌, length, get_or, refl, sym, ap, ◌∙◌, arith}
+use Rattle.std.proofs.Common.{ℕ, zero, suc, ◌+◌, ◌*◌, ◌/◌, ◌^◌, ◌<◌, ◌≤◌, Bool, true, false, cond, List, ◌∷◌, length, ap, arith}
 use Rattle.std.specs.List.{All, AllByRecursion, filter, range_with_len}
-use Rattle.std.proofs.Math.Nat.{div-mul-le_self, mul-le-mul_right, div-le_self}
+use Rattle.std.proofs.Math.Nat.{div-mul-le_self, div-le_self}
 use Rattle.std.proofs.lemmas.Nat.{le-div}
 use Rattle.std.proofs.lemmas.List.Elements.{All-from_recursion}
 use Rattle.round_planner.specs.Scanning.{IsPageList}

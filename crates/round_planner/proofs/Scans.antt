@@ -2,13 +2,13 @@
 use Rattle.std.proofs.Common.{◌≡◌, ℕ, ◌+◌, ◌<◌, ◌≤◌, Bool, true, false, ◌&&◌, ◌||◌, eqb, ltb, leb, cond, List, [], ◌∷◌, ◌++◌, length, get_or, take, drop, set, replicate, refl, sym, ap, ◌∙◌, inl, inr, arith}
 use Rattle.std.specs.List.{All, AllByRecursion, AllWithin, list_any, filter, range_with_len}
 use Rattle.std.specs.List.Sorted.{IsPartitionPoint}
-use Rattle.std.proofs.lemmas.Bool.{cases_eq, cases_lt, eq-eqb, ne_eqb, ltb-true, ltb-false, leb-true, leb-false, lt-ltb, le-ltb, lt-leb, le-leb, and_from, and_left, and_right}
-use Rattle.std.proofs.lemmas.List.{length-set, length-replicate, get_or-replicate, take_more, take-append-drop, get_or-take, get_or-drop, length-take, length-drop, get_or-set_same, get_or-set_other, get_or_default}
+use Rattle.std.proofs.lemmas.Bool.{cases_eq, eq-eqb, ne_eqb, ltb-true, ltb-false, lt-ltb, le-ltb, lt-leb, le-leb, and_from, and_left, and_right}
+use Rattle.std.proofs.lemmas.List.{append-nil, drop_all, take_all, length-set, length-replicate, get_or-replicate, take_more, take-append-drop, get_or-take, get_or-drop, length-take, length-drop, get_or-set_same, get_or-set_other, get_or_default}
 use Rattle.std.proofs.lemmas.List.Elements.{recursion_from_All}
 use Rattle.std.proofs.lemmas.List.Folds.{list_any-append, list_any_none}
-use Rattle.migration_model.specs.Touches.{GuestTouch, no_touch, is_written, pages_written, AreTouches, IsTouch}
+use Rattle.migration_model.specs.Touches.{GuestTouch, no_touch, is_written, pages_written, AreTouches}
 use Rattle.migration_model.proofs.Ranges.{filter_range_agree, filter_range_more, kept}
-use Rattle.round_planner.specs.Scanning.{is_met, AreMet, IsScan, HasRoom, IsNextBefore}
+use Rattle.round_planner.specs.Scanning.{is_met, AreMet, IsScan, IsNextBefore}
 
 take_within : (P : GuestTouch → Type 0) (touches : List GuestTouch) (n : ℕ) → AllWithin P touches 0 n → All P (take n touches)
 take_within P touches n all k d low =
@@ -26,14 +26,14 @@ and_true : (b : Bool) → (b && true) ≡ b
 and_true true = refl
 and_true false = refl
 
-or_false : (b : Bool) → (b || false) ≡ b
+pub or_false : (b : Bool) → (b || false) ≡ b
 or_false true = refl
 or_false false = refl
 
 -- ---- where the walk begins
 
 -- no touch before a tick is met from that tick on
-none_met : (touches : List GuestTouch) (tick n page : ℕ) → AllWithin (λ (t : GuestTouch). ltb t.tick tick ≡ true) touches 0 n → is_met touches tick n page ≡ false
+pub none_met : (touches : List GuestTouch) (tick n page : ℕ) → AllWithin (λ (t : GuestTouch). ltb t.tick tick ≡ true) touches 0 n → is_met touches tick n page ≡ false
 none_met touches tick n page early =
     list_any_none (λ (t : GuestTouch). eqb t.page page && leb tick t.tick) (take n touches)
     (take_within (λ t. (eqb t.page page && leb tick t.tick) ≡ false) touches n
@@ -60,22 +60,27 @@ begun_again pages touches from tick n marks fresh is scan =
 
 -- ---- what the marks say
 
-pub written_met : (pages : ℕ) (touches : List GuestTouch) (from tick n page : ℕ) (marks : List Bool) → IsScan pages touches from tick n marks
+pub written_at : (touches : List GuestTouch) (from tick n page : ℕ)
+    → IsPartitionPoint (λ (t : GuestTouch). ltb t.tick tick ≡ true) (λ t. ltb t.tick tick ≡ false) touches n
     → is_written touches from tick page ≡ is_met touches from n page
-written_met pages touches from tick n page marks scan =
+written_at touches from tick n page point =
     let p : GuestTouch → Bool = λ t. eqb t.page page && (leb from t.tick && ltb t.tick tick) in
     let q : GuestTouch → Bool = λ t. eqb t.page page && leb from t.tick in
     let behind : list_any p (drop n touches) ≡ false =
-    list_any_none p (drop n touches) (drop_within (λ t. p t ≡ false) touches n (λ k d low high. and_right _ _ (and_right _ _ (scan.point.1 k d low high)))) in
+    list_any_none p (drop n touches) (drop_within (λ t. p t ≡ false) touches n (λ k d low high. and_right _ _ (and_right _ _ (point.1 k d low high)))) in
     let same : AllByRecursion (λ t. p t ≡ q t) (take n touches) =
     recursion_from_All (λ t. p t ≡ q t) (take n touches) (take_within (λ t. p t ≡ q t) touches n (λ k d low high.
     let t = get_or touches k d in
-    ap (λ b. eqb t.page page && (leb from t.tick && b)) (scan.point.0 k d low high) ∙ ap (λ b. eqb t.page page && b) (and_true (leb from t.tick)))) in
+    ap (λ b. eqb t.page page && (leb from t.tick && b)) (point.0 k d low high) ∙ ap (λ b. eqb t.page page && b) (and_true (leb from t.tick)))) in
     ap (list_any p) (sym (take-append-drop n touches))
     ∙ list_any-append p (take n touches) (drop n touches)
     ∙ ap (λ b. list_any p (take n touches) || b) behind
     ∙ or_false (list_any p (take n touches))
     ∙ list_any_agree p q (take n touches) same
+
+pub written_met : (pages : ℕ) (touches : List GuestTouch) (from tick n page : ℕ) (marks : List Bool) → IsScan pages touches from tick n marks
+    → is_written touches from tick page ≡ is_met touches from n page
+written_met pages touches from tick n page marks scan = written_at touches from tick n page scan.point
 
 pub mark_is : (pages : ℕ) (touches : List GuestTouch) (from tick n page : ℕ) (marks : List Bool) → IsScan pages touches from tick n marks → page < pages
     → get_or marks page false ≡ is_written touches from tick page
@@ -107,14 +112,14 @@ walk_begins pages touches from upto tick n marks le scan = record {
   met = scan.met;
 }
 
-met_more : (touches : List GuestTouch) (from n page : ℕ) → n < length touches
+pub met_more : (touches : List GuestTouch) (from n page : ℕ) → n < length touches
     → is_met touches from (n + 1) page ≡ (is_met touches from n page || (eqb (get_or touches n no_touch).page page && leb from (get_or touches n no_touch).tick))
 met_more touches from n page low =
     let q : GuestTouch → Bool = λ t. eqb t.page page && leb from t.tick in
     let t = get_or touches n no_touch in
     ap (list_any q) (take_more touches n no_touch low) ∙ list_any-append q (take n touches) (t ∷ []) ∙ ap (λ b. is_met touches from n page || b) (or_false (q t))
 
-or_true : (b : Bool) → (b || true) ≡ true
+pub or_true : (b : Bool) → (b || true) ≡ true
 or_true true = refl
 or_true false = refl
 
@@ -171,3 +176,9 @@ pub marks_more : (marks : List Bool) (n : ℕ) (mark : Bool) (old new : List ℕ
 marks_more marks n mark old new low is old_is new_is =
     let same : mark ≡ get_or marks n false = is ∙ get_or_default marks n mark false low in
     new_is ∙ kept mark old n ∙ (λ i. old_is i ++ cond (same i) (n ∷ []) []) ∙ sym (filter_range_more (λ page. get_or marks page false) n)
+
+-- marks that are lent whole come back whole
+pub whole_again : (n : ℕ) (new old : List Bool) → length new ≡ length old → length new ≤ n → take n (new ++ drop (length new) old) ≡ new
+whole_again n new old same fits =
+    let none : drop (length new) old ≡ [] = drop_all (length new) old (omega (arith, same)) in
+    ap (λ (l : List Bool). take n (new ++ l)) none ∙ ap (take n) (append-nil new) ∙ take_all n new fits

@@ -1,2 +1,3 @@
 pub mod Sizes
 pub mod Scanning
+pub mod Indexing

@@ -2,14 +2,19 @@
 #![tactic(auto)]
 
 mod error;
+mod index;
 mod laws;
 mod parts;
+mod planner;
 mod planning;
 mod scan;
+mod tally;
 #[cfg(test)]
 mod tests;
 
 pub use error::PlanError;
+pub use index::RoundIndex;
 pub use laws::one_plan;
-pub use parts::{Plan, Round};
-pub use planning::plan;
+pub use parts::{Outcome, Plan, Round};
+pub use planner::Planner;
+pub use planning::{par_plan, plan};

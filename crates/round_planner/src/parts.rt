@@ -58,8 +58,33 @@ impl Model for Plan {
     ghost invariant = { λ p. IsSmallPlan p.rounds.items p.last.items };
 }
 
+/// What a plan comes to.
+#[derive(Debug, Drop)]
+pub struct Outcome {
+    /// How many rounds there are.
+    pub rounds: u64,
+    /// Why no further round comes.
+    pub reason: Reason,
+    /// The tick at which the guest is stopped.
+    pub stop: u64,
+    /// The downtime, in ticks.
+    pub down: u64,
+    /// How many pages are sent, over all rounds and after the stop.
+    pub total: u64,
+}
+
+impl Model for Outcome {
+    ghost use Rattle.migration_model.specs.Sweeps.{PlanOutcome, outcome_with};
+    ghost use Rattle.rate_limit.specs.Pacing.{reason_of};
+
+    ghost Value = { PlanOutcome };
+
+    ghost view = { λ o. outcome_with o.rounds (reason_of o.reason) o.stop o.down o.total };
+}
+
 impl Plan {
     ghost use Rattle.migration_model.specs.Rounds.{total_of};
+    ghost use Rattle.migration_model.specs.Sweeps.{outcome_of};
 
     /// How many pages are sent, over all rounds and after the stop.
     pub fn total(&self) -> u64
@@ -70,5 +95,18 @@ impl Plan {
             total += round.sent.len() as u64;
         }
         total
+    }
+
+    /// What the plan comes to.
+    pub fn outcome(&self) -> Outcome
+        ensures { result ≡ outcome_of self.now }
+    {
+        Outcome {
+            rounds: self.rounds.len() as u64,
+            reason: self.reason,
+            stop: self.stop,
+            down: self.down,
+            total: self.total(),
+        }
     }
 }

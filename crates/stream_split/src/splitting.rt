@@ -13,7 +13,7 @@ use std::alloc::Global;
 use trace_codec::Shape;
 
 /// So many empty streams.
-fn empty_streams(alloc: Global, streams: usize) -> Result<Vec<Vec<u8>>, SplitError>
+pub fn empty_streams(alloc: Global, streams: usize) -> Result<Vec<Vec<u8>>, SplitError>
     ensures { IfOk result (λ v. map (λ s. s.items) v.items ≡ replicate streams []) }
 {
     let mut outs = Vec::with_capacity(alloc, streams)?;

@@ -1,1 +1,4 @@
 pub mod Rounds
+pub mod Best
+pub mod CaseLines
+pub mod Taken

@@ -1,9 +1,10 @@
--- The lines of a report: words and numbers in turn, one space between them, and a line feed. This project's own.
-use Rattle.std.specs.Prelude.{ℕ, List, [], ◌∷◌, ◌++◌, length, codes}
+-- The lines of a report and of a sweep: words and numbers in turn, one space between them, and a line feed. This project's own.
+use Rattle.std.specs.Prelude.{ℕ, if◌then◌else◌, List, [], ◌∷◌, ◌++◌, length, codes}
 use Rattle.std.specs.Fmt.{decimal}
 use Rattle.std.specs.List.{flat_map}
-use Rattle.migration_model.specs.Rates.{word_of}
+use Rattle.migration_model.specs.Rates.{MigrationSettings, word_of}
 use Rattle.migration_model.specs.Rounds.{PlannedRound, MigrationPlan, total_of}
+use Rattle.migration_model.specs.Sweeps.{PlanOutcome, SweepLine}
 use Rattle.migration_model.specs.Windows.{WindowRow}
 
 -- some words and a number behind them
@@ -39,3 +40,20 @@ round_line number round = line (field (codes "round ") number ∷ field (codes "
 abbrev pub stop_line : MigrationPlan → List ℕ
 stop_line plan = line ((codes "stop " ++ word_of plan.reason) ∷ field (codes " at ") plan.stop ∷ field (codes " pages ") (length plan.last)
     ∷ field (codes " down ") plan.down ∷ field (codes " total ") (total_of plan) ∷ [])
+
+-- the settings of a case of a sweep, by its number
+abbrev pub case_fields : ℕ → MigrationSettings → List (List ℕ)
+case_fields number s = field (codes "case ") number ∷ field (codes " min ") s.min ∷ field (codes " max ") s.max ∷ field (codes " inc ") s.increment
+    ∷ field (codes " threshold ") s.threshold ∷ field (codes " limit ") s.rounds ∷ field (codes " skip ") (if s.skip then 1 else 0) ∷ []
+
+-- what its plan comes to
+abbrev pub outcome_fields : PlanOutcome → List (List ℕ)
+outcome_fields outcome = field (codes " rounds ") outcome.rounds ∷ (codes " stop " ++ word_of outcome.reason) ∷ field (codes " at ") outcome.stop
+    ∷ field (codes " down ") outcome.down ∷ field (codes " total ") outcome.total ∷ []
+
+abbrev pub case_line : ℕ → SweepLine → List ℕ
+case_line number at = line (case_fields number at.settings ++ outcome_fields at.outcome)
+
+-- the number of the best case
+abbrev pub best_line : ℕ → List ℕ
+best_line best = line (field (codes "best ") best ∷ [])

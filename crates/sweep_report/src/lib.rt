@@ -1,11 +1,17 @@
 //! The texts that are printed, as exact functions of what they tell.
 #![tactic(auto)]
 
+mod cases;
 mod error;
+mod line;
 mod lines;
 mod report;
+mod sweeping;
 #[cfg(test)]
 mod tests;
 
+pub use cases::sweep_text;
 pub use error::SweepError;
+pub use line::Line;
 pub use report::report_text;
+pub use sweeping::sweep;

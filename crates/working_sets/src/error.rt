@@ -12,6 +12,9 @@ pub enum TablesError {
     /// A growth was refused.
     #[error("memory")]
     Memory,
+    /// A thread could not be started. No call answers it: where no thread is to be had, its work is done on the caller's.
+    #[error("thread")]
+    Thread,
 }
 
 impl From<AllocError> for TablesError {

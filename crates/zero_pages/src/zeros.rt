@@ -1,17 +1,57 @@
 //! The test of one run of bytes.
 
-ghost use Rattle.std.specs.Prelude.{◌≡◌, ◌↔◌, All, IsTrue};
+ghost use Rattle.std.specs.Prelude.{◌≡◌, ◌↔◌, All, IsTrue, length};
 
-/// Whether each byte is 0. That is so of no bytes at all. It takes no memory.
-///
-/// All bytes are read, whatever the first ones are: a loop with no way out but its end is made into wide instructions, and
-/// is some ten times faster over a page of zeros than one that leaves at the first other byte.
-pub fn is_zero(bytes: &[u8]) -> bool
-    ensures { IsTrue result ↔ All (λ byte. byte ≡ 0) bytes.now }
+use std::simd::prelude::*;
+
+/// How many bytes are looked at together.
+const LANES: usize = 64;
+
+/// Whether each of 64 bytes is 0.
+fn lanes_are_zero(block: &[u8]) -> bool
+    requires { length block.now ≡ 64 }
+    ensures { IsTrue result ↔ All (λ byte. byte ≡ 0) block.now }
+{
+    let lanes = u8x64::from_slice(block);
+    lanes.simd_ne(u8x64::splat(0)).to_bitmask() == 0
+}
+
+/// Whether each of twice 64 bytes is 0.
+fn pair_is_zero(first: &[u8], second: &[u8]) -> bool
+    requires first { length first.now ≡ 64 }
+    requires second { length second.now ≡ 64 }
+    ensures { IsTrue result ↔ (All (λ byte. byte ≡ 0) first.now × All (λ byte. byte ≡ 0) second.now) }
+{
+    lanes_are_zero(first) && lanes_are_zero(second)
+}
+
+/// The same of fewer bytes, one after the other.
+fn rest_is_zero(rest: &[u8]) -> bool
+    ensures { IsTrue result ↔ All (λ byte. byte ≡ 0) rest.now }
 {
     let mut seen = 0u8;
-    for byte in bytes {
+    for byte in rest {
         seen |= *byte;
     }
     seen == 0
+}
+
+/// Whether each byte is 0. That is so of no bytes at all. It takes no memory.
+///
+/// 64 bytes are looked at together, of the first half and of the second in turn, and it ends at the first of these blocks that
+/// has another byte. Two places that memory is read from in turn take less time than one.
+pub fn is_zero(bytes: &[u8]) -> bool
+    ensures { IsTrue result ↔ All (λ byte. byte ≡ 0) bytes.now }
+{
+    let (mut front, mut back) = bytes.split_at(bytes.len() / 2);
+    while front.len() >= LANES && back.len() >= LANES {
+        let (first, front_after) = front.split_at(LANES);
+        let (second, back_after) = back.split_at(LANES);
+        if !pair_is_zero(first, second) {
+            return false;
+        }
+        front = front_after;
+        back = back_after;
+    }
+    rest_is_zero(front) && rest_is_zero(back)
 }

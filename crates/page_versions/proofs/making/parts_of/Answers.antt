@@ -1,23 +1,37 @@
 use Rattle.std.proofs.Common.{◌≡◌, length, ap, ◌∙◌, arith}
+use Rattle.std.specs.List.Sorted.{IsPermutation}
 use Rattle.std.proofs.lemmas.List.{take_at}
-use Rattle.page_versions.specs.Layout.{AreByPage, places_by}
-use Rattle.page_versions.proofs.Orders.{few_by_page, laid_out}
+use Rattle.std.proofs.lemmas.List.Sorted.{length_permutation}
+use Rattle.page_versions.specs.Layout.{keys_by}
+use Rattle.page_versions.proofs.Keyed.{AreByPage-from_keys, length-keys_by, sorted_low}
+use Rattle.page_versions.proofs.Orders.{laid_out}
 use Rattle.page_versions.proofs.making.parts_of.Goals as goal
 
-pub starts_of-requires-clause-few : goal.starts_of-requires-clause-few
-starts_of-requires-clause-few g c =
-    let made : AreByPage (places_by c.args.touches.now) c.sort_by_page.new.placed = rw (c.deref_mut.ensures.value ∙ c.in_ok-pairs.ensures) at c.in_ok-sort_by_page.ensures in
-    let len : length c.sort_by_page.new.placed ≡ c.in_ok-pairs.pairs.len =
-    c.in_ok-sort_by_page.ensures.len ∙ omega (arith, c.deref_mut.ensures.len, ap length c.deref_mut.ensures.value, c.in_ok-pairs.pairs.ok.0) in
-    let same = c.deref.ensures.value ∙ take_at c.sort_by_page.new.placed _ c.in_ok-pairs.pairs.len len in
-    omega (arith, ap length same, few_by_page c.args.touches.now c.sort_by_page.new.placed made, c.requires.fits.few)
+pub lay_out-requires-clause-few : goal.lay_out-requires-clause-few
+lay_out-requires-clause-few g c =
+    let sorted = c.sort_keys.new.keys in
+    let same : IsPermutation (keys_by c.args.touches.now) sorted = rw (c.deref_mut.ensures.value ∙ c.in_ok-keys.ensures) at c.sort_keys.ensures.same in
+    let count = length_permutation (keys_by c.args.touches.now) sorted same ∙ length-keys_by c.args.touches.now in
+    let len : length sorted ≡ c.in_ok-keys.keys.len = omega (arith, count, ap length c.in_ok-keys.ensures, length-keys_by c.args.touches.now, c.in_ok-keys.keys.ok.0) in
+    rw (c.deref.ensures.value ∙ take_at sorted _ c.in_ok-keys.keys.len len) (omega (arith, count, c.requires.fits.few))
+
+pub lay_out-requires-clause-low : goal.lay_out-requires-clause-low
+lay_out-requires-clause-low g c =
+    let sorted = c.sort_keys.new.keys in
+    let same : IsPermutation (keys_by c.args.touches.now) sorted = rw (c.deref_mut.ensures.value ∙ c.in_ok-keys.ensures) at c.sort_keys.ensures.same in
+    let count = length_permutation (keys_by c.args.touches.now) sorted same ∙ length-keys_by c.args.touches.now in
+    let len : length sorted ≡ c.in_ok-keys.keys.len = omega (arith, count, ap length c.in_ok-keys.ensures, length-keys_by c.args.touches.now, c.in_ok-keys.keys.ok.0) in
+    rw (c.deref.ensures.value ∙ take_at sorted _ c.in_ok-keys.keys.len len) (sorted_low c.args.pages c.args.touches.now sorted c.requires.fits same)
 
 pub returns : goal.returns
 returns g c =
-    let made : AreByPage (places_by c.args.touches.now) c.sort_by_page.new.placed = rw (c.deref_mut.ensures.value ∙ c.in_ok-pairs.ensures) at c.in_ok-sort_by_page.ensures in
-    let len : length c.sort_by_page.new.placed ≡ c.in_ok-pairs.pairs.len =
-    c.in_ok-sort_by_page.ensures.len ∙ omega (arith, c.deref_mut.ensures.len, ap length c.deref_mut.ensures.value, c.in_ok-pairs.pairs.ok.0) in
-    let same = c.deref.ensures.value ∙ take_at c.sort_by_page.new.placed _ c.in_ok-pairs.pairs.len len in
-    let again = c.deref-2.ensures.value ∙ take_at c.sort_by_page.new.placed _ c.in_ok-pairs.pairs.len len in
-    laid_out c.args.pages c.args.touches.now c.sort_by_page.new.placed c.in_ok-starts.starts.items c.in_ok-places.places.items c.requires.fits made
-    (rw same at c.in_ok-starts.ensures) (rw again at c.in_ok-places.ensures)
+    let touches = c.args.touches.now in
+    let sorted = c.sort_keys.new.keys in
+    let same : IsPermutation (keys_by touches) sorted = rw (c.deref_mut.ensures.value ∙ c.in_ok-keys.ensures) at c.sort_keys.ensures.same in
+    let count = length_permutation (keys_by touches) sorted same ∙ length-keys_by touches in
+    let len : length sorted ≡ c.in_ok-keys.keys.len = omega (arith, count, ap length c.in_ok-keys.ensures, length-keys_by touches, c.in_ok-keys.keys.ok.0) in
+    let all = c.deref.ensures.value ∙ take_at sorted _ c.in_ok-keys.keys.len len in
+    let made = c.in_ok-lay_out.field-0 in
+    laid_out c.args.pages touches _ made.starts.items made.places.items c.requires.fits
+    (AreByPage-from_keys touches sorted c.requires.fits.few same c.sort_keys.ensures.rising)
+    (rw all at c.in_ok-lay_out.ensures.starts) (rw all at c.in_ok-lay_out.ensures.places)

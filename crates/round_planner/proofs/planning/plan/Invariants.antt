@@ -1,4 +1,4 @@
-use Rattle.std.proofs.Common.{◌≡◌, ℕ, ◌-◌, ◌≤◌, ◌++◌, List, length}
+use Rattle.std.proofs.Common.{◌≡◌, ◌-◌, ◌≤◌, ◌++◌, List, length}
 use Rattle.std.specs.List.{All}
 use Rattle.migration_model.specs.Rounds.{PlannedRound, MigrationPlan, first_round, AreRounds}
 use Rattle.round_planner.specs.Scanning.{CanCome, IsScan}

@@ -1,9 +1,8 @@
-use Rattle.std.proofs.Common.{◌≡◌, ◌≤◌, ◌<◌, ◌+◌, ◌*◌, ◌/◌, ◌^◌, ◌∙◌, ℕ, length, refl, sym, ap, arith}
+use Rattle.std.proofs.Common.{◌≡◌, ◌≤◌, ◌+◌, ◌*◌, ◌∙◌, length, refl, sym, ap, arith}
 use Rattle.std.specs.Prelude.{slice_index_or, false}
 use Rattle.migration_model.specs.Rates.{duration_of}
 use Rattle.migration_model.specs.Rounds.{NextRound}
 use Rattle.migration_model.specs.Touches.{pages_written}
-use Rattle.round_planner.specs.Scanning.{CanCome, IsScan}
 use Rattle.round_planner.proofs.Plans.{ran, sent_fits, ticks_few, scan_in_round}
 use Rattle.round_planner.proofs.PageLists.{few_pages}
 use Rattle.round_planner.proofs.Scans.{marked_pages}

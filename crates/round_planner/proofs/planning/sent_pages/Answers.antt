@@ -1,4 +1,4 @@
-use Rattle.std.proofs.Common.{◌≡◌, ◌∙◌, List, Bool, ap, sym, subst, arith}
+use Rattle.std.proofs.Common.{◌≡◌, ◌∙◌, ap, sym, subst, arith}
 use Rattle.std.specs.Prelude.{nat_le, ◌&&◌}
 use Rattle.migration_model.specs.Rounds.{IsSent, NextRound}
 use Rattle.round_planner.proofs.Skims.{all_is_sent}

@@ -1,29 +1,28 @@
-use Rattle.std.proofs.Common.{◌≡◌, ℕ, length, get_or, refl, ◌∙◌, below_more, arith}
-use Rattle.std.specs.Prelude.{bit_or}
-use Rattle.std.proofs.lemmas.Bool.{eq-eqb, eqb-true}
-use Rattle.std.proofs.lemmas.List.{get_or_default}
-use Rattle.std.proofs.lemmas.Nat.{le_or_l, le_or_r}
+use Rattle.std.proofs.Common.{◌≡◌, ◌↔◌, ℕ, List, take, drop, sym, subst, ap₂, ◌++◌, ◌∙◌}
+use Rattle.std.specs.List.{All}
+use Rattle.std.proofs.lemmas.List.{take-append-drop}
+use Rattle.std.proofs.lemmas.List.Elements.{All-append, All-drop, All-take}
 use Rattle.zero_pages.proofs.zeros.is_zero.Goals as goal
 
-both_zero : (a b : ℕ) → a ≡ 0 → b ≡ 0 → bit_or a b ≡ 0
-both_zero a b is_a is_b = rw (is_a, is_b) refl
+-- what holds of each element of a list holds of those of its two parts
+in_parts : (P : ℕ → Type 0) (n : ℕ) (whole front back : List ℕ) → front ≡ take n whole → back ≡ drop n whole → All P whole ↔ (All P front × All P back)
+in_parts P n whole front back is_front is_back = (
+  λ all. (subst (All P) (sym is_front) (All-take P n whole all), subst (All P) (sym is_back) (All-drop P n whole all)),
+  λ both. subst (All P) (ap₂ (λ a b. a ++ b) is_front is_back ∙ take-append-drop n whole) (All-append P front back both.0 both.1),
+)
 
-pub loop-byte-preserved : goal.loop-byte-preserved
-loop-byte-preserved c =
-    let a = c.loop-byte.seen in
-    let i = c.loop-byte.byte-index in
-    let b : ℕ = get_or c.args.bytes.now i 0 in (
-      λ none.
-          below_more (λ (k : ℕ). get_or c.args.bytes.now k 0 ≡ 0) i (c.loop-byte.invariant.0 (omega (arith, le_or_l a b))) (omega (arith, le_or_r a b)),
-      λ each.
-          both_zero a b
-          (c.loop-byte.invariant.1 (λ k low. each k (omega arith)))
-          (each i (omega arith)),
-    )
+pub loop-front-init : goal.loop-front-init
+loop-front-init c =
+    in_parts (λ byte. byte ≡ 0) _ c.args.bytes.now c.split_at.result.0.now c.split_at.result.1.now c.split_at.ensures.front c.split_at.ensures.back
 
-pub returns : goal.returns
-returns c =
-    let all : c.loop-byte.byte-index ≡ length c.args.bytes.now = omega arith in (
-      λ none k d low. get_or_default c.args.bytes.now k d 0 low ∙ c.loop-byte.invariant.0 (eqb-true c.loop-byte.seen 0 none) k (omega arith),
-      λ each. eq-eqb c.loop-byte.seen 0 (c.loop-byte.invariant.1 (λ k low. each k 0 (omega arith))),
+pub loop-front-preserved : goal.loop-front-preserved
+loop-front-preserved c =
+    let first = c.split_at-in-loop-front in
+    let second = c.split_at-in-loop-front-2 in
+    let Z : ℕ → Type 0 = λ byte. byte ≡ 0 in
+    let a = in_parts Z 64 c.loop-front.front.now first.result.0.now first.result.1.now first.ensures.front first.ensures.back in
+    let b = in_parts Z 64 c.loop-front.back.now second.result.0.now second.result.1.now second.ensures.front second.ensures.back in
+    let blocks = c.pair_is_zero.ensures.0 c.if-not-pair_is_zero.false in (
+      λ all. let both = c.loop-front.invariant.0 all in ((a.0 both.0).1, (b.0 both.1).1),
+      λ after. c.loop-front.invariant.1 (a.1 (blocks.0, after.0), b.1 (blocks.1, after.1)),
     )

@@ -1,19 +1,17 @@
-use Rattle.std.proofs.Common.{true, refl, arith}
-use Rattle.std.proofs.lemmas.List.{length-set}
-use Rattle.round_planner.proofs.Scans.{walk_begins, walk_on, walk_ends}
+use Rattle.std.proofs.Common.{◌≡◌, ◌≤◌, Bool, List, subst, sym, arith, length}
+use Rattle.round_planner.specs.Scanning.{IsScan}
+use Rattle.round_planner.proofs.Scans.{whole_again}
 use Rattle.round_planner.proofs.scan.Scan.advance.Goals as goal
-
-pub loop-page-preserved : goal.loop-page-preserved
-loop-page-preserved g c =
-    let next = c.in-Some.ensures.some in
-    let before = c.loop-page.invariant in
-    record {
-      room = record { marks_len = omega (arith, length-set c.loop-page.self.marks.items c.in-Some.page true, before.room.marks_len); next_high = omega (arith, next.low) };
-      walking = λ from upto le scan. walk_on _ _ from c.args.tick c.loop-page.self.next c.in-Some.page c.loop-page.self.marks.items next (before.walking from upto le scan);
-    }
 
 pub returns-clause-walked : goal.returns-clause-walked
 returns-clause-walked g c from upto le scan =
-    let before = c.loop-page.invariant in
-    walk_ends _ _ from c.args.tick c.loop-page.self.next c.loop-page.self.marks.items c.page_before.ensures.fits before.room.next_high
-    (c.in_default.ensures.none refl) (before.walking from upto le scan)
+    let pages = g.T.Timeline.pages c.args.timeline.now in
+    let touches = g.T.Timeline.touches c.args.timeline.now in
+    let old = c.args.self.now.marks.items in
+    let new = c.mark_until-self.new.marks in
+    let walked = c.mark_until-self.ensures in
+    let B : List Bool → Type 0 = λ l. IsScan pages touches from upto c.args.self.now.next l in
+    let A : List Bool → Type 0 = λ l. IsScan pages touches from c.args.tick c.mark_until-self.result l in
+    let same : length new ≡ length old = omega (arith, walked.room.marks_len, scan.met.len) in
+    let fits : length new ≤ c.args.self.now.marks.len = grind (arith, same) in
+    subst A (sym (whole_again c.args.self.now.marks.len new old same fits)) (walked.walked from upto le (subst B (sym c.deref_mut.ensures.value) scan))

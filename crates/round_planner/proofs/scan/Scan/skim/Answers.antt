@@ -1,4 +1,4 @@
-use Rattle.std.proofs.Common.{◌≡◌, ◌<◌, ◌≤◌, ◌+◌, ◌*◌, ◌/◌, ◌^◌, ◌∙◌, ℕ, List, [], ap, not, true, false, length, get_or, subst, sym, arith}
+use Rattle.std.proofs.Common.{◌≡◌, ◌<◌, ◌≤◌, ◌+◌, ◌*◌, ◌/◌, ◌∙◌, ℕ, List, [], ap, not, true, false, length, get_or, subst, sym, arith}
 use Rattle.std.proofs.lemmas.List.{take_all, get_or_default}
 use Rattle.migration_model.specs.Rounds.{IsSent}
 use Rattle.migration_model.specs.Touches.{is_written}

@@ -1,5 +1,5 @@
 use Rattle.std.proofs.Common.{◌≡◌, ◌≤◌, ◌+◌, ◌*◌, ◌/◌, [], length, take}
-use Rattle.round_planner.specs.Scanning.{HasRoom, IsScanWithin}
+use Rattle.round_planner.specs.Scanning.{IsScanWithin}
 use Rattle.round_planner.proofs.Skims.{skim}
 use Rattle.round_planner.proofs.scan.Scan.skim.Given as goal
 

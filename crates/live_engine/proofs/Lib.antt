@@ -1,0 +1,9 @@
+pub mod Each
+pub mod FirstSeats
+pub mod Visits
+pub mod ScanOrder
+pub mod Leaving
+pub mod Received
+pub mod Running
+pub mod Planned
+pub mod Rounding

@@ -1,0 +1,14 @@
+use Rattle.std.proofs.Common.{ℕ, drop, take}
+use Rattle.migration_model.specs.Live.{LiveRounds}
+use Rattle.live_engine.specs.Joining.{AreJoined}
+use Rattle.live_engine.specs.Runs.{IsUnderWay}
+use Rattle.live_engine.proofs.Planned.{Remaining}
+use Rattle.live_engine.proofs.round.Crew.run_rounds.Given as goal
+
+abbrev pub invariant-loop-number : goal.invariant-loop-number
+invariant-loop-number g l = record {
+  under_way : IsUnderWay l.self.trace.now l.self.replayers l.self.copiers l.self.streams l.progress.closed l.progress.parts.items l.progress.dealers.items;
+  law : LiveRounds l.self.trace.now l.settings.skip l.self.copiers (take l.number l.plan.rounds) l.progress.rounds.items;
+  joined : (tick : ℕ) × Remaining l.self.trace.now l.settings l.plan tick (drop l.number l.plan.rounds)
+      × AreJoined l.self.trace.now tick (take l.number l.plan.rounds) l.progress.rounds.items l.progress.closed l.progress.parts.items;
+}

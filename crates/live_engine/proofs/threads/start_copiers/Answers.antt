@@ -1,0 +1,40 @@
+use Rattle.std.proofs.Common.{◌≡◌, ◌++◌, ◌∷◌, [], length, sym, ap, subst, ◌∙◌, arith}
+use Rattle.std.specs.Vec.Iter.{into_iter_items}
+use Rattle.std.proofs.lemmas.List.Elements.{All-rest}
+use Rattle.dirty_words.specs.Facts.{first_copier}
+use Rattle.dirty_words.specs.Seats.{CopyView, copy_table}
+use Rattle.live_engine.specs.Seated.{EachAt}
+use Rattle.live_engine.proofs.Each.{each_push}
+use Rattle.live_engine.proofs.FirstSeats.{copier_at, rest_of, one_longer}
+use Rattle.live_engine.proofs.threads.start_copiers.Goals as goal
+
+pub start_copier-requires-clause-table : goal.start_copier-requires-clause-table
+start_copier-requires-clause-table g c κs within =
+    ap copy_table (copier_at c.args.round.now.table.now c.args.seats.items c.loop-seat.yielded (into_iter_items c.loop-seat.seat-iterator) (into_iter_items c.next.new.self) c.in-Some.seat
+    c.requires.seats c.in-Some.ensures.steps.0 c.loop-seat.invariant.rest)
+
+pub start_copier-requires-clause-idle : goal.start_copier-requires-clause-idle
+start_copier-requires-clause-idle g c κs within =
+    let first = copier_at c.args.round.now.table.now c.args.seats.items c.loop-seat.yielded (into_iter_items c.loop-seat.seat-iterator) (into_iter_items c.next.new.self) c.in-Some.seat
+    c.requires.seats c.in-Some.ensures.steps.0 c.loop-seat.invariant.rest in
+    ap (λ (s : CopyView). s.facts) first ∙ sym (ap (λ (s : CopyView). first_copier c.args.round.now.table.now.start s.facts.number) first)
+
+pub loop-seat-preserved : goal.loop-seat-preserved
+loop-seat-preserved g c =
+    let before = c.loop-seat.handles.items in
+    let handle = c.in_ok-handle.handle in
+    let first = copier_at c.args.round.now.table.now c.args.seats.items c.loop-seat.yielded (into_iter_items c.loop-seat.seat-iterator) (into_iter_items c.next.new.self) c.in-Some.seat
+    c.requires.seats c.in-Some.ensures.steps.0 c.loop-seat.invariant.rest in
+    let items : c.push_reserved.new.self.items ≡ before ++ handle ∷ [] = c.push_reserved.ensures.items ∙ ap (λ hs. hs ++ handle ∷ []) c.reserve.ensures.items in
+    let number : handle.promise.number ≡ length before = c.in_ok-handle.ensures.3 ∙ ap (λ (s : CopyView). s.facts.number) first ∙ sym c.loop-seat.invariant.count in
+    record {
+      can_next = tt;
+      is_finite = tt;
+      count = one_longer before handle c.loop-seat.yielded c.in-Some.seat c.push_reserved.new.self.items items c.loop-seat.invariant.count;
+      rest = rest_of c.loop-seat.yielded (into_iter_items c.loop-seat.seat-iterator) (into_iter_items c.next.new.self) c.args.seats.items c.in-Some.seat
+          c.in-Some.ensures.steps.0 c.loop-seat.invariant.rest;
+      dealers = grind (arith, c.in-Some-pop_front.ensures.len, c.loop-seat.invariant.dealers, ap length c.in-Some.ensures.steps.0);
+      streams = All-rest (λ dealer. dealer.streams ≡ c.args.streams) c.in-Some-pop_front.dealer c.pop_front.new.self.items c.loop-seat.dealers.items (c.in-Some-pop_front.ensures.items) c.loop-seat.invariant.streams;
+      started = subst (λ hs. EachAt (λ h i. (h.promise.trace.now ≡ c.args.round.now.trace.now) × (h.promise.table.now ≡ c.args.round.now.table.now) × (h.promise.skip ≡ c.args.round.now.skip) × (h.promise.number ≡ i) × (h.promise.streams ≡ c.args.streams)) hs) (sym items)
+          (each_push (λ h i. (h.promise.trace.now ≡ c.args.round.now.trace.now) × (h.promise.table.now ≡ c.args.round.now.table.now) × (h.promise.skip ≡ c.args.round.now.skip) × (h.promise.number ≡ i) × (h.promise.streams ≡ c.args.streams)) before handle c.loop-seat.invariant.started (c.in_ok-handle.ensures.0, c.in_ok-handle.ensures.1, c.in_ok-handle.ensures.2, number, c.in_ok-handle.ensures.4));
+    }

@@ -1,0 +1,4 @@
+pub mod Seated
+pub mod Joining
+pub mod Lists
+pub mod Runs

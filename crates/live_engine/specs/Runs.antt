@@ -1,0 +1,31 @@
+-- A live run between two rounds, and when it has ended.
+use Rattle.std.specs.Prelude.{◌≡◌, ℕ, List, length}
+use Rattle.std.specs.List.{All}
+use Rattle.migration_model.specs.Trace.{GuestTrace}
+use Rattle.migration_model.specs.Memory.{GuestMemory, image_before, image_of}
+use Rattle.migration_model.specs.Rates.{MigrationSettings}
+use Rattle.migration_model.specs.Rounds.{MigrationPlan, IsPlan}
+use Rattle.migration_model.specs.Touches.{touches_of}
+use Rattle.migration_model.specs.Live.{LiveRound, LiveRounds}
+use Rattle.migration_model.specs.Parts.{GuestPart}
+use Rattle.dirty_core.specs.Start.{IsStart, start_with}
+use Rattle.dirty_words.specs.Seats.{ClosedView}
+use Rattle.stream_split.specs.Deals.{Turn}
+
+-- the next table may open, and there is a part for each stream and a dealer for each copier
+pub record IsUnderWay (trace : GuestTrace) (replayers copiers streams : ℕ) (closed : ClosedView) (parts : List GuestPart) (dealers : List Turn) : Type 0 where
+  pub next : IsStart (start_with closed.versions closed.dirty replayers copiers)
+  pub size : length closed.versions ≡ trace.pages
+  pub parts_are : length parts ≡ streams
+  pub dealers_are : length dealers ≡ copiers
+  pub turns : All (λ dealer. dealer.streams ≡ streams) dealers
+
+-- A live run that answers: by the plan, it has the memory at the plan's stop tick and after all writes, and its rounds keep
+-- the law.
+pub record IsLiveRun (trace : GuestTrace) (s : MigrationSettings) (stop : ℕ) (at_stop at_end : GuestMemory) (rounds : List LiveRound) : Type 0 where
+  pub plan : MigrationPlan
+  pub is_plan : IsPlan trace.pages (touches_of trace) s plan
+  pub stop_is : stop ≡ plan.stop
+  pub at_stop_is : at_stop ≡ image_before trace plan.stop
+  pub at_end_is : at_end ≡ image_of trace
+  pub law : LiveRounds trace s.skip s.workers plan.rounds rounds

@@ -1,0 +1,31 @@
+-- What the threads of a round give back.
+use Rattle.std.specs.Prelude.{◌≡◌, ℕ, ◌<◌, slice_index_or, Bool, List, length}
+use Rattle.migration_model.specs.Trace.{GuestTrace}
+use Rattle.dirty_words.specs.Seats.{TableView, GuestView, guest_table}
+use Rattle.live_seats.specs.Replays.{HasReplayed}
+use Rattle.live_seats.specs.Copies.{HasCopied}
+use Rattle.live_seats.specs.declared.copier.Copier.{Copier}
+
+-- the relation of each element and its index
+abbrev pub EachAt : {X : Type 0} → (X → ℕ → Type 0) → List X → Type 0
+EachAt {X} Holds xs = (i : ℕ) → i < length xs → (x : X) × (x ≡ slice_index_or xs i x) × Holds x i
+
+-- the guest with this number is of the table, and did its part of the round
+pub record IsReplayed (trace : GuestTrace) (table : TableView) (from to number : ℕ) (guest : GuestView) : Type 0 where
+  pub table_is : guest_table guest ≡ table
+  pub number_is : guest.facts.number ≡ number
+  pub replayed : HasReplayed trace from to guest.facts
+
+-- all guests of the table did their parts
+pub record AreReplayed (trace : GuestTrace) (table : TableView) (from to : ℕ) (guests : List GuestView) : Type 0 where
+  pub count : length guests ≡ table.start.guests
+  pub each : EachAt (λ guest number. IsReplayed trace table from to number guest) guests
+
+-- the copier with this number did its part
+abbrev pub IsCopied : GuestTrace → Bool → TableView → ℕ → Copier → ℕ → Type 0
+IsCopied trace skip table streams copier number = HasCopied trace skip table number streams copier.seat copier.dealer copier.outbox
+
+-- all copiers of the table did their parts
+pub record AreCopied (trace : GuestTrace) (skip : Bool) (table : TableView) (streams : ℕ) (copiers : List Copier) : Type 0 where
+  pub count : length copiers ≡ table.start.copiers
+  pub each : EachAt (IsCopied trace skip table streams) copiers

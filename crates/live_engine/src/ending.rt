@@ -1,0 +1,72 @@
+//! The end of a live run: the final copy, and the memory that the parts make.
+
+ghost use Rattle.std.specs.Prelude.{◌≡◌, ◌<◌, ◌≤◌, ℕ, IfOk, IsTrue, length, slice_index_or};
+ghost use Rattle.dirty_core.specs.Pages.{in_words};
+ghost use Rattle.dirty_words.specs.Closing.{FitsPages};
+ghost use Rattle.migration_model.specs.Final.{shape_of_trace};
+ghost use Rattle.migration_model.specs.Images.{AreNotBeyond, HaveCurrent};
+ghost use Rattle.migration_model.specs.Memory.{image_before, image_of};
+ghost use Rattle.migration_model.specs.Versions.{version_before};
+ghost use Rattle.page_versions.specs.Index.{IsIndexOf};
+
+use crate::error::LiveError;
+use crate::round::Crew;
+use collector::Part;
+use dirty_words::Closed;
+use image_build::{Image, of_parts, resume};
+use migration_model::{current_copies_make_memory, final_copy_makes_current};
+use std::alloc::Global;
+use std::sync::Wait;
+use std::thread::Threads;
+use stop_copy::final_copy;
+
+/// The memory where the guest stopped, and after all of its writes.
+#[derive(Drop)]
+pub(crate) struct Images {
+    pub(crate) at_stop: Image,
+    pub(crate) at_end: Image,
+}
+
+impl<'a, G> Crew<'a, G> {
+    /// Sends the pages that are marked still, and makes memory of what the parts then have; the guest resumes there.
+    pub(crate) fn finish<R: Threads + Wait + Sync>(
+        &self,
+        rt: &R,
+        alloc: Global,
+        closed: &Closed,
+        parts: Vec<Part>,
+    ) -> Result<Images, LiveError>
+        requires of { IsIndexOf self.now.index.now self.now.trace.now }
+        requires closed { FitsPages closed.now self.now.trace.now.pages (length self.now.trace.now.writes) }
+        requires some_copiers { 1 ≤ self.now.copiers }
+        requires few_copiers { self.now.copiers ≤ 16 }
+        requires some_streams { 1 ≤ self.now.streams }
+        requires few_streams { self.now.streams ≤ 16 }
+        requires count { length parts.items ≡ self.now.streams }
+        requires parts { AreNotBeyond self.now.trace.now (shape_of_trace self.now.trace.now) closed.now.versions parts.items }
+        requires current { (page : ℕ) → page < self.now.trace.now.pages → ¬ IsTrue (in_words closed.now.dirty page)
+            → HaveCurrent closed.now.versions parts.items page }
+        ensures at_stop { IfOk result (λ images. (tick : ℕ)
+            → ((page : ℕ) → page < self.now.trace.now.pages → slice_index_or closed.now.versions page 0 ≡ version_before self.now.trace.now page tick)
+            → images.at_stop ≡ image_before self.now.trace.now tick) }
+        ensures at_end { IfOk result (λ images. images.at_end ≡ image_of self.now.trace.now) }
+    {
+        let trace = self.trace;
+        let index = self.index;
+        let copied = final_copy(
+            rt,
+            alloc,
+            trace,
+            index,
+            closed,
+            self.copiers,
+            self.streams,
+            parts,
+        )?;
+        final_copy_makes_current();
+        current_copies_make_memory();
+        let at_stop = of_parts(alloc, &trace.shape(), copied)?;
+        let at_end = resume(at_stop.copy(alloc)?, trace, index, &closed.versions);
+        Ok(Images { at_stop, at_end })
+    }
+}

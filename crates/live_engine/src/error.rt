@@ -1,0 +1,83 @@
+//! Why a live run gives no image.
+
+ghost use Rattle.std.specs.Prelude.{◌≡◌};
+ghost use Rattle.live_engine.specs.declared.error.LiveError.TheVariants.{Memory};
+
+use dirty_words::TableError;
+use image_build::ImageError;
+use live_seats::SeatError;
+use page_versions::IndexError;
+use round_planner::PlanError;
+use std::alloc::{AllocError, AllocFailed};
+use stop_copy::CopyError;
+use thiserror::Error;
+
+/// A refusal. Its text is its name.
+#[derive(Clone, Copy, Debug, PartialEq, Eq, Error)]
+pub enum LiveError {
+    /// A growth was refused.
+    #[error("L1")]
+    Memory,
+    /// A thread was not started.
+    #[error("L2")]
+    Thread,
+}
+
+impl From<AllocError> for LiveError {
+    ghost from_gives = { λ _ e. e ≡ Memory };
+
+    fn from(_error: AllocError) -> LiveError {
+        LiveError::Memory
+    }
+}
+
+impl<T: Drop> From<AllocFailed<T>> for LiveError {
+    ghost from_gives = { λ _ e. e ≡ Memory };
+
+    fn from(_error: AllocFailed<T>) -> LiveError {
+        LiveError::Memory
+    }
+}
+
+impl From<SeatError> for LiveError {
+    ghost from_gives = { λ _ e. e ≡ Memory };
+
+    fn from(_error: SeatError) -> LiveError {
+        LiveError::Memory
+    }
+}
+
+impl From<TableError> for LiveError {
+    ghost from_gives = { λ _ e. e ≡ Memory };
+
+    fn from(_error: TableError) -> LiveError {
+        LiveError::Memory
+    }
+}
+
+impl From<ImageError> for LiveError {
+    fn from(_error: ImageError) -> LiveError {
+        LiveError::Memory
+    }
+}
+
+impl From<IndexError> for LiveError {
+    fn from(_error: IndexError) -> LiveError {
+        LiveError::Memory
+    }
+}
+
+impl From<PlanError> for LiveError {
+    fn from(_error: PlanError) -> LiveError {
+        LiveError::Memory
+    }
+}
+
+impl From<CopyError> for LiveError {
+    fn from(error: CopyError) -> LiveError {
+        match error {
+            CopyError::Memory => LiveError::Memory,
+            CopyError::Thread => LiveError::Thread,
+        }
+    }
+}

@@ -1,0 +1,113 @@
+//! What the parts receive at the end of a round.
+
+ghost use Rattle.std.specs.Prelude.{◌≡◌, ◌<◌, ◌++◌, ℕ, IfOk, List, OnOk, [], length, map, slice_index_or};
+ghost use Rattle.std.specs.List.{All};
+ghost use Rattle.migration_model.specs.Final.{shape_of_trace};
+ghost use Rattle.migration_model.specs.Frames.{PageFrame, SpellsStream};
+ghost use Rattle.migration_model.specs.Parts.{GuestPart, IsPart, with_frames};
+ghost use Rattle.migration_model.specs.Trace.{GuestTrace};
+ghost use Rattle.live_seats.specs.Outboxes.{IsPosted};
+ghost use Rattle.live_engine.specs.Joining.{HaveReceived, Spelled};
+ghost use Rattle.live_engine.specs.Lists.{lists_of};
+
+use crate::error::LiveError;
+use collector::Part;
+use live_seats::Outbox;
+use std::alloc::Global;
+use std::marker::Model;
+
+/// What was done in one round. The lists go by copier, and then in the order of that copier's steps.
+#[derive(Debug, Drop)]
+pub struct LiveRound {
+    /// The pages that were sent, each with its stamp.
+    pub sent: Vec<(u32, u32)>,
+    /// The pages that were left for a later round, since they were marked again.
+    pub skipped: Vec<u32>,
+    /// The pages that were left for a later round, since their stream had no room.
+    pub deferred: Vec<u32>,
+}
+
+impl Model for LiveRound {
+    ghost use Rattle.migration_model.specs.Live.{LiveRound as GuestRound};
+
+    ghost Value = { GuestRound };
+
+    ghost use Rattle.migration_model.specs.Live.{live_round_with};
+
+    ghost view = { λ r. live_round_with r.sent.items r.skipped.items r.deferred.items };
+}
+
+/// A part takes the frames of a stream.
+fn take_stream(part: &mut Part, bytes: &[u8]) -> Result<(), LiveError>
+    ensures { (frames : List PageFrame) → SpellsStream part.old.shape bytes.now frames
+        → OnOk result (part.new ≡ with_frames part.old frames) }
+{
+    if part.accept_bytes(bytes).is_err() {
+        return Err(LiveError::Memory);
+    }
+    Ok(())
+}
+
+/// Each part takes the frames of its stream.
+fn take_streams(parts: &mut Vec<Part>, streams: &[Vec<u8>]) -> Result<(), LiveError>
+    requires { length parts.old.items ≡ length streams.now }
+    ensures count { length parts.new.items ≡ length parts.old.items }
+    ensures taken { (frames : List (List PageFrame)) → Spelled parts.old.items (map (λ s. s.items) streams.now) frames
+        → OnOk result ((i : ℕ) (d : GuestPart) → i < length parts.old.items → slice_index_or parts.new.items i d ≡ with_frames (slice_index_or parts.old.items i d) (slice_index_or frames i [])) }
+{
+    for index in 0..parts.len() {
+        take_stream(&mut parts[index], &streams[index])?;
+    }
+    Ok(())
+}
+
+/// The parts take what one copier gives over.
+fn take_outbox(parts: &mut Vec<Part>, outbox: &Outbox) -> Result<(), LiveError>
+    requires { length outbox.now.streams ≡ length parts.old.items }
+    ensures count { length parts.new.items ≡ length parts.old.items }
+    ensures taken { (frames : List (List PageFrame)) → Spelled parts.old.items outbox.now.streams frames
+        → OnOk result ((i : ℕ) (d : GuestPart) → i < length parts.old.items → slice_index_or parts.new.items i d ≡ with_frames (slice_index_or parts.old.items i d) (slice_index_or frames i [])) }
+{
+    take_streams(parts, &outbox.streams)?;
+    Ok(())
+}
+
+/// Lists what one copier did.
+fn list_outbox(
+    sent: &mut Vec<(u32, u32)>,
+    skipped: &mut Vec<u32>,
+    outbox: &Outbox,
+) -> Result<(), LiveError>
+    ensures sent { OnOk result (sent.new.items ≡ sent.old.items ++ outbox.now.sent) }
+    ensures skipped { OnOk result (skipped.new.items ≡ skipped.old.items ++ outbox.now.skipped) }
+{
+    sent.extend_from_slice(&outbox.sent)?;
+    skipped.extend_from_slice(&outbox.skipped)?;
+    Ok(())
+}
+
+/// The parts take what the copiers give over, copier by copier, and what these did is listed.
+pub(crate) fn receive(
+    alloc: Global,
+    parts: &mut Vec<Part>,
+    outboxes: Vec<Outbox>,
+) -> Result<LiveRound, LiveError>
+    requires { All (λ outbox. length outbox.streams ≡ length parts.old.items) outboxes.items }
+    ensures lists { IfOk result (λ round. round ≡ lists_of outboxes.items) }
+    ensures count { length parts.new.items ≡ length parts.old.items }
+    ensures received { (trace : GuestTrace) → All (IsPosted trace) outboxes.items → All IsPart parts.old.items
+        → All (λ part. part.shape ≡ shape_of_trace trace) parts.old.items
+        → IfOk result (λ round. HaveReceived trace round.sent parts.old.items parts.new.items) }
+{
+    let mut sent = Vec::new(alloc);
+    let mut skipped = Vec::new(alloc);
+    for outbox in outboxes {
+        take_outbox(parts, &outbox)?;
+        list_outbox(&mut sent, &mut skipped, &outbox)?;
+    }
+    Ok(LiveRound {
+        sent,
+        skipped,
+        deferred: Vec::new(alloc),
+    })
+}

@@ -1,0 +1,143 @@
+//! One round of a live run.
+
+ghost use Rattle.std.specs.Prelude.{◌≡◌, ◌<◌, ◌≤◌, ℕ, IfOk, length, map, slice_index};
+ghost use Rattle.std.specs.List.{All};
+ghost use Rattle.dirty_core.specs.Start.{IsStart, start_with};
+ghost use Rattle.dirty_words.specs.Closing.{first_guests, first_copiers};
+ghost use Rattle.live_engine.specs.Joining.{IsRound};
+ghost use Rattle.live_engine.specs.Lists.{lists_of};
+ghost use Rattle.live_engine.specs.Seated.{AreCopied, AreReplayed};
+ghost use Rattle.live_seats.specs.Outboxes.{IsPosted};
+ghost use Rattle.live_seats.specs.Replays.{OpensAt};
+ghost use Rattle.migration_model.specs.Versions.{version_before};
+ghost use Rattle.page_versions.specs.Index.{IsIndexOf};
+
+use crate::error::LiveError;
+use crate::threads::{Finished, Seats, run_threads};
+use dirty_core::Opening;
+use dirty_words::{Closed, CopySeat, Opened, RoundTable};
+use live_seats::{Copier, Gate, Outbox, Round, Ticks};
+use page_versions::PageIndex;
+use std::alloc::Global;
+use std::collections::VecDeque;
+use std::sync::Wait;
+use std::thread::Threads;
+use stream_split::Dealer;
+use trace_codec::Trace;
+
+/// What does not change from round to round.
+#[derive(Drop)]
+pub(crate) struct Crew<'a, G> {
+    pub(crate) trace: &'a Trace,
+    pub(crate) index: &'a PageIndex,
+    pub(crate) gate: &'a G,
+    pub(crate) replayers: usize,
+    pub(crate) copiers: usize,
+    pub(crate) streams: usize,
+}
+
+/// The copiers' parts, each kind in a list of its own, in order of the copiers' numbers.
+#[derive(Drop)]
+struct Apart {
+    seats: Vec<CopySeat>,
+    dealers: VecDeque<Dealer>,
+    outboxes: Vec<Outbox>,
+}
+
+/// Takes copiers apart.
+fn take_apart(alloc: Global, copiers: Vec<Copier>) -> Result<Apart, LiveError>
+    ensures seats { IfOk result (λ apart. apart.seats.items ≡ map (λ c. c.seat) copiers.items) }
+    ensures dealers { IfOk result (λ apart. apart.dealers.items ≡ map (λ c. c.dealer) copiers.items) }
+    ensures outboxes { IfOk result (λ apart. apart.outboxes.items ≡ map (λ c. c.outbox) copiers.items) }
+{
+    let mut seats = Vec::with_capacity(alloc, copiers.len())?;
+    let mut dealers = VecDeque::with_capacity(alloc, copiers.len())?;
+    let mut outboxes = Vec::with_capacity(alloc, copiers.len())?;
+    for copier in copiers {
+        let Copier {
+            seat,
+            dealer,
+            outbox,
+        } = copier;
+        seats.push(seat)?;
+        dealers.push_back(dealer)?;
+        outboxes.push(outbox)?;
+    }
+    Ok(Apart {
+        seats,
+        dealers,
+        outboxes,
+    })
+}
+
+/// What a round leaves.
+#[derive(Drop)]
+pub(crate) struct Left {
+    pub(crate) closed: Closed,
+    pub(crate) dealers: VecDeque<Dealer>,
+    pub(crate) outboxes: Vec<Outbox>,
+}
+
+impl<'a, G: Gate> Crew<'a, G> {
+    /// Opens a table with what the round before closed, runs the round's threads on it, and closes it. After a refusal no
+    /// table is closed.
+    pub(crate) fn run_round<R: Threads + Wait + Sync>(
+        &self,
+        rt: &R,
+        alloc: Global,
+        skip: bool,
+        ticks: Ticks,
+        closed: Closed,
+        dealers: VecDeque<Dealer>,
+    ) -> Result<Left, LiveError>
+        requires of { IsIndexOf self.now.index.now self.now.trace.now }
+        requires span { ticks.from ≤ ticks.to }
+        requires start { IsStart (start_with closed.versions closed.dirty self.now.replayers self.now.copiers) }
+        requires size { length closed.versions ≡ self.now.trace.now.pages }
+        requires versions { (page : ℕ) → page < self.now.trace.now.pages → slice_index closed.versions page ≡ version_before self.now.trace.now page ticks.from }
+        requires dealers { length dealers.items ≡ self.now.copiers }
+        requires streams { All (λ dealer. dealer.streams ≡ self.now.streams) dealers.items }
+        ensures round { IfOk result (λ left. IsRound self.now.trace.now skip self.now.copiers closed.dirty ticks.from ticks.to left.closed (lists_of left.outboxes.items)) }
+        ensures next { IfOk result (λ left. IsStart (start_with left.closed.versions left.closed.dirty self.now.replayers self.now.copiers)) }
+        ensures size { IfOk result (λ left. length left.closed.versions ≡ self.now.trace.now.pages) }
+        ensures posted { IfOk result (λ left. All (IsPosted self.now.trace.now) left.outboxes.items) }
+        ensures widths { IfOk result (λ left. All (λ outbox. length outbox.streams ≡ self.now.streams) left.outboxes.items) }
+        ensures dealers { IfOk result (λ left. length left.dealers.items ≡ self.now.copiers) }
+        ensures streams { IfOk result (λ left. All (λ dealer. dealer.streams ≡ self.now.streams) left.dealers.items) }
+    {
+        let Closed { versions, dirty } = closed;
+        let Some(opening) = Opening::new(versions, dirty, self.replayers, self.copiers) else {
+            unreachable!()
+        };
+        let Opened {
+            table,
+            guests,
+            copiers,
+        } = RoundTable::open(alloc, opening)?;
+        let round = Round {
+            trace: self.trace,
+            index: self.index,
+            table: &table,
+            gate: self.gate,
+            skip,
+        };
+        let seats = Seats {
+            guests,
+            copiers,
+            dealers,
+        };
+        let finished = run_threads(rt, alloc, &round, ticks, seats, self.streams)?;
+        let Finished { guests, copiers } = finished;
+        let Apart {
+            seats,
+            dealers,
+            outboxes,
+        } = take_apart(alloc, copiers)?;
+        let closed = table.close(guests, seats);
+        Ok(Left {
+            closed,
+            dealers,
+            outboxes,
+        })
+    }
+}

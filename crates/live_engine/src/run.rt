@@ -1,0 +1,204 @@
+//! A live run: its rounds, one after the other, and its end.
+
+ghost use Rattle.std.specs.Prelude.{◌≡◌, ◌&&◌, nat_le, ◌<◌, ◌≤◌, ◌++◌, ◌∷◌, [], ℕ, List, IfOk, length, slice_index};
+ghost use Rattle.std.specs.List.{All};
+ghost use Rattle.dirty_core.specs.Start.{IsStart, start_with};
+ghost use Rattle.live_engine.specs.Joining.{AreJoined};
+ghost use Rattle.live_engine.specs.Runs.{IsLiveRun, IsUnderWay};
+ghost use Rattle.migration_model.specs.Live.{LiveRounds};
+ghost use Rattle.migration_model.specs.Rounds.{IsPlan, PlannedRound};
+ghost use Rattle.migration_model.specs.Touches.{touches_of};
+ghost use Rattle.page_versions.specs.Index.{IsIndexOf};
+
+use crate::ending::Images;
+use crate::error::LiveError;
+use crate::opening::{all_pages, empty_parts, new_dealers, versions_before};
+use crate::receiving::{LiveRound, receive};
+use crate::round::{Crew, Left};
+use collector::Part;
+use dirty_words::Closed;
+use image_build::Image;
+use live_seats::{Gate, Point, Ticks};
+use page_versions::PageIndex;
+use rate_limit::Settings;
+use round_planner::{Plan, Round, plan};
+use std::alloc::Global;
+use std::collections::VecDeque;
+use std::sync::Wait;
+use std::thread::Threads;
+use stream_split::Dealer;
+use trace_codec::Trace;
+
+/// What a live run has come to between two rounds.
+#[derive(Drop)]
+pub(crate) struct Progress {
+    pub(crate) closed: Closed,
+    pub(crate) parts: Vec<Part>,
+    pub(crate) dealers: VecDeque<Dealer>,
+    pub(crate) rounds: Vec<LiveRound>,
+}
+
+/// Whether pages may be skipped in the round with this number: never in the first.
+fn may_skip(skip: bool, number: usize) -> bool
+    ensures { result ≡ (skip && nat_le 1 number) }
+{
+    skip && number >= 1
+}
+
+impl<'a, G: Gate> Crew<'a, G> {
+    /// Before the first round all pages are marked, and no part has any.
+    pub(crate) fn begin(&self, alloc: Global, start: u64) -> Result<Progress, LiveError>
+        requires of { IsIndexOf self.now.index.now self.now.trace.now }
+        requires some_replayers { 1 ≤ self.now.replayers }
+        requires few_replayers { self.now.replayers ≤ 16 }
+        requires some_copiers { 1 ≤ self.now.copiers }
+        requires few_copiers { self.now.copiers ≤ 16 }
+        requires some_streams { 1 ≤ self.now.streams }
+        requires few_streams { self.now.streams ≤ 16 }
+        ensures none { IfOk result (λ p. p.rounds.items ≡ []) }
+        ensures under_way { IfOk result (λ p. IsUnderWay self.now.trace.now self.now.replayers self.now.copiers self.now.streams p.closed p.parts.items p.dealers.items) }
+        ensures joined { IfOk result (λ p. AreJoined self.now.trace.now start [] [] p.closed p.parts.items) }
+    {
+        let shape = self.trace.shape();
+        let closed = Closed {
+            versions: versions_before(alloc, self.trace, self.index, start)?,
+            dirty: all_pages(alloc, shape.pages)?,
+        };
+        Ok(Progress {
+            closed,
+            parts: empty_parts(alloc, shape, self.streams)?,
+            dealers: new_dealers(alloc, self.copiers, self.streams)?,
+            rounds: Vec::new(alloc),
+        })
+    }
+
+    /// Runs the next round, in the ticks that were planned for it.
+    pub(crate) fn next_round<R: Threads + Wait + Sync>(
+        &self,
+        rt: &R,
+        alloc: Global,
+        skip: bool,
+        planned: &Round,
+        progress: Progress,
+    ) -> Result<Progress, LiveError>
+        requires of { IsIndexOf self.now.index.now self.now.trace.now }
+        requires span { planned.now.from ≤ planned.now.to }
+        requires under_way { IsUnderWay self.now.trace.now self.now.replayers self.now.copiers self.now.streams progress.closed progress.parts.items progress.dealers.items }
+        requires joined { (before : List PlannedRound) × AreJoined self.now.trace.now planned.now.from before progress.rounds.items progress.closed progress.parts.items }
+        ensures under_way { IfOk result (λ p. IsUnderWay self.now.trace.now self.now.replayers self.now.copiers self.now.streams p.closed p.parts.items p.dealers.items) }
+        ensures joined { (before : List PlannedRound) → AreJoined self.now.trace.now planned.now.from before progress.rounds.items progress.closed progress.parts.items
+            → IfOk result (λ p. AreJoined self.now.trace.now planned.now.to (before ++ planned.now ∷ []) p.rounds.items p.closed p.parts.items) }
+        ensures law { (before : List PlannedRound) → AreJoined self.now.trace.now planned.now.from before progress.rounds.items progress.closed progress.parts.items
+            → LiveRounds self.now.trace.now skip self.now.copiers before progress.rounds.items
+            → IfOk result (λ p. LiveRounds self.now.trace.now skip self.now.copiers (before ++ planned.now ∷ []) p.rounds.items) }
+    {
+        let Progress {
+            closed,
+            parts,
+            dealers,
+            rounds,
+        } = progress;
+        let mut parts = parts;
+        let mut rounds = rounds;
+        let number = rounds.len();
+        let ticks = Ticks {
+            from: planned.from,
+            to: planned.to,
+        };
+        let skip = may_skip(skip, number);
+        let left = self.run_round(rt, alloc, skip, ticks, closed, dealers)?;
+        let Left {
+            closed,
+            dealers,
+            outboxes,
+        } = left;
+        self.gate.at(Point::RoundClosed { round: number });
+        let round = receive(alloc, &mut parts, outboxes)?;
+        rounds.push(round)?;
+        Ok(Progress {
+            closed,
+            parts,
+            dealers,
+            rounds,
+        })
+    }
+
+    /// Runs all planned rounds.
+    pub(crate) fn run_rounds<R: Threads + Wait + Sync>(
+        &self,
+        rt: &R,
+        alloc: Global,
+        settings: &Settings,
+        plan: &Plan,
+    ) -> Result<Progress, LiveError>
+        requires of { IsIndexOf self.now.index.now self.now.trace.now }
+        requires plan { IsPlan self.now.trace.now.pages (touches_of self.now.trace.now) settings.now plan.now }
+        requires replayers { self.now.replayers ≡ settings.now.replayers }
+        requires copiers { self.now.copiers ≡ settings.now.workers }
+        requires streams { self.now.streams ≡ settings.now.streams }
+        ensures under_way { IfOk result (λ p. IsUnderWay self.now.trace.now self.now.replayers self.now.copiers self.now.streams p.closed p.parts.items p.dealers.items) }
+        ensures joined { IfOk result (λ p. AreJoined self.now.trace.now plan.now.stop plan.now.rounds p.rounds.items p.closed p.parts.items) }
+        ensures law { IfOk result (λ p. LiveRounds self.now.trace.now settings.now.skip self.now.copiers plan.now.rounds p.rounds.items) }
+    {
+        let asked = settings.asked();
+        let mut progress = self.begin(alloc, asked.start)?;
+        for number in 0..plan.rounds.len() {
+            progress = self.next_round(rt, alloc, asked.skip, &plan.rounds[number], progress)?;
+        }
+        Ok(progress)
+    }
+}
+
+/// A live run that answered.
+#[derive(Debug, Drop)]
+pub struct Live {
+    /// The guest's memory where it stopped.
+    pub at_stop: Image,
+    /// The guest's memory after all its writes.
+    pub at_end: Image,
+    /// The tick at which it stopped.
+    pub stop: u64,
+    /// What was done, round by round.
+    pub rounds: Vec<LiveRound>,
+}
+
+/// Performs a migration over the trace: in each of the planned rounds' ticks replayers change the guest's pages while
+/// copiers send them, all at once and each in a thread of its own; then the guest stops, and what is dirty still is sent. A
+/// refused run answers no image: `L2` where a thread was not started, and else `L1`. All threads have ended when it
+/// returns.
+pub fn live_run<G: Gate, R: Threads + Wait + Sync>(
+    rt: &R,
+    alloc: Global,
+    trace: &Trace,
+    settings: &Settings,
+    gate: &G,
+) -> Result<Live, LiveError>
+    ensures { IfOk result (λ live. IsLiveRun trace.now settings.now live.stop live.at_stop live.at_end live.rounds.items) }
+{
+    let plan = plan(alloc, trace, settings)?;
+    let index = PageIndex::build(rt, alloc, trace)?;
+    let asked = settings.asked();
+    let crew = Crew {
+        trace,
+        index: &index,
+        gate,
+        replayers: asked.replayers as usize,
+        copiers: asked.workers as usize,
+        streams: asked.streams as usize,
+    };
+    let progress = crew.run_rounds(rt, alloc, settings, &plan)?;
+    let Progress {
+        closed,
+        parts,
+        dealers: _,
+        rounds,
+    } = progress;
+    let images = crew.finish(rt, alloc, &closed, parts)?;
+    let Images { at_stop, at_end } = images;
+    Ok(Live {
+        at_stop,
+        at_end,
+        stop: plan.stop,
+        rounds,
+    })
+}

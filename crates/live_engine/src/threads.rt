@@ -1,0 +1,384 @@
+//! The threads of a round: one for each replayer and one for each copier.
+
+ghost use Rattle.std.specs.Prelude.{Ok, ◌≡◌, ◌<◌, ℕ, IfOk, OnOk, length, map, Some, slice_get, slice_index_or};
+ghost use Rattle.dirty_words.specs.Facts.{first_guest, first_copier};
+ghost use Rattle.dirty_words.specs.Seats.{guest_table, guest_view};
+ghost use Rattle.dirty_words.specs.Closing.{first_guests, first_copiers};
+ghost use Rattle.dirty_words.specs.Seats.{copy_table};
+ghost use Rattle.live_engine.specs.Seated.{AreCopied, AreReplayed, EachAt, IsReplayed};
+ghost use Rattle.live_seats.specs.Copies.{HasCopied};
+ghost use Rattle.std.specs.List.{All};
+ghost use Rattle.page_versions.specs.Index.{IsIndexOf};
+ghost use Rattle.live_seats.specs.Replays.{OpensAt};
+
+use crate::error::LiveError;
+use dirty_words::{CopySeat, GuestSeat, RoundTable};
+use live_seats::{Copier, Gate, Round, SeatError, Ticks, replay};
+use std::alloc::Global;
+use std::collections::VecDeque;
+use std::sync::Wait;
+use std::thread;
+use std::thread::{Promise, PromisedHandle, Scope, Threads, join_promised, scope_env};
+use stream_split::Dealer;
+use trace_codec::Trace;
+
+/// What a replayer's thread owes: its part of the round.
+#[derive(Drop)]
+struct Replays<'a> {
+    trace: &'a Trace,
+    table: &'a RoundTable,
+    ticks: Ticks,
+    number: usize,
+}
+
+impl<'a> Promise<GuestSeat> for Replays<'a> {
+    ghost kept_by = { λ p seat. IsReplayed p.trace.now p.table.now p.ticks.from p.ticks.to p.number seat };
+}
+
+/// Starts a replayer.
+fn start_guest<'s, E, G: Gate>(
+    scope: &'s Scope<'s, E>,
+    trace: &'s Trace,
+    ticks: Ticks,
+    table: &'s RoundTable,
+    gate: &'s G,
+    seat: GuestSeat,
+) -> Result<PromisedHandle<GuestSeat, Replays<'s>>, LiveError>
+    requires table { guest_table seat ≡ table.now }
+    requires idle { seat.facts ≡ first_guest table.now.start seat.facts.number }
+    requires opening { OpensAt trace.now ticks.from table.now.start }
+    ensures { IfOk result (λ h. (h.promise.trace.now ≡ trace.now) × (h.promise.table.now ≡ table.now) × (h.promise.ticks ≡ ticks) × (h.promise.number ≡ seat.facts.number)) }
+{
+    let promise = Replays {
+        trace,
+        table,
+        ticks,
+        number: seat.number(),
+    };
+    let run = move || -> GuestSeat
+        requires table { guest_table seat ≡ table.now }
+        requires idle { seat.facts ≡ first_guest table.now.start seat.facts.number }
+        requires opening { OpensAt trace.now ticks.from table.now.start }
+        ensures { IsReplayed trace.entry.now table.entry.now ticks.from ticks.to seat.facts.number result }
+    { replay(trace, ticks, table, gate, seat) };
+    scope.spawn_with(promise, run).or(Err(LiveError::Thread))
+}
+
+/// Starts the replayers, in order.
+fn start_guests<'s, E, G: Gate>(
+    scope: &'s Scope<'s, E>,
+    trace: &'s Trace,
+    ticks: Ticks,
+    table: &'s RoundTable,
+    gate: &'s G,
+    seats: Vec<GuestSeat>,
+    handles: &mut Vec<PromisedHandle<GuestSeat, Replays<'s>>>,
+) -> Result<(), LiveError>
+    requires seats { seats.items ≡ first_guests table.now }
+    requires none { length handles.old.items ≡ 0 }
+    requires opening { OpensAt trace.now ticks.from table.now.start }
+    ensures count { OnOk result (length handles.new.items ≡ length seats.items) }
+    ensures started { OnOk result (EachAt (λ h i. (h.promise.trace.now ≡ trace.now) × (h.promise.table.now ≡ table.now) × (h.promise.ticks ≡ ticks) × (h.promise.number ≡ i)) handles.new.items) }
+{
+    for seat in seats {
+        handles.reserve(1).or(Err(LiveError::Memory))?;
+        let handle = start_guest(scope, trace, ticks, table, gate, seat)?;
+        handles.push_reserved(handle);
+    }
+    Ok(())
+}
+
+/// Waits until all replayers have ended. Where memory runs out they are waited for as well.
+fn join_guests<'s, R: Threads>(
+    rt: &R,
+    handles: Vec<PromisedHandle<GuestSeat, Replays<'s>>>,
+) -> Result<Vec<GuestSeat>, LiveError>
+    ensures count { IfOk result (λ seats. length seats.items ≡ length handles.entry.items) }
+    ensures kept { IfOk result (λ seats. EachAt (λ seat i. (h : _) × (h ≡ slice_index_or handles.entry.items i h)
+        × IsReplayed h.promise.trace.now h.promise.table.now h.promise.ticks.from h.promise.ticks.to h.promise.number seat) seats.items) }
+{
+    match join_promised(rt, handles) {
+        Ok(seats) => Ok(seats),
+        Err(refused) => {
+            for handle in refused.value {
+                drop(handle.join(rt));
+            }
+            Err(LiveError::Memory)
+        }
+    }
+}
+
+/// What a copier's thread owes: its part of the round, or a refusal.
+#[derive(Drop)]
+struct Copies<'a> {
+    trace: &'a Trace,
+    table: &'a RoundTable,
+    skip: bool,
+    number: usize,
+    streams: usize,
+}
+
+impl<'a> Promise<Result<Copier, SeatError>> for Copies<'a> {
+    ghost kept_by = { λ p result. IfOk result (λ copier. HasCopied p.trace.now p.skip p.table.now p.number p.streams copier.seat copier.dealer copier.outbox) };
+}
+
+/// Starts a copier.
+fn start_copier<'s, E, G: Gate>(
+    scope: &'s Scope<'s, E>,
+    alloc: Global,
+    round: &Round<'s, G>,
+    seat: CopySeat,
+    dealer: Dealer,
+    streams: usize,
+) -> Result<PromisedHandle<Result<Copier, SeatError>, Copies<'s>>, LiveError>
+    requires of { IsIndexOf round.now.index.now round.now.trace.now }
+    requires pages { length round.now.table.now.start.places ≡ round.now.trace.now.pages }
+    requires table { copy_table seat ≡ round.now.table.now }
+    requires idle { seat.facts ≡ first_copier round.now.table.now.start seat.facts.number }
+    requires streams { dealer.streams ≡ streams }
+    ensures { IfOk result (λ h. (h.promise.trace.now ≡ round.now.trace.now) × (h.promise.table.now ≡ round.now.table.now) × (h.promise.skip ≡ round.now.skip) × (h.promise.number ≡ seat.facts.number) × (h.promise.streams ≡ streams)) }
+{
+    let Round {
+        trace,
+        index,
+        table,
+        gate,
+        skip,
+    } = *round;
+    let promise = Copies {
+        trace,
+        table,
+        skip,
+        number: seat.number(),
+        streams,
+    };
+    let run = move || -> Result<Copier, SeatError>
+        requires of { IsIndexOf index.now trace.now }
+        requires pages { length table.now.start.places ≡ trace.now.pages }
+        requires table { copy_table seat ≡ table.now }
+        requires idle { seat.facts ≡ first_copier table.now.start seat.facts.number }
+        requires streams { dealer.streams ≡ streams }
+        ensures { IfOk result (λ copier. HasCopied trace.entry.now skip table.entry.now seat.facts.number streams copier.seat copier.dealer copier.outbox) }
+    {
+        let round = Round {
+            trace,
+            index,
+            table,
+            gate,
+            skip,
+        };
+        round.copy(alloc, seat, dealer, streams)
+    };
+    scope.spawn_with(promise, run).or(Err(LiveError::Thread))
+}
+
+/// Starts the copiers, in order, each with its dealer.
+fn start_copiers<'s, E, G: Gate>(
+    scope: &'s Scope<'s, E>,
+    alloc: Global,
+    round: &Round<'s, G>,
+    seats: Vec<CopySeat>,
+    dealers: VecDeque<Dealer>,
+    streams: usize,
+    handles: &mut Vec<PromisedHandle<Result<Copier, SeatError>, Copies<'s>>>,
+) -> Result<(), LiveError>
+    requires of { IsIndexOf round.now.index.now round.now.trace.now }
+    requires pages { length round.now.table.now.start.places ≡ round.now.trace.now.pages }
+    requires seats { seats.items ≡ first_copiers round.now.table.now }
+    requires dealers { length dealers.items ≡ length seats.items }
+    requires streams { All (λ dealer. dealer.streams ≡ streams) dealers.items }
+    requires none { length handles.old.items ≡ 0 }
+    ensures count { OnOk result (length handles.new.items ≡ length seats.items) }
+    ensures started { OnOk result (EachAt (λ h i. (h.promise.trace.now ≡ round.now.trace.now) × (h.promise.table.now ≡ round.now.table.now) × (h.promise.skip ≡ round.now.skip) × (h.promise.number ≡ i) × (h.promise.streams ≡ streams)) handles.new.items) }
+{
+    let mut dealers = dealers;
+    for seat in seats {
+        let Some(dealer) = dealers.pop_front() else {
+            unreachable!()
+        };
+        handles.reserve(1).or(Err(LiveError::Memory))?;
+        let handle = start_copier(scope, alloc, round, seat, dealer, streams)?;
+        handles.push_reserved(handle);
+    }
+    Ok(())
+}
+
+/// Waits until all copiers have ended. Where memory runs out they are waited for as well.
+fn join_copiers<'s, R: Threads>(
+    rt: &R,
+    handles: Vec<PromisedHandle<Result<Copier, SeatError>, Copies<'s>>>,
+) -> Result<Vec<Result<Copier, SeatError>>, LiveError>
+    ensures count { IfOk result (λ copied. length copied.items ≡ length handles.entry.items) }
+    ensures kept { IfOk result (λ copied. EachAt (λ r i. (h : _) × (h ≡ slice_index_or handles.entry.items i h)
+        × IfOk r (λ copier. HasCopied h.promise.trace.now h.promise.skip h.promise.table.now h.promise.number h.promise.streams copier.seat copier.dealer copier.outbox)) copied.items) }
+{
+    match join_promised(rt, handles) {
+        Ok(copied) => Ok(copied),
+        Err(refused) => {
+            for handle in refused.value {
+                drop(handle.join(rt));
+            }
+            Err(LiveError::Memory)
+        }
+    }
+}
+
+/// The copiers, where none was refused memory.
+fn unrefused(
+    alloc: Global,
+    copied: Vec<Result<Copier, SeatError>>,
+) -> Result<Vec<Copier>, LiveError>
+    ensures count { IfOk result (λ copiers. length copiers.items ≡ length copied.items) }
+    ensures same { IfOk result (λ copiers. map Ok copiers.items ≡ copied.items) }
+{
+    let mut copiers = Vec::with_capacity(alloc, copied.len())?;
+    for copier in copied {
+        copiers.push(copier?)?;
+    }
+    Ok(copiers)
+}
+
+/// Starts all threads of a round, up to the first that is refused.
+fn start_all<'s, E, G: Gate>(
+    scope: &'s Scope<'s, E>,
+    alloc: Global,
+    round: &Round<'s, G>,
+    ticks: Ticks,
+    seats: Seats,
+    streams: usize,
+    guests: &mut Vec<PromisedHandle<GuestSeat, Replays<'s>>>,
+    copiers: &mut Vec<PromisedHandle<Result<Copier, SeatError>, Copies<'s>>>,
+) -> Result<(), LiveError>
+    requires of { IsIndexOf round.now.index.now round.now.trace.now }
+    requires opening { OpensAt round.now.trace.now ticks.from round.now.table.now.start }
+    requires guests { seats.guests.items ≡ first_guests round.now.table.now }
+    requires copiers { seats.copiers.items ≡ first_copiers round.now.table.now }
+    requires dealers { length seats.dealers.items ≡ length seats.copiers.items }
+    requires streams { All (λ dealer. dealer.streams ≡ streams) seats.dealers.items }
+    requires no_guest { length guests.old.items ≡ 0 }
+    requires no_copier { length copiers.old.items ≡ 0 }
+    ensures guest_count { OnOk result (length guests.new.items ≡ length seats.guests.items) }
+    ensures guests { OnOk result (EachAt (λ h i. (h.promise.trace.now ≡ round.now.trace.now) × (h.promise.table.now ≡ round.now.table.now) × (h.promise.ticks ≡ ticks) × (h.promise.number ≡ i)) guests.new.items) }
+    ensures copier_count { OnOk result (length copiers.new.items ≡ length seats.copiers.items) }
+    ensures copiers { OnOk result (EachAt (λ h i. (h.promise.trace.now ≡ round.now.trace.now) × (h.promise.table.now ≡ round.now.table.now) × (h.promise.skip ≡ round.now.skip) × (h.promise.number ≡ i) × (h.promise.streams ≡ streams)) copiers.new.items) }
+{
+    let Seats {
+        guests: guest_seats,
+        copiers: copy_seats,
+        dealers,
+    } = seats;
+    let Round {
+        trace,
+        table,
+        gate,
+        ..
+    } = *round;
+    start_guests(scope, trace, ticks, table, gate, guest_seats, guests)?;
+    start_copiers(scope, alloc, round, copy_seats, dealers, streams, copiers)?;
+    Ok(())
+}
+
+/// What the threads of a round give back, in order of their numbers.
+#[derive(Drop)]
+pub(crate) struct Finished {
+    pub(crate) guests: Vec<GuestSeat>,
+    pub(crate) copiers: Vec<Copier>,
+}
+
+/// The seats of a table that nothing has happened on, and the copiers' dealers.
+#[derive(Drop)]
+pub(crate) struct Seats {
+    pub(crate) guests: Vec<GuestSeat>,
+    pub(crate) copiers: Vec<CopySeat>,
+    pub(crate) dealers: VecDeque<Dealer>,
+}
+
+/// Runs a round's replayers and copiers, each in a thread of its own and all at once. Those that run are waited for before
+/// any refusal is answered; a thread that was not started is answered first.
+fn in_round<'s, E, G: Gate, R: Threads>(
+    rt: &R,
+    scope: &'s Scope<'s, E>,
+    alloc: Global,
+    round: &Round<'s, G>,
+    ticks: Ticks,
+    seats: Seats,
+    streams: usize,
+) -> Result<Finished, LiveError>
+    requires of { IsIndexOf round.now.index.now round.now.trace.now }
+    requires opening { OpensAt round.now.trace.now ticks.from round.now.table.now.start }
+    requires guests { seats.guests.items ≡ first_guests round.now.table.now }
+    requires copiers { seats.copiers.items ≡ first_copiers round.now.table.now }
+    requires dealers { length seats.dealers.items ≡ length seats.copiers.items }
+    requires streams { All (λ dealer. dealer.streams ≡ streams) seats.dealers.items }
+    ensures guests { IfOk result (λ finished. AreReplayed round.now.trace.now round.now.table.now ticks.from ticks.to finished.guests.items) }
+    ensures copiers { IfOk result (λ finished. AreCopied round.now.trace.now round.now.skip round.now.table.now streams finished.copiers.items) }
+{
+    let mut guests = Vec::new(alloc);
+    let mut copiers = Vec::new(alloc);
+    let started = start_all(
+        scope,
+        alloc,
+        round,
+        ticks,
+        seats,
+        streams,
+        &mut guests,
+        &mut copiers,
+    );
+    let guests = join_guests(rt, guests);
+    let copied = join_copiers(rt, copiers);
+    started?;
+    let guests = guests?;
+    let copiers = unrefused(alloc, copied?)?;
+    Ok(Finished { guests, copiers })
+}
+
+/// Runs a round's replayers and copiers, each in a thread of its own, and waits until all have ended.
+pub(crate) fn run_threads<G: Gate, R: Threads + Wait + Sync>(
+    rt: &R,
+    alloc: Global,
+    round: &Round<'_, G>,
+    ticks: Ticks,
+    seats: Seats,
+    streams: usize,
+) -> Result<Finished, LiveError>
+    requires of { IsIndexOf round.now.index.now round.now.trace.now }
+    requires opening { OpensAt round.now.trace.now ticks.from round.now.table.now.start }
+    requires guests { seats.guests.items ≡ first_guests round.now.table.now }
+    requires copiers { seats.copiers.items ≡ first_copiers round.now.table.now }
+    requires dealers { length seats.dealers.items ≡ length seats.copiers.items }
+    requires streams { All (λ dealer. dealer.streams ≡ streams) seats.dealers.items }
+    ensures guests { IfOk result (λ finished. AreReplayed round.now.trace.now round.now.table.now ticks.from ticks.to finished.guests.items) }
+    ensures copiers { IfOk result (λ finished. AreCopied round.now.trace.now round.now.skip round.now.table.now streams finished.copiers.items) }
+{
+    let Round {
+        trace,
+        index,
+        table,
+        gate,
+        skip,
+    } = *round;
+    thread::scope(
+        scope_env(),
+        rt,
+        move |scope| -> Result<Finished, LiveError>
+            requires of { IsIndexOf index.now trace.now }
+            requires opening { OpensAt trace.now ticks.from table.now.start }
+            requires guests { seats.guests.items ≡ first_guests table.now }
+            requires copiers { seats.copiers.items ≡ first_copiers table.now }
+            requires dealers { length seats.dealers.items ≡ length seats.copiers.items }
+            requires streams { All (λ dealer. dealer.streams ≡ streams) seats.dealers.items }
+            ensures guests { IfOk result (λ finished. AreReplayed trace.entry.now table.entry.now ticks.from ticks.to finished.guests.items) }
+            ensures copiers { IfOk result (λ finished. AreCopied trace.entry.now skip table.entry.now streams finished.copiers.items) }
+        {
+            let round = Round {
+                trace,
+                index,
+                table,
+                gate,
+                skip,
+            };
+            in_round(rt, scope, alloc, &round, ticks, seats, streams)
+        },
+    )
+}

@@ -1,0 +1,7 @@
+//! Live runs under schedules of a caller's choosing: tests alone.
+#![tactic(auto)]
+
+#[cfg(test)]
+mod gates;
+#[cfg(test)]
+mod tests;

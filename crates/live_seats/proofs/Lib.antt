@@ -1,0 +1,5 @@
+pub mod Replaying
+pub mod Posting
+pub mod Scanning
+pub mod Held
+pub mod Copying

@@ -1,0 +1,4 @@
+pub mod Replays
+pub mod Outboxes
+pub mod Scans
+pub mod Copies

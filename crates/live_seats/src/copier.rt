@@ -1,0 +1,269 @@
+//! What a copier does: it harvests its dirty words and sends their pages.
+
+ghost use Rattle.std.specs.Prelude.{◌≡◌, ◌<◌, ◌≤◌, ◌+◌, ◌*◌, ◌^◌, ◌&&◌, nat_le, ℕ, Bool, true, IsTrue, IfOk, OnOk, length, ◌/◌};
+ghost use Rattle.std.specs.Int.{bit_at};
+ghost use Rattle.dirty_core.specs.Pages.{in_words, one_page, word_pages, bit_pages, union, minus, SamePages};
+ghost use Rattle.dirty_words.specs.Facts.{after_harvest, after_peek, after_read, first_copier, OwnsWord, HoldsNone};
+ghost use Rattle.dirty_words.specs.Plays.{IsAnswer, IsShown};
+ghost use Rattle.dirty_words.specs.Seats.{copy_table};
+ghost use Rattle.live_seats.specs.Outboxes.{SpellsPage};
+ghost use Rattle.live_seats.specs.Scans.{HoldsFrom, IsLeast, IsOwn};
+ghost use Rattle.live_seats.specs.Copies.{AdvancesScan, HasCopied, HasPeeked, HasSentPage, HasSkippedPage, IsReady, KeepsScan};
+ghost use Rattle.page_versions.specs.Index.{IsIndexOf};
+
+use crate::error::SeatError;
+use crate::gate::{Gate, Point};
+use crate::outbox::Outbox;
+use dirty_words::{CopySeat, RoundTable};
+use page_message::{encode_frame, frame_of};
+use page_versions::PageIndex;
+use std::alloc::Global;
+use stream_split::Dealer;
+use trace_codec::Trace;
+
+/// What all copiers of a round share.
+#[derive(Drop)]
+pub struct Round<'a, G> {
+    pub trace: &'a Trace,
+    pub index: &'a PageIndex,
+    pub table: &'a RoundTable,
+    pub gate: &'a G,
+    /// Whether a page that is marked again is skipped.
+    pub skip: bool,
+}
+
+/// A copier in a round: its seat, whose stream's turn it is, and what it gives over.
+#[derive(Drop)]
+pub struct Copier {
+    pub seat: CopySeat,
+    pub dealer: Dealer,
+    pub outbox: Outbox,
+}
+
+/// A page by its dirty word, and its bit there.
+fn page_at(word: usize, bit: u32) -> u32
+    requires bit { bit < 64 }
+    requires small { 64 * word + bit < 2 ^ 32 }
+    ensures { result ≡ 64 * word + bit }
+{
+    64 * word as u32 + bit
+}
+
+impl<'a, G: Gate> Round<'a, G> {
+    /// Takes the marked pages of a word.
+    fn harvest(&self, seat: &mut CopySeat, word: usize) -> u64
+        requires table { copy_table seat.old ≡ self.now.table.now }
+        requires own { OwnsWord seat.old.facts word }
+        ensures table { copy_table seat.new ≡ copy_table seat.old }
+        ensures facts { seat.new.facts ≡ after_harvest word result seat.old.facts }
+        ensures answer { IsAnswer seat.old.facts word result }
+        ensures held { SamePages (in_words seat.new.facts.held) (union (in_words seat.old.facts.held) (bit_pages word result)) }
+        ensures returned { SamePages (in_words seat.new.facts.returned) (minus (in_words seat.old.facts.returned) (word_pages word)) }
+        ensures fresh { IsShown seat.old.facts word result seat.new.facts }
+    {
+        let copier = seat.number();
+        let bits = seat.harvest(self.table, word);
+        self.gate.at(Point::Harvested { copier, word });
+        bits
+    }
+
+    /// Reads the place of a held page.
+    fn read(&self, seat: &mut CopySeat, page: u32) -> u32
+        requires table { copy_table seat.old ≡ self.now.table.now }
+        requires held { IsTrue (in_words seat.old.facts.held page) }
+        ensures table { copy_table seat.new ≡ copy_table seat.old }
+        ensures facts { seat.new.facts ≡ after_read page result seat.old.facts }
+        ensures held { SamePages (in_words seat.new.facts.held) (minus (in_words seat.old.facts.held) (one_page page)) }
+    {
+        let copier = seat.number();
+        let place = seat.read(self.table, page);
+        self.gate.at(Point::Read { copier, page });
+        place
+    }
+
+    /// The spelling of a page's frame at the place that was read.
+    fn page_text(&self, alloc: Global, page: u32, place: u32) -> Result<Vec<u8>, SeatError>
+        requires of { IsIndexOf self.now.index.now self.now.trace.now }
+        requires page { page < self.now.trace.now.pages }
+        ensures { IfOk result (λ text. SpellsPage self.now.trace.now page place text.items) }
+    {
+        let shape = self.trace.shape();
+        let stamp = place.min(shape.writes);
+        let bytes = self.index.bytes_at(alloc, self.trace, page, stamp)?;
+        let frame = frame_of(&shape, page, stamp, bytes);
+        let Ok(text) = encode_frame(alloc, &shape, &frame) else {
+            return Err(SeatError::Memory);
+        };
+        Ok(text)
+    }
+
+    /// Whether the word of a page shows it now.
+    fn shows(&self, seat: &mut CopySeat, page: u32) -> bool
+        requires table { copy_table seat.old ≡ self.now.table.now }
+        requires own { OwnsWord seat.old.facts (page / 64) }
+        ensures table { copy_table seat.new ≡ copy_table seat.old }
+        ensures peeked { HasPeeked page result seat.old.facts seat.new.facts }
+    {
+        let bits = seat.peek(self.table, (page / 64) as usize);
+        (bits >> (page % 64)) & 1 == 1
+    }
+
+    /// Sends a held page in the stream whose turn it is.
+    fn send_page(&self, alloc: Global, page: u32, copier: &mut Copier) -> Result<(), SeatError>
+        requires of { IsIndexOf self.now.index.now self.now.trace.now }
+        requires page { page < self.now.trace.now.pages }
+        requires table { copy_table copier.old.seat ≡ self.now.table.now }
+        requires held { IsTrue (in_words copier.old.seat.facts.held page) }
+        requires streams { length copier.old.outbox.streams ≡ copier.old.dealer.streams }
+        ensures table { copy_table copier.new.seat ≡ copy_table copier.old.seat }
+        ensures sent { OnOk result (HasSentPage self.now.trace.now page copier.old.seat.facts copier.old.outbox copier.new.seat.facts copier.new.outbox) }
+        ensures dealer { copier.new.dealer.streams ≡ copier.old.dealer.streams }
+    {
+        let stream = copier.dealer.deal();
+        let place = self.read(&mut copier.seat, page);
+        let text = self.page_text(alloc, page, place)?;
+        copier.outbox.send(stream, &text)?;
+        copier.outbox.list_sent(page, place)?;
+        Ok(())
+    }
+
+    /// Gives a held page back, and lists it as skipped.
+    fn skip_page(&self, page: u32, copier: &mut Copier) -> Result<(), SeatError>
+        requires table { copy_table copier.old.seat ≡ self.now.table.now }
+        requires own { OwnsWord copier.old.seat.facts (page / 64) }
+        requires held { IsTrue (in_words copier.old.seat.facts.held page) }
+        ensures table { copy_table copier.new.seat ≡ copy_table copier.old.seat }
+        ensures skipped { OnOk result (HasSkippedPage page copier.old.seat.facts copier.old.outbox copier.new.seat.facts copier.new.outbox) }
+        ensures dealer { copier.new.dealer ≡ copier.old.dealer }
+    {
+        let word = (page / 64) as usize;
+        copier.seat.restore(self.table, word, 1 << (page % 64));
+        copier.outbox.list_skipped(page)?;
+        Ok(())
+    }
+
+    /// Sends a held page in front of which none is held, or skips it where it is marked again and pages may be skipped.
+    fn copy_page(&self, alloc: Global, page: u32, copier: &mut Copier) -> Result<(), SeatError>
+        requires of { IsIndexOf self.now.index.now self.now.trace.now }
+        requires pages { length self.now.table.now.start.places ≡ self.now.trace.now.pages }
+        requires ready { IsReady self.now.table.now copier.old.seat copier.old.dealer copier.old.outbox }
+        requires least { IsLeast copier.old.seat.facts page }
+        requires own { IsOwn copier.old.seat.facts page }
+        ensures ready { OnOk result (IsReady self.now.table.now copier.new.seat copier.new.dealer copier.new.outbox) }
+        ensures scan { OnOk result (KeepsScan self.now.trace.now self.now.skip copier.old.seat.facts copier.old.outbox copier.new.seat.facts copier.new.outbox) }
+        ensures held { OnOk result (SamePages (in_words copier.new.seat.facts.held) (minus (in_words copier.old.seat.facts.held) (one_page page))) }
+    {
+        if !self.skip {
+            self.send_page(alloc, page, copier)?;
+            return Ok(());
+        }
+        if self.shows(&mut copier.seat, page) {
+            self.skip_page(page, copier)?;
+            return Ok(());
+        }
+        self.send_page(alloc, page, copier)?;
+        Ok(())
+    }
+
+    /// Sends or skips one page of a word, if it was among those harvested.
+    fn copy_bit(
+        &self,
+        alloc: Global,
+        word: usize,
+        bits: u64,
+        bit: u32,
+        copier: &mut Copier,
+    ) -> Result<(), SeatError>
+        requires of { IsIndexOf self.now.index.now self.now.trace.now }
+        requires pages { length self.now.table.now.start.places ≡ self.now.trace.now.pages }
+        requires few { self.now.trace.now.pages ≤ 65_536 }
+        requires ready { IsReady self.now.table.now copier.old.seat copier.old.dealer copier.old.outbox }
+        requires own { OwnsWord copier.old.seat.facts word }
+        requires real { (page : ℕ) → IsTrue (bit_pages word bits page) → page < self.now.trace.now.pages }
+        requires bit { bit < 64 }
+        requires holds { HoldsFrom word bits bit copier.old.seat.facts }
+        ensures ready { OnOk result (IsReady self.now.table.now copier.new.seat copier.new.dealer copier.new.outbox) }
+        ensures scan { OnOk result (KeepsScan self.now.trace.now self.now.skip copier.old.seat.facts copier.old.outbox copier.new.seat.facts copier.new.outbox) }
+        ensures holds { OnOk result (HoldsFrom word bits (bit + 1) copier.new.seat.facts) }
+    {
+        if (bits >> bit) & 1 != 1 {
+            return Ok(());
+        }
+        let page = page_at(word, bit);
+        self.copy_page(alloc, page, copier)?;
+        Ok(())
+    }
+
+    /// Sends or skips the harvested pages of a word, in rising order.
+    fn copy_bits(
+        &self,
+        alloc: Global,
+        word: usize,
+        bits: u64,
+        copier: &mut Copier,
+    ) -> Result<(), SeatError>
+        requires of { IsIndexOf self.now.index.now self.now.trace.now }
+        requires pages { length self.now.table.now.start.places ≡ self.now.trace.now.pages }
+        requires few { self.now.trace.now.pages ≤ 65_536 }
+        requires ready { IsReady self.now.table.now copier.old.seat copier.old.dealer copier.old.outbox }
+        requires own { OwnsWord copier.old.seat.facts word }
+        requires real { (page : ℕ) → IsTrue (bit_pages word bits page) → page < self.now.trace.now.pages }
+        requires holds { HoldsFrom word bits 0 copier.old.seat.facts }
+        ensures ready { OnOk result (IsReady self.now.table.now copier.new.seat copier.new.dealer copier.new.outbox) }
+        ensures scan { OnOk result (KeepsScan self.now.trace.now self.now.skip copier.old.seat.facts copier.old.outbox copier.new.seat.facts copier.new.outbox) }
+        ensures held { OnOk result (HoldsNone copier.new.seat.facts) }
+    {
+        for bit in 0..64 {
+            self.copy_bit(alloc, word, bits, bit, copier)?;
+        }
+        Ok(())
+    }
+
+    /// Harvests a word, where it is the copier's, and sends or skips its pages.
+    fn copy_word(&self, alloc: Global, word: usize, copier: &mut Copier) -> Result<(), SeatError>
+        requires of { IsIndexOf self.now.index.now self.now.trace.now }
+        requires pages { length self.now.table.now.start.places ≡ self.now.trace.now.pages }
+        requires few { self.now.trace.now.pages ≤ 65_536 }
+        requires ready { IsReady self.now.table.now copier.old.seat copier.old.dealer copier.old.outbox }
+        requires held { HoldsNone copier.old.seat.facts }
+        ensures ready { OnOk result (IsReady self.now.table.now copier.new.seat copier.new.dealer copier.new.outbox) }
+        ensures scan { OnOk result (AdvancesScan self.now.trace.now self.now.skip word copier.old.seat.facts copier.old.outbox copier.new.seat.facts copier.new.outbox) }
+        ensures held { OnOk result (HoldsNone copier.new.seat.facts) }
+    {
+        if !copier.seat.owns(word) {
+            return Ok(());
+        }
+        let bits = self.harvest(&mut copier.seat, word);
+        self.copy_bits(alloc, word, bits, copier)?;
+        Ok(())
+    }
+
+    /// What a copier does in a round: it harvests its words once, in rising order, and sends or skips the pages of each. The
+    /// seat has done nothing before. Memory alone is refused.
+    pub fn copy(
+        &self,
+        alloc: Global,
+        seat: CopySeat,
+        dealer: Dealer,
+        streams: usize,
+    ) -> Result<Copier, SeatError>
+        requires of { IsIndexOf self.now.index.now self.now.trace.now }
+        requires pages { length self.now.table.now.start.places ≡ self.now.trace.now.pages }
+        requires table { copy_table seat ≡ self.now.table.now }
+        requires idle { seat.facts ≡ first_copier self.now.table.now.start seat.facts.number }
+        requires streams { dealer.streams ≡ streams }
+        ensures { IfOk result (λ copier. HasCopied self.now.trace.now self.now.skip self.now.table.now seat.facts.number streams copier.seat copier.dealer copier.outbox) }
+    {
+        let mut copier = Copier {
+            seat,
+            dealer,
+            outbox: Outbox::new(alloc, streams)?,
+        };
+        let shape = self.trace.shape();
+        let words = (shape.pages as usize + 63) / 64;
+        for word in 0..words {
+            self.copy_word(alloc, word, &mut copier)?;
+        }
+        Ok(copier)
+    }
+}

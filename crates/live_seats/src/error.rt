@@ -1,0 +1,49 @@
+//! Why a copier could not go on.
+
+ghost use Rattle.std.specs.Prelude.{◌≡◌};
+ghost use Rattle.live_seats.specs.declared.error.SeatError.TheVariants.{Memory};
+
+use page_versions::IndexError;
+use std::alloc::{AllocError, AllocFailed};
+use stream_split::SplitError;
+use thiserror::Error;
+
+/// A refusal.
+#[derive(Clone, Copy, Debug, PartialEq, Eq, Error)]
+pub enum SeatError {
+    /// A growth was refused.
+    #[error("memory")]
+    Memory,
+}
+
+impl From<AllocError> for SeatError {
+    ghost from_gives = { λ _ e. e ≡ Memory };
+
+    fn from(_error: AllocError) -> SeatError {
+        SeatError::Memory
+    }
+}
+
+impl<T: Drop> From<AllocFailed<T>> for SeatError {
+    ghost from_gives = { λ _ e. e ≡ Memory };
+
+    fn from(_error: AllocFailed<T>) -> SeatError {
+        SeatError::Memory
+    }
+}
+
+impl From<SplitError> for SeatError {
+    ghost from_gives = { λ _ e. e ≡ Memory };
+
+    fn from(_error: SplitError) -> SeatError {
+        SeatError::Memory
+    }
+}
+
+impl From<IndexError> for SeatError {
+    ghost from_gives = { λ _ e. e ≡ Memory };
+
+    fn from(_error: IndexError) -> SeatError {
+        SeatError::Memory
+    }
+}

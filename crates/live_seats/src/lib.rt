@@ -1,0 +1,14 @@
+//! What one replayer and one copier do in a round of a live migration. Threads are the business of the caller.
+#![tactic(auto)]
+
+mod copier;
+mod error;
+mod gate;
+mod outbox;
+mod replayer;
+
+pub use copier::{Copier, Round};
+pub use error::SeatError;
+pub use gate::{Gate, OpenGate, Point};
+pub use outbox::Outbox;
+pub use replayer::{Ticks, replay};

@@ -1,0 +1,30 @@
+-- What a cache keeps of a guest's pages. This project's own, as versions are.
+use Rattle.std.specs.Prelude.{◌≡◌, ℕ, ◌<◌, ◌≤◌, List, length}
+use Rattle.std.specs.List.{All}
+use Rattle.migration_model.specs.Trace.{GuestTrace}
+use Rattle.migration_model.specs.Versions.{page_at}
+
+-- bytes of a page, and the version that they are of
+pub record KeptPage : Type 0 where
+  pub version : ℕ
+  pub bytes : List ℕ
+
+abbrev pub page_with : ℕ → List ℕ → KeptPage
+page_with version bytes = record { version = version; bytes = bytes }
+
+-- pages that are kept by their numbers, at most so many, the one that was used last in front
+pub record GuestCache : Type 0 where
+  pub trace : GuestTrace
+  pub entries : List (ℕ × KeptPage)
+  pub capacity : ℕ
+
+abbrev pub cache_with : GuestTrace → List (ℕ × KeptPage) → ℕ → GuestCache
+cache_with trace entries capacity = record { trace = trace; entries = entries; capacity = capacity }
+
+-- a page of the trace has the bytes of its version
+abbrev pub IsKept : GuestTrace → ℕ → KeptPage → Type 0
+IsKept trace page kept = (page < trace.pages) × (kept.version ≤ length trace.writes) × (kept.bytes ≡ page_at trace page kept.version)
+
+-- each entry has the bytes of its page and version
+abbrev pub AreKept : GuestTrace → List (ℕ × KeptPage) → Type 0
+AreKept trace entries = All (λ entry. IsKept trace entry.0 entry.1) entries

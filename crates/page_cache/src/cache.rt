@@ -1,0 +1,112 @@
+//! The cache.
+
+ghost use Rattle.std.specs.Prelude.{◌≡◌, ◌<◌, ◌≤◌, [], IfOk, IfSome, OnOk, Some, length, nat_eq};
+ghost use Rattle.std.specs.Map.{lookup};
+ghost use Rattle.migration_model.specs.Versions.{page_at};
+ghost use Rattle.page_versions.specs.Index.{IsIndexOf};
+ghost use Rattle.page_cache.specs.Cache.{AreKept, GuestCache, IsKept, cache_with, page_with};
+
+use crate::error::CacheError;
+use crate::kept::Kept;
+use lru::LruCache;
+use page_versions::PageIndex;
+use std::alloc::Global;
+use std::marker::Model;
+use std::num::NonZeroUsize;
+use trace_codec::Trace;
+
+/// Pages of a trace, each with the version that it was last asked for: at most so many, and the one that was not used for
+/// longest goes first.
+#[derive(Debug, Drop)]
+pub struct PageCache<'a> {
+    trace: &'a Trace,
+    index: &'a PageIndex,
+    kept: LruCache<u32, Kept>,
+}
+
+impl<'a> Model for PageCache<'a> {
+    ghost Value = { GuestCache };
+
+    ghost view = { λ c. cache_with c.trace.now c.kept.entries c.kept.cap };
+
+    ghost invariant = { λ c. IsIndexOf c.index.now c.trace.now × AreKept c.trace.now c.kept.entries };
+}
+
+impl<'a> PageCache<'a> {
+    /// A cache that keeps nothing yet, and at most `capacity` pages later.
+    pub fn new(
+        alloc: Global,
+        trace: &'a Trace,
+        index: &'a PageIndex,
+        capacity: usize,
+    ) -> Result<PageCache<'a>, CacheError>
+        requires of { IsIndexOf index.now trace.now }
+        requires capacity { (1 ≤ capacity) × (capacity ≤ 4_096) }
+        ensures { IfOk result (λ cache. cache ≡ cache_with trace.now [] capacity) }
+    {
+        let capacity = NonZeroUsize::new(capacity).unwrap();
+        Ok(PageCache {
+            trace,
+            index,
+            kept: LruCache::new(alloc, capacity)?,
+        })
+    }
+
+    /// What is kept of a page, where that is not past a version. It no longer stands in the cache.
+    fn take_earlier(&mut self, page: u32, version: u32) -> Option<Kept>
+        ensures kept { IfSome result (IsKept self.old.trace page) }
+        ensures earlier { IfSome result (λ kept. kept.version ≤ version) }
+        ensures trace { self.new.trace ≡ self.old.trace }
+        ensures capacity { self.new.capacity ≡ self.old.capacity }
+    {
+        let kept = self.kept.pop(&page)?;
+        if kept.version <= version {
+            Some(kept)
+        } else {
+            None
+        }
+    }
+
+    /// The page at a version, to be put into the cache.
+    fn page_to_keep(&mut self, alloc: Global, page: u32, version: u32) -> Result<Kept, CacheError>
+        requires page { page < self.old.trace.pages }
+        requires version { version ≤ length self.old.trace.writes }
+        ensures made { IfOk result (λ kept. kept ≡ page_with version (page_at self.old.trace page version)) }
+        ensures kept { AreKept self.new.trace self.new.entries }
+        ensures trace { self.new.trace ≡ self.old.trace }
+        ensures capacity { self.new.capacity ≡ self.old.capacity }
+    {
+        match self.take_earlier(page, version) {
+            Some(mut kept) => {
+                kept.bring_to(self.trace, self.index, page, version);
+                Ok(kept)
+            }
+            None => {
+                let bytes = self.index.bytes_at(alloc, self.trace, page, version)?;
+                Ok(Kept { version, bytes })
+            }
+        }
+    }
+
+    /// The page after the first `version` writes of the trace, as `PageIndex::bytes_at` tells it. Where an earlier version
+    /// of the page is kept, only the writes in between are put there; else it is made from zeros.
+    pub fn bytes_at(
+        &mut self,
+        alloc: Global,
+        page: u32,
+        version: u32,
+    ) -> Result<Vec<u8>, CacheError>
+        requires page { page < self.old.trace.pages }
+        requires version { version ≤ length self.old.trace.writes }
+        ensures bytes { IfOk result (λ v. v.items ≡ page_at self.old.trace page version) }
+        ensures kept { AreKept self.new.trace self.new.entries }
+        ensures last { OnOk result (lookup (nat_eq page) self.new.entries ≡ Some (page_with version (page_at self.old.trace page version))) }
+        ensures trace { self.new.trace ≡ self.old.trace }
+        ensures capacity { self.new.capacity ≡ self.old.capacity }
+    {
+        let kept = self.page_to_keep(alloc, page, version)?;
+        let bytes = Vec::from_slice(alloc, &kept.bytes)?;
+        self.kept.put(page, kept)?;
+        Ok(bytes)
+    }
+}

@@ -1,0 +1,12 @@
+//! Pages at their versions from a bounded cache, which makes a later version from an earlier one.
+#![tactic(auto)]
+
+mod cache;
+mod error;
+mod kept;
+
+pub use cache::PageCache;
+pub use error::CacheError;
+
+#[cfg(test)]
+mod tests;

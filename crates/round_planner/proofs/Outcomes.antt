@@ -1,0 +1,152 @@
+-- A plan that is made of counts: what holds between its rounds, and what it comes to.
+use Rattle.std.proofs.Common.{◌≡◌, ℕ, ◌+◌, ◌-◌, ◌*◌, ◌≤◌, Bool, true, false, List, [], ◌∷◌, ◌++◌, length, get_or, replicate, refl, sym, ap, subst, ◌∙◌, arith}
+use Rattle.std.specs.List.{sum_by, range_with_len}
+use Rattle.std.proofs.lemmas.List.{length_push, length-replicate, get_or-replicate}
+use Rattle.std.proofs.lemmas.List.FromFn.{length-range_with_len}
+use Rattle.std.proofs.lemmas.List.Sums.{sum_by-append, sum_by-cons}
+use Rattle.migration_model.specs.Rates.{MigrationSettings, AreSettings, StopReason, goes_on, stops, after_round, duration_of}
+use Rattle.migration_model.specs.Rounds.{PlannedRound, NextRound, plan_with, first_round, round_after, total_of}
+use Rattle.migration_model.specs.Sweeps.{PlanOutcome, IsOutcome, outcome_with}
+use Rattle.migration_model.specs.Touches.{GuestTouch, pages_written}
+use Rattle.round_planner.specs.Scanning.{IsScan}
+use Rattle.round_planner.specs.Indexing.{IsPoint, marked, StandsAt, IsReady, RanTo, IsTurned, AreMarksOf}
+use Rattle.round_planner.specs.declared.tally.Marks.{Marks}
+use Rattle.round_planner.specs.declared.tally.Ran.{Ran}
+use Rattle.round_planner.specs.declared.tally.Standing.{Standing}
+use Rattle.round_planner.proofs.Plans.{Follows, follows_start, follows_more, follows_end, can_start, can_go_on}
+use Rattle.round_planner.proofs.Scans.{begun}
+use Rattle.round_planner.proofs.Skims.{filter_all}
+use Rattle.migration_model.proofs.Ranges.{filter_range_agree}
+
+abbrev pub all_sent : List PlannedRound → ℕ
+all_sent rounds = sum_by (λ (round : PlannedRound). length round.sent) rounds
+
+sent_push : (rounds : List PlannedRound) (round : PlannedRound) → all_sent (rounds ++ round ∷ []) ≡ all_sent rounds + length round.sent
+sent_push rounds round =
+    let one = sum_by-cons (λ (r : PlannedRound). length r.sent) round [] in
+    omega (arith, sum_by-append (λ (r : PlannedRound). length r.sent) rounds (round ∷ []), one)
+
+-- the rounds so far, of which the code keeps the numbers alone
+pub record IsUnderWay (pages : ℕ) (touches : List GuestTouch) (s : MigrationSettings) (now : Standing) (marks : Marks) : Type 0 where
+  pub coming : NextRound
+  pub ready : IsReady pages touches s coming now marks
+  pub rounds : List PlannedRound
+  pub follows : Follows pages touches s coming rounds
+  pub count : length rounds ≡ now.done
+  pub total : all_sent rounds ≡ now.total
+  pub few : now.total ≤ now.done * 65_536
+
+pub starts : (pages : ℕ) (touches : List GuestTouch) (s : MigrationSettings) (now : Standing) (marks : Marks) → now.done ≡ 0 → now.total ≡ 0
+    → IsReady pages touches s (first_round pages s) now marks → IsUnderWay pages touches s now marks
+starts pages touches s now marks done total ready = record {
+  coming = first_round pages s;
+  ready = ready;
+  rounds = [];
+  follows = follows_start pages touches s (first_round pages s) [] refl refl;
+  count = sym done;
+  total = sym total;
+  few = omega (arith, total);
+}
+
+-- the stop tests see the round's numbers
+pub same_after : (pages : ℕ) (touches : List GuestTouch) (s : MigrationSettings) (now : Standing) (coming : NextRound) (ran : Ran) → StandsAt pages touches s coming now
+    → (r : RanTo pages touches s coming ran)
+    → after_round s ran.dirtied (ran.to - now.from) (now.done + 1) ≡ after_round s r.round.dirtied (r.round.to - r.round.from) (coming.done + 1)
+same_after pages touches s now coming ran at r =
+    let round = r.run.is_round in
+    let dirtied : ran.dirtied ≡ r.round.dirtied = r.dirtied_is ∙ ap length r.run.dirtied_are ∙ sym round.dirtied_is in
+    let from : now.from ≡ r.round.from = at.from_is ∙ sym round.from_is in
+    λ i. after_round s (dirtied i) (r.to_is i - from i) (at.done_is i + 1)
+
+pub goes_further : (pages : ℕ) (touches : List GuestTouch) (s : MigrationSettings) (now : Standing) (ran : Ran) (old new : Marks) (rate : ℕ) → AreSettings s
+    → (way : IsUnderWay pages touches s now old) → (r : RanTo pages touches s way.coming ran) → after_round s ran.dirtied (ran.to - now.from) (now.done + 1) ≡ goes_on rate
+    → AreMarksOf pages new → (s.skip ≡ true → IsTurned pages touches now.from ran.to new)
+    → IsUnderWay pages touches s (record { done = now.done + 1; from = ran.to; rate = rate; listed = ran.dirtied; next = ran.next; total = now.total + ran.sent }) new
+goes_further pages touches s now ran old new rate are way r after marks turned =
+    let coming = way.coming in
+    let at = way.ready.at in
+    let round = r.round in
+    let next = round_after pages touches coming round rate in
+    let told = sym (same_after pages touches s now coming ran at r) ∙ after in
+    let from : now.from ≡ round.from = at.from_is ∙ sym r.run.is_round.from_is in
+    let standing : StandsAt pages touches s next (record { done = now.done + 1; from = ran.to; rate = rate; listed = ran.dirtied; next = ran.next; total = now.total + ran.sent }) = record {
+      can = can_go_on pages touches s coming next round r.dirtied (round.to - round.from) rate are at.can r.run told refl;
+      done_is = ap (λ n. n + 1) at.done_is;
+      from_is = r.to_is;
+      rate_is = refl;
+      listed_is = r.dirtied_is ∙ ap length r.run.dirtied_are;
+      bound = r.bound;
+      point = r.point;
+    } in
+    let pushed = length_push way.rounds round in
+    record {
+      coming = next;
+      ready = record {
+        at = standing;
+        kept = marks;
+        marked = λ skips.
+            let t = turned skips in
+            record {
+              at = standing;
+              list = sym (λ i. pages_written pages touches (from i) (r.to_is i)) ∙ sym t.list;
+              len = marks.listed_len;
+              room = marks.room_len;
+              scan = subst (λ (tick : ℕ). IsScan pages touches tick tick new.scan.next new.scan.marks.items) r.to_is t.scan;
+            };
+      };
+      rounds = way.rounds ++ round ∷ [];
+      follows = follows_more pages touches s coming next way.rounds (way.rounds ++ round ∷ []) round r.dirtied rate r.run told refl refl way.follows;
+      count = omega (arith, pushed, way.count);
+      total = omega (arith, sent_push way.rounds round, way.total, r.sent_is);
+      few = omega (arith, way.few, r.sent_is, r.run.few);
+    }
+
+pub comes_to : (pages : ℕ) (touches : List GuestTouch) (s : MigrationSettings) (now : Standing) (ran : Ran) (marks : Marks) (reason : StopReason) (outcome : PlanOutcome)
+    → (way : IsUnderWay pages touches s now marks) → (r : RanTo pages touches s way.coming ran) → after_round s ran.dirtied (ran.to - now.from) (now.done + 1) ≡ stops reason
+    → outcome ≡ outcome_with (now.done + 1) reason ran.to (duration_of ran.dirtied s.max) ((now.total + ran.sent) + ran.dirtied) → IsOutcome pages touches s outcome
+comes_to pages touches s now ran marks reason outcome way r after is =
+    let coming = way.coming in
+    let round = r.round in
+    let rounds = way.rounds ++ round ∷ [] in
+    let told = sym (same_after pages touches s now coming ran way.ready.at r) ∙ after in
+    let plan = plan_with rounds reason round.to r.dirtied (duration_of (length r.dirtied) s.max) in
+    let count : now.done + 1 ≡ length rounds = omega (arith, length_push way.rounds round, way.count) in
+    let total : (now.total + ran.sent) + ran.dirtied ≡ total_of plan = omega (arith, sent_push way.rounds round, way.total, r.sent_is, r.dirtied_is) in
+    record {
+      plan = plan;
+      is_plan = follows_end pages touches s coming way.rounds rounds round r.dirtied reason plan r.run told refl refl way.follows;
+      outcome_is = is ∙ (λ i. outcome_with (count i) reason (r.to_is i) (duration_of (r.dirtied_is i) s.max) (total i));
+    }
+
+all_marked : (pages : ℕ) (list : List Bool) → list ≡ replicate pages true → range_with_len 0 pages ≡ marked pages list
+all_marked pages list is =
+    sym (filter_all (range_with_len 0 pages))
+    ∙ sym (filter_range_agree (λ page. true) (λ page. get_or list page false) 0 pages
+    (λ page low high. ap (λ (l : List Bool). get_or l page false) is ∙ get_or-replicate pages page true false (omega arith)))
+
+pub begins : (pages : ℕ) (touches : List GuestTouch) (s : MigrationSettings) (now : Standing) (marks : Marks) → AreSettings s → 1 ≤ pages → pages ≤ 65_536
+    → now.done ≡ 0 → now.from ≡ s.start → now.rate ≡ s.min → now.listed ≡ pages → now.next ≤ length touches → IsPoint touches s.start now.next
+    → marks.scan.next ≡ now.next → marks.listed.items ≡ replicate pages true → marks.scan.marks.items ≡ replicate pages false → length marks.room.items ≡ pages
+    → IsReady pages touches s (first_round pages s) now marks
+begins pages touches s now marks are some few done from rate listed bound point next list fresh room =
+    let standing : StandsAt pages touches s (first_round pages s) now = record {
+      can = can_start pages s (first_round pages s) are some few refl;
+      done_is = done;
+      from_is = from;
+      rate_is = rate;
+      listed_is = listed ∙ sym (length-range_with_len 0 pages);
+      bound = bound;
+      point = point;
+    } in
+    let listed_len : length marks.listed.items ≡ pages = ap (λ (l : List Bool). length l) list ∙ length-replicate pages true in
+    record {
+      at = standing;
+      kept = record { listed_len = listed_len; marks_len = ap (λ (l : List Bool). length l) fresh ∙ length-replicate pages false; room_len = room };
+      marked = λ skips. record {
+        at = standing;
+        list = all_marked pages marks.listed.items list;
+        len = listed_len;
+        room = room;
+        scan = begun pages touches s.start marks.scan.next marks.scan.marks.items (omega (arith, next, bound)) (subst (λ n. IsPoint touches s.start n) (sym next) point) fresh;
+      };
+    }

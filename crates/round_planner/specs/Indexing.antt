@@ -1,0 +1,116 @@
+-- What plans of one trace share, and a plan that is made of counts. The contracts of the index and of the planner speak of the
+-- first part.
+use Rattle.std.specs.Prelude.{◌≡◌, ℕ, ◌+◌, ◌*◌, ◌/◌, ◌&&◌, ◌<◌, ◌≤◌, nat_lt, nat_le, not, true, false, Bool, List, length, slice_index_or}
+use Rattle.std.specs.List.{filter, range_with_len}
+use Rattle.std.specs.List.Sorted.{IsPartitionPoint}
+use Rattle.migration_model.specs.Rates.{MigrationSettings}
+use Rattle.migration_model.specs.Rounds.{NextRound, PlannedRound, IsSent}
+use Rattle.migration_model.specs.Touches.{GuestTouch, AreTouches, no_touch, pages_written}
+use Rattle.round_planner.specs.Scanning.{is_met, CanCome, HasRun, IsScan, IsScanWithin}
+use Rattle.round_planner.specs.declared.scan.Scan.{Scan}
+use Rattle.round_planner.specs.declared.tally.Marks.{Marks}
+use Rattle.round_planner.specs.declared.tally.Standing.{Standing}
+use Rattle.round_planner.specs.declared.tally.Ran.{Ran}
+
+-- so many touches are before a tick
+abbrev pub IsPoint : List GuestTouch → ℕ → ℕ → Type 0
+IsPoint touches tick n = IsPartitionPoint (λ touch. nat_lt touch.tick tick ≡ true) (λ touch. nat_lt touch.tick tick ≡ false) touches n
+
+-- Of the first touches, so many, `place` tells when the last one was to a page: it is no greater than how many are before a
+-- tick exactly where none from that tick on was to the page.
+pub record IsLast (touches : List GuestTouch) (n page place : ℕ) : Type 0 where
+  pub high : place ≤ n
+  pub tells : (from low : ℕ) → IsPoint touches from low → low ≤ n → nat_le place low ≡ not (is_met touches from n page)
+
+-- the pages of touches, and for each of them when the one before to its page was
+pub record RoundColumns : Type 0 where
+  pub pages : List ℕ
+  pub earlier : List ℕ
+
+-- the index of a guest of so many pages with these touches
+pub record IsRoundIndexOf (pages : ℕ) (touches : List GuestTouch) (index : RoundColumns) : Type 0 where
+  pub fits : AreTouches pages touches
+  pub pages_len : length index.pages ≡ length touches
+  pub earlier_len : length index.earlier ≡ length touches
+  pub page : (i : ℕ) → i < length touches → slice_index_or index.pages i 0 ≡ (slice_index_or touches i no_touch).page
+  pub earlier : (i : ℕ) → i < length touches → IsLast touches i (slice_index_or touches i no_touch).page (slice_index_or index.earlier i 0)
+
+-- ---- a plan that is made of counts, on its way
+
+-- the pages that are marked, rising
+abbrev pub marked : ℕ → List Bool → List ℕ
+marked pages marks = filter (λ page. slice_index_or marks page false) (range_with_len 0 pages)
+
+-- so many of a round's pages are sent where pages may be skipped
+pub record HasSent (touches : List GuestTouch) (from rate : ℕ) (pages : List ℕ) (count : ℕ) : Type 0 where
+  pub list : List ℕ
+  pub sent : IsSent true touches from rate pages list
+  pub count_is : count ≡ length list
+
+-- a round that may come, by its numbers alone
+pub record StandsAt (pages : ℕ) (touches : List GuestTouch) (s : MigrationSettings) (coming : NextRound) (now : Standing) : Type 0 where
+  pub can : CanCome pages s coming
+  pub done_is : now.done ≡ coming.done
+  pub from_is : now.from ≡ coming.from
+  pub rate_is : now.rate ≡ coming.rate
+  pub listed_is : now.listed ≡ length coming.pages
+  pub bound : now.next ≤ length touches
+  pub point : IsPoint touches coming.from now.next
+
+-- the same, of some round
+pub record IsStanding (pages : ℕ) (touches : List GuestTouch) (s : MigrationSettings) (now : Standing) : Type 0 where
+  pub coming : NextRound
+  pub at : StandsAt pages touches s coming now
+
+-- the round that came, by its numbers alone
+pub record RanTo (pages : ℕ) (touches : List GuestTouch) (s : MigrationSettings) (coming : NextRound) (ran : Ran) : Type 0 where
+  pub round : PlannedRound
+  pub dirtied : List ℕ
+  pub run : HasRun pages touches s coming round dirtied
+  pub to_is : ran.to ≡ round.to
+  pub sent_is : ran.sent ≡ length round.sent
+  pub dirtied_is : ran.dirtied ≡ length dirtied
+  pub bound : ran.next ≤ length touches
+  pub point : IsPoint touches round.to ran.next
+
+-- a round that may come, by its numbers and the marks of its pages; the walk stands at its first tick
+pub record IsMarkedAt (pages : ℕ) (touches : List GuestTouch) (s : MigrationSettings) (coming : NextRound) (now : Standing) (marks : Marks) : Type 0 where
+  pub at : StandsAt pages touches s coming now
+  pub list : coming.pages ≡ marked pages marks.listed.items
+  pub len : length marks.listed.items ≡ pages
+  pub room : length marks.room.items ≡ pages
+  pub scan : IsScan pages touches coming.from coming.from marks.scan.next marks.scan.marks.items
+
+-- the same, of some round
+pub record CanMark (pages : ℕ) (touches : List GuestTouch) (s : MigrationSettings) (now : Standing) (marks : Marks) : Type 0 where
+  pub coming : NextRound
+  pub is : IsMarkedAt pages touches s coming now marks
+
+-- marks for the pages of a guest of so many
+pub record AreMarksOf (pages : ℕ) (marks : Marks) : Type 0 where
+  pub listed_len : length marks.listed.items ≡ pages
+  pub marks_len : length marks.scan.marks.items ≡ pages
+  pub room_len : length marks.room.items ≡ pages
+
+-- a round that may come, and its marks where pages may be skipped
+pub record IsReady (pages : ℕ) (touches : List GuestTouch) (s : MigrationSettings) (coming : NextRound) (now : Standing) (marks : Marks) : Type 0 where
+  pub at : StandsAt pages touches s coming now
+  pub kept : AreMarksOf pages marks
+  pub marked : s.skip ≡ true → IsMarkedAt pages touches s coming now marks
+
+-- the same, of some round
+pub record CanRun (pages : ℕ) (touches : List GuestTouch) (s : MigrationSettings) (now : Standing) (marks : Marks) : Type 0 where
+  pub coming : NextRound
+  pub ready : IsReady pages touches s coming now marks
+
+-- the marks are of the pages that were written in these ticks, and the walk stands at the last of them
+pub record IsTurned (pages : ℕ) (touches : List GuestTouch) (from tick : ℕ) (marks : Marks) : Type 0 where
+  pub list : marked pages marks.listed.items ≡ pages_written pages touches from tick
+  pub scan : IsScan pages touches tick tick marks.scan.next marks.scan.marks.items
+
+-- so many of a round's pages are sent, and the walk is not past their ticks
+pub record HasSentOf (pages : ℕ) (touches : List GuestTouch) (s : MigrationSettings) (coming : NextRound) (count : ℕ) (scan : Scan) : Type 0 where
+  pub list : List ℕ
+  pub sent : IsSent (s.skip && nat_le 1 coming.done) touches coming.from coming.rate coming.pages list
+  pub count_is : count ≡ length list
+  pub within : IsScanWithin pages touches coming.from (coming.from + 1_000 * count / coming.rate) scan.next scan.marks.items

@@ -1,0 +1,71 @@
+//! What the plans of one trace share.
+
+ghost use Rattle.std.specs.Prelude.{◌≡◌, ◌≤◌, ◌<◌, ◌-◌, ◌^◌, ℕ, IfErr, IfOk, drop, length, nat_le, take};
+ghost use Rattle.std.specs.List.{count_by};
+ghost use Rattle.round_planner.specs.Indexing.{IsRoundIndexOf};
+
+use crate::error::PlanError;
+use std::alloc::Global;
+use std::marker::Model;
+use trace_codec::Timeline;
+
+/// The pages of all touches, and for each touch when its page was touched before: 8 bytes a touch. With it the pages of a
+/// round are counted in one pass over numbers, with no note of any page.
+#[derive(Debug, Drop)]
+pub struct RoundIndex {
+    pages: Vec<u32>,
+    /// 1 more than the index of the last touch before to the same page, or 0.
+    earlier: Vec<u32>,
+}
+
+impl Model for RoundIndex {
+    ghost use Rattle.round_planner.specs.Indexing.{RoundColumns};
+
+    ghost Value = { RoundColumns };
+
+    ghost view = { λ i. record { pages = i.pages.items; earlier = i.earlier.items } };
+}
+
+impl RoundIndex {
+    /// The index of a trace. `Memory` is answered where it found no room.
+    pub fn build<T: Timeline>(alloc: Global, timeline: &T) -> Result<RoundIndex, PlanError>
+        ensures index { IfOk result (λ index. IsRoundIndexOf (T.pages timeline.now) (T.touches timeline.now) index) }
+        ensures refusal { IfErr result (λ e. e ≡ PlanError.Memory) }
+    {
+        let count = timeline.touch_count();
+        let mut last = Vec::from_elem(alloc, 0u32, timeline.page_count() as usize)?;
+        let mut pages = Vec::with_capacity(alloc, count)?;
+        let mut earlier = Vec::with_capacity(alloc, count)?;
+        for number in 0..count {
+            let page = timeline.touch(number).page;
+            pages.push(page)?;
+            earlier.push(last[page as usize])?;
+            last[page as usize] = number as u32 + 1;
+        }
+        Ok(RoundIndex { pages, earlier })
+    }
+
+    /// How many of the touches from `low` on and before `high` are the first of their pages there.
+    pub(crate) fn first_touches(&self, low: usize, high: usize) -> u32
+        requires order { low ≤ high }
+        requires bound { high ≤ length self.now.earlier }
+        requires few { length self.now.earlier < 2 ^ 32 }
+        ensures { result ≡ count_by (λ place. nat_le place low) (take (high - low) (drop low self.now.earlier)) }
+    {
+        let (_, rest) = self.earlier.split_at(low);
+        let (part, _) = rest.split_at(high - low);
+        count_up_to(part, low as u32)
+    }
+}
+
+/// How many numbers are not above one.
+fn count_up_to(places: &[u32], low: u32) -> u32
+    requires { length places.now < 2 ^ 32 }
+    ensures { result ≡ count_by (λ place. nat_le place low) places.now }
+{
+    let mut count = 0u32;
+    for place in places {
+        count += u32::from(*place <= low);
+    }
+    count
+}

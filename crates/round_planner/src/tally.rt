@@ -1,0 +1,235 @@
+//! What a plan comes to, made of counts: no list of pages is written down.
+
+ghost use Rattle.std.specs.Prelude.{◌≡◌, ◌≤◌, ◌<◌, ◌&&◌, ◌+◌, ◌^◌, ℕ, true, false, IfOk, List, length, nat_le};
+ghost use Rattle.migration_model.specs.Rates.{AreSettings, duration_of};
+ghost use Rattle.migration_model.specs.Rounds.{NextRound, first_round};
+ghost use Rattle.migration_model.specs.Sweeps.{IsOutcome, outcome_with};
+ghost use Rattle.migration_model.specs.Touches.{GuestTouch};
+ghost use Rattle.rate_limit.specs.Pacing.{reason_of};
+ghost use Rattle.round_planner.specs.Scanning.{IsScan};
+ghost use Rattle.round_planner.specs.Indexing.{AreMarksOf, CanMark, CanRun, HasSentOf, IsMarkedAt, IsReady, IsTurned, IsRoundIndexOf, IsStanding, RanTo, StandsAt};
+
+use crate::index::RoundIndex;
+use crate::parts::Outcome;
+use crate::scan::Scan;
+use rate_limit::{Next, Reason, Settings, duration, next};
+use std::alloc::{AllocError, Global};
+use std::mem;
+use trace_codec::Timeline;
+
+/// The round that comes next.
+#[derive(Drop)]
+pub(crate) struct Standing {
+    done: u64,
+    from: u64,
+    rate: u64,
+    /// How many pages it has.
+    listed: u32,
+    /// How many touches there are before its first tick.
+    next: usize,
+    /// How many pages the rounds before it sent.
+    total: u64,
+}
+
+/// What a round did.
+#[derive(Drop)]
+pub(crate) struct Ran {
+    sent: u32,
+    to: u64,
+    /// How many touches there are before its end.
+    next: usize,
+    dirtied: u32,
+}
+
+/// The marks of one case, made once and used for case after case.
+#[derive(Drop)]
+pub(crate) struct Marks {
+    /// The walk over the touches of a round.
+    scan: Scan,
+    /// The pages of the round.
+    listed: Vec<bool>,
+    /// Room for a list of them.
+    room: Vec<u32>,
+}
+
+impl Marks {
+    /// Marks for the pages of a guest.
+    pub(crate) fn new<T: Timeline>(alloc: Global, timeline: &T) -> Result<Marks, AllocError>
+        ensures { IfOk result (λ marks. AreMarksOf (T.pages timeline.now) marks) }
+    {
+        let scan = Scan::new(alloc, timeline, 0)?;
+        let listed = Vec::from_elem(alloc, false, timeline.page_count() as usize)?;
+        let room = Vec::from_elem(alloc, 0, timeline.page_count() as usize)?;
+        Ok(Marks { scan, listed, room })
+    }
+
+    /// How many pages a round sends, where pages may be skipped but in the first round.
+    fn count_sent<T: Timeline>(&mut self, timeline: &T, settings: &Settings, now: &Standing) -> u32
+        requires skips { settings.now.skip ≡ true }
+        requires marks { CanMark (T.pages timeline.now) (T.touches timeline.now) settings.now now.now self.old }
+        ensures sent { (coming : NextRound) → IsMarkedAt (T.pages timeline.now) (T.touches timeline.now) settings.now coming now.now self.old
+            → HasSentOf (T.pages timeline.now) (T.touches timeline.now) settings.now coming result self.new.scan }
+        ensures listed { self.new.listed ≡ self.old.listed }
+        ensures room { length self.new.room.items ≡ length self.old.room.items }
+    {
+        if now.done == 0 {
+            return now.listed;
+        }
+        self.scan
+            .count_sent(timeline, now.from, now.rate, &self.listed, &mut self.room)
+    }
+
+    /// Runs a round where pages may be skipped: the marks of the walk are then those of the pages written meanwhile.
+    fn marked_round<T: Timeline>(
+        &mut self,
+        timeline: &T,
+        settings: &Settings,
+        now: &Standing,
+    ) -> Ran
+        requires skips { settings.now.skip ≡ true }
+        requires marks { CanMark (T.pages timeline.now) (T.touches timeline.now) settings.now now.now self.old }
+        ensures ran { (coming : NextRound) → IsMarkedAt (T.pages timeline.now) (T.touches timeline.now) settings.now coming now.now self.old
+            → RanTo (T.pages timeline.now) (T.touches timeline.now) settings.now coming result }
+        ensures len { length self.new.listed.items ≡ T.pages timeline.now }
+        ensures room { length self.new.room.items ≡ T.pages timeline.now }
+        ensures scan { IsScan (T.pages timeline.now) (T.touches timeline.now) now.now.from result.to self.new.scan.next self.new.scan.marks.items }
+    {
+        let sent = self.count_sent(timeline, settings, now);
+        let to = now.from + duration(sent, now.rate);
+        self.scan.advance(timeline, to);
+        Ran {
+            sent,
+            to,
+            next: self.scan.next,
+            dirtied: self.scan.count(),
+        }
+    }
+
+    /// Runs a round.
+    fn run_round<T: Timeline>(
+        &mut self,
+        timeline: &T,
+        index: &RoundIndex,
+        settings: &Settings,
+        now: &Standing,
+    ) -> Ran
+        requires index { IsRoundIndexOf (T.pages timeline.now) (T.touches timeline.now) index.now }
+        requires ready { CanRun (T.pages timeline.now) (T.touches timeline.now) settings.now now.now self.old }
+        ensures ran { (coming : NextRound) → IsReady (T.pages timeline.now) (T.touches timeline.now) settings.now coming now.now self.old
+            → RanTo (T.pages timeline.now) (T.touches timeline.now) settings.now coming result }
+        ensures marks { AreMarksOf (T.pages timeline.now) self.new }
+        ensures scan { settings.now.skip ≡ true → IsScan (T.pages timeline.now) (T.touches timeline.now) now.now.from result.to self.new.scan.next self.new.scan.marks.items }
+    {
+        if settings.asked().skip {
+            self.marked_round(timeline, settings, now)
+        } else {
+            counted_round(timeline, index, settings, now)
+        }
+    }
+
+    /// Makes the marks of a round those of the pages of the next one, where marks are kept at all.
+    fn turn(&mut self, settings: &Settings)
+        ensures marks { (pages : ℕ) → AreMarksOf pages self.old → AreMarksOf pages self.new }
+        ensures turned { (pages from tick : ℕ) (touches : List GuestTouch) → settings.now.skip ≡ true → AreMarksOf pages self.old
+            → IsScan pages touches from tick self.old.scan.next self.old.scan.marks.items → IsTurned pages touches from tick self.new }
+    {
+        if !settings.asked().skip {
+            return;
+        }
+        mem::swap(&mut self.scan.marks, &mut self.listed);
+        self.scan.marks.fill(false);
+    }
+
+    /// Makes all ready for the first round.
+    fn begin<T: Timeline>(&mut self, timeline: &T, settings: &Settings) -> Standing
+        requires { AreMarksOf (T.pages timeline.now) self.old }
+        ensures ready { IsReady (T.pages timeline.now) (T.touches timeline.now) settings.now (first_round (T.pages timeline.now) settings.now) result self.new }
+        ensures done { result.done ≡ 0 }
+        ensures total { result.total ≡ 0 }
+        ensures settings { AreSettings settings.now }
+    {
+        let asked = settings.asked();
+        self.listed.fill(true);
+        self.scan.marks.fill(false);
+        self.scan.next = timeline.before(asked.start);
+        Standing {
+            done: 0,
+            from: asked.start,
+            rate: asked.min,
+            listed: timeline.page_count(),
+            next: self.scan.next,
+            total: 0,
+        }
+    }
+
+    /// What the plan of some settings comes to.
+    pub(crate) fn outcome<T: Timeline>(
+        &mut self,
+        timeline: &T,
+        index: &RoundIndex,
+        settings: &Settings,
+    ) -> Outcome
+        requires index { IsRoundIndexOf (T.pages timeline.now) (T.touches timeline.now) index.now }
+        requires marks { AreMarksOf (T.pages timeline.now) self.old }
+        ensures outcome { IsOutcome (T.pages timeline.now) (T.touches timeline.now) settings.now result }
+        ensures marks { AreMarksOf (T.pages timeline.now) self.new }
+    {
+        let mut now = self.begin(timeline, settings);
+        loop {
+            let ran = self.run_round(timeline, index, settings, &now);
+            let done = now.done + 1;
+            let total = now.total + ran.sent as u64;
+            match next(settings, ran.dirtied, ran.to - now.from, done) {
+                Next::Stop(reason) => return ended(settings, done, total, reason, &ran),
+                Next::Go(rate) => {
+                    self.turn(settings);
+                    now = Standing {
+                        done,
+                        from: ran.to,
+                        rate,
+                        listed: ran.dirtied,
+                        next: ran.next,
+                        total,
+                    };
+                }
+            }
+        }
+    }
+}
+
+/// What a plan comes to that ends with a round, by how many rounds there are then and how many pages they send.
+fn ended(settings: &Settings, rounds: u64, sent: u64, reason: Reason, last: &Ran) -> Outcome
+    requires { sent < 2 ^ 32 }
+    ensures { result ≡ outcome_with rounds (reason_of reason) last.now.to (duration_of last.now.dirtied settings.now.max) (sent + last.now.dirtied) }
+{
+    Outcome {
+        rounds,
+        reason,
+        stop: last.to,
+        down: duration(last.dirtied, settings.asked().max),
+        total: sent + last.dirtied as u64,
+    }
+}
+
+/// Runs a round that skips no page, where nothing is skipped at all.
+fn counted_round<T: Timeline>(
+    timeline: &T,
+    index: &RoundIndex,
+    _settings: &Settings,
+    now: &Standing,
+) -> Ran
+    requires index { IsRoundIndexOf (T.pages timeline.now) (T.touches timeline.now) index.now }
+    requires now { IsStanding (T.pages timeline.now) (T.touches timeline.now) _settings.now now.now }
+    ensures { (coming : NextRound) → StandsAt (T.pages timeline.now) (T.touches timeline.now) _settings.now coming now.now
+        → (_settings.now.skip && nat_le 1 coming.done) ≡ false → RanTo (T.pages timeline.now) (T.touches timeline.now) _settings.now coming result }
+{
+    let to = now.from + duration(now.listed, now.rate);
+    let next = timeline.before(to);
+    let dirtied = index.first_touches(now.next, next);
+    Ran {
+        sent: now.listed,
+        to,
+        next,
+        dirtied,
+    }
+}

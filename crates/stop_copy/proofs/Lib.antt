@@ -1,0 +1,4 @@
+pub mod Marked
+pub mod Framed
+pub mod Dealt
+pub mod Pieced

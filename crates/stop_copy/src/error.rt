@@ -1,0 +1,52 @@
+//! Why a final copy could not be made.
+
+ghost use Rattle.std.specs.Prelude.{◌≡◌};
+ghost use Rattle.stop_copy.specs.declared.error.CopyError.TheVariants.{Memory as OutOfMemory};
+
+use collector::PartError;
+use page_versions::IndexError;
+use std::alloc::{AllocError, AllocFailed};
+use thiserror::Error;
+
+/// A refusal.
+#[derive(Clone, Copy, Debug, PartialEq, Eq, Error)]
+pub enum CopyError {
+    /// A growth was refused.
+    #[error("memory")]
+    Memory,
+    /// A thread could not be started.
+    #[error("thread")]
+    Thread,
+}
+
+impl From<AllocError> for CopyError {
+    ghost from_gives = { λ _ e. e ≡ OutOfMemory };
+
+    fn from(_error: AllocError) -> CopyError {
+        CopyError::Memory
+    }
+}
+
+impl<T: Drop> From<AllocFailed<T>> for CopyError {
+    ghost from_gives = { λ _ e. e ≡ OutOfMemory };
+
+    fn from(_error: AllocFailed<T>) -> CopyError {
+        CopyError::Memory
+    }
+}
+
+impl From<IndexError> for CopyError {
+    ghost from_gives = { λ _ e. e ≡ OutOfMemory };
+
+    fn from(_error: IndexError) -> CopyError {
+        CopyError::Memory
+    }
+}
+
+impl From<PartError> for CopyError {
+    ghost from_gives = { λ _ e. e ≡ OutOfMemory };
+
+    fn from(_error: PartError) -> CopyError {
+        CopyError::Memory
+    }
+}

@@ -1,0 +1,15 @@
+//! The final copy of a guest that stands still: each page that is still marked is sent once more.
+#![tactic(auto)]
+
+mod copying;
+mod dealing;
+mod error;
+mod frames;
+mod marks;
+mod workers;
+
+pub use copying::final_copy;
+pub use error::CopyError;
+
+#[cfg(test)]
+mod tests;

@@ -1,0 +1,203 @@
+//! Frames made on several threads.
+
+ghost use Rattle.std.specs.Prelude.{◌≡◌, ◌<◌, ◌≤◌, ℕ, List, IfOk, OnOk, [], length, map};
+ghost use Rattle.std.specs.List.{All, flat_map};
+ghost use Rattle.migration_model.specs.Trace.{GuestTrace};
+ghost use Rattle.page_versions.specs.Index.{IsIndexOf};
+ghost use Rattle.stop_copy.specs.Copies.{AreCurrentFrames};
+ghost use Rattle.stop_copy.specs.Pieces.{AreMade, AreMadeOf};
+
+use crate::error::CopyError;
+use crate::frames::frames_of;
+use page_message::Frame;
+use page_versions::PageIndex;
+use std::alloc::Global;
+use std::sync::Wait;
+use std::thread;
+use std::thread::{Promise, PromisedHandle, Scope, Threads, join_promised};
+use trace_codec::Trace;
+
+/// Frames of as many pages take longer to make than a thread takes to start.
+const WORTH_A_THREAD: usize = 512;
+
+/// What a thread made of its piece of the pages.
+type Made = Result<Vec<Frame>, CopyError>;
+
+/// A thread's promise: the frames of these pages, at these versions of the trace.
+#[derive(Drop)]
+struct MakesFrames<'a> {
+    trace: &'a Trace,
+    versions: &'a [u32],
+    pages: &'a [u32],
+}
+
+impl<'a> Promise<Made> for MakesFrames<'a> {
+    ghost kept_by = { λ p r. IfOk r (λ frames. AreCurrentFrames p.trace.now p.versions.now p.pages.now frames.items) };
+}
+
+/// Starts a thread that makes the frames of these pages.
+fn start_piece<'s, E>(
+    scope: &'s Scope<'s, E>,
+    alloc: Global,
+    trace: &'s Trace,
+    index: &'s PageIndex,
+    versions: &'s [u32],
+    pages: &'s [u32],
+) -> Result<PromisedHandle<Made, MakesFrames<'s>>, CopyError>
+    requires of { IsIndexOf index.now trace.now }
+    requires pages { All (λ page. page < trace.now.pages) pages.now }
+    requires versions { length versions.now ≡ trace.now.pages }
+    requires low { All (λ version. version ≤ length trace.now.writes) versions.now }
+    ensures trace { IfOk result (λ h. h.promise.trace.now ≡ trace.now) }
+    ensures versions { IfOk result (λ h. h.promise.versions.now ≡ versions.now) }
+    ensures pages { IfOk result (λ h. h.promise.pages.now ≡ pages.now) }
+{
+    let promise = MakesFrames {
+        trace,
+        versions,
+        pages,
+    };
+    let run = move || -> Made
+        requires of { IsIndexOf index.now trace.now }
+        requires pages { All (λ page. page < trace.now.pages) pages.now }
+        requires versions { length versions.now ≡ trace.now.pages }
+        requires low { All (λ version. version ≤ length trace.now.writes) versions.now }
+        ensures { IfOk result (λ frames. AreCurrentFrames trace.entry.now versions.entry.now pages.entry.now frames.items) }
+    { frames_of(alloc, trace, index, versions, pages) };
+    scope.spawn_with(promise, run).or(Err(CopyError::Thread))
+}
+
+/// Starts a thread for each piece of so many pages.
+fn start_pieces<'s, E>(
+    scope: &'s Scope<'s, E>,
+    alloc: Global,
+    trace: &'s Trace,
+    index: &'s PageIndex,
+    versions: &'s [u32],
+    pages: &'s [u32],
+    size: usize,
+    handles: &mut Vec<PromisedHandle<Made, MakesFrames<'s>>>,
+) -> Result<(), CopyError>
+    requires of { IsIndexOf index.now trace.now }
+    requires pages { All (λ page. page < trace.now.pages) pages.now }
+    requires versions { length versions.now ≡ trace.now.pages }
+    requires low { All (λ version. version ≤ length trace.now.writes) versions.now }
+    requires size { 1 ≤ size }
+    requires none { handles.old.items ≡ [] }
+    ensures pieces { OnOk result (flat_map (λ h. h.promise.pages.now) handles.new.items ≡ pages.now) }
+    ensures same { OnOk result (All (λ h. (h.promise.trace.now ≡ trace.now) × (h.promise.versions.now ≡ versions.now)) handles.new.items) }
+{
+    let mut rest = pages;
+    while !rest.is_empty() {
+        let (piece, behind) = rest.split_at(rest.len().min(size));
+        handles.reserve(1)?;
+        let handle = start_piece(scope, alloc, trace, index, versions, piece)?;
+        handles.push_reserved(handle);
+        rest = behind;
+    }
+    Ok(())
+}
+
+/// Joins the threads. Each is joined also where there is no memory for what they made.
+fn join_pieces<'s, R: Threads>(
+    rt: &R,
+    handles: Vec<PromisedHandle<Made, MakesFrames<'s>>>,
+) -> Result<Vec<Made>, CopyError>
+    ensures { IfOk result (λ made. (trace : GuestTrace) (versions : List ℕ)
+        → All (λ h. (h.promise.trace.now ≡ trace) × (h.promise.versions.now ≡ versions)) handles.entry.items
+        → AreMade trace versions (map (λ h. h.promise.pages.now) handles.entry.items) made.items) }
+{
+    match join_promised(rt, handles) {
+        Ok(made) => Ok(made),
+        Err(refused) => {
+            for handle in refused.value {
+                drop(handle.join(rt));
+            }
+            Err(CopyError::Memory)
+        }
+    }
+}
+
+/// Starts the threads and joins them. Those that run are joined before any refusal is answered.
+fn make_in_scope<'s, E, R: Threads>(
+    rt: &R,
+    scope: &'s Scope<'s, E>,
+    alloc: Global,
+    trace: &'s Trace,
+    index: &'s PageIndex,
+    versions: &'s [u32],
+    pages: &'s [u32],
+    size: usize,
+) -> Result<Vec<Made>, CopyError>
+    requires of { IsIndexOf index.now trace.now }
+    requires pages { All (λ page. page < trace.now.pages) pages.now }
+    requires versions { length versions.now ≡ trace.now.pages }
+    requires low { All (λ version. version ≤ length trace.now.writes) versions.now }
+    requires size { 1 ≤ size }
+    ensures { IfOk result (λ made. AreMadeOf trace.now versions.now pages.now made.items) }
+{
+    let mut handles = Vec::new(alloc);
+    let started = start_pieces(
+        scope,
+        alloc,
+        trace,
+        index,
+        versions,
+        pages,
+        size,
+        &mut handles,
+    );
+    let made = join_pieces(rt, handles);
+    started?;
+    Ok(made?)
+}
+
+/// All that was made, in order, or the first refusal.
+fn all_frames(alloc: Global, made: Vec<Made>) -> Result<Vec<Frame>, CopyError>
+    ensures { IfOk result (λ frames. (trace : GuestTrace) (versions pages : List ℕ) → AreMadeOf trace versions pages made.items
+        → AreCurrentFrames trace versions pages frames.items) }
+{
+    let mut all = Vec::new(alloc);
+    for piece in made {
+        let mut frames = piece?;
+        all.append(&mut frames)?;
+    }
+    Ok(all)
+}
+
+/// The frames of these pages, in order, each at its version, made by so many workers. Where there are few pages, no thread
+/// is started.
+pub(crate) fn frames_by_workers<R: Threads + Wait + Sync>(
+    rt: &R,
+    alloc: Global,
+    trace: &Trace,
+    index: &PageIndex,
+    versions: &[u32],
+    pages: &[u32],
+    workers: usize,
+) -> Result<Vec<Frame>, CopyError>
+    requires of { IsIndexOf index.now trace.now }
+    requires pages { All (λ page. page < trace.now.pages) pages.now }
+    requires versions { length versions.now ≡ trace.now.pages }
+    requires low { All (λ version. version ≤ length trace.now.writes) versions.now }
+    requires some { 1 ≤ workers }
+    ensures { IfOk result (λ frames. AreCurrentFrames trace.now versions.now pages.now frames.items) }
+{
+    let size = (pages.len() / workers + 1).max(WORTH_A_THREAD);
+    if pages.len() <= size {
+        return frames_of(alloc, trace, index, versions, pages);
+    }
+    let made = thread::scope(
+        thread::scope_env(),
+        rt,
+        |scope| -> Result<Vec<Made>, CopyError>
+            requires of { IsIndexOf index.now trace.now }
+            requires pages { All (λ page. page < trace.now.pages) pages.now }
+            requires versions { length versions.now ≡ trace.now.pages }
+            requires low { All (λ version. version ≤ length trace.now.writes) versions.now }
+            requires size { 1 ≤ size }
+            ensures { IfOk result (λ made. AreMadeOf trace.entry.now versions.entry.now pages.entry.now made.items) }
+        { make_in_scope(rt, scope, alloc, trace, index, versions, pages, size) },
+    )?;
+    all_frames(alloc, made)
+}

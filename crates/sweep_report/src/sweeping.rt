@@ -1,0 +1,258 @@
+//! Plans for many settings, made side by side.
+
+ghost use Rattle.std.specs.Prelude.{◌≡◌, ◌<◌, ℕ, IfErr, IfOk, IfSome, OnOk, None, List, length, replicate};
+ghost use Rattle.std.specs.List.{All};
+ghost use Rattle.migration_model.specs.Rates.{MigrationSettings};
+ghost use Rattle.migration_model.specs.Sweeps.{AreLines, IsLineOf};
+ghost use Rattle.migration_model.specs.Touches.{GuestTouch};
+ghost use Rattle.round_planner.specs.Indexing.{IsRoundIndexOf};
+ghost use Rattle.sweep_report.specs.Sweeping.{AreNumbered, AreTaken, IsWork};
+
+use crate::error::SweepError;
+use crate::line::Line;
+use rate_limit::Settings;
+use round_planner::{Planner, RoundIndex, plan};
+use std::alloc::{AllocError, Global};
+use std::sync::atomic::{AtomicUsize, Ordering};
+use std::thread;
+use std::thread::Threads;
+use trace_codec::Timeline;
+
+/// The line of a case, and the number of that case.
+#[derive(Drop)]
+pub(crate) struct Numbered {
+    pub(crate) number: usize,
+    pub(crate) line: Line,
+}
+
+/// The line of one case.
+fn line_of<T: Timeline>(alloc: Global, timeline: &T, case: &Settings) -> Result<Line, SweepError>
+    ensures line { IfOk result (IsLineOf (T.pages timeline.now) (T.touches timeline.now) case.now) }
+    ensures refusal { IfErr result (λ e. e ≡ SweepError.Memory) }
+{
+    let planned = plan(alloc, timeline, case).or(Err(SweepError::Memory))?;
+    Ok(Line::new(*case, planned.outcome()))
+}
+
+/// The same, by what the cases share.
+fn line_by<T: Timeline>(
+    planner: &mut Planner,
+    timeline: &T,
+    index: &RoundIndex,
+    case: &Settings,
+) -> Line
+    requires pages { planner.old ≡ T.pages timeline.now }
+    requires index { IsRoundIndexOf (T.pages timeline.now) (T.touches timeline.now) index.now }
+    ensures line { IsLineOf (T.pages timeline.now) (T.touches timeline.now) case.now result }
+    ensures pages { planner.new ≡ planner.old }
+{
+    Line::new(*case, planner.outcome(timeline, index, case))
+}
+
+/// Takes case after case by a counter that other workers take theirs from too, and makes the lines.
+fn take_cases<T: Timeline>(
+    alloc: Global,
+    timeline: &T,
+    index: &RoundIndex,
+    cases: &[Settings],
+    next: &AtomicUsize,
+) -> Result<Vec<Numbered>, SweepError>
+    requires index { IsRoundIndexOf (T.pages timeline.now) (T.touches timeline.now) index.now }
+    ensures made { IfOk result (λ made. AreNumbered (T.pages timeline.now) (T.touches timeline.now) cases.now made.items) }
+    ensures refusal { IfErr result (λ e. e ≡ SweepError.Memory) }
+{
+    let mut planner = Planner::new(alloc, timeline).or(Err(SweepError::Memory))?;
+    let mut made = Vec::new(alloc);
+    for _ in 0..cases.len() {
+        let number = next.fetch_add(1, Ordering::SeqCst);
+        if number >= cases.len() {
+            break;
+        }
+        let line = line_by(&mut planner, timeline, index, &cases[number]);
+        made.push(Numbered { number, line })?;
+    }
+    Ok(made)
+}
+
+/// A place for the line of each case, with none there.
+fn no_lines(alloc: Global, count: usize) -> Result<Vec<Option<Line>>, AllocError>
+    ensures { IfOk result (λ taken. taken.items ≡ replicate count None) }
+{
+    let mut taken = Vec::with_capacity(alloc, count)?;
+    for _ in 0..count {
+        taken.push(None)?;
+    }
+    Ok(taken)
+}
+
+/// Puts lines to the places of their cases.
+fn place(taken: &mut Vec<Option<Line>>, made: Vec<Numbered>)
+    requires { All (λ one. one.number < length taken.old.items) made.items }
+    ensures { (pages : ℕ) (touches : List GuestTouch) (cases : List MigrationSettings) → AreNumbered pages touches cases made.items
+        → AreTaken pages touches cases taken.old.items → AreTaken pages touches cases taken.new.items }
+{
+    for one in made {
+        taken[one.number] = Some(one.line);
+    }
+}
+
+/// The line of a case, which is there already or is made now.
+fn line_or_new<T: Timeline>(
+    planner: &mut Planner,
+    timeline: &T,
+    index: &RoundIndex,
+    case: &Settings,
+    taken: Option<Line>,
+) -> Line
+    requires pages { planner.old ≡ T.pages timeline.now }
+    requires index { IsRoundIndexOf (T.pages timeline.now) (T.touches timeline.now) index.now }
+    requires taken { IfSome taken (IsLineOf (T.pages timeline.now) (T.touches timeline.now) case.now) }
+    ensures line { IsLineOf (T.pages timeline.now) (T.touches timeline.now) case.now result }
+    ensures pages { planner.new ≡ planner.old }
+{
+    match taken {
+        Some(line) => line,
+        None => line_by(planner, timeline, index, case),
+    }
+}
+
+/// The lines of all cases in order. Those that are not there are made now.
+fn in_order<T: Timeline>(
+    alloc: Global,
+    timeline: &T,
+    index: &RoundIndex,
+    cases: &[Settings],
+    taken: Vec<Option<Line>>,
+) -> Result<Vec<Line>, SweepError>
+    requires index { IsRoundIndexOf (T.pages timeline.now) (T.touches timeline.now) index.now }
+    requires taken { AreTaken (T.pages timeline.now) (T.touches timeline.now) cases.now taken.items }
+    ensures lines { IfOk result (λ lines. AreLines (T.pages timeline.now) (T.touches timeline.now) cases.now lines.items) }
+    ensures refusal { IfErr result (λ e. e ≡ SweepError.Memory) }
+{
+    let mut taken = taken;
+    let mut planner = Planner::new(alloc, timeline).or(Err(SweepError::Memory))?;
+    let mut lines = Vec::with_capacity(alloc, cases.len())?;
+    for (number, case) in cases.iter().enumerate() {
+        let line = line_or_new(&mut planner, timeline, index, case, taken[number].take());
+        lines.push(line)?;
+    }
+    Ok(lines)
+}
+
+/// Puts what workers made to the places of its cases. The trace and the cases are there for the contract alone.
+fn place_all<T: Timeline>(
+    _timeline: &T,
+    _cases: &[Settings],
+    taken: &mut Vec<Option<Line>>,
+    made: Vec<Result<Vec<Numbered>, SweepError>>,
+) -> Result<(), SweepError>
+    requires made { All (IsWork (T.pages _timeline.now) (T.touches _timeline.now) _cases.now) made.items }
+    requires taken { AreTaken (T.pages _timeline.now) (T.touches _timeline.now) _cases.now taken.old.items }
+    ensures taken { OnOk result (AreTaken (T.pages _timeline.now) (T.touches _timeline.now) _cases.now taken.new.items) }
+    ensures refusal { IfErr result (λ e. e ≡ SweepError.Memory) }
+{
+    for some in made {
+        place(taken, some?);
+    }
+    Ok(())
+}
+
+/// Puts the lines of cases that some workers make side by side to the places of those cases.
+fn make_beside<R: Threads + Sync, T: Timeline + Sync>(
+    rt: &R,
+    alloc: Global,
+    timeline: &T,
+    index: &RoundIndex,
+    cases: &[Settings],
+    workers: usize,
+    taken: &mut Vec<Option<Line>>,
+) -> Result<(), SweepError>
+    requires index { IsRoundIndexOf (T.pages timeline.now) (T.touches timeline.now) index.now }
+    requires taken { AreTaken (T.pages timeline.now) (T.touches timeline.now) cases.now taken.old.items }
+    ensures taken { OnOk result (AreTaken (T.pages timeline.now) (T.touches timeline.now) cases.now taken.new.items) }
+    ensures refusal { IfErr result (λ e. e ≡ SweepError.Memory) }
+{
+    let next = AtomicUsize::new(0);
+    let work = |_worker: usize| -> Result<Vec<Numbered>, SweepError>
+        requires { IsRoundIndexOf (T.pages timeline.now) (T.touches timeline.now) index.now }
+        ensures made { IfOk result (λ made. AreNumbered (T.pages timeline.entry.now) (T.touches timeline.entry.now) cases.entry.now made.items) }
+        ensures refusal { IfErr result (λ e. e ≡ SweepError.Memory) }
+    { take_cases(alloc, timeline, index, cases, &next) };
+    let made = thread::map_indices(rt, alloc, workers, &work)?;
+    place_all(timeline, cases, taken, made)?;
+    Ok(())
+}
+
+/// How many touches and pages a worker has to look at, in all of its cases, to pay for its thread.
+const WORTH_A_THREAD: usize = 1 << 20;
+
+/// How many cases there have to be for them to share an index.
+const WORTH_AN_INDEX: usize = 2;
+
+/// How many workers are worth their threads: no more than are asked for, nor than there are cases.
+fn workers_for<T: Timeline>(timeline: &T, cases: usize, workers: usize) -> usize {
+    let each = timeline.touch_count() + timeline.page_count() as usize;
+    let most = cases.saturating_mul(each) / WORTH_A_THREAD;
+    workers.min(cases).min(most)
+}
+
+/// Puts lines to the places of their cases where it is worth it to start threads for them.
+fn make_some<R: Threads + Sync, T: Timeline + Sync>(
+    rt: &R,
+    alloc: Global,
+    timeline: &T,
+    index: &RoundIndex,
+    cases: &[Settings],
+    workers: usize,
+    taken: &mut Vec<Option<Line>>,
+) -> Result<(), SweepError>
+    requires index { IsRoundIndexOf (T.pages timeline.now) (T.touches timeline.now) index.now }
+    requires taken { AreTaken (T.pages timeline.now) (T.touches timeline.now) cases.now taken.old.items }
+    ensures taken { OnOk result (AreTaken (T.pages timeline.now) (T.touches timeline.now) cases.now taken.new.items) }
+    ensures refusal { IfErr result (λ e. e ≡ SweepError.Memory) }
+{
+    let workers = workers_for(timeline, cases.len(), workers);
+    if workers < 2 {
+        return Ok(());
+    }
+    make_beside(rt, alloc, timeline, index, cases, workers, taken)?;
+    Ok(())
+}
+
+/// The lines of few cases, of which each has a plan of its own.
+fn one_by_one<T: Timeline>(
+    alloc: Global,
+    timeline: &T,
+    cases: &[Settings],
+) -> Result<Vec<Line>, SweepError>
+    ensures lines { IfOk result (λ lines. AreLines (T.pages timeline.now) (T.touches timeline.now) cases.now lines.items) }
+    ensures refusal { IfErr result (λ e. e ≡ SweepError.Memory) }
+{
+    let mut lines = Vec::with_capacity(alloc, cases.len())?;
+    for case in cases {
+        lines.push(line_of(alloc, timeline, case)?)?;
+    }
+    Ok(lines)
+}
+
+/// The line of each case, in order: what its plan comes to, each planned by itself. Up to so many workers, 1 to 16, take case
+/// after case, where there is enough to do; the lines are the same for any number of them. `Memory` is answered where a list
+/// or marks of pages found no room.
+pub fn sweep<R: Threads + Sync, T: Timeline + Sync>(
+    rt: &R,
+    alloc: Global,
+    timeline: &T,
+    cases: &[Settings],
+    workers: usize,
+) -> Result<Vec<Line>, SweepError>
+    ensures lines { IfOk result (λ lines. AreLines (T.pages timeline.now) (T.touches timeline.now) cases.now lines.items) }
+    ensures refusal { IfErr result (λ e. e ≡ SweepError.Memory) }
+{
+    if cases.len() < WORTH_AN_INDEX {
+        return one_by_one(alloc, timeline, cases);
+    }
+    let index = RoundIndex::build(alloc, timeline).or(Err(SweepError::Memory))?;
+    let mut taken = no_lines(alloc, cases.len())?;
+    make_some(rt, alloc, timeline, &index, cases, workers, &mut taken)?;
+    in_order(alloc, timeline, &index, cases, taken)
+}
