@@ -40,7 +40,8 @@ pub enum RunError {
     /// A growth was refused.
     #[error("memory")]
     Memory,
-    /// A thread could not be started. No job answers it yet: where no thread is to be had, its work is done on the caller's.
+    /// A thread could not be started. No job answers it yet: a live run has a refusal of its own, and where no thread is to
+    /// be had for a report or a sweep, its work is done on the caller's.
     #[error("thread")]
     Thread,
     /// The live run gave no memory: for want of room, or of a thread.
