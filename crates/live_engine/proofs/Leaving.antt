@@ -1,5 +1,5 @@
 -- What a round leaves, from what its threads gave back and from what the closed table tells of each page.
-use Rattle.std.proofs.Common.{◌≡◌, ℕ, ◌+◌, ◌/◌, ◌%◌, ◌<◌, ◌≤◌, ◌⊎◌, inl, inr, Bool, true, false, cond, List, [], ◌∷◌, ◌++◌, length, map, get_or, refl, sym, ap, subst, ◌∙◌, arith}
+use Rattle.std.proofs.Common.{◌≡◌, ℕ, ◌+◌, ◌/◌, ◌%◌, ◌<◌, ◌≤◌, ◌⊎◌, inl, inr, Bool, List, [], ◌∷◌, ◌++◌, length, map, get_or, refl, sym, ap, subst, ◌∙◌, arith}
 use Rattle.std.specs.Prelude.{Some, IsTrue, is_some, slice_get, slice_index}
 use Rattle.std.specs.List.{Contains, flat_map}
 use Rattle.std.proofs.Math.Nat.{mod-lt}
@@ -25,12 +25,7 @@ use Rattle.live_engine.specs.Joining.{IsRound}
 use Rattle.live_engine.proofs.Each.{each_got}
 use Rattle.live_engine.proofs.ScanOrder.{in_piece, in_all, in_scan_order}
 use Rattle.live_engine.proofs.Visits.{last_is_visit, visit_has_last, stored_is_visit, place_is_written, written_has_place, version_stored}
-
-in_none : {X : Type 0} (x : X) → Contains [] x → ⊥
-in_none x c = let low = c.1 in omega (arith, low)
-
-false_true : false ≡ true → ⊥
-false_true e = subst (λ (b : Bool). cond b ⊥ (Unit {0})) e tt
+use Rattle.live_seats.proofs.Basics.{false_true, in_none}
 
 -- the page of a pair that is listed, and a pair of a page that is
 fst_in : (sent : List (ℕ × ℕ)) (page place : ℕ) → Contains sent (page, place) → Contains (map (λ (s : ℕ × ℕ). s.0) sent) page

@@ -16,9 +16,7 @@ use Rattle.migration_model.proofs.Final.{IsPart-with_frame}
 use Rattle.live_seats.specs.Outboxes.{OutboxView, IsPosted, shape_in}
 use Rattle.live_engine.specs.Joining.{HaveReceived, Spelled}
 use Rattle.live_engine.proofs.Each.{pick}
-
-in_none : {X : Type 0} (x : X) → Contains [] x → ⊥
-in_none x c = let low = c.1 in omega (arith, low)
+use Rattle.live_seats.proofs.Basics.{in_none}
 
 in_rest : {X : Type 0} (y x : X) (xs : List X) → Contains xs x → Contains (y ∷ xs) x
 in_rest y x xs c = let low = c.1 in (suc c.0, omega (arith, low), c.2)

@@ -1,8 +1,8 @@
 -- How rounds are joined: what holds after one follows from what held before it and from what it did.
-use Rattle.std.proofs.Common.{◌≡◌, ℕ, zero, suc, ◌+◌, ◌-◌, ◌/◌, ◌<◌, ◌≤◌, ◌⊎◌, inl, inr, Bool, true, false, cond, leb, ◌&&◌, List, [], ◌∷◌, ◌++◌, length, take, get_or, replicate, min, refl, sym, ap, subst, ◌∙◌, arith}
+use Rattle.std.proofs.Common.{◌≡◌, ℕ, zero, suc, ◌+◌, ◌-◌, ◌/◌, ◌<◌, ◌≤◌, ◌⊎◌, inl, inr, Bool, true, false, leb, ◌&&◌, List, [], ◌∷◌, ◌++◌, length, take, get_or, replicate, min, refl, sym, ap, subst, ◌∙◌, arith}
 use Rattle.std.specs.Prelude.{Option, Some, None, IfSome, IsSomeAnd, slice_get, slice_index}
 use Rattle.std.specs.List.{All, Contains}
-use Rattle.std.proofs.lemmas.Bool.{cases_Bool, cases_lt, and_parts, leb-true}
+use Rattle.std.proofs.lemmas.Bool.{cases_Bool, cases_lt, and_parts}
 use Rattle.std.proofs.lemmas.List.{get_or_append_left, get_or-append-add, length-append, get_or_default, get_or_past, get_or-replicate, length-replicate}
 use Rattle.std.proofs.lemmas.Option.{none-some, same_Some, slice_get_within, get_or_from_slice_get, slice_get-get_or}
 use Rattle.migration_model.specs.Trace.{GuestTrace}
@@ -24,12 +24,7 @@ use Rattle.live_engine.specs.Runs.{IsUnderWay}
 use Rattle.live_engine.specs.Joining.{IsRound, IsMarked, HaveReceived, AreJoined}
 use Rattle.live_engine.proofs.Each.{pick}
 use Rattle.live_engine.proofs.Visits.{version_stays}
-
-false_true : false ≡ true → ⊥
-false_true e = subst (λ (b : Bool). cond b ⊥ (Unit {0})) e tt
-
-in_none : {X : Type 0} (x : X) → Contains [] x → ⊥
-in_none x c = let low = c.1 in omega (arith, low)
+use Rattle.live_seats.proofs.Basics.{false_leb, false_true, in_none}
 
 if_some : {X : Type 0} {P : X → Type 0} (o : Option X) → ((x : X) → o ≡ Some x → P x) → IfSome o P
 if_some None all = tt
@@ -64,12 +59,6 @@ version_low trace page tick = elim (version_is_place trace page tick) [
 and_none : (a b : Bool) → b ≡ false → (a && b) ≡ false
 and_none true b e = e
 and_none false b e = refl
-
-not_leb : (a b : ℕ) → b < a → leb a b ≡ false
-not_leb a b lt = elim (cases_Bool (leb a b)) [
-  | inl e ↦ absurd (let le = leb-true a b e in omega (arith, lt, le))
-  | inr e ↦ e
-]
 
 -- ---- lists with one more at their end
 
@@ -369,7 +358,7 @@ pub law_next : (trace : GuestTrace) (skip now : Bool) (copiers : ℕ) (planned :
 law_next trace skip now copiers planned rounds plan round old new parts now_is le joined is law =
     let first_or_later : (1 ≤ length rounds) ⊎ (now ≡ false) = elim (cases_lt 0 (length rounds)) [
       | inl later ↦ inl (omega (arith, later))
-      | inr first ↦ inr (now_is ∙ and_none skip (leb 1 (length rounds)) (not_leb 1 (length rounds) (omega (arith, first))))
+      | inr first ↦ inr (now_is ∙ and_none skip (leb 1 (length rounds)) (false_leb 1 (length rounds) (omega (arith, first))))
     ] in
     law_more trace skip copiers planned rounds plan round law
     (law_of_all trace now skip copiers planned rounds plan round (λ on. (and_parts skip (leb 1 (length rounds)) (sym now_is ∙ on)).0)

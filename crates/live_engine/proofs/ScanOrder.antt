@@ -9,9 +9,7 @@ use Rattle.std.proofs.lemmas.List.Kept.{AllPairs-from_increasing}
 use Rattle.std.proofs.lemmas.List.Elements.{Contains-append_cases, Contains-append_left, Contains-append_right, Contains-get_or}
 use Rattle.std.proofs.lemmas.Option.{none-some, same_Some}
 use Rattle.migration_model.specs.Live.{IsInScanOrder, page_copier}
-
-in_none : {X : Type 0} (x : X) → Contains [] x → ⊥
-in_none x c = let low = c.1 in omega (arith, low)
+use Rattle.live_seats.proofs.Basics.{in_none}
 
 -- an element of lists that stand one after the other is in one of them
 pub in_piece : {X Y : Type 0} (f : X → List Y) (xs : List X) (y : Y) → Contains (flat_map f xs) y → (i : ℕ) × (x : X) × (slice_get xs i ≡ Some x) × Contains (f x) y

@@ -1,5 +1,5 @@
 -- Visits of pages, and the places of a trace's writes.
-use Rattle.std.proofs.Common.{◌≡◌, ℕ, ◌+◌, ◌-◌, ◌≤◌, inl, inr, Bool, true, false, cond, eqb, [], ◌∷◌, refl, sym, ap, subst, ◌∙◌, arith}
+use Rattle.std.proofs.Common.{◌≡◌, ℕ, ◌+◌, ◌-◌, ◌≤◌, inl, inr, true, eqb, [], ◌∷◌, refl, sym, ap, ◌∙◌, arith}
 use Rattle.std.specs.Prelude.{Option, Some, None, IsTrue, is_some, unwrap_or, slice_get}
 use Rattle.std.proofs.lemmas.Bool.{cases_eq, cases_lt, cond-true, cond-false, eq-eqb, ne_eqb}
 use Rattle.std.proofs.lemmas.Option.{none-some, same_Some, slice_get_within, get_or_from_slice_get, slice_get-get_or}
@@ -9,6 +9,7 @@ use Rattle.migration_model.specs.Live.{IsPlaceOf}
 use Rattle.migration_model.proofs.Placed.{version_is_place, version_is_greatest, version_rises}
 use Rattle.dirty_core.specs.Machine.{Visits, last_visit}
 use Rattle.dirty_core.specs.Runs.{IsVisited, Rises, place_after}
+use Rattle.live_seats.proofs.Basics.{false_true}
 
 pub last_is_visit : (visits : Visits) (page place : ℕ) → last_visit visits page ≡ Some place → IsVisited visits page place
 last_is_visit [] page place is = absurd (none-some place is)
@@ -28,9 +29,6 @@ visit_has_last (v ∷ vs) page place is = elim (cases_eq v.0 page) [
         (rest.0, cond-false (eqb v.0 page) (Some v.1) (last_visit vs page) (ne_eqb v.0 page apart) ∙ rest.1)
   ]
 ]
-
-false_true : false ≡ true → ⊥
-false_true e = subst (λ (b : Bool). cond b ⊥ (Unit {0})) e tt
 
 some_case : (visits : Visits) (page : ℕ) (o : Option ℕ) → last_visit visits page ≡ o → is_some (last_visit visits page) ≡ true → (place : ℕ) × IsVisited visits page place
 some_case visits page None e is = absurd (false_true (sym (ap is_some e) ∙ is))

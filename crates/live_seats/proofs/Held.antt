@@ -1,29 +1,13 @@
 -- Which pages of a harvested word are held still.
-use Rattle.std.proofs.Common.{◌≡◌, ℕ, ◌+◌, ◌*◌, ◌/◌, ◌%◌, ◌<◌, inl, inr, Bool, true, false, not, cond, eqb, leb, ◌&&◌, ◌||◌, refl, sym, ap, subst, ◌∙◌, arith}
+use Rattle.std.proofs.Common.{◌≡◌, ℕ, ◌+◌, ◌*◌, ◌/◌, ◌%◌, ◌<◌, inl, inr, Bool, true, false, not, eqb, leb, ◌&&◌, ◌||◌, sym, ap, subst, ◌∙◌, arith}
 use Rattle.std.specs.Int.{bit_at}
-use Rattle.std.proofs.lemmas.Bool.{cases_eq, cases_lt, cases_Bool, and_parts, and_from, eq-eqb, ne_eqb, le-leb, leb-true}
+use Rattle.std.proofs.lemmas.Bool.{cases_eq, cases_lt, and_parts, and_from, eq-eqb, ne_eqb, le-leb, leb-true}
 use Rattle.dirty_core.specs.Pages.{in_words, bit_pages, one_page, minus, union, SamePages}
 use Rattle.dirty_core.specs.Start.{sizes_of}
 use Rattle.dirty_words.specs.Facts.{CopyFacts, OwnsWord, HoldsNone}
 use Rattle.live_seats.specs.Scans.{HoldsFrom, IsLeast, IsOwn}
 use Rattle.live_seats.proofs.Scanning.{and_false, and_true}
-
-pub false_true : false ≡ true → ⊥
-false_true e = subst (λ (b : Bool). cond b ⊥ (Unit {0})) e tt
-
-and_no : (b : Bool) → (b && false) ≡ false
-and_no true = refl
-and_no false = refl
-
-and_yes : (b : Bool) → (b && true) ≡ b
-and_yes true = refl
-and_yes false = refl
-
-false_leb : (a b : ℕ) → b < a → leb a b ≡ false
-false_leb a b lt = elim (cases_Bool (leb a b)) [
-  | inl e ↦ absurd (omega (arith, lt, leb-true a b e))
-  | inr e ↦ e
-]
+use Rattle.live_seats.proofs.Basics.{and_no, and_yes, false_leb}
 
 place : (word bit : ℕ) → bit < 64 → ((64 * word + bit) / 64 ≡ word) × ((64 * word + bit) % 64 ≡ bit)
 place word bit low = (omega (arith, low), omega (arith, low))

@@ -1,3 +1,4 @@
+pub mod Basics
 pub mod Replaying
 pub mod Posting
 pub mod Scanning

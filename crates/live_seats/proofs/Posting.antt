@@ -8,6 +8,7 @@ use Rattle.std.proofs.lemmas.List.Elements.{Contains-append_left, Contains-push,
 use Rattle.migration_model.specs.Trace.{GuestTrace}
 use Rattle.migration_model.specs.Frames.{PageFrame, SpellsFrame, SpellsStream, frame_text, IsFrame}
 use Rattle.live_seats.specs.Outboxes.{OutboxView, outbox_with, empty_outbox, with_sent, with_skipped, with_text, IsSentAt, IsFrameAt, SpellsPage, IsPosted, shape_in}
+use Rattle.live_seats.proofs.Basics.{in_none}
 
 -- the streams with more bytes in one of them
 pub text_sent : (sent : List (ℕ × ℕ)) (skipped : List ℕ) (streams : List (Vec ℕ Global)) (i : ℕ) (old new : Vec ℕ Global) (text : List ℕ)
@@ -17,9 +18,6 @@ text_sent sent skipped streams i old new text low there longer =
     let items : List (List ℕ) = map (λ (s : Vec ℕ Global). s.items) streams in
     let at : get_or items i [] ≡ old.items = get_or-map (λ (s : Vec ℕ Global). s.items) streams i old [] low ∙ ap (λ (s : Vec ℕ Global). s.items) (sym there) in
     ap (outbox_with sent skipped) (map-set (λ (s : Vec ℕ Global). s.items) streams i new ∙ ap (set items i) (longer ∙ ap (λ (front : List ℕ). front ++ text) (sym at)))
-
-in_none : {X : Type 0} (x : X) → Contains [] x → ⊥
-in_none x c = let low = c.1 in omega (arith, low)
 
 get_or-replicate_same : {X : Type 0} (n i : ℕ) (x : X) → get_or (replicate n x) i x ≡ x
 get_or-replicate_same n i x = elim (cases_lt i n) [

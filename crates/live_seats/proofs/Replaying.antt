@@ -1,5 +1,5 @@
 -- What a replayer has stored so far.
-use Rattle.std.proofs.Common.{◌≡◌, ℕ, ◌+◌, ◌-◌, ◌<◌, ◌≤◌, ◌⊎◌, inl, inr, Bool, true, false, cond, eqb, ltb, List, [], ◌∷◌, length, get_or, refl, sym, ap, subst, ◌∙◌, arith}
+use Rattle.std.proofs.Common.{◌≡◌, ℕ, ◌+◌, ◌-◌, ◌<◌, ◌≤◌, ◌⊎◌, inl, inr, true, false, eqb, ltb, List, [], ◌∷◌, length, get_or, refl, sym, ap, subst, ◌∙◌, arith}
 use Rattle.std.specs.Prelude.{Option, Some, None, slice_get, slice_index, unwrap_or}
 use Rattle.std.specs.List.Sorted.{IsPartitionPoint}
 use Rattle.std.proofs.lemmas.Bool.{cases_eq, cond-true, cond-false, eq-eqb, ne_eqb, ltb-true, lt-ltb, cases_lt}
@@ -14,6 +14,7 @@ use Rattle.dirty_words.specs.Facts.{GuestFacts, OwnsPage, last_place, first_gues
 use Rattle.migration_model.specs.Versions.{version_before}
 use Rattle.migration_model.proofs.Placed.{version_is_place}
 use Rattle.live_seats.specs.Replays.{HasReplayed, OpensAt, IsStoredIfOwn}
+use Rattle.live_seats.proofs.Basics.{false_true}
 
 -- the place of a write to the page: after the first writes, so many, and among the first `end`
 pub record IsAmong (trace : GuestTrace) (page first end place : ℕ) : Type 0 where
@@ -148,9 +149,6 @@ pub is_before : (trace : GuestTrace) (tick count index : ℕ) (write : GuestWrit
     → slice_get trace.writes index ≡ Some write → index < count → write.tick < tick
 is_before trace tick count index write point there low =
     ltb-true write.tick tick (ap (λ (t : GuestTouch). ltb t.tick tick) (sym (touch_there trace index write there)) ∙ point.0 index no_touch (omega arith) low)
-
-false_true : false ≡ true → ⊥
-false_true e = subst (λ (b : Bool). cond b ⊥ (Unit {0})) e tt
 
 pub is_from : (trace : GuestTrace) (tick count index : ℕ) (write : GuestWrite) → IsPoint trace tick count
     → slice_get trace.writes index ≡ Some write → count ≤ index → tick ≤ write.tick

@@ -1,5 +1,5 @@
 -- How a copier's scan goes on, step by step.
-use Rattle.std.proofs.Common.{◌≡◌, ℕ, ◌+◌, ◌/◌, ◌%◌, ◌<◌, ◌⊎◌, inl, inr, Bool, true, false, not, eqb, ◌&&◌, ◌||◌, List, [], ◌∷◌, ◌++◌, length, map, get_or, cond, refl, sym, ap, subst, ◌∙◌, arith}
+use Rattle.std.proofs.Common.{◌≡◌, ℕ, ◌+◌, ◌/◌, ◌%◌, ◌<◌, ◌⊎◌, inl, inr, Bool, true, false, not, eqb, ◌&&◌, ◌||◌, List, [], ◌∷◌, ◌++◌, length, map, get_or, refl, sym, ap, subst, ◌∙◌, arith}
 use Rattle.std.specs.Int.{bit_at}
 use Rattle.std.specs.List.{Contains}
 use Rattle.std.specs.List.Sorted.{IsStrictlyIncreasing}
@@ -13,12 +13,10 @@ use Rattle.dirty_words.specs.Facts.{CopyFacts, first_copier, after_harvest, afte
 use Rattle.dirty_words.specs.Plays.{IsAnswer, IsShown}
 use Rattle.live_seats.specs.Outboxes.{OutboxView, empty_outbox, with_sent, with_skipped, IsListed}
 use Rattle.live_seats.specs.Scans.{IsScanned, IsOwn, WasMarked, IsHeldNow, IsReturned, IsFresh, IsLeast}
+use Rattle.live_seats.proofs.Basics.{false_true, in_none, or_false}
 
 abbrev pages_of : List (ℕ × ℕ) → List ℕ
 pages_of sent = map (λ (s : ℕ × ℕ). s.0) sent
-
-in_none : {X : Type 0} (x : X) → Contains [] x → ⊥
-in_none x c = let low = c.1 in omega (arith, low)
 
 rise_push : (xs : List ℕ) (x : ℕ) → IsStrictlyIncreasing xs → ((y : ℕ) → Contains xs y → y < x) → IsStrictlyIncreasing (xs ++ x ∷ [])
 rise_push xs x up below k low =
@@ -78,10 +76,6 @@ not_true : (b : Bool) → not b ≡ true → b ≡ false
 not_true true e = sym e
 not_true false e = refl
 
-or_false : (b : Bool) → (b || false) ≡ b
-or_false true = refl
-or_false false = refl
-
 pub and_true : (b : Bool) → (b && not false) ≡ b
 and_true true = refl
 and_true false = refl
@@ -92,9 +86,6 @@ and_false false = refl
 
 true_not : (b : Bool) → b ≡ false → not b ≡ true
 true_not b e = ap not e
-
-false_true : false ≡ true → ⊥
-false_true e = subst (λ (b : Bool). cond b ⊥ (Unit {0})) e tt
 
 -- of a set without one page
 left_was : (new old : PageSet) (page q : ℕ) → SamePages new (minus old (one_page page)) → new q ≡ true → (old q ≡ true) × (q ≡ page → ⊥)

@@ -1,6 +1,7 @@
 use Rattle.std.proofs.Common.{sym, ◌∙◌}
 use Rattle.live_seats.proofs.Copying.{advances_past, advances_own}
-use Rattle.live_seats.proofs.Held.{holds_all, holds_first, false_true}
+use Rattle.live_seats.proofs.Basics.{false_true}
+use Rattle.live_seats.proofs.Held.{holds_all, holds_first}
 use Rattle.live_seats.proofs.copier.Round.copy_word.Goals as goal
 
 pub returns-then-not-owns-clause-scan : goal.returns-then-not-owns-clause-scan
