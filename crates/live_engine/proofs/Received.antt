@@ -13,7 +13,7 @@ use Rattle.migration_model.specs.Frames.{GuestShape, PageFrame, IsFrame, SpellsS
 use Rattle.migration_model.specs.Parts.{GuestPart, PageCopy, IsPart, copy_at, copy_in, later, with_frame, with_frames}
 use Rattle.migration_model.specs.Final.{shape_of_trace}
 use Rattle.migration_model.proofs.Final.{IsPart-with_frame}
-use Rattle.live_seats.specs.Outboxes.{OutboxView, IsPosted, shape_in}
+use Rattle.live_seats.specs.Outboxes.{OutboxView, IsPosted}
 use Rattle.live_engine.specs.Joining.{HaveReceived, Spelled}
 use Rattle.live_engine.proofs.Each.{pick}
 use Rattle.live_seats.proofs.Basics.{in_none}
@@ -182,7 +182,7 @@ received_streams trace outbox old new posted are shapes count same each =
             let frame = came.0 in
             let sent = posted.sent i frame came.1 in
             let page_is : sent.0 ≡ page = sym sent.3.page_is ∙ came.2 in
-            let shape_is : (get_or old i d).shape ≡ shape_in trace = shapes i d low in
+            let shape_is : (get_or old i d).shape ≡ shape_of_trace trace = shapes i d low in
             inr (
               sent.1,
               subst (λ (q : ℕ). Contains outbox.sent (q, sent.1)) page_is sent.2,

@@ -55,6 +55,7 @@ impl From<TableError> for LiveError {
     }
 }
 
+/// After the final copy no page is missing in the parts, so only memory can have been refused.
 impl From<ImageError> for LiveError {
     fn from(_error: ImageError) -> LiveError {
         LiveError::Memory

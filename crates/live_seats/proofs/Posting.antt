@@ -7,8 +7,9 @@ use Rattle.std.proofs.lemmas.List.{append-nil, get_or-map, map-set, length-set, 
 use Rattle.std.proofs.lemmas.List.Elements.{Contains-append_left, Contains-push, Contains-push_cases, All-push, All-nil}
 use Rattle.migration_model.specs.Trace.{GuestTrace}
 use Rattle.migration_model.specs.Frames.{PageFrame, SpellsFrame, SpellsStream, frame_text, IsFrame}
-use Rattle.live_seats.specs.Outboxes.{OutboxView, outbox_with, empty_outbox, with_sent, with_skipped, with_text, IsSentAt, IsFrameAt, SpellsPage, IsPosted, shape_in}
+use Rattle.live_seats.specs.Outboxes.{OutboxView, outbox_with, empty_outbox, with_sent, with_skipped, with_text, IsSentAt, IsFrameAt, SpellsPage, IsPosted}
 use Rattle.live_seats.proofs.Basics.{in_none}
+use Rattle.migration_model.specs.Final.{shape_of_trace}
 
 -- the streams with more bytes in one of them
 pub text_sent : (sent : List (ℕ × ℕ)) (skipped : List ℕ) (streams : List (Vec ℕ Global)) (i : ℕ) (old new : Vec ℕ Global) (text : List ℕ)
@@ -35,10 +36,10 @@ abbrev frames_at : List (List PageFrame) → ℕ → List PageFrame
 frames_at frames stream = get_or frames stream []
 
 -- one more frame at the end of a stream
-stream_more : (trace : GuestTrace) (text more : List ℕ) (frames : List PageFrame) (frame : PageFrame) → SpellsStream (shape_in trace) text frames
-    → SpellsFrame (shape_in trace) more frame → SpellsStream (shape_in trace) (text ++ more) (frames ++ frame ∷ [])
+stream_more : (trace : GuestTrace) (text more : List ℕ) (frames : List PageFrame) (frame : PageFrame) → SpellsStream (shape_of_trace trace) text frames
+    → SpellsFrame (shape_of_trace trace) more frame → SpellsStream (shape_of_trace trace) (text ++ more) (frames ++ frame ∷ [])
 stream_more trace text more frames frame is one = record {
-  are_frames = All-push (IsFrame (shape_in trace)) frames frame is.are_frames one.is_frame;
+  are_frames = All-push (IsFrame (shape_of_trace trace)) frames frame is.are_frames one.is_frame;
   text = ap (λ (t : List ℕ). t ++ more) is.text ∙ ap (λ (t : List ℕ). flat_map frame_text frames ++ t) (one.text ∙ sym (append-nil (frame_text frame)))
       ∙ sym (flat_map-append frame_text frames (frame ∷ []));
 }
@@ -102,7 +103,7 @@ pub posting_begins : (trace : GuestTrace) (streams : ℕ) → IsPosted trace (em
 posting_begins trace streams = record {
   frames = replicate streams [];
   count = length-replicate streams [] ∙ sym (length-replicate streams []);
-  spelled = λ s inside. rw (nothing_there streams s) (rw (no_frames streams s) (record { are_frames = All-nil (IsFrame (shape_in trace)); text = refl }));
+  spelled = λ s inside. rw (nothing_there streams s) (rw (no_frames streams s) (record { are_frames = All-nil (IsFrame (shape_of_trace trace)); text = refl }));
   sent = λ s f c. absurd (in_none f (subst (λ (fs : List PageFrame). Contains fs f) (no_frames streams s) c));
   all = λ q at c. absurd (in_none (q, at) c);
 }

@@ -3,7 +3,8 @@ use Rattle.std.specs.Prelude.{◌≡◌, ◌⊎◌, ℕ, ◌<◌, min, List, [],
 use Rattle.std.specs.List.{Contains}
 use Rattle.migration_model.specs.Trace.{GuestTrace}
 use Rattle.migration_model.specs.Versions.{page_at}
-use Rattle.migration_model.specs.Frames.{GuestShape, PageFrame, SpellsFrame, SpellsStream, shape_with, content_of}
+use Rattle.migration_model.specs.Final.{shape_of_trace}
+use Rattle.migration_model.specs.Frames.{PageFrame, SpellsFrame, SpellsStream, content_of}
 
 -- the pages sent, each with the place that was read, those skipped, and the bytes of each stream
 pub record OutboxView : Type 0 where
@@ -35,9 +36,6 @@ IsSentAt outbox page place = Contains outbox.sent (page, place)
 abbrev pub IsListed : OutboxView → ℕ → Type 0
 IsListed outbox page = Contains (map (λ sent. sent.0) outbox.sent) page ⊎ Contains outbox.skipped page
 
-abbrev pub shape_in : GuestTrace → GuestShape
-shape_in trace = shape_with trace.shift trace.pages (length trace.writes)
-
 -- The stamp of a page that was read at this place. A place that is read is that of a write; until the table is closed
 -- nobody knows, so a stamp is bounded by their number.
 abbrev pub stamp_for : GuestTrace → ℕ → ℕ
@@ -47,20 +45,20 @@ stamp_for trace place = min place (length trace.writes)
 pub record IsFrameAt (trace : GuestTrace) (page place : ℕ) (frame : PageFrame) : Type 0 where
   pub page_is : frame.page ≡ page
   pub stamp_is : frame.stamp ≡ stamp_for trace place
-  pub content : content_of (shape_in trace) frame ≡ page_at trace frame.page frame.stamp
+  pub content : content_of (shape_of_trace trace) frame ≡ page_at trace frame.page frame.stamp
 
 -- these bytes spell that frame
 pub record SpellsPage (trace : GuestTrace) (page place : ℕ) (text : List ℕ) : Type 0 where
   pub frame : PageFrame
   pub is_frame : IsFrameAt trace page place frame
-  pub spells : SpellsFrame (shape_in trace) text frame
+  pub spells : SpellsFrame (shape_of_trace trace) text frame
 
 -- the streams are frames of the pages sent, and each of these has its frame in one
 pub record IsPosted (trace : GuestTrace) (outbox : OutboxView) : Type 0 where
   pub frames : List (List PageFrame)
   pub count : length frames ≡ length outbox.streams
   pub spelled : (stream : ℕ) → stream < length outbox.streams
-      → SpellsStream (shape_in trace) (slice_index_or outbox.streams stream []) (slice_index_or frames stream [])
+      → SpellsStream (shape_of_trace trace) (slice_index_or outbox.streams stream []) (slice_index_or frames stream [])
   pub sent : (stream : ℕ) (frame : PageFrame) → Contains (slice_index_or frames stream []) frame
       → (page : ℕ) × (place : ℕ) × IsSentAt outbox page place × IsFrameAt trace page place frame
   pub all : (page place : ℕ) → IsSentAt outbox page place
