@@ -71,20 +71,20 @@ copies_skipped trace page f peeked new o outbox least looked is =
     let after : CopyFacts = after_peek (page / 64) looked.answer f in
     let skips : HasSkippedPage page after o new outbox = subst (λ (p : CopyFacts). HasSkippedPage page p o new outbox) looked.facts is in
     let shown : IsShown f (page / 64) looked.answer after = subst (λ (p : CopyFacts). IsShown f (page / 64) looked.answer p) looked.facts looked.shown in
-    let left : CopyFacts = after_restore (page / 64) skips.bits after in
+    let left : CopyFacts = after_restore (page / 64) skips.0.bits after in
     let held : SamePages (in_words left.held) (minus (in_words after.held) (one_page page)) =
-    subst (λ (n : CopyFacts). SamePages (in_words n.held) (minus (in_words after.held) (one_page page))) skips.facts skips.held in
+    subst (λ (n : CopyFacts). SamePages (in_words n.held) (minus (in_words after.held) (one_page page))) skips.0.facts skips.0.held in
     let returned : SamePages (in_words left.returned) (union (in_words after.returned) (one_page page)) =
-    subst (λ (n : CopyFacts). SamePages (in_words n.returned) (union (in_words after.returned) (one_page page))) skips.facts skips.returned in
+    subst (λ (n : CopyFacts). SamePages (in_words n.returned) (union (in_words after.returned) (one_page page))) skips.0.facts skips.0.returned in
     record {
-      number_is = ap (λ (n : CopyFacts). n.number) skips.facts;
-      streams = ap (λ (b : OutboxView). length b.streams) skips.outbox_is;
+      number_is = ap (λ (n : CopyFacts). n.number) skips.0.facts;
+      streams = ap (λ (b : OutboxView). length b.streams) skips.1;
       scanned = λ ahead scan.
           let fresh = shown_is_fresh true ahead page looked.answer f o scan least.0 looked.shows_is shown in
           let scan_after = scan_peeks true ahead (page / 64) looked.answer f o scan shown.kept in
-          subst (λ (n : CopyFacts). IsScanned true ahead n outbox) (sym skips.facts) (subst (λ (b : OutboxView). IsScanned true ahead left b) (sym skips.outbox_is)
-          (scan_skips ahead page (page / 64) skips.bits after o scan_after least fresh held returned));
-      posted = λ posted. subst (λ (b : OutboxView). IsPosted trace b) (sym skips.outbox_is) (posts_none trace page o posted);
+          subst (λ (n : CopyFacts). IsScanned true ahead n outbox) (sym skips.0.facts) (subst (λ (b : OutboxView). IsScanned true ahead left b) (sym skips.1)
+          (scan_skips ahead page (page / 64) skips.0.bits after o scan_after least fresh held returned));
+      posted = λ posted. subst (λ (b : OutboxView). IsPosted trace b) (sym skips.1) (posts_none trace page o posted);
     }
 
 -- ---- one step after another

@@ -1,4 +1,5 @@
 pub mod Replays
 pub mod Outboxes
+pub mod Desks
 pub mod Scans
 pub mod Copies

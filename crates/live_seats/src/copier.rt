@@ -1,43 +1,38 @@
 //! What a copier does: it harvests its dirty words and sends their pages.
 
-ghost use Rattle.std.specs.Prelude.{◌≡◌, ◌<◌, ◌≤◌, ◌+◌, ◌*◌, ◌^◌, ◌&&◌, nat_le, ℕ, Bool, true, IsTrue, IfOk, OnOk, length, ◌/◌};
+ghost use Rattle.std.specs.Prelude.{◌≡◌, ◌<◌, ◌≤◌, ◌+◌, ◌*◌, ◌^◌, ◌&&◌, nat_le, ℕ, Bool, List, true, IsTrue, IfOk, OnOk, length, ◌/◌};
 ghost use Rattle.std.specs.Int.{bit_at};
 ghost use Rattle.dirty_core.specs.Pages.{in_words, one_page, word_pages, bit_pages, union, minus, SamePages};
 ghost use Rattle.dirty_words.specs.Facts.{after_harvest, after_peek, after_read, first_copier, OwnsWord, HoldsNone};
 ghost use Rattle.dirty_words.specs.Plays.{IsAnswer, IsShown};
 ghost use Rattle.dirty_words.specs.Seats.{copy_table};
-ghost use Rattle.live_seats.specs.Outboxes.{SpellsPage};
+ghost use Rattle.live_seats.specs.Desks.{IsDesk};
+ghost use Rattle.live_seats.specs.Outboxes.{SpellsPage, with_text};
 ghost use Rattle.live_seats.specs.Scans.{HoldsFrom, IsLeast, IsOwn};
-ghost use Rattle.live_seats.specs.Copies.{AdvancesScan, HasCopied, HasPeeked, HasSentPage, HasSkippedPage, IsReady, KeepsScan};
-ghost use Rattle.page_versions.specs.Index.{IsIndexOf};
+ghost use Rattle.live_seats.specs.Copies.{AdvancesScan, HasCopied, HasPeeked, HasRestored, HasSentPage, HasSkippedPage, IsReady, KeepsScan};
 
+use crate::desk::Desk;
 use crate::error::SeatError;
 use crate::gate::{Gate, Point};
-use crate::outbox::Outbox;
 use dirty_words::{CopySeat, RoundTable};
-use page_message::{encode_frame, frame_of};
-use page_versions::PageIndex;
 use std::alloc::Global;
-use stream_split::Dealer;
 use trace_codec::Trace;
 
 /// What all copiers of a round share.
 #[derive(Drop)]
 pub struct Round<'a, G> {
     pub trace: &'a Trace,
-    pub index: &'a PageIndex,
     pub table: &'a RoundTable,
     pub gate: &'a G,
     /// Whether a page that is marked again is skipped.
     pub skip: bool,
 }
 
-/// A copier in a round: its seat, whose stream's turn it is, and what it gives over.
+/// A copier in a round: its seat, and its desk.
 #[derive(Drop)]
-pub struct Copier {
+pub struct Copier<'a> {
     pub seat: CopySeat,
-    pub dealer: Dealer,
-    pub outbox: Outbox,
+    pub desk: Desk<'a>,
 }
 
 /// A page by its dirty word, and its bit there.
@@ -81,20 +76,30 @@ impl<'a, G: Gate> Round<'a, G> {
         place
     }
 
-    /// The spelling of a page's frame at the place that was read.
-    fn page_text(&self, alloc: Global, page: u32, place: u32) -> Result<Vec<u8>, SeatError>
-        requires of { IsIndexOf self.now.index.now self.now.trace.now }
+    /// Adds a page's frame at the place that was read to a stream.
+    fn post_page(
+        &self,
+        alloc: Global,
+        desk: &mut Desk<'_>,
+        stream: usize,
+        page: u32,
+        place: u32,
+    ) -> Result<(), SeatError>
+        requires trace { desk.old.cache.trace ≡ self.now.trace.now }
         requires page { page < self.now.trace.now.pages }
-        ensures { IfOk result (λ text. SpellsPage self.now.trace.now page place text.items) }
+        requires stream { stream < length desk.old.outbox.streams }
+        ensures posted { OnOk result ((text : List ℕ) × SpellsPage self.now.trace.now page place text × (desk.new.outbox ≡ with_text stream text desk.old.outbox)) }
+        ensures turn { desk.new.turn ≡ desk.old.turn }
+        ensures trace { desk.new.cache.trace ≡ desk.old.cache.trace }
     {
         let shape = self.trace.shape();
         let stamp = place.min(shape.writes);
-        let bytes = self.index.bytes_at(alloc, self.trace, page, stamp)?;
-        let frame = frame_of(&shape, page, stamp, bytes);
-        let Ok(text) = encode_frame(alloc, &shape, &frame) else {
-            return Err(SeatError::Memory);
+        desk.cache.keep(alloc, page, stamp)?;
+        let Some(bytes) = desk.cache.bytes(page) else {
+            unreachable!()
         };
-        Ok(text)
+        desk.outbox.post(stream, &shape, page, stamp, bytes)?;
+        Ok(())
     }
 
     /// Whether the word of a page shows it now.
@@ -109,48 +114,59 @@ impl<'a, G: Gate> Round<'a, G> {
     }
 
     /// Sends a held page in the stream whose turn it is.
-    fn send_page(&self, alloc: Global, page: u32, copier: &mut Copier) -> Result<(), SeatError>
-        requires of { IsIndexOf self.now.index.now self.now.trace.now }
+    fn send_page(&self, alloc: Global, page: u32, copier: &mut Copier<'_>) -> Result<(), SeatError>
         requires page { page < self.now.trace.now.pages }
         requires table { copy_table copier.old.seat ≡ self.now.table.now }
         requires held { IsTrue (in_words copier.old.seat.facts.held page) }
-        requires streams { length copier.old.outbox.streams ≡ copier.old.dealer.streams }
+        requires trace { copier.old.desk.cache.trace ≡ self.now.trace.now }
+        requires streams { length copier.old.desk.outbox.streams ≡ copier.old.desk.turn.streams }
         ensures table { copy_table copier.new.seat ≡ copy_table copier.old.seat }
-        ensures sent { OnOk result (HasSentPage self.now.trace.now page copier.old.seat.facts copier.old.outbox copier.new.seat.facts copier.new.outbox) }
-        ensures dealer { copier.new.dealer.streams ≡ copier.old.dealer.streams }
+        ensures sent { OnOk result (HasSentPage self.now.trace.now page copier.old.seat.facts copier.old.desk.outbox copier.new.seat.facts copier.new.desk.outbox) }
+        ensures trace { copier.new.desk.cache.trace ≡ copier.old.desk.cache.trace }
+        ensures turn { copier.new.desk.turn.streams ≡ copier.old.desk.turn.streams }
     {
-        let stream = copier.dealer.deal();
+        let stream = copier.desk.dealer.deal();
         let place = self.read(&mut copier.seat, page);
-        let text = self.page_text(alloc, page, place)?;
-        copier.outbox.send(stream, &text)?;
-        copier.outbox.list_sent(page, place)?;
+        self.post_page(alloc, &mut copier.desk, stream, page, place)?;
+        copier.desk.outbox.list_sent(page, place)?;
         Ok(())
     }
 
+    /// Gives a held page back.
+    fn restore(&self, seat: &mut CopySeat, page: u32)
+        requires table { copy_table seat.old ≡ self.now.table.now }
+        requires own { OwnsWord seat.old.facts (page / 64) }
+        requires held { IsTrue (in_words seat.old.facts.held page) }
+        ensures table { copy_table seat.new ≡ copy_table seat.old }
+        ensures restored { HasRestored page seat.old.facts seat.new.facts }
+    {
+        let word = (page / 64) as usize;
+        seat.restore(self.table, word, 1 << (page % 64));
+    }
+
     /// Gives a held page back, and lists it as skipped.
-    fn skip_page(&self, page: u32, copier: &mut Copier) -> Result<(), SeatError>
+    fn skip_page(&self, page: u32, copier: &mut Copier<'_>) -> Result<(), SeatError>
         requires table { copy_table copier.old.seat ≡ self.now.table.now }
         requires own { OwnsWord copier.old.seat.facts (page / 64) }
         requires held { IsTrue (in_words copier.old.seat.facts.held page) }
         ensures table { copy_table copier.new.seat ≡ copy_table copier.old.seat }
-        ensures skipped { OnOk result (HasSkippedPage page copier.old.seat.facts copier.old.outbox copier.new.seat.facts copier.new.outbox) }
-        ensures dealer { copier.new.dealer ≡ copier.old.dealer }
+        ensures skipped { OnOk result (HasSkippedPage page copier.old.seat.facts copier.old.desk.outbox copier.new.seat.facts copier.new.desk.outbox) }
+        ensures trace { copier.new.desk.cache.trace ≡ copier.old.desk.cache.trace }
+        ensures turn { copier.new.desk.turn ≡ copier.old.desk.turn }
     {
-        let word = (page / 64) as usize;
-        copier.seat.restore(self.table, word, 1 << (page % 64));
-        copier.outbox.list_skipped(page)?;
+        self.restore(&mut copier.seat, page);
+        copier.desk.outbox.list_skipped(page)?;
         Ok(())
     }
 
     /// Sends a held page in front of which none is held, or skips it where it is marked again and pages may be skipped.
-    fn copy_page(&self, alloc: Global, page: u32, copier: &mut Copier) -> Result<(), SeatError>
-        requires of { IsIndexOf self.now.index.now self.now.trace.now }
+    fn copy_page(&self, alloc: Global, page: u32, copier: &mut Copier<'_>) -> Result<(), SeatError>
         requires pages { length self.now.table.now.start.places ≡ self.now.trace.now.pages }
-        requires ready { IsReady self.now.table.now copier.old.seat copier.old.dealer copier.old.outbox }
+        requires ready { IsReady self.now.trace.now self.now.table.now copier.old.seat copier.old.desk }
         requires least { IsLeast copier.old.seat.facts page }
         requires own { IsOwn copier.old.seat.facts page }
-        ensures ready { OnOk result (IsReady self.now.table.now copier.new.seat copier.new.dealer copier.new.outbox) }
-        ensures scan { OnOk result (KeepsScan self.now.trace.now self.now.skip copier.old.seat.facts copier.old.outbox copier.new.seat.facts copier.new.outbox) }
+        ensures ready { OnOk result (IsReady self.now.trace.now self.now.table.now copier.new.seat copier.new.desk) }
+        ensures scan { OnOk result (KeepsScan self.now.trace.now self.now.skip copier.old.seat.facts copier.old.desk.outbox copier.new.seat.facts copier.new.desk.outbox) }
         ensures held { OnOk result (SamePages (in_words copier.new.seat.facts.held) (minus (in_words copier.old.seat.facts.held) (one_page page))) }
     {
         if !self.skip {
@@ -172,18 +188,17 @@ impl<'a, G: Gate> Round<'a, G> {
         word: usize,
         bits: u64,
         bit: u32,
-        copier: &mut Copier,
+        copier: &mut Copier<'_>,
     ) -> Result<(), SeatError>
-        requires of { IsIndexOf self.now.index.now self.now.trace.now }
         requires pages { length self.now.table.now.start.places ≡ self.now.trace.now.pages }
         requires few { self.now.trace.now.pages ≤ 65_536 }
-        requires ready { IsReady self.now.table.now copier.old.seat copier.old.dealer copier.old.outbox }
+        requires ready { IsReady self.now.trace.now self.now.table.now copier.old.seat copier.old.desk }
         requires own { OwnsWord copier.old.seat.facts word }
         requires real { (page : ℕ) → IsTrue (bit_pages word bits page) → page < self.now.trace.now.pages }
         requires bit { bit < 64 }
         requires holds { HoldsFrom word bits bit copier.old.seat.facts }
-        ensures ready { OnOk result (IsReady self.now.table.now copier.new.seat copier.new.dealer copier.new.outbox) }
-        ensures scan { OnOk result (KeepsScan self.now.trace.now self.now.skip copier.old.seat.facts copier.old.outbox copier.new.seat.facts copier.new.outbox) }
+        ensures ready { OnOk result (IsReady self.now.trace.now self.now.table.now copier.new.seat copier.new.desk) }
+        ensures scan { OnOk result (KeepsScan self.now.trace.now self.now.skip copier.old.seat.facts copier.old.desk.outbox copier.new.seat.facts copier.new.desk.outbox) }
         ensures holds { OnOk result (HoldsFrom word bits (bit + 1) copier.new.seat.facts) }
     {
         if (bits >> bit) & 1 != 1 {
@@ -200,17 +215,16 @@ impl<'a, G: Gate> Round<'a, G> {
         alloc: Global,
         word: usize,
         bits: u64,
-        copier: &mut Copier,
+        copier: &mut Copier<'_>,
     ) -> Result<(), SeatError>
-        requires of { IsIndexOf self.now.index.now self.now.trace.now }
         requires pages { length self.now.table.now.start.places ≡ self.now.trace.now.pages }
         requires few { self.now.trace.now.pages ≤ 65_536 }
-        requires ready { IsReady self.now.table.now copier.old.seat copier.old.dealer copier.old.outbox }
+        requires ready { IsReady self.now.trace.now self.now.table.now copier.old.seat copier.old.desk }
         requires own { OwnsWord copier.old.seat.facts word }
         requires real { (page : ℕ) → IsTrue (bit_pages word bits page) → page < self.now.trace.now.pages }
         requires holds { HoldsFrom word bits 0 copier.old.seat.facts }
-        ensures ready { OnOk result (IsReady self.now.table.now copier.new.seat copier.new.dealer copier.new.outbox) }
-        ensures scan { OnOk result (KeepsScan self.now.trace.now self.now.skip copier.old.seat.facts copier.old.outbox copier.new.seat.facts copier.new.outbox) }
+        ensures ready { OnOk result (IsReady self.now.trace.now self.now.table.now copier.new.seat copier.new.desk) }
+        ensures scan { OnOk result (KeepsScan self.now.trace.now self.now.skip copier.old.seat.facts copier.old.desk.outbox copier.new.seat.facts copier.new.desk.outbox) }
         ensures held { OnOk result (HoldsNone copier.new.seat.facts) }
     {
         for bit in 0..64 {
@@ -220,14 +234,13 @@ impl<'a, G: Gate> Round<'a, G> {
     }
 
     /// Harvests a word, where it is the copier's, and sends or skips its pages.
-    fn copy_word(&self, alloc: Global, word: usize, copier: &mut Copier) -> Result<(), SeatError>
-        requires of { IsIndexOf self.now.index.now self.now.trace.now }
+    fn copy_word(&self, alloc: Global, word: usize, copier: &mut Copier<'_>) -> Result<(), SeatError>
         requires pages { length self.now.table.now.start.places ≡ self.now.trace.now.pages }
         requires few { self.now.trace.now.pages ≤ 65_536 }
-        requires ready { IsReady self.now.table.now copier.old.seat copier.old.dealer copier.old.outbox }
+        requires ready { IsReady self.now.trace.now self.now.table.now copier.old.seat copier.old.desk }
         requires held { HoldsNone copier.old.seat.facts }
-        ensures ready { OnOk result (IsReady self.now.table.now copier.new.seat copier.new.dealer copier.new.outbox) }
-        ensures scan { OnOk result (AdvancesScan self.now.trace.now self.now.skip word copier.old.seat.facts copier.old.outbox copier.new.seat.facts copier.new.outbox) }
+        ensures ready { OnOk result (IsReady self.now.trace.now self.now.table.now copier.new.seat copier.new.desk) }
+        ensures scan { OnOk result (AdvancesScan self.now.trace.now self.now.skip word copier.old.seat.facts copier.old.desk.outbox copier.new.seat.facts copier.new.desk.outbox) }
         ensures held { OnOk result (HoldsNone copier.new.seat.facts) }
     {
         if !copier.seat.owns(word) {
@@ -239,26 +252,22 @@ impl<'a, G: Gate> Round<'a, G> {
     }
 
     /// What a copier does in a round: it harvests its words once, in rising order, and sends or skips the pages of each. The
-    /// seat has done nothing before. Memory alone is refused.
-    pub fn copy(
+    /// seat has done nothing before; what the desk gave over in the round before goes. Memory alone is refused.
+    pub fn copy<'d>(
         &self,
         alloc: Global,
         seat: CopySeat,
-        dealer: Dealer,
-        streams: usize,
-    ) -> Result<Copier, SeatError>
-        requires of { IsIndexOf self.now.index.now self.now.trace.now }
+        desk: Desk<'d>,
+    ) -> Result<Copier<'d>, SeatError>
         requires pages { length self.now.table.now.start.places ≡ self.now.trace.now.pages }
         requires table { copy_table seat ≡ self.now.table.now }
         requires idle { seat.facts ≡ first_copier self.now.table.now.start seat.facts.number }
-        requires streams { dealer.streams ≡ streams }
-        ensures { IfOk result (λ copier. HasCopied self.now.trace.now self.now.skip self.now.table.now seat.facts.number streams copier.seat copier.dealer copier.outbox) }
+        requires desk { IsDesk self.now.trace.now desk.turn.streams desk }
+        ensures { IfOk result (λ copier. HasCopied self.now.trace.now self.now.skip self.now.table.now seat.facts.number desk.entry.turn.streams copier.seat copier.desk) }
     {
-        let mut copier = Copier {
-            seat,
-            dealer,
-            outbox: Outbox::new(alloc, streams)?,
-        };
+        let mut desk = desk;
+        desk.clear();
+        let mut copier = Copier { seat, desk };
         let shape = self.trace.shape();
         let words = (shape.pages as usize + 63) / 64;
         for word in 0..words {

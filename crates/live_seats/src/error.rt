@@ -3,7 +3,8 @@
 ghost use Rattle.std.specs.Prelude.{◌≡◌};
 ghost use Rattle.live_seats.specs.declared.error.SeatError.TheVariants.{Memory};
 
-use page_versions::IndexError;
+use page_cache::CacheError;
+use page_message::FrameError;
 use std::alloc::{AllocError, AllocFailed};
 use stream_split::SplitError;
 use thiserror::Error;
@@ -40,10 +41,19 @@ impl From<SplitError> for SeatError {
     }
 }
 
-impl From<IndexError> for SeatError {
+impl From<CacheError> for SeatError {
     ghost from_gives = { λ _ e. e ≡ Memory };
 
-    fn from(_error: IndexError) -> SeatError {
+    fn from(_error: CacheError) -> SeatError {
+        SeatError::Memory
+    }
+}
+
+/// Of a frame that is appended only memory is refused.
+impl From<FrameError> for SeatError {
+    ghost from_gives = { λ _ e. e ≡ Memory };
+
+    fn from(_error: FrameError) -> SeatError {
         SeatError::Memory
     }
 }

@@ -2,12 +2,14 @@
 #![tactic(auto)]
 
 mod copier;
+mod desk;
 mod error;
 mod gate;
 mod outbox;
 mod replayer;
 
 pub use copier::{Copier, Round};
+pub use desk::Desk;
 pub use error::SeatError;
 pub use gate::{Gate, OpenGate, Point};
 pub use outbox::Outbox;

@@ -1,6 +1,6 @@
 //! The cache.
 
-ghost use Rattle.std.specs.Prelude.{◌≡◌, ◌<◌, ◌≤◌, [], IfOk, IfSome, OnOk, Some, length, nat_eq};
+ghost use Rattle.std.specs.Prelude.{◌≡◌, ◌<◌, ◌≤◌, [], IfOk, IfSome, OnOk, Some, length, nat_eq, option_map};
 ghost use Rattle.std.specs.Map.{lookup};
 ghost use Rattle.migration_model.specs.Versions.{page_at};
 ghost use Rattle.page_versions.specs.Index.{IsIndexOf};
@@ -88,8 +88,30 @@ impl<'a> PageCache<'a> {
         }
     }
 
-    /// The page after the first `version` writes of the trace, as `PageIndex::bytes_at` tells it. Where an earlier version
-    /// of the page is kept, only the writes in between are put there; else it is made from zeros.
+    /// Keeps the page after the first `version` writes of the trace. Where an earlier version of the page is kept, only the
+    /// writes in between are put there; else it is made from zeros.
+    pub fn keep(&mut self, alloc: Global, page: u32, version: u32) -> Result<(), CacheError>
+        requires page { page < self.old.trace.pages }
+        requires version { version ≤ length self.old.trace.writes }
+        ensures kept { AreKept self.new.trace self.new.entries }
+        ensures last { OnOk result (lookup (nat_eq page) self.new.entries ≡ Some (page_with version (page_at self.old.trace page version))) }
+        ensures trace { self.new.trace ≡ self.old.trace }
+        ensures capacity { self.new.capacity ≡ self.old.capacity }
+    {
+        let kept = self.page_to_keep(alloc, page, version)?;
+        self.kept.put(page, kept)?;
+        Ok(())
+    }
+
+    /// The bytes that are kept of a page, of whatever version.
+    pub fn bytes(&self, page: u32) -> Option<&[u8]>
+        ensures { option_map (λ b. b.now) result ≡ option_map (λ k. k.bytes) (lookup (nat_eq page) self.now.entries) }
+    {
+        let kept = self.kept.peek(&page)?;
+        Some(&kept.bytes)
+    }
+
+    /// The page after the first `version` writes of the trace, as `PageIndex::bytes_at` tells it. It is kept then.
     pub fn bytes_at(
         &mut self,
         alloc: Global,
@@ -104,9 +126,10 @@ impl<'a> PageCache<'a> {
         ensures trace { self.new.trace ≡ self.old.trace }
         ensures capacity { self.new.capacity ≡ self.old.capacity }
     {
-        let kept = self.page_to_keep(alloc, page, version)?;
-        let bytes = Vec::from_slice(alloc, &kept.bytes)?;
-        self.kept.put(page, kept)?;
-        Ok(bytes)
+        self.keep(alloc, page, version)?;
+        let Some(bytes) = self.bytes(page) else {
+            unreachable!()
+        };
+        Ok(Vec::from_slice(alloc, bytes)?)
     }
 }

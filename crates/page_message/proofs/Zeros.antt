@@ -1,6 +1,6 @@
 -- Two tests of the same bytes.
-use Rattle.std.proofs.Common.{◌≡◌, ◌↔◌, ℕ, Bool, false, IsTrue, ◌==◌, List, refl}
-use Rattle.std.specs.List.{list_all}
+use Rattle.std.proofs.Common.{◌≡◌, ◌↔◌, ℕ, suc, Bool, false, IsTrue, ◌==◌, List, [], ◌∷◌, length, replicate, refl, sym, ap₂, arith}
+use Rattle.std.specs.List.{All, list_all}
 use Rattle.std.specs.Bool.{Decides}
 use Rattle.std.proofs.lemmas.Bool.{false_from_ne_true}
 use Rattle.std.proofs.lemmas.Bool.Decides.{Decides-by_and, Decides-eqb, same_from_decides}
@@ -17,3 +17,9 @@ not_zeros bytes some = false_from_ne_true _ (λ all. some ((tells_zeros bytes).0
 
 pub some_from_false : (bytes : List ℕ) → list_all (λ byte. byte == 0) bytes ≡ false → ¬ IsZeros bytes
 some_from_false bytes is zeros = absurd (cc (is, (tells_zeros bytes).1 zeros))
+
+-- what is the same throughout is that as often as it is long
+pub all_same : {X : Type 0} (x : X) (xs : List X) → All (λ y. y ≡ x) xs → replicate (length xs) x ≡ xs
+all_same x [] same = refl
+all_same x (y ∷ ys) same =
+    ap₂ (λ (first : _) (rest : List _). first ∷ rest) (sym (same 0 x (omega arith))) (all_same x ys (λ k d low. same (suc k) d (omega (arith, low))))

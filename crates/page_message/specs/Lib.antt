@@ -2,3 +2,4 @@ pub mod Shapes
 pub mod Bodies
 pub mod Reading
 pub mod Refusals
+pub mod Framing

@@ -1,9 +1,10 @@
 //! Frames to bytes.
 
-ghost use Rattle.std.specs.Prelude.{◌≡◌, ◌++◌, ◌∷◌, [], IfErr, IfOk};
+ghost use Rattle.std.specs.Prelude.{◌≡◌, ◌<◌, ◌≤◌, ◌^◌, ◌++◌, ◌∷◌, [], IfErr, IfOk, OnOk, length};
 ghost use Rattle.std.specs.Int.{w32};
-ghost use Rattle.migration_model.specs.Frames.{IsFrame, frame_text};
+ghost use Rattle.migration_model.specs.Frames.{IsFrame, PageFrame, frame_text};
 ghost use Rattle.migration_model.specs.Numbers.{text_of};
+ghost use Rattle.page_message.specs.Framing.{IsFrameOf};
 ghost use Rattle.page_message.specs.Shapes.{shape_of};
 
 use crate::error::FrameError;
@@ -11,6 +12,7 @@ use crate::frame::{Body, Frame};
 use byteorder::{ByteOrder, LittleEndian};
 use std::alloc::Global;
 use trace_codec::Shape;
+use zero_pages::is_zero;
 
 /// The bytes of a frame in front of the page.
 pub(crate) const HEAD: usize = 9;
@@ -47,4 +49,28 @@ pub fn encode_frame(alloc: Global, shape: &Shape, frame: &Frame) -> Result<Vec<u
             Ok(text)
         }
     }
+}
+
+/// Adds the spelling of the frame of these bytes of a page to the end of a stream. They are copied once, or not at all where
+/// each is 0. `F6` alone is answered, and the stream is of no use then.
+pub fn append_frame(
+    stream: &mut Vec<u8>,
+    shape: &Shape,
+    page: u32,
+    stamp: u32,
+    bytes: &[u8],
+) -> Result<(), FrameError>
+    requires page { page < shape.now.pages }
+    requires stamp { stamp ≤ shape.now.writes }
+    requires whole { length bytes.now ≡ 2 ^ shape.now.shift }
+    ensures appended { OnOk result ((frame : PageFrame) × IsFrameOf (shape_of shape.now) page stamp bytes.now frame × (stream.new.items ≡ stream.old.items ++ frame_text frame)) }
+    ensures refused { IfErr result (λ e. e ≡ FrameError.Memory) }
+{
+    if is_zero(bytes) {
+        stream.extend_from_slice(&head_of(page, stamp, 0))?;
+        return Ok(());
+    }
+    stream.extend_from_slice(&head_of(page, stamp, 1))?;
+    stream.extend_from_slice(bytes)?;
+    Ok(())
 }

@@ -10,7 +10,7 @@ mod making;
 mod tests;
 
 pub use decoding::decode_frame;
-pub use encoding::encode_frame;
+pub use encoding::{append_frame, encode_frame};
 pub use error::FrameError;
 pub use frame::{Body, Frame};
 pub use making::frame_of;

@@ -3,7 +3,7 @@ use Rattle.std.specs.Cmp.{nat_eq_equiv}
 use Rattle.lru.proofs.CallerLemmas.{lookup-put_entries}
 use Rattle.page_cache.specs.Cache.{GuestCache}
 use Rattle.page_cache.proofs.Entries.{kept_put_at}
-use Rattle.page_cache.proofs.cache.PageCache.bytes_at.Goals as goal
+use Rattle.page_cache.proofs.cache.PageCache.keep.Goals as goal
 
 pub invariant_of-self-2 : goal.invariant_of-self-2
 invariant_of-self-2 c =
