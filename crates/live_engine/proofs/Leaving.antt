@@ -57,10 +57,10 @@ pub record IsClosedRound (trace : GuestTrace) (skip : Bool) (table : TableView) 
   pub next : IsStart (start_with closed.versions closed.dirty table.start.guests table.start.copiers)
 
 abbrev sent_by : Copier → List (ℕ × ℕ)
-sent_by c = c.outbox.sent
+sent_by c = c.desk.outbox.sent
 
 abbrev skipped_by : Copier → List ℕ
-skipped_by c = c.outbox.skipped
+skipped_by c = c.desk.outbox.skipped
 
 -- what all copiers sent and skipped, in order of their numbers
 abbrev pub round_of : List Copier → LiveRound
@@ -120,7 +120,7 @@ module _ (trace : GuestTrace) (skip : Bool) (table : TableView) (from to streams
       }
 
   -- what a copier listed is its own
-  listing : (i : ℕ) (copier : Copier) (page : ℕ) → slice_get copiers i ≡ Some copier → boxes.IsListed copier.outbox page
+  listing : (i : ℕ) (copier : Copier) (page : ℕ) → slice_get copiers i ≡ Some copier → boxes.IsListed copier.desk.outbox page
       → (page < trace.pages) × (page / 64 % table.start.copiers ≡ i)
   listing i copier page there listed =
       let copied : IsCopied trace skip table streams copier i = each_got (IsCopied trace skip table streams) copiers i copier is.copied.each there in
@@ -133,13 +133,13 @@ module _ (trace : GuestTrace) (skip : Bool) (table : TableView) (from to streams
       )
 
   -- so it was listed by the page's own copier
-  by_own : (i : ℕ) (copier : Copier) (page : ℕ) → slice_get copiers i ≡ Some copier → boxes.IsListed copier.outbox page
+  by_own : (i : ℕ) (copier : Copier) (page : ℕ) → slice_get copiers i ≡ Some copier → boxes.IsListed copier.desk.outbox page
       → (real : page < trace.pages) → copier ≡ (owned page real).copier
   by_own i copier page there listed real =
       let o = owned page real in
       same_Some copier o.copier (sym there ∙ ap (slice_get copiers) (sym (listing i copier page there listed).1) ∙ o.there)
 
-  sent_listed : (copier : Copier) (page place : ℕ) → Contains (sent_by copier) (page, place) → boxes.IsListed copier.outbox page
+  sent_listed : (copier : Copier) (page place : ℕ) → Contains (sent_by copier) (page, place) → boxes.IsListed copier.desk.outbox page
   sent_listed copier page place sent = inl (fst_in (sent_by copier) page place sent)
 
   stored_written : (page : ℕ) (o : Owned trace skip table from to streams page copiers closed) → HasStored o.guest.facts page → IsWritten trace from to page
@@ -164,20 +164,20 @@ module _ (trace : GuestTrace) (skip : Bool) (table : TableView) (from to streams
 
   -- a page that a copier listed: by its own copier
   sent_own : (page place : ℕ) → Contains (round_of copiers).sent (page, place)
-      → (real : page < trace.pages) × IsSentAt (owned page real).copier.outbox page place
+      → (real : page < trace.pages) × IsSentAt (owned page real).copier.desk.outbox page place
   sent_own page place sent =
       let found = in_piece sent_by copiers (page, place) sent in
       let listed = sent_listed found.1 page place found.3 in
       let real = (listing found.0 found.1 page found.2 listed).0 in
       (real, subst (λ (c : Copier). Contains (sent_by c) (page, place)) (by_own found.0 found.1 page found.2 listed real) found.3)
 
-  skipped_own : (page : ℕ) → Contains (round_of copiers).skipped page → (real : page < trace.pages) × Contains (owned page real).copier.outbox.skipped page
+  skipped_own : (page : ℕ) → Contains (round_of copiers).skipped page → (real : page < trace.pages) × Contains (owned page real).copier.desk.outbox.skipped page
   skipped_own page skipped =
       let found = in_piece skipped_by copiers page skipped in
       let real = (listing found.0 found.1 page found.2 (inr found.3)).0 in
       (real, subst (λ (c : Copier). Contains (skipped_by c) page) (by_own found.0 found.1 page found.2 (inr found.3) real) found.3)
 
-  listed_own : (page : ℕ) → IsListed (round_of copiers) page → (real : page < trace.pages) × boxes.IsListed (owned page real).copier.outbox page
+  listed_own : (page : ℕ) → IsListed (round_of copiers) page → (real : page < trace.pages) × boxes.IsListed (owned page real).copier.desk.outbox page
   listed_own page (inl sent) =
       let stamp = place_of (round_of copiers).sent page sent in
       let o = sent_own page stamp.0 stamp.1 in
@@ -185,7 +185,7 @@ module _ (trace : GuestTrace) (skip : Bool) (table : TableView) (from to streams
   listed_own page (inr (inl skipped)) = let o = skipped_own page skipped in (o.0, inr o.1)
   listed_own page (inr (inr deferred)) = absurd (in_none page deferred)
 
-  own_listed : (page : ℕ) (o : Owned trace skip table from to streams page copiers closed) → boxes.IsListed o.copier.outbox page → IsListed (round_of copiers) page
+  own_listed : (page : ℕ) (o : Owned trace skip table from to streams page copiers closed) → boxes.IsListed o.copier.desk.outbox page → IsListed (round_of copiers) page
   own_listed page o (inl sent) =
       let stamp = place_of (sent_by o.copier) page sent in
       inl (fst_in (round_of copiers).sent page stamp.0 (in_all sent_by copiers (page / 64 % table.start.copiers) o.copier (page, stamp.0) o.there stamp.1))
@@ -252,7 +252,7 @@ module _ (trace : GuestTrace) (skip : Bool) (table : TableView) (from to streams
           | inl marked ↦ inl marked
           | inr read ↦
               let version = slice_index closed.versions page in
-              let sent : IsSentAt o.copier.outbox page version = o.copied.scanned.reads page version (last_is_visit o.copier.seat.facts.reads page version read) in
+              let sent : IsSentAt o.copier.desk.outbox page version = o.copied.scanned.reads page version (last_is_visit o.copier.seat.facts.reads page version read) in
               inr (subst (λ (v : ℕ). Contains (round_of copiers).sent (page, v)) (version_left page real)
               (in_all sent_by copiers (page / 64 % table.start.copiers) o.copier (page, version) o.there sent))
         ];

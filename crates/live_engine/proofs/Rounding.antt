@@ -12,9 +12,9 @@ use Rattle.dirty_core.specs.Start.{Start, IsStart, start_with}
 use Rattle.dirty_words.specs.Closing.{AllGuests, AllCopiers, EachPageLeft}
 use Rattle.dirty_words.specs.Facts.{HoldsNone}
 use Rattle.dirty_words.specs.Seats.{TableView, GuestView, CopyView, ClosedView, copy_table}
-use Rattle.stream_split.specs.Deals.{Turn}
 use Rattle.live_seats.specs.declared.copier.Copier.{Copier}
-use Rattle.live_seats.specs.Outboxes.{OutboxView, IsPosted}
+use Rattle.live_seats.specs.Desks.{DeskView, IsDesk}
+use Rattle.live_seats.specs.Outboxes.{IsPosted}
 use Rattle.live_seats.specs.Replays.{OpensAt}
 use Rattle.live_engine.specs.Seated.{IsReplayed, AreReplayed, IsCopied, AreCopied}
 use Rattle.live_engine.specs.Joining.{IsRound}
@@ -64,29 +64,22 @@ all_made f P xs ys same each k d low =
     let at : get_or ys k d ≡ f p.0 = ap (λ l. get_or l k d) same ∙ get_or-map f xs k p.0 d inside ∙ ap f (sym p.1) in
     subst P (sym at) (each k p.0 (slice_get-get_or xs k p.0 inside ∙ ap Some (sym p.1)))
 
-pub all_posted : (trace : GuestTrace) (skip : Bool) (table : TableView) (streams : ℕ) (copiers : List Copier) (outboxes : List OutboxView) → outboxes ≡ map (λ (c : Copier). c.outbox) copiers
-    → AreCopied trace skip table streams copiers → All (IsPosted trace) outboxes
-all_posted trace skip table streams copiers outboxes same is =
-    all_made (λ (c : Copier). c.outbox) (IsPosted trace) copiers outboxes same (λ i c there. (each_got (IsCopied trace skip table streams) copiers i c is.each there).posted)
+pub all_posted : (trace : GuestTrace) (skip : Bool) (table : TableView) (streams : ℕ) (copiers : List Copier) (desks : List DeskView) → desks ≡ map (λ (c : Copier). c.desk) copiers
+    → AreCopied trace skip table streams copiers → All (λ (d : DeskView). IsPosted trace d.outbox) desks
+all_posted trace skip table streams copiers desks same is =
+    all_made (λ (c : Copier). c.desk) (λ (d : DeskView). IsPosted trace d.outbox) copiers desks same (λ i c there. (each_got (IsCopied trace skip table streams) copiers i c is.each there).posted)
 
-pub all_wide : (trace : GuestTrace) (skip : Bool) (table : TableView) (streams : ℕ) (copiers : List Copier) (outboxes : List OutboxView) → outboxes ≡ map (λ (c : Copier). c.outbox) copiers
-    → AreCopied trace skip table streams copiers → All (λ (o : OutboxView). length o.streams ≡ streams) outboxes
-all_wide trace skip table streams copiers outboxes same is =
-    all_made (λ (c : Copier). c.outbox) (λ (o : OutboxView). length o.streams ≡ streams) copiers outboxes same
-    (λ i c there. (each_got (IsCopied trace skip table streams) copiers i c is.each there).streams_are)
+pub all_desks : (trace : GuestTrace) (skip : Bool) (table : TableView) (streams : ℕ) (copiers : List Copier) (desks : List DeskView) → desks ≡ map (λ (c : Copier). c.desk) copiers
+    → AreCopied trace skip table streams copiers → All (IsDesk trace streams) desks
+all_desks trace skip table streams copiers desks same is =
+    all_made (λ (c : Copier). c.desk) (IsDesk trace streams) copiers desks same (λ i c there. (each_got (IsCopied trace skip table streams) copiers i c is.each there).is_desk)
 
-pub all_turns : (trace : GuestTrace) (skip : Bool) (table : TableView) (streams : ℕ) (copiers : List Copier) (dealers : List Turn) → dealers ≡ map (λ (c : Copier). c.dealer) copiers
-    → AreCopied trace skip table streams copiers → All (λ (d : Turn). d.streams ≡ streams) dealers
-all_turns trace skip table streams copiers dealers same is =
-    all_made (λ (c : Copier). c.dealer) (λ (d : Turn). d.streams ≡ streams) copiers dealers same
-    (λ i c there. (each_got (IsCopied trace skip table streams) copiers i c is.each there).turns)
-
-lists_are : (copiers : List Copier) (outboxes : List OutboxView) → outboxes ≡ map (λ (c : Copier). c.outbox) copiers → round_of copiers ≡ lists_of outboxes
-lists_are copiers outboxes same =
-    sym (ap (λ (o : List OutboxView). lists_of o) same
-    ∙ ap (λ (sent : List (ℕ × ℕ)). live_round_with sent (flat_map (λ (o : OutboxView). o.skipped) (map (λ (c : Copier). c.outbox) copiers)) [])
-    (flat_map-map (λ (o : OutboxView). o.sent) (λ (c : Copier). c.outbox) copiers)
-    ∙ ap (λ (skipped : List ℕ). live_round_with (flat_map (λ (c : Copier). c.outbox.sent) copiers) skipped []) (flat_map-map (λ (o : OutboxView). o.skipped) (λ (c : Copier). c.outbox) copiers))
+lists_are : (copiers : List Copier) (desks : List DeskView) → desks ≡ map (λ (c : Copier). c.desk) copiers → round_of copiers ≡ lists_of desks
+lists_are copiers desks same =
+    sym (ap (λ (d : List DeskView). lists_of d) same
+    ∙ ap (λ (sent : List (ℕ × ℕ)). live_round_with sent (flat_map (λ (d : DeskView). d.outbox.skipped) (map (λ (c : Copier). c.desk) copiers)) [])
+    (flat_map-map (λ (d : DeskView). d.outbox.sent) (λ (c : Copier). c.desk) copiers)
+    ∙ ap (λ (skipped : List ℕ). live_round_with (flat_map (λ (c : Copier). c.desk.outbox.sent) copiers) skipped []) (flat_map-map (λ (d : DeskView). d.outbox.skipped) (λ (c : Copier). c.desk) copiers))
 
 pub opens_so : (trace : GuestTrace) (from : ℕ) (start : Start) (closed : ClosedView) (guests copiers : ℕ) → start ≡ start_with closed.versions closed.dirty guests copiers
     → length closed.versions ≡ trace.pages → ((page : ℕ) → page < trace.pages → slice_index closed.versions page ≡ version_before trace page from) → OpensAt trace from start
@@ -94,13 +87,13 @@ opens_so trace from start closed guests copiers same size versions =
     subst (λ (s : Start). OpensAt trace from s) (sym same) (record { pages = size; places = versions })
 
 pub round_is : (trace : GuestTrace) (skip : Bool) (table : TableView) (from to streams replayers workers : ℕ) (guests : List GuestView) (copiers : List Copier) (seats : List CopyView)
-    (outboxes : List OutboxView) (before after : ClosedView) → from ≤ to → OpensAt trace from table.start → IsStart table.start
+    (desks : List DeskView) (before after : ClosedView) → from ≤ to → OpensAt trace from table.start → IsStart table.start
     → table.start ≡ start_with before.versions before.dirty replayers workers
     → AreReplayed trace table from to guests → AreCopied trace skip table streams copiers → seats ≡ map (λ (c : Copier). c.seat) copiers
-    → outboxes ≡ map (λ (c : Copier). c.outbox) copiers → EachPageLeft table.start guests seats after
+    → desks ≡ map (λ (c : Copier). c.desk) copiers → EachPageLeft table.start guests seats after
     → IsStart (start_with after.versions after.dirty table.start.guests table.start.copiers)
-    → IsRound trace skip workers before.dirty from to after (lists_of outboxes)
-round_is trace skip table from to streams replayers workers guests copiers seats outboxes before after span opens start same replayed copied seats_are boxes left next =
+    → IsRound trace skip workers before.dirty from to after (lists_of desks)
+round_is trace skip table from to streams replayers workers guests copiers seats desks before after span opens start same replayed copied seats_are desks_are left next =
     let closed : IsClosedRound trace skip table from to streams guests copiers after = record {
       span = span;
       opens = opens;
@@ -110,6 +103,6 @@ round_is trace skip table from to streams replayers workers guests copiers seats
       left = subst (λ (s : List CopyView). EachPageLeft table.start guests s after) seats_are left;
       next = next;
     } in
-    subst (λ (r : LiveRound). IsRound trace skip workers before.dirty from to after r) (lists_are copiers outboxes boxes)
+    subst (λ (r : LiveRound). IsRound trace skip workers before.dirty from to after r) (lists_are copiers desks desks_are)
     (subst (λ (s : Start). IsRound trace skip s.copiers s.dirty from to after (round_of copiers)) same
     (round_left trace skip table from to streams guests copiers after closed))

@@ -19,7 +19,7 @@ use Rattle.migration_model.proofs.Placed.{version_is_place, version_rises}
 use Rattle.dirty_core.specs.Pages.{in_words}
 use Rattle.dirty_words.specs.Seats.{ClosedView}
 use Rattle.dirty_words.specs.Closing.{FitsPages}
-use Rattle.stream_split.specs.Deals.{Turn}
+use Rattle.live_seats.specs.Desks.{DeskView}
 use Rattle.live_engine.specs.Runs.{IsUnderWay}
 use Rattle.live_engine.specs.Joining.{IsRound, IsMarked, HaveReceived, AreJoined}
 use Rattle.live_engine.proofs.Each.{pick}
@@ -372,9 +372,9 @@ joined_next trace now copiers planned rounds plan round old new parts after le j
     joined_more trace now copiers plan.from plan.to planned rounds plan round old new parts after le refl refl joined is received
 
 -- what the last round closed fits the trace
-pub fits_pages : (trace : GuestTrace) (tick replayers copiers streams : ℕ) (planned : List PlannedRound) (rounds : List LiveRound) (closed : ClosedView) (parts : List GuestPart) (dealers : List Turn)
-    → IsUnderWay trace replayers copiers streams closed parts dealers → AreJoined trace tick planned rounds closed parts → FitsPages closed trace.pages (length trace.writes)
-fits_pages trace tick replayers copiers streams planned rounds closed parts dealers under_way joined = record {
+pub fits_pages : (trace : GuestTrace) (tick replayers copiers streams : ℕ) (planned : List PlannedRound) (rounds : List LiveRound) (closed : ClosedView) (parts : List GuestPart) (desks : List DeskView)
+    → IsUnderWay trace replayers copiers streams closed parts desks → AreJoined trace tick planned rounds closed parts → FitsPages closed trace.pages (length trace.writes)
+fits_pages trace tick replayers copiers streams planned rounds closed parts desks under_way joined = record {
   versions = under_way.size;
   low = λ page d low.
       let real : page < trace.pages = omega (arith, low, under_way.size) in

@@ -10,15 +10,15 @@ use Rattle.migration_model.specs.Live.{LiveRound, LiveRounds}
 use Rattle.migration_model.specs.Parts.{GuestPart}
 use Rattle.dirty_core.specs.Start.{IsStart, start_with}
 use Rattle.dirty_words.specs.Seats.{ClosedView}
-use Rattle.stream_split.specs.Deals.{Turn}
+use Rattle.live_seats.specs.Desks.{DeskView, IsDesk}
 
--- the next table may open, and there is a part for each stream and a dealer for each copier
-pub record IsUnderWay (trace : GuestTrace) (replayers copiers streams : ℕ) (closed : ClosedView) (parts : List GuestPart) (dealers : List Turn) : Type 0 where
+-- the next table may open, and there is a part for each stream and a desk for each copier
+pub record IsUnderWay (trace : GuestTrace) (replayers copiers streams : ℕ) (closed : ClosedView) (parts : List GuestPart) (desks : List DeskView) : Type 0 where
   pub next : IsStart (start_with closed.versions closed.dirty replayers copiers)
   pub size : length closed.versions ≡ trace.pages
   pub parts_are : length parts ≡ streams
-  pub dealers_are : length dealers ≡ copiers
-  pub turns : All (λ dealer. dealer.streams ≡ streams) dealers
+  pub desks_are : length desks ≡ copiers
+  pub each : All (IsDesk trace streams) desks
 
 -- A live run that answers: by the plan, it has the memory at the plan's stop tick and after all writes, and its rounds keep
 -- the law.

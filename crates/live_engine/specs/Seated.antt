@@ -23,7 +23,7 @@ pub record AreReplayed (trace : GuestTrace) (table : TableView) (from to : ℕ) 
 
 -- the copier with this number did its part
 abbrev pub IsCopied : GuestTrace → Bool → TableView → ℕ → Copier → ℕ → Type 0
-IsCopied trace skip table streams copier number = HasCopied trace skip table number streams copier.seat copier.dealer copier.outbox
+IsCopied trace skip table streams copier number = HasCopied trace skip table number streams copier.seat copier.desk
 
 -- all copiers of the table did their parts
 pub record AreCopied (trace : GuestTrace) (skip : Bool) (table : TableView) (streams : ℕ) (copiers : List Copier) : Type 0 where

@@ -5,16 +5,18 @@ ghost use Rattle.std.specs.List.{All};
 ghost use Rattle.dirty_core.specs.Pages.{in_words};
 ghost use Rattle.migration_model.specs.Parts.{empty_part};
 ghost use Rattle.migration_model.specs.Versions.{version_before};
+ghost use Rattle.live_seats.specs.Desks.{IsDesk};
+ghost use Rattle.migration_model.specs.Trace.{GuestTrace};
 ghost use Rattle.page_message.specs.Shapes.{shape_of};
 ghost use Rattle.page_versions.specs.Index.{IsIndexOf};
 
 use crate::error::LiveError;
 use collector::Part;
 use dirty_core::add_page;
+use live_seats::Desk;
 use page_versions::PageIndex;
 use std::alloc::Global;
 use std::collections::VecDeque;
-use stream_split::Dealer;
 use trace_codec::{Shape, Trace};
 
 /// The version of each page before a tick.
@@ -64,20 +66,20 @@ pub(crate) fn empty_parts(
     Ok(parts)
 }
 
-/// A dealer for each copier, before its first turn.
-pub(crate) fn new_dealers(
+/// A desk for each copier, before the first round.
+pub(crate) fn new_desks(
     alloc: Global,
     copiers: usize,
     streams: usize,
-) -> Result<VecDeque<Dealer>, LiveError>
+) -> Result<VecDeque<Desk>, LiveError>
     requires some { 1 ≤ streams }
     requires few { streams ≤ 16 }
     ensures count { IfOk result (λ v. length v.items ≡ copiers) }
-    ensures streams { IfOk result (λ v. All (λ dealer. dealer.streams ≡ streams) v.items) }
+    ensures each { (trace : GuestTrace) → IfOk result (λ v. All (IsDesk trace streams) v.items) }
 {
-    let mut dealers = VecDeque::with_capacity(alloc, copiers)?;
+    let mut desks = VecDeque::with_capacity(alloc, copiers)?;
     for _ in 0..copiers {
-        dealers.push_back(Dealer::new(streams))?;
+        desks.push_back(Desk::new(alloc, streams)?)?;
     }
-    Ok(dealers)
+    Ok(desks)
 }

@@ -12,8 +12,9 @@ ghost use Rattle.live_engine.specs.Lists.{lists_of};
 
 use crate::error::LiveError;
 use collector::Part;
-use live_seats::Outbox;
+use live_seats::Desk;
 use std::alloc::Global;
+use std::collections::VecDeque;
 use std::marker::Model;
 
 /// What was done in one round. The lists go by copier, and then in the order of that copier's steps.
@@ -62,52 +63,63 @@ fn take_streams(parts: &mut Vec<Part>, streams: &[Vec<u8>]) -> Result<(), LiveEr
 }
 
 /// The parts take what one copier gives over.
-fn take_outbox(parts: &mut Vec<Part>, outbox: &Outbox) -> Result<(), LiveError>
-    requires { length outbox.now.streams ≡ length parts.old.items }
+fn take_desk(parts: &mut Vec<Part>, desk: &Desk) -> Result<(), LiveError>
+    requires { length desk.now.outbox.streams ≡ length parts.old.items }
     ensures count { length parts.new.items ≡ length parts.old.items }
-    ensures taken { (frames : List (List PageFrame)) → Spelled parts.old.items outbox.now.streams frames
+    ensures taken { (frames : List (List PageFrame)) → Spelled parts.old.items desk.now.outbox.streams frames
         → OnOk result ((i : ℕ) (d : GuestPart) → i < length parts.old.items → slice_index_or parts.new.items i d ≡ with_frames (slice_index_or parts.old.items i d) (slice_index_or frames i [])) }
 {
-    take_streams(parts, &outbox.streams)?;
+    take_streams(parts, &desk.outbox.streams)?;
     Ok(())
 }
 
 /// Lists what one copier did.
-fn list_outbox(
+fn list_desk(
     sent: &mut Vec<(u32, u32)>,
     skipped: &mut Vec<u32>,
-    outbox: &Outbox,
+    desk: &Desk,
 ) -> Result<(), LiveError>
-    ensures sent { OnOk result (sent.new.items ≡ sent.old.items ++ outbox.now.sent) }
-    ensures skipped { OnOk result (skipped.new.items ≡ skipped.old.items ++ outbox.now.skipped) }
+    ensures sent { OnOk result (sent.new.items ≡ sent.old.items ++ desk.now.outbox.sent) }
+    ensures skipped { OnOk result (skipped.new.items ≡ skipped.old.items ++ desk.now.outbox.skipped) }
 {
-    sent.extend_from_slice(&outbox.sent)?;
-    skipped.extend_from_slice(&outbox.skipped)?;
+    sent.extend_from_slice(&desk.outbox.sent)?;
+    skipped.extend_from_slice(&desk.outbox.skipped)?;
     Ok(())
+}
+
+/// What was done in a round, and the copiers' desks, in order of their numbers.
+#[derive(Drop)]
+pub(crate) struct Received {
+    pub(crate) round: LiveRound,
+    pub(crate) desks: VecDeque<Desk>,
 }
 
 /// The parts take what the copiers give over, copier by copier, and what these did is listed.
 pub(crate) fn receive(
     alloc: Global,
     parts: &mut Vec<Part>,
-    outboxes: Vec<Outbox>,
-) -> Result<LiveRound, LiveError>
-    requires { All (λ outbox. length outbox.streams ≡ length parts.old.items) outboxes.items }
-    ensures lists { IfOk result (λ round. round ≡ lists_of outboxes.items) }
+    desks: Vec<Desk>,
+) -> Result<Received, LiveError>
+    requires { All (λ desk. length desk.outbox.streams ≡ length parts.old.items) desks.items }
+    ensures lists { IfOk result (λ received. received.round ≡ lists_of desks.items) }
+    ensures desks { IfOk result (λ received. received.desks.items ≡ desks.items) }
     ensures count { length parts.new.items ≡ length parts.old.items }
-    ensures received { (trace : GuestTrace) → All (IsPosted trace) outboxes.items → All IsPart parts.old.items
+    ensures received { (trace : GuestTrace) → All (λ desk. IsPosted trace desk.outbox) desks.items → All IsPart parts.old.items
         → All (λ part. part.shape ≡ shape_of_trace trace) parts.old.items
-        → IfOk result (λ round. HaveReceived trace round.sent parts.old.items parts.new.items) }
+        → IfOk result (λ received. HaveReceived trace received.round.sent parts.old.items parts.new.items) }
 {
     let mut sent = Vec::new(alloc);
     let mut skipped = Vec::new(alloc);
-    for outbox in outboxes {
-        take_outbox(parts, &outbox)?;
-        list_outbox(&mut sent, &mut skipped, &outbox)?;
+    let mut kept = VecDeque::with_capacity(alloc, desks.len())?;
+    for desk in desks {
+        take_desk(parts, &desk)?;
+        list_desk(&mut sent, &mut skipped, &desk)?;
+        kept.push_back(desk)?;
     }
-    Ok(LiveRound {
+    let round = LiveRound {
         sent,
         skipped,
         deferred: Vec::new(alloc),
-    })
+    };
+    Ok(Received { round, desks: kept })
 }

@@ -7,6 +7,7 @@ ghost use Rattle.dirty_words.specs.Closing.{first_guests, first_copiers};
 ghost use Rattle.live_engine.specs.Joining.{IsRound};
 ghost use Rattle.live_engine.specs.Lists.{lists_of};
 ghost use Rattle.live_engine.specs.Seated.{AreCopied, AreReplayed};
+ghost use Rattle.live_seats.specs.Desks.{IsDesk};
 ghost use Rattle.live_seats.specs.Outboxes.{IsPosted};
 ghost use Rattle.live_seats.specs.Replays.{OpensAt};
 ghost use Rattle.migration_model.specs.Versions.{version_before};
@@ -16,13 +17,12 @@ use crate::error::LiveError;
 use crate::threads::{Finished, Seats, run_threads};
 use dirty_core::Opening;
 use dirty_words::{Closed, CopySeat, Opened, RoundTable};
-use live_seats::{Copier, Gate, Outbox, Round, Ticks};
+use live_seats::{Copier, Desk, Gate, Round, Ticks};
 use page_versions::PageIndex;
 use std::alloc::Global;
 use std::collections::VecDeque;
 use std::sync::Wait;
 use std::thread::Threads;
-use stream_split::Dealer;
 use trace_codec::Trace;
 
 /// What does not change from round to round.
@@ -36,46 +36,33 @@ pub(crate) struct Crew<'a, G> {
     pub(crate) streams: usize,
 }
 
-/// The copiers' parts, each kind in a list of its own, in order of the copiers' numbers.
+/// The copiers' seats and their desks, in order of the copiers' numbers.
 #[derive(Drop)]
 struct Apart {
     seats: Vec<CopySeat>,
-    dealers: VecDeque<Dealer>,
-    outboxes: Vec<Outbox>,
+    desks: Vec<Desk>,
 }
 
 /// Takes copiers apart.
 fn take_apart(alloc: Global, copiers: Vec<Copier>) -> Result<Apart, LiveError>
     ensures seats { IfOk result (λ apart. apart.seats.items ≡ map (λ c. c.seat) copiers.items) }
-    ensures dealers { IfOk result (λ apart. apart.dealers.items ≡ map (λ c. c.dealer) copiers.items) }
-    ensures outboxes { IfOk result (λ apart. apart.outboxes.items ≡ map (λ c. c.outbox) copiers.items) }
+    ensures desks { IfOk result (λ apart. apart.desks.items ≡ map (λ c. c.desk) copiers.items) }
 {
     let mut seats = Vec::with_capacity(alloc, copiers.len())?;
-    let mut dealers = VecDeque::with_capacity(alloc, copiers.len())?;
-    let mut outboxes = Vec::with_capacity(alloc, copiers.len())?;
+    let mut desks = Vec::with_capacity(alloc, copiers.len())?;
     for copier in copiers {
-        let Copier {
-            seat,
-            dealer,
-            outbox,
-        } = copier;
+        let Copier { seat, desk } = copier;
         seats.push(seat)?;
-        dealers.push_back(dealer)?;
-        outboxes.push(outbox)?;
+        desks.push(desk)?;
     }
-    Ok(Apart {
-        seats,
-        dealers,
-        outboxes,
-    })
+    Ok(Apart { seats, desks })
 }
 
 /// What a round leaves.
 #[derive(Drop)]
 pub(crate) struct Left {
     pub(crate) closed: Closed,
-    pub(crate) dealers: VecDeque<Dealer>,
-    pub(crate) outboxes: Vec<Outbox>,
+    pub(crate) desks: Vec<Desk>,
 }
 
 impl<'a, G: Gate> Crew<'a, G> {
@@ -88,22 +75,21 @@ impl<'a, G: Gate> Crew<'a, G> {
         skip: bool,
         ticks: Ticks,
         closed: Closed,
-        dealers: VecDeque<Dealer>,
+        desks: VecDeque<Desk>,
     ) -> Result<Left, LiveError>
         requires of { IsIndexOf self.now.index.now self.now.trace.now }
         requires span { ticks.from ≤ ticks.to }
         requires start { IsStart (start_with closed.versions closed.dirty self.now.replayers self.now.copiers) }
         requires size { length closed.versions ≡ self.now.trace.now.pages }
         requires versions { (page : ℕ) → page < self.now.trace.now.pages → slice_index closed.versions page ≡ version_before self.now.trace.now page ticks.from }
-        requires dealers { length dealers.items ≡ self.now.copiers }
-        requires streams { All (λ dealer. dealer.streams ≡ self.now.streams) dealers.items }
-        ensures round { IfOk result (λ left. IsRound self.now.trace.now skip self.now.copiers closed.dirty ticks.from ticks.to left.closed (lists_of left.outboxes.items)) }
+        requires count { length desks.items ≡ self.now.copiers }
+        requires desks { All (IsDesk self.now.trace.now self.now.streams) desks.items }
+        ensures round { IfOk result (λ left. IsRound self.now.trace.now skip self.now.copiers closed.dirty ticks.from ticks.to left.closed (lists_of left.desks.items)) }
         ensures next { IfOk result (λ left. IsStart (start_with left.closed.versions left.closed.dirty self.now.replayers self.now.copiers)) }
         ensures size { IfOk result (λ left. length left.closed.versions ≡ self.now.trace.now.pages) }
-        ensures posted { IfOk result (λ left. All (IsPosted self.now.trace.now) left.outboxes.items) }
-        ensures widths { IfOk result (λ left. All (λ outbox. length outbox.streams ≡ self.now.streams) left.outboxes.items) }
-        ensures dealers { IfOk result (λ left. length left.dealers.items ≡ self.now.copiers) }
-        ensures streams { IfOk result (λ left. All (λ dealer. dealer.streams ≡ self.now.streams) left.dealers.items) }
+        ensures posted { IfOk result (λ left. All (λ desk. IsPosted self.now.trace.now desk.outbox) left.desks.items) }
+        ensures count { IfOk result (λ left. length left.desks.items ≡ self.now.copiers) }
+        ensures desks { IfOk result (λ left. All (IsDesk self.now.trace.now self.now.streams) left.desks.items) }
     {
         let Closed { versions, dirty } = closed;
         let Some(opening) = Opening::new(versions, dirty, self.replayers, self.copiers) else {
@@ -120,24 +106,17 @@ impl<'a, G: Gate> Crew<'a, G> {
             table: &table,
             gate: self.gate,
             skip,
+            streams: self.streams,
         };
         let seats = Seats {
             guests,
             copiers,
-            dealers,
+            desks,
         };
-        let finished = run_threads(rt, alloc, &round, ticks, seats, self.streams)?;
+        let finished = run_threads(rt, alloc, &round, ticks, seats)?;
         let Finished { guests, copiers } = finished;
-        let Apart {
-            seats,
-            dealers,
-            outboxes,
-        } = take_apart(alloc, copiers)?;
+        let Apart { seats, desks } = take_apart(alloc, copiers)?;
         let closed = table.close(guests, seats);
-        Ok(Left {
-            closed,
-            dealers,
-            outboxes,
-        })
+        Ok(Left { closed, desks })
     }
 }

@@ -12,13 +12,13 @@ ghost use Rattle.page_versions.specs.Index.{IsIndexOf};
 
 use crate::ending::Images;
 use crate::error::LiveError;
-use crate::opening::{all_pages, empty_parts, new_dealers, versions_before};
+use crate::opening::{all_pages, empty_parts, new_desks, versions_before};
 use crate::receiving::{LiveRound, receive};
 use crate::round::{Crew, Left};
 use collector::Part;
 use dirty_words::Closed;
 use image_build::Image;
-use live_seats::{Gate, Point, Ticks};
+use live_seats::{Desk, Gate, Point, Ticks};
 use page_versions::PageIndex;
 use rate_limit::Settings;
 use round_planner::{Plan, Round, plan};
@@ -26,7 +26,6 @@ use std::alloc::Global;
 use std::collections::VecDeque;
 use std::sync::Wait;
 use std::thread::Threads;
-use stream_split::Dealer;
 use trace_codec::Trace;
 
 /// What a live run has come to between two rounds.
@@ -34,7 +33,7 @@ use trace_codec::Trace;
 pub(crate) struct Progress {
     pub(crate) closed: Closed,
     pub(crate) parts: Vec<Part>,
-    pub(crate) dealers: VecDeque<Dealer>,
+    pub(crate) desks: VecDeque<Desk>,
     pub(crate) rounds: Vec<LiveRound>,
 }
 
@@ -56,7 +55,7 @@ impl<'a, G: Gate> Crew<'a, G> {
         requires some_streams { 1 ≤ self.now.streams }
         requires few_streams { self.now.streams ≤ 16 }
         ensures none { IfOk result (λ p. p.rounds.items ≡ []) }
-        ensures under_way { IfOk result (λ p. IsUnderWay self.now.trace.now self.now.replayers self.now.copiers self.now.streams p.closed p.parts.items p.dealers.items) }
+        ensures under_way { IfOk result (λ p. IsUnderWay self.now.trace.now self.now.replayers self.now.copiers self.now.streams p.closed p.parts.items p.desks.items) }
         ensures joined { IfOk result (λ p. AreJoined self.now.trace.now start [] [] p.closed p.parts.items) }
     {
         let shape = self.trace.shape();
@@ -67,7 +66,7 @@ impl<'a, G: Gate> Crew<'a, G> {
         Ok(Progress {
             closed,
             parts: empty_parts(alloc, shape, self.streams)?,
-            dealers: new_dealers(alloc, self.copiers, self.streams)?,
+            desks: new_desks(alloc, self.copiers, self.streams)?,
             rounds: Vec::new(alloc),
         })
     }
@@ -83,9 +82,9 @@ impl<'a, G: Gate> Crew<'a, G> {
     ) -> Result<Progress, LiveError>
         requires of { IsIndexOf self.now.index.now self.now.trace.now }
         requires span { planned.now.from ≤ planned.now.to }
-        requires under_way { IsUnderWay self.now.trace.now self.now.replayers self.now.copiers self.now.streams progress.closed progress.parts.items progress.dealers.items }
+        requires under_way { IsUnderWay self.now.trace.now self.now.replayers self.now.copiers self.now.streams progress.closed progress.parts.items progress.desks.items }
         requires joined { (before : List PlannedRound) × AreJoined self.now.trace.now planned.now.from before progress.rounds.items progress.closed progress.parts.items }
-        ensures under_way { IfOk result (λ p. IsUnderWay self.now.trace.now self.now.replayers self.now.copiers self.now.streams p.closed p.parts.items p.dealers.items) }
+        ensures under_way { IfOk result (λ p. IsUnderWay self.now.trace.now self.now.replayers self.now.copiers self.now.streams p.closed p.parts.items p.desks.items) }
         ensures joined { (before : List PlannedRound) → AreJoined self.now.trace.now planned.now.from before progress.rounds.items progress.closed progress.parts.items
             → IfOk result (λ p. AreJoined self.now.trace.now planned.now.to (before ++ planned.now ∷ []) p.rounds.items p.closed p.parts.items) }
         ensures law { (before : List PlannedRound) → AreJoined self.now.trace.now planned.now.from before progress.rounds.items progress.closed progress.parts.items
@@ -95,7 +94,7 @@ impl<'a, G: Gate> Crew<'a, G> {
         let Progress {
             closed,
             parts,
-            dealers,
+            desks,
             rounds,
         } = progress;
         let mut parts = parts;
@@ -106,19 +105,15 @@ impl<'a, G: Gate> Crew<'a, G> {
             to: planned.to,
         };
         let skip = may_skip(skip, number);
-        let left = self.run_round(rt, alloc, skip, ticks, closed, dealers)?;
-        let Left {
-            closed,
-            dealers,
-            outboxes,
-        } = left;
+        let left = self.run_round(rt, alloc, skip, ticks, closed, desks)?;
+        let Left { closed, desks } = left;
         self.gate.at(Point::RoundClosed { round: number });
-        let round = receive(alloc, &mut parts, outboxes)?;
-        rounds.push(round)?;
+        let received = receive(alloc, &mut parts, desks)?;
+        rounds.push(received.round)?;
         Ok(Progress {
             closed,
             parts,
-            dealers,
+            desks: received.desks,
             rounds,
         })
     }
@@ -136,7 +131,7 @@ impl<'a, G: Gate> Crew<'a, G> {
         requires replayers { self.now.replayers ≡ settings.now.replayers }
         requires copiers { self.now.copiers ≡ settings.now.workers }
         requires streams { self.now.streams ≡ settings.now.streams }
-        ensures under_way { IfOk result (λ p. IsUnderWay self.now.trace.now self.now.replayers self.now.copiers self.now.streams p.closed p.parts.items p.dealers.items) }
+        ensures under_way { IfOk result (λ p. IsUnderWay self.now.trace.now self.now.replayers self.now.copiers self.now.streams p.closed p.parts.items p.desks.items) }
         ensures joined { IfOk result (λ p. AreJoined self.now.trace.now plan.now.stop plan.now.rounds p.rounds.items p.closed p.parts.items) }
         ensures law { IfOk result (λ p. LiveRounds self.now.trace.now settings.now.skip self.now.copiers plan.now.rounds p.rounds.items) }
     {
@@ -190,7 +185,7 @@ pub fn live_run<G: Gate, R: Threads + Wait + Sync>(
     let Progress {
         closed,
         parts,
-        dealers: _,
+        desks: _,
         rounds,
     } = progress;
     let images = crew.finish(rt, alloc, &closed, parts)?;

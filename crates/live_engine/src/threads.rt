@@ -9,17 +9,17 @@ ghost use Rattle.live_engine.specs.Seated.{AreCopied, AreReplayed, EachAt, IsRep
 ghost use Rattle.live_seats.specs.Copies.{HasCopied};
 ghost use Rattle.std.specs.List.{All};
 ghost use Rattle.page_versions.specs.Index.{IsIndexOf};
+ghost use Rattle.live_seats.specs.Desks.{IsDesk};
 ghost use Rattle.live_seats.specs.Replays.{OpensAt};
 
 use crate::error::LiveError;
 use dirty_words::{CopySeat, GuestSeat, RoundTable};
-use live_seats::{Copier, Gate, Round, SeatError, Ticks, replay};
+use live_seats::{Copier, Desk, Gate, Round, SeatError, Ticks, replay};
 use std::alloc::Global;
 use std::collections::VecDeque;
 use std::sync::Wait;
 use std::thread;
 use std::thread::{Promise, PromisedHandle, Scope, Threads, join_promised, scope_env};
-use stream_split::Dealer;
 use trace_codec::Trace;
 
 /// What a replayer's thread owes: its part of the round.
@@ -119,7 +119,7 @@ struct Copies<'a> {
 }
 
 impl<'a> Promise<Result<Copier, SeatError>> for Copies<'a> {
-    ghost kept_by = { λ p result. IfOk result (λ copier. HasCopied p.trace.now p.skip p.table.now p.number p.streams copier.seat copier.dealer copier.outbox) };
+    ghost kept_by = { λ p result. IfOk result (λ copier. HasCopied p.trace.now p.skip p.table.now p.number p.streams copier.seat copier.desk) };
 }
 
 /// Starts a copier.
@@ -128,15 +128,14 @@ fn start_copier<'s, E, G: Gate>(
     alloc: Global,
     round: &Round<'s, G>,
     seat: CopySeat,
-    dealer: Dealer,
-    streams: usize,
+    desk: Desk,
 ) -> Result<PromisedHandle<Result<Copier, SeatError>, Copies<'s>>, LiveError>
     requires of { IsIndexOf round.now.index.now round.now.trace.now }
     requires pages { length round.now.table.now.start.places ≡ round.now.trace.now.pages }
     requires table { copy_table seat ≡ round.now.table.now }
     requires idle { seat.facts ≡ first_copier round.now.table.now.start seat.facts.number }
-    requires streams { dealer.streams ≡ streams }
-    ensures { IfOk result (λ h. (h.promise.trace.now ≡ round.now.trace.now) × (h.promise.table.now ≡ round.now.table.now) × (h.promise.skip ≡ round.now.skip) × (h.promise.number ≡ seat.facts.number) × (h.promise.streams ≡ streams)) }
+    requires desk { IsDesk round.now.trace.now round.now.streams desk }
+    ensures { IfOk result (λ h. (h.promise.trace.now ≡ round.now.trace.now) × (h.promise.table.now ≡ round.now.table.now) × (h.promise.skip ≡ round.now.skip) × (h.promise.number ≡ seat.facts.number) × (h.promise.streams ≡ round.now.streams)) }
 {
     let Round {
         trace,
@@ -144,6 +143,7 @@ fn start_copier<'s, E, G: Gate>(
         table,
         gate,
         skip,
+        streams,
     } = *round;
     let promise = Copies {
         trace,
@@ -157,8 +157,8 @@ fn start_copier<'s, E, G: Gate>(
         requires pages { length table.now.start.places ≡ trace.now.pages }
         requires table { copy_table seat ≡ table.now }
         requires idle { seat.facts ≡ first_copier table.now.start seat.facts.number }
-        requires streams { dealer.streams ≡ streams }
-        ensures { IfOk result (λ copier. HasCopied trace.entry.now skip table.entry.now seat.facts.number streams copier.seat copier.dealer copier.outbox) }
+        requires desk { IsDesk trace.now streams desk }
+        ensures { IfOk result (λ copier. HasCopied trace.entry.now skip table.entry.now seat.facts.number streams copier.seat copier.desk) }
     {
         let round = Round {
             trace,
@@ -166,38 +166,38 @@ fn start_copier<'s, E, G: Gate>(
             table,
             gate,
             skip,
+            streams,
         };
-        round.copy(alloc, seat, dealer, streams)
+        round.copy(alloc, seat, desk)
     };
     scope.spawn_with(promise, run).or(Err(LiveError::Thread))
 }
 
-/// Starts the copiers, in order, each with its dealer.
+/// Starts the copiers, in order, each with its desk.
 fn start_copiers<'s, E, G: Gate>(
     scope: &'s Scope<'s, E>,
     alloc: Global,
     round: &Round<'s, G>,
     seats: Vec<CopySeat>,
-    dealers: VecDeque<Dealer>,
-    streams: usize,
+    desks: VecDeque<Desk>,
     handles: &mut Vec<PromisedHandle<Result<Copier, SeatError>, Copies<'s>>>,
 ) -> Result<(), LiveError>
     requires of { IsIndexOf round.now.index.now round.now.trace.now }
     requires pages { length round.now.table.now.start.places ≡ round.now.trace.now.pages }
     requires seats { seats.items ≡ first_copiers round.now.table.now }
-    requires dealers { length dealers.items ≡ length seats.items }
-    requires streams { All (λ dealer. dealer.streams ≡ streams) dealers.items }
+    requires count { length desks.items ≡ length seats.items }
+    requires desks { All (IsDesk round.now.trace.now round.now.streams) desks.items }
     requires none { length handles.old.items ≡ 0 }
     ensures count { OnOk result (length handles.new.items ≡ length seats.items) }
-    ensures started { OnOk result (EachAt (λ h i. (h.promise.trace.now ≡ round.now.trace.now) × (h.promise.table.now ≡ round.now.table.now) × (h.promise.skip ≡ round.now.skip) × (h.promise.number ≡ i) × (h.promise.streams ≡ streams)) handles.new.items) }
+    ensures started { OnOk result (EachAt (λ h i. (h.promise.trace.now ≡ round.now.trace.now) × (h.promise.table.now ≡ round.now.table.now) × (h.promise.skip ≡ round.now.skip) × (h.promise.number ≡ i) × (h.promise.streams ≡ round.now.streams)) handles.new.items) }
 {
-    let mut dealers = dealers;
+    let mut desks = desks;
     for seat in seats {
-        let Some(dealer) = dealers.pop_front() else {
+        let Some(desk) = desks.pop_front() else {
             unreachable!()
         };
         handles.reserve(1).or(Err(LiveError::Memory))?;
-        let handle = start_copier(scope, alloc, round, seat, dealer, streams)?;
+        let handle = start_copier(scope, alloc, round, seat, desk)?;
         handles.push_reserved(handle);
     }
     Ok(())
@@ -210,7 +210,7 @@ fn join_copiers<'s, R: Threads>(
 ) -> Result<Vec<Result<Copier, SeatError>>, LiveError>
     ensures count { IfOk result (λ copied. length copied.items ≡ length handles.entry.items) }
     ensures kept { IfOk result (λ copied. EachAt (λ r i. (h : _) × (h ≡ slice_index_or handles.entry.items i h)
-        × IfOk r (λ copier. HasCopied h.promise.trace.now h.promise.skip h.promise.table.now h.promise.number h.promise.streams copier.seat copier.dealer copier.outbox)) copied.items) }
+        × IfOk r (λ copier. HasCopied h.promise.trace.now h.promise.skip h.promise.table.now h.promise.number h.promise.streams copier.seat copier.desk)) copied.items) }
 {
     match join_promised(rt, handles) {
         Ok(copied) => Ok(copied),
@@ -245,7 +245,6 @@ fn start_all<'s, E, G: Gate>(
     round: &Round<'s, G>,
     ticks: Ticks,
     seats: Seats,
-    streams: usize,
     guests: &mut Vec<PromisedHandle<GuestSeat, Replays<'s>>>,
     copiers: &mut Vec<PromisedHandle<Result<Copier, SeatError>, Copies<'s>>>,
 ) -> Result<(), LiveError>
@@ -253,19 +252,19 @@ fn start_all<'s, E, G: Gate>(
     requires opening { OpensAt round.now.trace.now ticks.from round.now.table.now.start }
     requires guests { seats.guests.items ≡ first_guests round.now.table.now }
     requires copiers { seats.copiers.items ≡ first_copiers round.now.table.now }
-    requires dealers { length seats.dealers.items ≡ length seats.copiers.items }
-    requires streams { All (λ dealer. dealer.streams ≡ streams) seats.dealers.items }
+    requires count { length seats.desks.items ≡ length seats.copiers.items }
+    requires desks { All (IsDesk round.now.trace.now round.now.streams) seats.desks.items }
     requires no_guest { length guests.old.items ≡ 0 }
     requires no_copier { length copiers.old.items ≡ 0 }
     ensures guest_count { OnOk result (length guests.new.items ≡ length seats.guests.items) }
     ensures guests { OnOk result (EachAt (λ h i. (h.promise.trace.now ≡ round.now.trace.now) × (h.promise.table.now ≡ round.now.table.now) × (h.promise.ticks ≡ ticks) × (h.promise.number ≡ i)) guests.new.items) }
     ensures copier_count { OnOk result (length copiers.new.items ≡ length seats.copiers.items) }
-    ensures copiers { OnOk result (EachAt (λ h i. (h.promise.trace.now ≡ round.now.trace.now) × (h.promise.table.now ≡ round.now.table.now) × (h.promise.skip ≡ round.now.skip) × (h.promise.number ≡ i) × (h.promise.streams ≡ streams)) copiers.new.items) }
+    ensures copiers { OnOk result (EachAt (λ h i. (h.promise.trace.now ≡ round.now.trace.now) × (h.promise.table.now ≡ round.now.table.now) × (h.promise.skip ≡ round.now.skip) × (h.promise.number ≡ i) × (h.promise.streams ≡ round.now.streams)) copiers.new.items) }
 {
     let Seats {
         guests: guest_seats,
         copiers: copy_seats,
-        dealers,
+        desks,
     } = seats;
     let Round {
         trace,
@@ -274,7 +273,7 @@ fn start_all<'s, E, G: Gate>(
         ..
     } = *round;
     start_guests(scope, trace, ticks, table, gate, guest_seats, guests)?;
-    start_copiers(scope, alloc, round, copy_seats, dealers, streams, copiers)?;
+    start_copiers(scope, alloc, round, copy_seats, desks, copiers)?;
     Ok(())
 }
 
@@ -285,12 +284,12 @@ pub(crate) struct Finished {
     pub(crate) copiers: Vec<Copier>,
 }
 
-/// The seats of a table that nothing has happened on, and the copiers' dealers.
+/// The seats of a table that nothing has happened on, and the copiers' desks.
 #[derive(Drop)]
 pub(crate) struct Seats {
     pub(crate) guests: Vec<GuestSeat>,
     pub(crate) copiers: Vec<CopySeat>,
-    pub(crate) dealers: VecDeque<Dealer>,
+    pub(crate) desks: VecDeque<Desk>,
 }
 
 /// Runs a round's replayers and copiers, each in a thread of its own and all at once. Those that run are waited for before
@@ -302,29 +301,19 @@ fn in_round<'s, E, G: Gate, R: Threads>(
     round: &Round<'s, G>,
     ticks: Ticks,
     seats: Seats,
-    streams: usize,
 ) -> Result<Finished, LiveError>
     requires of { IsIndexOf round.now.index.now round.now.trace.now }
     requires opening { OpensAt round.now.trace.now ticks.from round.now.table.now.start }
     requires guests { seats.guests.items ≡ first_guests round.now.table.now }
     requires copiers { seats.copiers.items ≡ first_copiers round.now.table.now }
-    requires dealers { length seats.dealers.items ≡ length seats.copiers.items }
-    requires streams { All (λ dealer. dealer.streams ≡ streams) seats.dealers.items }
+    requires count { length seats.desks.items ≡ length seats.copiers.items }
+    requires desks { All (IsDesk round.now.trace.now round.now.streams) seats.desks.items }
     ensures guests { IfOk result (λ finished. AreReplayed round.now.trace.now round.now.table.now ticks.from ticks.to finished.guests.items) }
-    ensures copiers { IfOk result (λ finished. AreCopied round.now.trace.now round.now.skip round.now.table.now streams finished.copiers.items) }
+    ensures copiers { IfOk result (λ finished. AreCopied round.now.trace.now round.now.skip round.now.table.now round.now.streams finished.copiers.items) }
 {
     let mut guests = Vec::new(alloc);
     let mut copiers = Vec::new(alloc);
-    let started = start_all(
-        scope,
-        alloc,
-        round,
-        ticks,
-        seats,
-        streams,
-        &mut guests,
-        &mut copiers,
-    );
+    let started = start_all(scope, alloc, round, ticks, seats, &mut guests, &mut copiers);
     let guests = join_guests(rt, guests);
     let copied = join_copiers(rt, copiers);
     started?;
@@ -340,16 +329,15 @@ pub(crate) fn run_threads<G: Gate, R: Threads + Wait + Sync>(
     round: &Round<'_, G>,
     ticks: Ticks,
     seats: Seats,
-    streams: usize,
 ) -> Result<Finished, LiveError>
     requires of { IsIndexOf round.now.index.now round.now.trace.now }
     requires opening { OpensAt round.now.trace.now ticks.from round.now.table.now.start }
     requires guests { seats.guests.items ≡ first_guests round.now.table.now }
     requires copiers { seats.copiers.items ≡ first_copiers round.now.table.now }
-    requires dealers { length seats.dealers.items ≡ length seats.copiers.items }
-    requires streams { All (λ dealer. dealer.streams ≡ streams) seats.dealers.items }
+    requires count { length seats.desks.items ≡ length seats.copiers.items }
+    requires desks { All (IsDesk round.now.trace.now round.now.streams) seats.desks.items }
     ensures guests { IfOk result (λ finished. AreReplayed round.now.trace.now round.now.table.now ticks.from ticks.to finished.guests.items) }
-    ensures copiers { IfOk result (λ finished. AreCopied round.now.trace.now round.now.skip round.now.table.now streams finished.copiers.items) }
+    ensures copiers { IfOk result (λ finished. AreCopied round.now.trace.now round.now.skip round.now.table.now round.now.streams finished.copiers.items) }
 {
     let Round {
         trace,
@@ -357,6 +345,7 @@ pub(crate) fn run_threads<G: Gate, R: Threads + Wait + Sync>(
         table,
         gate,
         skip,
+        streams,
     } = *round;
     thread::scope(
         scope_env(),
@@ -366,8 +355,8 @@ pub(crate) fn run_threads<G: Gate, R: Threads + Wait + Sync>(
             requires opening { OpensAt trace.now ticks.from table.now.start }
             requires guests { seats.guests.items ≡ first_guests table.now }
             requires copiers { seats.copiers.items ≡ first_copiers table.now }
-            requires dealers { length seats.dealers.items ≡ length seats.copiers.items }
-            requires streams { All (λ dealer. dealer.streams ≡ streams) seats.dealers.items }
+            requires count { length seats.desks.items ≡ length seats.copiers.items }
+            requires desks { All (IsDesk trace.now streams) seats.desks.items }
             ensures guests { IfOk result (λ finished. AreReplayed trace.entry.now table.entry.now ticks.from ticks.to finished.guests.items) }
             ensures copiers { IfOk result (λ finished. AreCopied trace.entry.now skip table.entry.now streams finished.copiers.items) }
         {
@@ -377,8 +366,9 @@ pub(crate) fn run_threads<G: Gate, R: Threads + Wait + Sync>(
                 table,
                 gate,
                 skip,
+                streams,
             };
-            in_round(rt, scope, alloc, &round, ticks, seats, streams)
+            in_round(rt, scope, alloc, &round, ticks, seats)
         },
     )
 }

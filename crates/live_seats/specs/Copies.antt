@@ -6,7 +6,7 @@ use Rattle.dirty_words.specs.Facts.{CopyFacts, HoldsNone, after_peek, after_read
 use Rattle.dirty_words.specs.Plays.{IsShown}
 use Rattle.dirty_words.specs.Seats.{TableView, CopyView, copy_table}
 use Rattle.live_seats.specs.Outboxes.{OutboxView, IsPosted, SpellsPage, with_sent, with_skipped, with_text}
-use Rattle.live_seats.specs.Desks.{DeskView, IsDesk}
+use Rattle.live_seats.specs.Desks.{DeskView, IsDesk, OpenDeskView}
 use Rattle.live_seats.specs.Scans.{IsScanned}
 
 -- the copier looked at the page's word, and the answer says whether it showed the page
@@ -39,7 +39,7 @@ abbrev pub HasSkippedPage : ℕ → CopyFacts → OutboxView → CopyFacts → O
 HasSkippedPage page old before new outbox = HasRestored page old new × (outbox ≡ with_skipped page before)
 
 -- the seat is of the table, and the desk of the trace, with a stream for each turn
-pub record IsReady (trace : GuestTrace) (table : TableView) (seat : CopyView) (desk : DeskView) : Type 0 where
+pub record IsReady (trace : GuestTrace) (table : TableView) (seat : CopyView) (desk : OpenDeskView) : Type 0 where
   pub table_is : copy_table seat ≡ table
   pub trace_is : desk.cache.trace ≡ trace
   pub streams : length desk.outbox.streams ≡ desk.turn.streams

@@ -8,13 +8,15 @@ ghost use Rattle.dirty_words.specs.Plays.{IsAnswer, IsShown};
 ghost use Rattle.dirty_words.specs.Seats.{copy_table};
 ghost use Rattle.live_seats.specs.Desks.{IsDesk};
 ghost use Rattle.live_seats.specs.Outboxes.{SpellsPage, with_text};
+ghost use Rattle.page_versions.specs.Index.{IsIndexOf};
 ghost use Rattle.live_seats.specs.Scans.{HoldsFrom, IsLeast, IsOwn};
 ghost use Rattle.live_seats.specs.Copies.{AdvancesScan, HasCopied, HasPeeked, HasRestored, HasSentPage, HasSkippedPage, IsReady, KeepsScan};
 
-use crate::desk::Desk;
+use crate::desk::{Desk, OpenDesk};
 use crate::error::SeatError;
 use crate::gate::{Gate, Point};
 use dirty_words::{CopySeat, RoundTable};
+use page_versions::PageIndex;
 use std::alloc::Global;
 use trace_codec::Trace;
 
@@ -22,17 +24,27 @@ use trace_codec::Trace;
 #[derive(Drop)]
 pub struct Round<'a, G> {
     pub trace: &'a Trace,
+    pub index: &'a PageIndex,
     pub table: &'a RoundTable,
     pub gate: &'a G,
     /// Whether a page that is marked again is skipped.
     pub skip: bool,
+    /// How many streams each copier has.
+    pub streams: usize,
 }
 
-/// A copier in a round: its seat, and its desk.
+/// A copier after a round: its seat, and its desk.
 #[derive(Drop)]
-pub struct Copier<'a> {
+pub struct Copier {
     pub seat: CopySeat,
-    pub desk: Desk<'a>,
+    pub desk: Desk,
+}
+
+/// A copier in a round.
+#[derive(Drop)]
+struct Copying<'a> {
+    seat: CopySeat,
+    desk: OpenDesk<'a>,
 }
 
 /// A page by its dirty word, and its bit there.
@@ -80,7 +92,7 @@ impl<'a, G: Gate> Round<'a, G> {
     fn post_page(
         &self,
         alloc: Global,
-        desk: &mut Desk<'_>,
+        desk: &mut OpenDesk<'_>,
         stream: usize,
         page: u32,
         place: u32,
@@ -114,7 +126,7 @@ impl<'a, G: Gate> Round<'a, G> {
     }
 
     /// Sends a held page in the stream whose turn it is.
-    fn send_page(&self, alloc: Global, page: u32, copier: &mut Copier<'_>) -> Result<(), SeatError>
+    fn send_page(&self, alloc: Global, page: u32, copier: &mut Copying<'_>) -> Result<(), SeatError>
         requires page { page < self.now.trace.now.pages }
         requires table { copy_table copier.old.seat ≡ self.now.table.now }
         requires held { IsTrue (in_words copier.old.seat.facts.held page) }
@@ -145,7 +157,7 @@ impl<'a, G: Gate> Round<'a, G> {
     }
 
     /// Gives a held page back, and lists it as skipped.
-    fn skip_page(&self, page: u32, copier: &mut Copier<'_>) -> Result<(), SeatError>
+    fn skip_page(&self, page: u32, copier: &mut Copying<'_>) -> Result<(), SeatError>
         requires table { copy_table copier.old.seat ≡ self.now.table.now }
         requires own { OwnsWord copier.old.seat.facts (page / 64) }
         requires held { IsTrue (in_words copier.old.seat.facts.held page) }
@@ -160,7 +172,7 @@ impl<'a, G: Gate> Round<'a, G> {
     }
 
     /// Sends a held page in front of which none is held, or skips it where it is marked again and pages may be skipped.
-    fn copy_page(&self, alloc: Global, page: u32, copier: &mut Copier<'_>) -> Result<(), SeatError>
+    fn copy_page(&self, alloc: Global, page: u32, copier: &mut Copying<'_>) -> Result<(), SeatError>
         requires pages { length self.now.table.now.start.places ≡ self.now.trace.now.pages }
         requires ready { IsReady self.now.trace.now self.now.table.now copier.old.seat copier.old.desk }
         requires least { IsLeast copier.old.seat.facts page }
@@ -188,7 +200,7 @@ impl<'a, G: Gate> Round<'a, G> {
         word: usize,
         bits: u64,
         bit: u32,
-        copier: &mut Copier<'_>,
+        copier: &mut Copying<'_>,
     ) -> Result<(), SeatError>
         requires pages { length self.now.table.now.start.places ≡ self.now.trace.now.pages }
         requires few { self.now.trace.now.pages ≤ 65_536 }
@@ -215,7 +227,7 @@ impl<'a, G: Gate> Round<'a, G> {
         alloc: Global,
         word: usize,
         bits: u64,
-        copier: &mut Copier<'_>,
+        copier: &mut Copying<'_>,
     ) -> Result<(), SeatError>
         requires pages { length self.now.table.now.start.places ≡ self.now.trace.now.pages }
         requires few { self.now.trace.now.pages ≤ 65_536 }
@@ -234,7 +246,12 @@ impl<'a, G: Gate> Round<'a, G> {
     }
 
     /// Harvests a word, where it is the copier's, and sends or skips its pages.
-    fn copy_word(&self, alloc: Global, word: usize, copier: &mut Copier<'_>) -> Result<(), SeatError>
+    fn copy_word(
+        &self,
+        alloc: Global,
+        word: usize,
+        copier: &mut Copying<'_>,
+    ) -> Result<(), SeatError>
         requires pages { length self.now.table.now.start.places ≡ self.now.trace.now.pages }
         requires few { self.now.trace.now.pages ≤ 65_536 }
         requires ready { IsReady self.now.trace.now self.now.table.now copier.old.seat copier.old.desk }
@@ -253,26 +270,27 @@ impl<'a, G: Gate> Round<'a, G> {
 
     /// What a copier does in a round: it harvests its words once, in rising order, and sends or skips the pages of each. The
     /// seat has done nothing before; what the desk gave over in the round before goes. Memory alone is refused.
-    pub fn copy<'d>(
-        &self,
-        alloc: Global,
-        seat: CopySeat,
-        desk: Desk<'d>,
-    ) -> Result<Copier<'d>, SeatError>
+    pub fn copy(&self, alloc: Global, seat: CopySeat, desk: Desk) -> Result<Copier, SeatError>
+        requires of { IsIndexOf self.now.index.now self.now.trace.now }
         requires pages { length self.now.table.now.start.places ≡ self.now.trace.now.pages }
         requires table { copy_table seat ≡ self.now.table.now }
         requires idle { seat.facts ≡ first_copier self.now.table.now.start seat.facts.number }
-        requires desk { IsDesk self.now.trace.now desk.turn.streams desk }
-        ensures { IfOk result (λ copier. HasCopied self.now.trace.now self.now.skip self.now.table.now seat.facts.number desk.entry.turn.streams copier.seat copier.desk) }
+        requires desk { IsDesk self.now.trace.now self.now.streams desk }
+        ensures { IfOk result (λ copier. HasCopied self.now.trace.now self.now.skip self.now.table.now seat.facts.number self.now.streams copier.seat copier.desk) }
     {
-        let mut desk = desk;
-        desk.clear();
-        let mut copier = Copier { seat, desk };
+        let mut copier = Copying {
+            seat,
+            desk: desk.open(self.trace, self.index),
+        };
         let shape = self.trace.shape();
         let words = (shape.pages as usize + 63) / 64;
         for word in 0..words {
             self.copy_word(alloc, word, &mut copier)?;
         }
-        Ok(copier)
+        let Copying { seat, desk } = copier;
+        Ok(Copier {
+            seat,
+            desk: desk.close(),
+        })
     }
 }

@@ -1,13 +1,15 @@
 //! What a copier keeps from round to round.
 
 ghost use Rattle.std.specs.Prelude.{◌≡◌, ◌≤◌, IfOk, length};
-ghost use Rattle.live_seats.specs.Desks.{IsDesk, desk_with};
+ghost use Rattle.migration_model.specs.Trace.{GuestTrace};
+ghost use Rattle.live_seats.specs.Desks.{IsDesk, desk_with, open_desk_with};
 ghost use Rattle.live_seats.specs.Outboxes.{empty_outbox};
+ghost use Rattle.page_cache.specs.Cache.{AreKept, cache_with, pages_with};
 ghost use Rattle.page_versions.specs.Index.{IsIndexOf};
 
 use crate::error::SeatError;
 use crate::outbox::Outbox;
-use page_cache::PageCache;
+use page_cache::{KeptPages, PageCache};
 use page_versions::PageIndex;
 use std::alloc::Global;
 use std::marker::Model;
@@ -17,47 +19,89 @@ use trace_codec::Trace;
 /// How many pages a copier keeps.
 const KEPT_PAGES: usize = 64;
 
-/// What a copier keeps from round to round: whose turn it is, the pages that it sent last, and what it gives over at the end
-/// of a round, whose room the next round uses again.
+/// What a copier keeps from round to round: whose turn it is, the pages that it sent last, and what it gave over at the end
+/// of the round before, whose room the next round uses again.
 #[derive(Drop)]
-pub struct Desk<'a> {
+pub struct Desk {
     pub dealer: Dealer,
-    pub cache: PageCache<'a>,
+    pub pages: KeptPages,
     pub outbox: Outbox,
 }
 
-impl<'a> Model for Desk<'a> {
+impl Model for Desk {
     ghost use Rattle.live_seats.specs.Desks.{DeskView, desk_with};
 
     ghost Value = { DeskView };
 
-    ghost view = { λ d. desk_with d.dealer d.cache d.outbox };
+    ghost view = { λ d. desk_with d.dealer d.pages d.outbox };
 }
 
-impl<'a> Desk<'a> {
+/// A desk while a round lasts.
+#[derive(Drop)]
+pub(crate) struct OpenDesk<'a> {
+    pub(crate) dealer: Dealer,
+    pub(crate) cache: PageCache<'a>,
+    pub(crate) outbox: Outbox,
+}
+
+impl<'a> Model for OpenDesk<'a> {
+    ghost use Rattle.live_seats.specs.Desks.{OpenDeskView, open_desk_with};
+
+    ghost Value = { OpenDeskView };
+
+    ghost view = { λ d. open_desk_with d.dealer d.cache d.outbox };
+}
+
+impl Desk {
     /// A desk before the first round, with so many streams, 1 to 16.
-    pub fn new(
-        alloc: Global,
-        trace: &'a Trace,
-        index: &'a PageIndex,
-        streams: usize,
-    ) -> Result<Desk<'a>, SeatError>
-        requires of { IsIndexOf index.now trace.now }
+    pub fn new(alloc: Global, streams: usize) -> Result<Desk, SeatError>
         requires some { 1 ≤ streams }
         requires few { streams ≤ 16 }
-        ensures { IfOk result (IsDesk trace.now streams) }
+        ensures { (trace : GuestTrace) → IfOk result (IsDesk trace streams) }
     {
         Ok(Desk {
             dealer: Dealer::new(streams),
-            cache: PageCache::new(alloc, trace, index, KEPT_PAGES)?,
+            pages: KeptPages::new(alloc, KEPT_PAGES)?,
             outbox: Outbox::new(alloc, streams)?,
         })
     }
 
-    /// Takes all that was given over away. Its room stays.
-    pub(crate) fn clear(&mut self)
-        ensures { self.new ≡ desk_with self.old.turn self.old.cache (empty_outbox (length self.old.outbox.streams)) }
+    /// The desk at the beginning of a round: what was given over goes, and its room stays.
+    pub(crate) fn open<'a>(self, trace: &'a Trace, index: &'a PageIndex) -> OpenDesk<'a>
+        requires of { IsIndexOf index.now trace.now }
+        requires kept { AreKept trace.now self.pages.entries }
+        ensures { result ≡ open_desk_with self.turn (cache_with trace.entry.now self.pages.entries self.pages.capacity) (empty_outbox (length self.outbox.streams)) }
     {
-        self.outbox.clear();
+        let Desk {
+            dealer,
+            pages,
+            outbox,
+        } = self;
+        let mut outbox = outbox;
+        outbox.clear();
+        OpenDesk {
+            dealer,
+            cache: PageCache::with_pages(trace, index, pages),
+            outbox,
+        }
+    }
+}
+
+impl<'a> OpenDesk<'a> {
+    /// The desk at the end of a round.
+    pub(crate) fn close(self) -> Desk
+        ensures desk { result ≡ desk_with self.entry.turn (pages_with self.entry.cache.entries self.entry.cache.capacity) self.entry.outbox }
+        ensures kept { AreKept self.entry.cache.trace self.entry.cache.entries }
+    {
+        let OpenDesk {
+            dealer,
+            cache,
+            outbox,
+        } = self;
+        Desk {
+            dealer,
+            pages: cache.into_pages(),
+            outbox,
+        }
     }
 }

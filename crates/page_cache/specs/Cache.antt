@@ -13,6 +13,14 @@ abbrev pub page_with : ℕ → List ℕ → KeptPage
 page_with version bytes = record { version = version; bytes = bytes }
 
 -- pages that are kept by their numbers, at most so many, the one that was used last in front
+pub record GuestPages : Type 0 where
+  pub entries : List (ℕ × KeptPage)
+  pub capacity : ℕ
+
+abbrev pub pages_with : List (ℕ × KeptPage) → ℕ → GuestPages
+pages_with entries capacity = record { entries = entries; capacity = capacity }
+
+-- the same of a trace
 pub record GuestCache : Type 0 where
   pub trace : GuestTrace
   pub entries : List (ℕ × KeptPage)

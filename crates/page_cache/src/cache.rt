@@ -4,15 +4,15 @@ ghost use Rattle.std.specs.Prelude.{◌≡◌, ◌<◌, ◌≤◌, [], IfOk, IfS
 ghost use Rattle.std.specs.Map.{lookup};
 ghost use Rattle.migration_model.specs.Versions.{page_at};
 ghost use Rattle.page_versions.specs.Index.{IsIndexOf};
-ghost use Rattle.page_cache.specs.Cache.{AreKept, GuestCache, IsKept, cache_with, page_with};
+ghost use Rattle.page_cache.specs.Cache.{AreKept, GuestCache, IsKept, cache_with, page_with, pages_with};
 
 use crate::error::CacheError;
 use crate::kept::Kept;
+use crate::pages::KeptPages;
 use lru::LruCache;
 use page_versions::PageIndex;
 use std::alloc::Global;
 use std::marker::Model;
-use std::num::NonZeroUsize;
 use trace_codec::Trace;
 
 /// Pages of a trace, each with the version that it was last asked for: at most so many, and the one that was not used for
@@ -44,12 +44,31 @@ impl<'a> PageCache<'a> {
         requires capacity { (1 ≤ capacity) × (capacity ≤ 4_096) }
         ensures { IfOk result (λ cache. cache ≡ cache_with trace.now [] capacity) }
     {
-        let capacity = NonZeroUsize::new(capacity).unwrap();
-        Ok(PageCache {
-            trace,
-            index,
-            kept: LruCache::new(alloc, capacity)?,
-        })
+        let pages = KeptPages::new(alloc, capacity)?;
+        Ok(PageCache::with_pages(trace, index, pages))
+    }
+
+    /// A cache that goes on with pages that one of the same trace kept.
+    pub fn with_pages(trace: &'a Trace, index: &'a PageIndex, pages: KeptPages) -> PageCache<'a>
+        requires of { IsIndexOf index.now trace.now }
+        requires kept { AreKept trace.now pages.entries }
+        ensures { result ≡ cache_with trace.now pages.entries pages.capacity }
+    {
+        let KeptPages { kept } = pages;
+        PageCache { trace, index, kept }
+    }
+
+    /// What the cache keeps, given away.
+    pub fn into_pages(self) -> KeptPages
+        ensures pages { result ≡ pages_with self.entry.entries self.entry.capacity }
+        ensures kept { AreKept self.entry.trace self.entry.entries }
+    {
+        let PageCache {
+            trace: _,
+            index: _,
+            kept,
+        } = self;
+        KeptPages { kept }
     }
 
     /// What is kept of a page, where that is not past a version. It no longer stands in the cache.

@@ -4,9 +4,11 @@
 mod cache;
 mod error;
 mod kept;
+mod pages;
 
 pub use cache::PageCache;
 pub use error::CacheError;
+pub use pages::KeptPages;
 
 #[cfg(test)]
 mod tests;

@@ -2,7 +2,7 @@
 
 ghost use Rattle.std.specs.Prelude.{◌≡◌};
 
-use crate::{Body, Frame, FrameError, decode_frame, encode_frame, frame_of};
+use crate::{Body, Frame, FrameError, append_frame, decode_frame, encode_frame, frame_of};
 use std::alloc::AllocError;
 use std::test::Fail;
 use trace_codec::Shape;
@@ -42,6 +42,18 @@ fn changed(
 
 fn refusal(rt: &impl AllocGlobal, bytes: &[u8]) -> Option<FrameError> {
     decode_frame(rt.alloc(), &shape(), bytes).err()
+}
+
+#[test]
+fn frames_are_appended(rt: HostRuntime) -> Result<(), Fail> {
+    let shape = shape();
+    let mut stream = Vec::new(rt.alloc());
+    append_frame(&mut stream, &shape, 2, 0, &[0; 16])?;
+    append_frame(&mut stream, &shape, 3, 4, &DATA_FRAME[9..])?;
+    assert_eq!(rt; stream.len(), 34);
+    assert!(rt; stream[..9] == ZEROS_FRAME);
+    assert!(rt; stream[9..] == DATA_FRAME);
+    Ok(())
 }
 
 #[test]

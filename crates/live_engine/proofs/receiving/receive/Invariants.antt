@@ -8,14 +8,15 @@ use Rattle.live_seats.specs.Outboxes.{IsPosted}
 use Rattle.live_engine.specs.Joining.{HaveReceived}
 use Rattle.live_engine.proofs.receiving.receive.Given as goal
 
-abbrev pub invariant-loop-outbox : goal.invariant-loop-outbox
-invariant-loop-outbox l = record {
-  can_next : goal.iterator-loop-outbox.can_next l.outbox-iterator;
-  is_finite : goal.iterator-loop-outbox.is_finite l.outbox-iterator;
-  all : l.yielded ++ into_iter_items l.outbox-iterator ≡ l.fn.outboxes.items;
-  sent : l.sent.items ≡ flat_map (λ o. o.sent) l.yielded;
-  skipped : l.skipped.items ≡ flat_map (λ o. o.skipped) l.yielded;
+abbrev pub invariant-loop-desk : goal.invariant-loop-desk
+invariant-loop-desk l = record {
+  can_next : goal.iterator-loop-desk.can_next l.desk-iterator;
+  is_finite : goal.iterator-loop-desk.is_finite l.desk-iterator;
+  all : l.yielded ++ into_iter_items l.desk-iterator ≡ l.fn.desks.items;
+  sent : l.sent.items ≡ flat_map (λ d. d.outbox.sent) l.yielded;
+  skipped : l.skipped.items ≡ flat_map (λ d. d.outbox.skipped) l.yielded;
+  kept : l.kept.items ≡ l.yielded;
   count : length l.parts.items ≡ length l.fn.parts.items;
-  received : (trace : GuestTrace) → All (IsPosted trace) l.fn.outboxes.items → All IsPart l.fn.parts.items
+  received : (trace : GuestTrace) → All (λ desk. IsPosted trace desk.outbox) l.fn.desks.items → All IsPart l.fn.parts.items
       → All (λ part. part.shape ≡ shape_of_trace trace) l.fn.parts.items → HaveReceived trace l.sent.items l.fn.parts.items l.parts.items;
 }

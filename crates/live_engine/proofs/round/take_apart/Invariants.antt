@@ -8,6 +8,5 @@ invariant-loop-copier l = record {
   is_finite : goal.iterator-loop-copier.is_finite l.copier-iterator;
   all : l.yielded ++ into_iter_items l.copier-iterator ≡ l.fn.copiers.items;
   seats : l.seats.items ≡ map (λ c. c.seat) l.yielded;
-  dealers : l.dealers.items ≡ map (λ c. c.dealer) l.yielded;
-  outboxes : l.outboxes.items ≡ map (λ c. c.outbox) l.yielded;
+  desks : l.desks.items ≡ map (λ c. c.desk) l.yielded;
 }

@@ -22,7 +22,7 @@ replays_as_told trace old_trace table old_table ticks old_ticks number old_numbe
 
 copies_as_told : (trace old_trace : GuestTrace) (skip old_skip : Bool) (table old_table : TableView) (number old_number streams old_streams : ℕ) (copier : Copier)
     → old_trace ≡ trace → old_table ≡ table → old_skip ≡ skip → old_number ≡ number → old_streams ≡ streams
-    → HasCopied old_trace old_skip old_table old_number old_streams copier.seat copier.dealer copier.outbox
+    → HasCopied old_trace old_skip old_table old_number old_streams copier.seat copier.desk
     → IsCopied trace skip table streams copier number
 copies_as_told trace old_trace skip old_skip table old_table number old_number streams old_streams copier a b c d e is =
     subst (λ (t : GuestTrace). IsCopied t skip table streams copier number) a

@@ -1,8 +1,10 @@
 use Rattle.std.proofs.Common.{◌≡◌, ◌++◌, ◌∷◌, [], length, sym, ap, subst, ◌∙◌, arith}
+use Rattle.std.specs.List.{All}
 use Rattle.std.specs.Vec.Iter.{into_iter_items}
-use Rattle.std.proofs.lemmas.List.Elements.{All-rest}
+use Rattle.std.proofs.lemmas.List.Elements.{All-head, All-rest}
 use Rattle.dirty_words.specs.Facts.{first_copier}
 use Rattle.dirty_words.specs.Seats.{CopyView, copy_table}
+use Rattle.live_seats.specs.Desks.{IsDesk}
 use Rattle.live_engine.specs.Seated.{EachAt}
 use Rattle.live_engine.proofs.Each.{each_push}
 use Rattle.live_engine.proofs.FirstSeats.{copier_at, rest_of, one_longer}
@@ -19,6 +21,11 @@ start_copier-requires-clause-idle g c κs within =
     c.requires.seats c.in-Some.ensures.steps.0 c.loop-seat.invariant.rest in
     ap (λ (s : CopyView). s.facts) first ∙ sym (ap (λ (s : CopyView). first_copier c.args.round.now.table.now.start s.facts.number) first)
 
+pub start_copier-requires-clause-desk : goal.start_copier-requires-clause-desk
+start_copier-requires-clause-desk g c κs within =
+    All-head (IsDesk c.args.round.now.trace.now c.args.round.now.streams) c.in-Some-pop_front.desk c.pop_front.new.self.items
+    (subst (All (IsDesk c.args.round.now.trace.now c.args.round.now.streams)) c.in-Some-pop_front.ensures.items c.loop-seat.invariant.desks)
+
 pub loop-seat-preserved : goal.loop-seat-preserved
 loop-seat-preserved g c =
     let before = c.loop-seat.handles.items in
@@ -33,8 +40,8 @@ loop-seat-preserved g c =
       count = one_longer before handle c.loop-seat.yielded c.in-Some.seat c.push_reserved.new.self.items items c.loop-seat.invariant.count;
       rest = rest_of c.loop-seat.yielded (into_iter_items c.loop-seat.seat-iterator) (into_iter_items c.next.new.self) c.args.seats.items c.in-Some.seat
           c.in-Some.ensures.steps.0 c.loop-seat.invariant.rest;
-      dealers = grind (arith, c.in-Some-pop_front.ensures.len, c.loop-seat.invariant.dealers, ap length c.in-Some.ensures.steps.0);
-      streams = All-rest (λ dealer. dealer.streams ≡ c.args.streams) c.in-Some-pop_front.dealer c.pop_front.new.self.items c.loop-seat.dealers.items (c.in-Some-pop_front.ensures.items) c.loop-seat.invariant.streams;
-      started = subst (λ hs. EachAt (λ h i. (h.promise.trace.now ≡ c.args.round.now.trace.now) × (h.promise.table.now ≡ c.args.round.now.table.now) × (h.promise.skip ≡ c.args.round.now.skip) × (h.promise.number ≡ i) × (h.promise.streams ≡ c.args.streams)) hs) (sym items)
-          (each_push (λ h i. (h.promise.trace.now ≡ c.args.round.now.trace.now) × (h.promise.table.now ≡ c.args.round.now.table.now) × (h.promise.skip ≡ c.args.round.now.skip) × (h.promise.number ≡ i) × (h.promise.streams ≡ c.args.streams)) before handle c.loop-seat.invariant.started (c.in_ok-handle.ensures.0, c.in_ok-handle.ensures.1, c.in_ok-handle.ensures.2, number, c.in_ok-handle.ensures.4));
+      count_left = grind (arith, c.in-Some-pop_front.ensures.len, c.loop-seat.invariant.count_left, ap length c.in-Some.ensures.steps.0);
+      desks = All-rest (IsDesk c.args.round.now.trace.now c.args.round.now.streams) c.in-Some-pop_front.desk c.pop_front.new.self.items c.loop-seat.desks.items (c.in-Some-pop_front.ensures.items) c.loop-seat.invariant.desks;
+      started = subst (λ hs. EachAt (λ h i. (h.promise.trace.now ≡ c.args.round.now.trace.now) × (h.promise.table.now ≡ c.args.round.now.table.now) × (h.promise.skip ≡ c.args.round.now.skip) × (h.promise.number ≡ i) × (h.promise.streams ≡ c.args.round.now.streams)) hs) (sym items)
+          (each_push (λ h i. (h.promise.trace.now ≡ c.args.round.now.trace.now) × (h.promise.table.now ≡ c.args.round.now.table.now) × (h.promise.skip ≡ c.args.round.now.skip) × (h.promise.number ≡ i) × (h.promise.streams ≡ c.args.round.now.streams)) before handle c.loop-seat.invariant.started (c.in_ok-handle.ensures.0, c.in_ok-handle.ensures.1, c.in_ok-handle.ensures.2, number, c.in_ok-handle.ensures.4));
     }

@@ -1,6 +1,7 @@
 use Rattle.std.proofs.Common.{◌≡◌, length, ◌++◌}
 use Rattle.std.specs.List.{All}
 use Rattle.std.specs.Vec.Iter.{into_iter_items}
+use Rattle.live_seats.specs.Desks.{IsDesk}
 use Rattle.live_engine.specs.Seated.{EachAt}
 use Rattle.live_engine.proofs.threads.start_copiers.Given as goal
 
@@ -10,7 +11,7 @@ invariant-loop-seat g l = record {
   is_finite : (goal.iterator-loop-seat g).is_finite l.seat-iterator;
   count : length l.handles.items ≡ length l.yielded;
   rest : l.yielded ++ into_iter_items l.seat-iterator ≡ l.fn.seats.items;
-  dealers : length l.dealers.items ≡ length (into_iter_items l.seat-iterator);
-  streams : All (λ dealer. dealer.streams ≡ l.streams) l.dealers.items;
-  started : EachAt (λ h i. (h.promise.trace.now ≡ l.round.trace.now) × (h.promise.table.now ≡ l.round.table.now) × (h.promise.skip ≡ l.round.skip) × (h.promise.number ≡ i) × (h.promise.streams ≡ l.streams)) l.handles.items;
+  count_left : length l.desks.items ≡ length (into_iter_items l.seat-iterator);
+  desks : All (IsDesk l.round.trace.now l.round.streams) l.desks.items;
+  started : EachAt (λ h i. (h.promise.trace.now ≡ l.round.trace.now) × (h.promise.table.now ≡ l.round.table.now) × (h.promise.skip ≡ l.round.skip) × (h.promise.number ≡ i) × (h.promise.streams ≡ l.round.streams)) l.handles.items;
 }

@@ -15,8 +15,8 @@ loop-index-preserved c =
       count = length-set streams index c.clear.new.self ∙ c.loop-index.invariant.count;
       emptied = λ i d low. elim (cases_eq i index) [
         | inl same ↦
-              ap (λ (s : Vec ℕ Global). s.items) (subst (λ (n : ℕ). get_or (set streams index c.clear.new.self) n d ≡ c.clear.new.self) (sym same) (get_or-set_same streams index c.clear.new.self d inside))
-              ∙ c.clear.ensures.items
+            ap (λ (s : Vec ℕ Global). s.items) (subst (λ (n : ℕ). get_or (set streams index c.clear.new.self) n d ≡ c.clear.new.self) (sym same) (get_or-set_same streams index c.clear.new.self d inside))
+            ∙ c.clear.ensures.items
         | inr other ↦ ap (λ (s : Vec ℕ Global). s.items) (get_or-set_other streams index i c.clear.new.self d other) ∙ c.loop-index.invariant.emptied i d (omega (arith, low, other))
       ];
     }

@@ -3,15 +3,15 @@ use Rattle.std.proofs.lemmas.List.FromFn.{length-map-range_with_len}
 use Rattle.dirty_core.specs.Start.{Start, IsStart, start_with}
 use Rattle.dirty_words.specs.Facts.{first_copier}
 use Rattle.dirty_words.specs.Seats.{ClosedView, copy_view}
-use Rattle.live_engine.proofs.Rounding.{idle_guests, idle_copiers, all_posted, all_wide, all_turns, opens_so, round_is}
+use Rattle.live_engine.proofs.Rounding.{idle_guests, idle_copiers, all_posted, all_desks, opens_so, round_is}
 use Rattle.live_engine.proofs.round.Crew.run_round.Goals as goal
 
-pub run_threads-requires-clause-dealers : goal.run_threads-requires-clause-dealers
-run_threads-requires-clause-dealers g c κs within =
+pub run_threads-requires-clause-count : goal.run_threads-requires-clause-count
+run_threads-requires-clause-count g c κs within =
     let table = c.in_ok-table.field-0.table in
     let count : length c.in_ok-table.field-0.copiers.items ≡ table.start.copiers =
     ap length c.in_ok-table.ensures.copiers ∙ length-map-range_with_len (λ (n : ℕ). copy_view table.id (first_copier table.start n)) 0 table.start.copiers in
-    c.requires.dealers ∙ sym (count ∙ ap (λ (s : Start). s.copiers) (c.in_ok-table.ensures.table ∙ c.in-Some.ensures.given))
+    c.requires.count ∙ sym (count ∙ ap (λ (s : Start). s.copiers) (c.in_ok-table.ensures.table ∙ c.in-Some.ensures.given))
 
 pub close-closed-requires-clause-guests : goal.close-closed-requires-clause-guests
 close-closed-requires-clause-guests g c =
@@ -29,23 +29,18 @@ returns-clause-round g c =
     let start_is : table.start ≡ start_with c.args.closed.versions c.args.closed.dirty crew.replayers crew.copiers =
     c.in_ok-table.ensures.table ∙ c.in-Some.ensures.given ∙ ap (λ (v : ClosedView). start_with v.versions v.dirty crew.replayers crew.copiers) c.closed.view_is in
     round_is crew.trace.now c.args.skip table c.args.ticks.from c.args.ticks.to crew.streams crew.replayers crew.copiers c.in_ok-finished.finished.guests.items
-    c.in_ok-finished.finished.copiers.items c.in_ok-seats.field-0.seats.items c.in_ok-seats.field-0.outboxes.items c.args.closed c.close-closed.result c.requires.span
+    c.in_ok-finished.finished.copiers.items c.in_ok-seats.field-0.seats.items c.in_ok-seats.field-0.desks.items c.args.closed c.close-closed.result c.requires.span
     (opens_so crew.trace.now c.args.ticks.from table.start c.args.closed crew.replayers crew.copiers start_is c.requires.size c.requires.versions)
     (subst (λ (s : Start). IsStart s) (sym c.in_ok-table.ensures.table) c.in_ok-table.ensures.start)
-    start_is c.in_ok-finished.ensures.guests c.in_ok-finished.ensures.copiers c.in_ok-seats.ensures.seats c.in_ok-seats.ensures.outboxes
+    start_is c.in_ok-finished.ensures.guests c.in_ok-finished.ensures.copiers c.in_ok-seats.ensures.seats c.in_ok-seats.ensures.desks
     c.close-closed.ensures.pages c.close-closed.ensures.next
 
 pub returns-clause-posted : goal.returns-clause-posted
 returns-clause-posted g c =
     all_posted c.args.self.now.trace.now c.args.skip c.in_ok-table.field-0.table c.args.self.now.streams c.in_ok-finished.finished.copiers.items
-    c.in_ok-seats.field-0.outboxes.items c.in_ok-seats.ensures.outboxes c.in_ok-finished.ensures.copiers
+    c.in_ok-seats.field-0.desks.items c.in_ok-seats.ensures.desks c.in_ok-finished.ensures.copiers
 
-pub returns-clause-widths : goal.returns-clause-widths
-returns-clause-widths g c =
-    all_wide c.args.self.now.trace.now c.args.skip c.in_ok-table.field-0.table c.args.self.now.streams c.in_ok-finished.finished.copiers.items
-    c.in_ok-seats.field-0.outboxes.items c.in_ok-seats.ensures.outboxes c.in_ok-finished.ensures.copiers
-
-pub returns-clause-streams : goal.returns-clause-streams
-returns-clause-streams g c =
-    all_turns c.args.self.now.trace.now c.args.skip c.in_ok-table.field-0.table c.args.self.now.streams c.in_ok-finished.finished.copiers.items
-    c.in_ok-seats.field-0.dealers.items c.in_ok-seats.ensures.dealers c.in_ok-finished.ensures.copiers
+pub returns-clause-desks : goal.returns-clause-desks
+returns-clause-desks g c =
+    all_desks c.args.self.now.trace.now c.args.skip c.in_ok-table.field-0.table c.args.self.now.streams c.in_ok-finished.finished.copiers.items
+    c.in_ok-seats.field-0.desks.items c.in_ok-seats.ensures.desks c.in_ok-finished.ensures.copiers

@@ -1,6 +1,9 @@
 use Rattle.std.proofs.Common.{◌≡◌, ℕ, ◌+◌, ◌/◌, ◌≤◌, subst, arith, [], length, refl, sym, ap, ◌∙◌}
 use Rattle.std.proofs.lemmas.List.{length-replicate}
-use Rattle.live_seats.specs.Desks.{DeskView}
+use Rattle.migration_model.specs.Trace.{GuestTrace}
+use Rattle.page_cache.specs.Cache.{AreKept}
+use Rattle.live_seats.specs.Desks.{DeskView, OpenDeskView}
+use Rattle.live_seats.specs.Outboxes.{OutboxView, IsPosted}
 use Rattle.live_seats.specs.Scans.{IsScanned}
 use Rattle.live_seats.proofs.Copying.{copy_begins}
 use Rattle.live_seats.proofs.copier.Round.copy.Goals as goal
@@ -11,27 +14,39 @@ words word pages count up down same = omega (arith, up, down, ap (λ n. (n + 63)
 
 pub loop-word-init : goal.loop-word-init
 loop-word-init g c =
-    let desk = c.requires.desk in
-    let begins = copy_begins c.args.self.now.trace.now c.args.self.now.skip c.args.self.now.table.now.start c.args.seat.facts.number (length c.args.desk.outbox.streams)
-    c.args.seat.facts c.clear.new.self.outbox c.requires.idle (ap (λ (d : DeskView). d.outbox) c.clear.ensures) in
-    let streams = ap (λ (d : DeskView). length d.outbox.streams) c.clear.ensures ∙ length-replicate (length c.args.desk.outbox.streams) [] ∙ desk.streams_are in
-    let turns = ap (λ (d : DeskView). d.turn.streams) c.clear.ensures in
-    let trace = ap (λ (d : DeskView). d.cache.trace) c.clear.ensures ∙ desk.trace_is in
+    let desk = c.open.result in
+    let count = length c.args.desk.outbox.streams in
+    let begins = copy_begins c.args.self.now.trace.now c.args.self.now.skip c.args.self.now.table.now.start c.args.seat.facts.number count
+    c.args.seat.facts desk.outbox c.requires.idle (ap (λ (d : OpenDeskView). d.outbox) c.open.ensures) in
+    let streams = ap (λ (d : OpenDeskView). length d.outbox.streams) c.open.ensures ∙ length-replicate count [] ∙ c.requires.desk.streams_are in
+    let turns = ap (λ (d : OpenDeskView). d.turn.streams) c.open.ensures ∙ c.requires.desk.turns in
+    let trace = ap (λ (d : OpenDeskView). d.cache.trace) c.open.ensures in
     record {
       ready = record { table_is = c.requires.table; trace_is = trace; streams = streams ∙ sym turns };
       number = refl;
-      desk = record { trace_is = trace; turns = turns; streams_are = streams };
+      turns = turns;
       held = begins.1;
       scanned = begins.0;
       posted = begins.2;
     }
 
 pub returns : goal.returns
-returns g c = record {
-  table_is = c.loop-word.invariant.ready.table_is;
-  number_is = c.loop-word.invariant.number;
-  is_desk = c.loop-word.invariant.desk;
-  held = c.loop-word.invariant.held;
-  scanned = subst (λ (n : ℕ). IsScanned c.args.self.now.skip n c.loop-word.copier.seat.facts c.loop-word.copier.desk.outbox) (words c.loop-word.word _ _ c.loop-word.auto.word-end c.loop-word-test.false c.shape-shape.ensures.pages) c.loop-word.invariant.scanned;
-  posted = c.loop-word.invariant.posted;
-}
+returns g c =
+    let copier = c.loop-word.copier in
+    let rest = c.loop-word.invariant in
+    let outbox = ap (λ (d : DeskView). d.outbox) c.close.ensures.desk in
+    record {
+      table_is = rest.ready.table_is;
+      number_is = rest.number;
+      is_desk = record {
+        kept = subst (λ (d : DeskView). AreKept c.args.self.now.trace.now d.pages.entries) (sym c.close.ensures.desk)
+            (subst (λ (t : GuestTrace). AreKept t copier.desk.cache.entries) rest.ready.trace_is c.close.ensures.kept);
+        turns = ap (λ (d : DeskView). d.turn.streams) c.close.ensures.desk ∙ rest.turns;
+        streams_are = ap (λ (o : OutboxView). length o.streams) outbox ∙ rest.ready.streams ∙ rest.turns;
+      };
+      held = rest.held;
+      scanned = rw outbox
+          (subst (λ (n : ℕ). IsScanned c.args.self.now.skip n copier.seat.facts copier.desk.outbox)
+          (words c.loop-word.word _ _ c.loop-word.auto.word-end c.loop-word-test.false c.shape-shape.ensures.pages) rest.scanned);
+      posted = subst (λ (o : OutboxView). IsPosted c.args.self.now.trace.now o) (sym outbox) rest.posted;
+    }

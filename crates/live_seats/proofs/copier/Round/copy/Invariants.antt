@@ -1,6 +1,5 @@
 use Rattle.std.proofs.Common.{◌≡◌}
 use Rattle.dirty_words.specs.Facts.{HoldsNone}
-use Rattle.live_seats.specs.Desks.{IsDesk}
 use Rattle.live_seats.specs.Outboxes.{IsPosted}
 use Rattle.live_seats.specs.Scans.{IsScanned}
 use Rattle.live_seats.specs.Copies.{IsReady}
@@ -10,7 +9,7 @@ abbrev pub invariant-loop-word : goal.invariant-loop-word
 invariant-loop-word g l = record {
   ready : IsReady l.self.trace.now l.self.table.now l.copier.seat l.copier.desk;
   number : l.copier.seat.facts.number ≡ l.fn.seat.facts.number;
-  desk : IsDesk l.self.trace.now l.fn.desk.turn.streams l.copier.desk;
+  turns : l.copier.desk.turn.streams ≡ l.self.streams;
   held : HoldsNone l.copier.seat.facts;
   scanned : IsScanned l.self.skip l.word l.copier.seat.facts l.copier.desk.outbox;
   posted : IsPosted l.self.trace.now l.copier.desk.outbox;

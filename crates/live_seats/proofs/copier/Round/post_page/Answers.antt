@@ -3,14 +3,14 @@ use Rattle.migration_model.specs.Trace.{GuestTrace}
 use Rattle.migration_model.specs.Versions.{page_at}
 use Rattle.migration_model.proofs.Pages.{length-page_at}
 use Rattle.page_cache.specs.Cache.{KeptPage}
-use Rattle.live_seats.specs.Desks.{DeskView}
+use Rattle.live_seats.specs.Desks.{OpenDeskView}
 use Rattle.live_seats.proofs.copier.Round.post_page.Goals as goal
 
 pub post-requires-clause-whole : goal.post-requires-clause-whole
 post-requires-clause-whole g c =
     let trace = c.args.self.now.trace.now in
     let stamp = c.min-stamp.result in
-    let same = ap (λ (d : DeskView). d.cache.trace) c.desk.view_is ∙ c.requires.trace in
+    let same = ap (λ (d : OpenDeskView). d.cache.trace) c.desk.view_is ∙ c.requires.trace in
     let bytes = ap (λ (o : Option (List ℕ)). unwrap_or o []) (c.in-Some.ensures ∙ ap (option_map (λ (k : KeptPage). k.bytes)) c.in_ok-keep.ensures.last) in
     ap length (bytes ∙ ap (λ (t : GuestTrace). page_at t c.args.page stamp) same)
     ∙ length-page_at trace c.args.page stamp c.shape-shape.ensures.is_trace c.requires.page
