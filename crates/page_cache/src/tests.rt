@@ -145,3 +145,25 @@ fn two_pages_are_kept(rt: HostRuntime) -> Result<(), Fail> {
     );
     Ok(())
 }
+
+#[test]
+fn kept_pages_go_to_another_cache(rt: HostRuntime) -> Result<(), Fail> {
+    let alloc = rt.alloc();
+    let trace = guest(alloc)?;
+    let index = PageIndex::build(&rt, alloc, &trace)?;
+    let mut first = new_cache(alloc, &trace, &index, 1)?;
+    assert!(rt; first.bytes(1).is_none());
+    drop(bytes_of(alloc, &mut first, &trace, 1, 3)?);
+    let third = page_with(&[(0, 3), (15, 2)])?;
+    let kept = first.bytes(1).ok_or("the page asked for")?;
+    assert!(rt; kept == third.as_slice());
+    let pages = first.into_pages();
+    if !index.is_of(&trace) {
+        return Err(Fail::from("the index of the trace"));
+    }
+    let second = PageCache::with_pages(&trace, &index, pages);
+    let kept = second.bytes(1).ok_or("the page of the first cache")?;
+    assert!(rt; kept == third.as_slice());
+    assert!(rt; second.bytes(3).is_none());
+    Ok(())
+}
