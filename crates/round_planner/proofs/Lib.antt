@@ -3,5 +3,6 @@ pub mod PageLists
 pub mod Plans
 pub mod Scans
 pub mod Columns
+pub mod Words
 pub mod Counted
 pub mod Outcomes

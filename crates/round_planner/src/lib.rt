@@ -4,6 +4,7 @@
 mod error;
 mod index;
 mod laws;
+mod marks;
 mod parts;
 mod planner;
 mod planning;

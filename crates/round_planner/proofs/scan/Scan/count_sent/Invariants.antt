@@ -1,7 +1,7 @@
 use Rattle.std.proofs.Common.{◌≡◌, ◌≤◌, ◌+◌, ◌*◌, ◌/◌, [], length, take}
 use Rattle.round_planner.specs.Scanning.{IsScanWithin}
 use Rattle.round_planner.proofs.Skims.{skim}
-use Rattle.round_planner.proofs.scan.Scan.count_sent_of.Given as goal
+use Rattle.round_planner.proofs.scan.Scan.count_sent.Given as goal
 
 abbrev pub invariant-loop-page : goal.invariant-loop-page
 invariant-loop-page g l = record {

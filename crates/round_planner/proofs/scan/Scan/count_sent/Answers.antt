@@ -4,7 +4,7 @@ use Rattle.std.specs.Prelude.{slice_index_or}
 use Rattle.round_planner.proofs.Counted.{one_page_more, one_at_most}
 use Rattle.round_planner.proofs.PageLists.{list_low, list_few, list_rises}
 use Rattle.round_planner.proofs.Skims.{skim, skim_is_sent}
-use Rattle.round_planner.proofs.scan.Scan.count_sent_of.Goals as goal
+use Rattle.round_planner.proofs.scan.Scan.count_sent.Goals as goal
 
 pub look-seen-requires-clause-page : goal.look-seen-requires-clause-page
 look-seen-requires-clause-page g c = list_low _ _ c.requires.pages c.loop-page.page-index 0 (omega (arith, c.loop-page-test.true))
