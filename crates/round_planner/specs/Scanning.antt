@@ -1,5 +1,5 @@
 -- A walk over touches, on its way. No contract of a public call speaks of it.
-use Rattle.std.specs.Prelude.{◌≡◌, ℕ, ◌+◌, ◌*◌, ◌≤◌, ◌<◌, ◌&&◌, ◌==◌, ◌^◌, nat_lt, nat_le, true, false, Bool, List, length, take, slice_index_or}
+use Rattle.std.specs.Prelude.{◌≡◌, ℕ, ◌+◌, ◌*◌, ◌/◌, ◌%◌, ◌≤◌, ◌<◌, ◌&&◌, ◌==◌, ◌^◌, nat_lt, nat_le, true, false, Bool, List, length, take, slice_index_or}
 use Rattle.std.specs.List.{filter, list_any, range_with_len}
 use Rattle.std.specs.List.Sorted.{IsPartitionPoint}
 use Rattle.migration_model.specs.Rates.{MigrationSettings}
@@ -7,6 +7,8 @@ use Rattle.migration_model.specs.Rounds.{NextRound, PlannedRound, IsRound}
 use Rattle.migration_model.specs.Touches.{GuestTouch, no_touch, pages_written}
 use Rattle.dirty_core.specs.Pages.{in_words}
 use Rattle.round_planner.specs.Marking.{word_count}
+use Rattle.round_planner.specs.declared.pace.Pace.{Pace}
+use Rattle.round_planner.specs.declared.pace.Progress.{Progress}
 
 -- whether one of the first touches, so many, is to the page and at a tick from `from` on
 abbrev pub is_met : List GuestTouch → ℕ → ℕ → ℕ → Bool
@@ -66,3 +68,15 @@ pub record HasRun (pages : ℕ) (touches : List GuestTouch) (s : MigrationSettin
   pub short : round.to ≤ round.from + 65_536_000
   pub few : length round.sent ≤ 65_536
   pub small : pages ≤ 65_536
+
+-- a pace that the numbers have room for: a page takes so many ticks, and parts of one more
+pub record IsPace (pace : Pace) : Type 0 where
+  pub some : 1 ≤ pace.rate
+  pub low : pace.from < 2 ^ 42
+  pub ticks_are : pace.ticks ≡ 1_000 / pace.rate
+  pub parts_are : pace.parts ≡ 1_000 % pace.rate
+
+-- where a round is that goes on at a pace and has sent so many pages
+pub record IsProgress (pace : Pace) (at : Progress) : Type 0 where
+  pub tick_is : at.tick ≡ pace.from + 1_000 * at.sent / pace.rate
+  pub part_is : at.part ≡ 1_000 * at.sent % pace.rate

@@ -5,6 +5,7 @@ mod error;
 mod index;
 mod laws;
 mod marks;
+mod pace;
 mod parts;
 mod planner;
 mod planning;

@@ -6,9 +6,10 @@ ghost use Rattle.migration_model.specs.Touches.{AreTouches, GuestTouch, is_writt
 ghost use Rattle.migration_model.specs.Rounds.{IsSent};
 ghost use Rattle.round_planner.specs.Indexing.{HasSent};
 ghost use Rattle.round_planner.specs.Marking.{marked};
-ghost use Rattle.round_planner.specs.Scanning.{HasRoom, IsNextBefore, IsPageList, IsScan, IsScanWithin};
+ghost use Rattle.round_planner.specs.Scanning.{HasRoom, IsNextBefore, IsPace, IsPageList, IsProgress, IsScan, IsScanWithin};
 
 use crate::marks::{is_marked, list_marked, mark, words_for};
+use crate::pace::{Pace, Progress};
 use std::alloc::{AllocError, Global};
 use trace_codec::Timeline;
 
@@ -135,33 +136,28 @@ impl Scan {
         Ok(sent)
     }
 
-    /// Looks at one page of a round at whose tick `end` so many pages are sent. It answers how many are sent then, and the
-    /// tick that the scan has come to.
+    /// Looks at one page of a round, and answers how far the round is then. The walk goes on to where it was.
     fn look<T: Timeline>(
         &mut self,
         timeline: &T,
-        from: u64,
-        rate: u64,
+        pace: &Pace,
         page: u32,
-        sent: u32,
-        end: u64,
-    ) -> (u32, u64)
-        requires scan { IsScanWithin (T.pages timeline.now) (T.touches timeline.now) from end self.old.next self.old.marks.items }
-        requires end { end ≡ from + 1_000 * sent / rate }
+        at: Progress,
+    ) -> Progress
+        requires scan { IsScanWithin (T.pages timeline.now) (T.touches timeline.now) pace.now.from at.tick self.old.next self.old.marks.items }
         requires page { page < T.pages timeline.now }
-        requires few { sent < 65_536 }
-        requires rate { 1 ≤ rate }
-        requires from { from < 2 ^ 42 }
-        ensures sent { result.0 ≡ (if not (is_written (T.touches timeline.now) from end page) then sent + 1 else sent) }
-        ensures end { result.1 ≡ from + 1_000 * result.0 / rate }
-        ensures scan { IsScanWithin (T.pages timeline.now) (T.touches timeline.now) from result.1 self.new.next self.new.marks.items }
+        requires pace { IsPace pace.now }
+        requires at { IsProgress pace.now at }
+        requires few { at.sent < 65_536 }
+        ensures sent { result.sent ≡ (if not (is_written (T.touches timeline.now) pace.now.from at.tick page) then at.sent + 1 else at.sent) }
+        ensures at { IsProgress pace.now result }
+        ensures scan { IsScanWithin (T.pages timeline.now) (T.touches timeline.now) pace.now.from result.tick self.new.next self.new.marks.items }
     {
-        self.advance(timeline, end);
+        self.advance(timeline, at.tick);
         if is_marked(&self.marks, page) {
-            return (sent, end);
+            return at;
         }
-        let sent = sent + 1;
-        (sent, from + 1000 * sent as u64 / rate)
+        pace.send(at)
     }
 
     /// How many of these pages of a round are sent where those soon written again are skipped. The walk goes on to where the
@@ -180,13 +176,11 @@ impl Scan {
         ensures sent { HasSent (T.touches timeline.now) from rate pages.now result }
         ensures scan { IsScanWithin (T.pages timeline.now) (T.touches timeline.now) from (from + 1_000 * result / rate) self.new.next self.new.marks.items }
     {
-        let mut sent = 0u32;
-        let mut end = from;
+        let pace = Pace::new(from, rate);
+        let mut at = pace.begin();
         for page in pages {
-            let seen = self.look(timeline, from, rate, *page, sent, end);
-            sent = seen.0;
-            end = seen.1;
+            at = self.look(timeline, &pace, *page, at);
         }
-        sent
+        at.sent
     }
 }
