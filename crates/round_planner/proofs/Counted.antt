@@ -1,6 +1,7 @@
 -- How many pages are sent, found page by page.
-use Rattle.std.proofs.Common.{◌≡◌, ℕ, ◌+◌, ◌*◌, ◌/◌, Bool, true, false, cond, not, List, [], ◌∷◌, ◌++◌, length, get_or, take, set, refl, sym, ap, ◌∙◌, ◌<◌, ◌≤◌, arith}
-use Rattle.std.proofs.lemmas.List.{append-nil, take_more, take_more_set, take-set, length_push, get_or_default}
+use Rattle.std.proofs.Common.{◌≡◌, ℕ, ◌+◌, ◌*◌, ◌/◌, Bool, true, false, cond, not, List, [], ◌∷◌, ◌++◌, length, get_or, take, ltb, refl, sym, ap, ◌∙◌, ◌<◌, ◌≤◌, arith}
+use Rattle.std.proofs.lemmas.Bool.{lt-ltb, le-ltb}
+use Rattle.std.proofs.lemmas.List.{take_more, length_push}
 use Rattle.std.proofs.lemmas.List.Sums.{fold-append}
 use Rattle.migration_model.specs.Touches.{GuestTouch, is_written}
 use Rattle.dirty_core.specs.Pages.{in_words}
@@ -38,3 +39,12 @@ looked_at pages touches from end n page sent marks mark b scan low is b_is =
     let met : b ≡ is_written touches from end page =
     sym b_is ∙ is ∙ mark_is pages touches from end n page marks scan low in
     ap (λ x. one_more (not x) sent) met
+
+-- a count goes up where one more is counted
+pub counts_up : (b : Bool) (sent new : ℕ) → new ≡ cond b (sent + 1) sent → ltb sent new ≡ b
+counts_up true sent new is = lt-ltb sent new (omega (arith, is))
+counts_up false sent new is = le-ltb sent new (omega (arith, is))
+
+pub counts_all : (b : Bool) (sent new page : ℕ) (old list : List ℕ) → sent ≡ length old → new ≡ cond b (sent + 1) sent → list ≡ cond b (old ++ page ∷ []) old → new ≡ length list
+counts_all b sent new page old list count new_is list_is =
+    new_is ∙ ap (one_more b) count ∙ sym (pushed b page old) ∙ sym (ap (λ (l : List ℕ). length l) list_is)

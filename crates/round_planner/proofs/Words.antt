@@ -1,15 +1,15 @@
 -- Pages that are marked in words, found word by word and bit by bit.
-use Rattle.std.proofs.Common.{◌≡◌, ◌≢◌, ℕ, zero, suc, ◌+◌, ◌-◌, ◌*◌, ◌/◌, ◌%◌, ◌^◌, ◌<◌, ◌≤◌, Bool, true, false, cond, ◌&&◌, eqb, List, [], ◌∷◌, ◌++◌, length, get_or, take, set, replicate, bit_and, refl, sym, ap, ◌∙◌, append_assoc, inl, inr, arith, w64}
+use Rattle.std.proofs.Common.{◌≡◌, ◌≢◌, ℕ, zero, suc, ◌+◌, ◌-◌, ◌*◌, ◌/◌, ◌%◌, ◌^◌, ◌<◌, ◌≤◌, Bool, true, false, cond, ◌&&◌, eqb, List, [], ◌∷◌, ◌++◌, length, get_or, take, set, bit_and, refl, sym, ap, ◌∙◌, append_assoc, inl, inr, arith, w64}
 use Rattle.std.specs.Int.{bit_at, bit_not, trailing_zeros}
 use Rattle.std.specs.List.{filter, range_with_len}
-use Rattle.std.proofs.lemmas.Bool.{cases_eq, cases_lt, eq-eqb, ne_eqb, and_from, and_left, and_right}
-use Rattle.std.proofs.lemmas.List.{append-nil, length-append, take_more_set, length_push}
+use Rattle.std.proofs.lemmas.Bool.{cases_eq, eq-eqb, ne_eqb, and_left, and_right}
+use Rattle.std.proofs.lemmas.List.{append-nil, length-append, take_more_set}
 use Rattle.std.proofs.lemmas.List.Elements.{filter-append}
 use Rattle.std.proofs.lemmas.Nat.{div-mul-add, mod-mul-add, mod_below, div-add-mod'}
 use Rattle.std.proofs.lemmas.Nat.Bits.{bit_at-trailing_zeros, bit_at_clear_same, bit_at_clear_other, bit_at-zero}
 use Rattle.migration_model.proofs.Ranges.{filter_range_agree}
 use Rattle.dirty_core.specs.Pages.{bit_pages, in_words}
-use Rattle.round_planner.specs.Marking.{marked, pages_of_word}
+use Rattle.round_planner.specs.Marking.{pages_of_word}
 
 -- ---- runs of numbers
 
@@ -79,8 +79,8 @@ lowest_first word bits some fits =
     let f : page % 64 ≡ lowest = mod-mul-add word 64 lowest below in
     first_kept (bit_pages word bits) (bit_pages word (rest_of bits)) page (word * 64) 64 (omega arith) (omega (arith, below))
     (λ i low high.
-        let g : i % 64 < lowest = omega (arith, low, high, below) in
-        and_right _ _ (ap (λ b. eqb b 1) (found.2 (i % 64) g)))
+    let g : i % 64 < lowest = omega (arith, low, high, below) in
+    and_right _ _ (ap (λ b. eqb b 1) (found.2 (i % 64) g)))
     (in_word word bits page e ∙ ap (λ k. eqb (bit_at bits k) 1) f ∙ ap (λ b. eqb b 1) found.1)
     (in_word word (rest_of bits) page e ∙ ap (λ k. eqb (bit_at (rest_of bits) k) 1) f ∙ ap (λ b. eqb b 1) (bit_at_clear_same w64 bits lowest below))
     (λ i ne. elim (cases_eq (i / 64) word) [

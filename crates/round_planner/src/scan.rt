@@ -127,23 +127,19 @@ impl Scan {
         ensures scan { IfOk result (λ sent. IsScanWithin (T.pages timeline.now) (T.touches timeline.now) from
             (from + 1_000 * length sent.items / rate) self.new.next self.new.marks.items) }
     {
+        let pace = Pace::new(from, rate);
+        let mut at = pace.begin();
         let mut sent = Vec::new(alloc);
         for page in pages {
-            let end = from + 1000 * sent.len() as u64 / rate;
-            self.advance(timeline, end);
-            push_if(&mut sent, !is_marked(&self.marks, *page), *page)?;
+            let next = self.look(timeline, &pace, *page, at);
+            push_if(&mut sent, next.sent > at.sent, *page)?;
+            at = next;
         }
         Ok(sent)
     }
 
     /// Looks at one page of a round, and answers how far the round is then. The walk goes on to where it was.
-    fn look<T: Timeline>(
-        &mut self,
-        timeline: &T,
-        pace: &Pace,
-        page: u32,
-        at: Progress,
-    ) -> Progress
+    fn look<T: Timeline>(&mut self, timeline: &T, pace: &Pace, page: u32, at: Progress) -> Progress
         requires scan { IsScanWithin (T.pages timeline.now) (T.touches timeline.now) pace.now.from at.tick self.old.next self.old.marks.items }
         requires page { page < T.pages timeline.now }
         requires pace { IsPace pace.now }

@@ -1,4 +1,4 @@
-use Rattle.std.proofs.Common.{◌≡◌, ◌+◌, ◌∙◌, ◌++◌, List, ℕ, length, sym, ap, arith, get_or}
+use Rattle.std.proofs.Common.{◌+◌, ◌∙◌, ◌++◌, List, ℕ, length, sym, ap, arith, get_or}
 use Rattle.std.proofs.lemmas.List.{length-append}
 use Rattle.round_planner.specs.Marking.{pages_of_word}
 use Rattle.round_planner.proofs.Words.{listed, listed_more, listed_few}

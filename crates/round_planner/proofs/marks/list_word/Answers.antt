@@ -1,4 +1,4 @@
-use Rattle.std.proofs.Common.{◌≡◌, ◌+◌, ◌<◌, ◌∙◌, length, set, take, arith}
+use Rattle.std.proofs.Common.{◌<◌, ◌∙◌, arith}
 use Rattle.std.proofs.lemmas.List.{length-set}
 use Rattle.round_planner.proofs.Words.{written_more, one_fewer, all_written, none_left}
 use Rattle.round_planner.proofs.marks.list_word.Goals as goal

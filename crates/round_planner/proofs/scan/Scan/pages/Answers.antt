@@ -1,5 +1,4 @@
 use Rattle.std.proofs.Common.{ℕ, List, ◌*◌, ap, arith, length}
-use Rattle.std.proofs.lemmas.List.{length-replicate}
 use Rattle.dirty_core.specs.Pages.{in_words}
 use Rattle.round_planner.specs.Marking.{marked}
 use Rattle.round_planner.proofs.PageLists.{few_pages}

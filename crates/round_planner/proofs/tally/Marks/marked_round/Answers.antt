@@ -1,4 +1,4 @@
-use Rattle.std.proofs.Common.{◌≡◌, ◌∙◌, ◌+◌, ◌*◌, ◌≤◌, ℕ, length, refl, sym, ap, subst, arith}
+use Rattle.std.proofs.Common.{◌≡◌, ◌∙◌, ◌+◌, ℕ, length, refl, sym, ap, subst, arith}
 use Rattle.migration_model.specs.Rates.{duration_of}
 use Rattle.migration_model.specs.Rounds.{PlannedRound}
 use Rattle.migration_model.specs.Touches.{pages_written}
