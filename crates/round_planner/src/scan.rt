@@ -14,7 +14,7 @@ use std::alloc::{AllocError, Global};
 use trace_codec::Timeline;
 
 /// The touches before `next` are behind the walk; a page is marked where one of them, from the round's first tick on,
-/// was to it.
+/// was to it. The marks stand 64 to a word, the lowest bit first.
 #[derive(Drop)]
 pub(crate) struct Scan {
     pub(crate) next: usize,
