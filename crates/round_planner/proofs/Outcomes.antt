@@ -1,7 +1,7 @@
 -- A plan that is made of counts: what holds between its rounds, and what it comes to.
-use Rattle.std.proofs.Common.{◌≡◌, ℕ, ◌+◌, ◌-◌, ◌*◌, ◌≤◌, Bool, true, false, List, [], ◌∷◌, ◌++◌, length, get_or, replicate, refl, sym, ap, subst, ◌∙◌, arith}
-use Rattle.std.specs.List.{sum_by, range_with_len}
-use Rattle.std.proofs.lemmas.List.{length_push, length-replicate, get_or-replicate}
+use Rattle.std.proofs.Common.{◌≡◌, ℕ, ◌+◌, ◌-◌, ◌*◌, ◌≤◌, true, List, [], ◌∷◌, ◌++◌, length, replicate, refl, sym, ap, subst, ◌∙◌, arith}
+use Rattle.std.specs.List.{sum_by}
+use Rattle.std.proofs.lemmas.List.{length_push, length-replicate}
 use Rattle.std.proofs.lemmas.List.FromFn.{length-range_with_len}
 use Rattle.std.proofs.lemmas.List.Sums.{sum_by-append, sum_by-cons}
 use Rattle.migration_model.specs.Rates.{MigrationSettings, AreSettings, StopReason, goes_on, stops, after_round, duration_of}
@@ -9,14 +9,13 @@ use Rattle.migration_model.specs.Rounds.{PlannedRound, NextRound, plan_with, fir
 use Rattle.migration_model.specs.Sweeps.{PlanOutcome, IsOutcome, outcome_with}
 use Rattle.migration_model.specs.Touches.{GuestTouch, pages_written}
 use Rattle.round_planner.specs.Scanning.{IsScan}
-use Rattle.round_planner.specs.Indexing.{IsPoint, marked, StandsAt, IsReady, RanTo, IsTurned, AreMarksOf}
+use Rattle.round_planner.specs.Marking.{word_count}
+use Rattle.round_planner.specs.Indexing.{IsPoint, StandsAt, IsReady, RanTo, IsTurned, AreMarksOf}
 use Rattle.round_planner.specs.declared.tally.Marks.{Marks}
 use Rattle.round_planner.specs.declared.tally.Ran.{Ran}
 use Rattle.round_planner.specs.declared.tally.Standing.{Standing}
 use Rattle.round_planner.proofs.Plans.{Follows, follows_start, follows_more, follows_end, can_start, can_go_on}
 use Rattle.round_planner.proofs.Scans.{begun}
-use Rattle.round_planner.proofs.Skims.{filter_all}
-use Rattle.migration_model.proofs.Ranges.{filter_range_agree}
 
 abbrev pub all_sent : List PlannedRound → ℕ
 all_sent rounds = sum_by (λ (round : PlannedRound). length round.sent) rounds
@@ -60,7 +59,7 @@ same_after pages touches s now coming ran at r =
 
 pub goes_further : (pages : ℕ) (touches : List GuestTouch) (s : MigrationSettings) (now : Standing) (ran : Ran) (old new : Marks) (rate : ℕ) → AreSettings s
     → (way : IsUnderWay pages touches s now old) → (r : RanTo pages touches s way.coming ran) → after_round s ran.dirtied (ran.to - now.from) (now.done + 1) ≡ goes_on rate
-    → AreMarksOf pages new → (s.skip ≡ true → IsTurned pages touches now.from ran.to new)
+    → AreMarksOf pages new → (s.skip ≡ true → IsTurned pages touches now.from ran.to ran.dirtied new)
     → IsUnderWay pages touches s (record { done = now.done + 1; from = ran.to; rate = rate; listed = ran.dirtied; next = ran.next; total = now.total + ran.sent }) new
 goes_further pages touches s now ran old new rate are way r after marks turned =
     let coming = way.coming in
@@ -88,8 +87,7 @@ goes_further pages touches s now ran old new rate are way r after marks turned =
             let t = turned skips in
             record {
               at = standing;
-              list = sym (λ i. pages_written pages touches (from i) (r.to_is i)) ∙ sym t.list;
-              len = marks.listed_len;
+              list = λ later. sym (λ i. pages_written pages touches (from i) (r.to_is i)) ∙ sym t.list;
               room = marks.room_len;
               scan = subst (λ (tick : ℕ). IsScan pages touches tick tick new.scan.next new.scan.marks.items) r.to_is t.scan;
             };
@@ -118,17 +116,11 @@ comes_to pages touches s now ran marks reason outcome way r after is =
       outcome_is = is ∙ (λ i. outcome_with (count i) reason (r.to_is i) (duration_of (r.dirtied_is i) s.max) (total i));
     }
 
-all_marked : (pages : ℕ) (list : List Bool) → list ≡ replicate pages true → range_with_len 0 pages ≡ marked pages list
-all_marked pages list is =
-    sym (filter_all (range_with_len 0 pages))
-    ∙ sym (filter_range_agree (λ page. true) (λ page. get_or list page false) 0 pages
-    (λ page low high. ap (λ (l : List Bool). get_or l page false) is ∙ get_or-replicate pages page true false (omega arith)))
-
 pub begins : (pages : ℕ) (touches : List GuestTouch) (s : MigrationSettings) (now : Standing) (marks : Marks) → AreSettings s → 1 ≤ pages → pages ≤ 65_536
     → now.done ≡ 0 → now.from ≡ s.start → now.rate ≡ s.min → now.listed ≡ pages → now.next ≤ length touches → IsPoint touches s.start now.next
-    → marks.scan.next ≡ now.next → marks.listed.items ≡ replicate pages true → marks.scan.marks.items ≡ replicate pages false → length marks.room.items ≡ pages
+    → marks.scan.next ≡ now.next → marks.scan.marks.items ≡ replicate (word_count pages) 0 → length marks.room.items ≡ pages
     → IsReady pages touches s (first_round pages s) now marks
-begins pages touches s now marks are some few done from rate listed bound point next list fresh room =
+begins pages touches s now marks are some few done from rate listed bound point next fresh room =
     let standing : StandsAt pages touches s (first_round pages s) now = record {
       can = can_start pages s (first_round pages s) are some few refl;
       done_is = done;
@@ -138,14 +130,12 @@ begins pages touches s now marks are some few done from rate listed bound point 
       bound = bound;
       point = point;
     } in
-    let listed_len : length marks.listed.items ≡ pages = ap (λ (l : List Bool). length l) list ∙ length-replicate pages true in
     record {
       at = standing;
-      kept = record { listed_len = listed_len; marks_len = ap (λ (l : List Bool). length l) fresh ∙ length-replicate pages false; room_len = room };
+      kept = record { marks_len = ap (λ (l : List ℕ). length l) fresh ∙ length-replicate (word_count pages) 0; room_len = room };
       marked = λ skips. record {
         at = standing;
-        list = all_marked pages marks.listed.items list;
-        len = listed_len;
+        list = λ later. absurd (omega (arith, later));
         room = room;
         scan = begun pages touches s.start marks.scan.next marks.scan.marks.items (omega (arith, next, bound)) (subst (λ n. IsPoint touches s.start n) (sym next) point) fresh;
       };

@@ -1,8 +1,6 @@
--- Lists of pages, and the ticks that they take.
-use Rattle.std.proofs.Common.{ℕ, zero, suc, ◌+◌, ◌*◌, ◌/◌, ◌^◌, ◌<◌, ◌≤◌, Bool, true, false, cond, List, ◌∷◌, length, ap, arith}
+-- Lists of pages.
+use Rattle.std.proofs.Common.{ℕ, zero, suc, ◌+◌, ◌<◌, ◌≤◌, Bool, true, false, cond, List, ◌∷◌, length, ap, arith}
 use Rattle.std.specs.List.{All, AllByRecursion, filter, range_with_len}
-use Rattle.std.proofs.Math.Nat.{div-mul-le_self, div-le_self}
-use Rattle.std.proofs.lemmas.Nat.{le-div}
 use Rattle.std.proofs.lemmas.List.Elements.{All-from_recursion}
 use Rattle.round_planner.specs.Scanning.{IsPageList}
 use Rattle.round_planner.proofs.Skims.{Rises, Rises-pages}
@@ -32,14 +30,3 @@ list_few pages list is = omega (arith, ap length is.list_is, few_pages is.test 0
 
 pub list_rises : (pages : ℕ) (list : List ℕ) → IsPageList pages list → Rises 0 list
 list_rises pages list is = rw is.list_is (Rises-pages is.test pages)
-
--- more pages take no less ticks
-pub ticks_grow : (from rate a b : ℕ) → 1 ≤ rate → a ≤ b → from + 1_000 * a / rate ≤ from + 1_000 * b / rate
-ticks_grow from rate a b some le =
-    let down : 1_000 * a / rate * rate ≤ 1_000 * a = div-mul-le_self (1_000 * a) rate in
-    let more : 1_000 * a / rate ≤ 1_000 * b / rate = le-div (1_000 * a / rate) (1_000 * b) rate (omega arith) (omega arith) in
-    omega arith
-
--- and few enough for the numbers
-pub ticks_fit : (from rate sent : ℕ) → from < 2 ^ 42 → sent ≤ 65_536 → from + 1_000 * sent / rate < 2 ^ 43
-ticks_fit from rate sent low few = omega (arith, div-le_self (1_000 * sent) rate)

@@ -1,14 +1,21 @@
 -- A walk over touches: what its marks say, and how it goes on.
-use Rattle.std.proofs.Common.{◌≡◌, ℕ, ◌+◌, ◌<◌, ◌≤◌, Bool, true, false, ◌&&◌, ◌||◌, eqb, ltb, leb, cond, List, [], ◌∷◌, ◌++◌, length, get_or, take, drop, set, replicate, refl, sym, ap, ◌∙◌, inl, inr, arith}
+use Rattle.std.proofs.Common.{◌≡◌, ℕ, ◌+◌, ◌-◌, ◌*◌, ◌/◌, ◌%◌, ◌<◌, ◌≤◌, Bool, true, false, ◌&&◌, ◌||◌, eqb, ltb, leb, List, [], ◌∷◌, ◌++◌, length, get_or, take, drop, replicate, refl, sym, ap, ◌∙◌, inl, inr, arith}
 use Rattle.std.specs.List.{All, AllByRecursion, AllWithin, list_any, filter, range_with_len}
 use Rattle.std.specs.List.Sorted.{IsPartitionPoint}
-use Rattle.std.proofs.lemmas.Bool.{cases_eq, eq-eqb, ne_eqb, ltb-true, ltb-false, lt-ltb, le-ltb, lt-leb, le-leb, and_from, and_left, and_right}
-use Rattle.std.proofs.lemmas.List.{append-nil, drop_all, take_all, length-set, length-replicate, get_or-replicate, take_more, take-append-drop, get_or-take, get_or-drop, length-take, length-drop, get_or-set_same, get_or-set_other, get_or_default}
-use Rattle.std.proofs.lemmas.List.Elements.{recursion_from_All}
+use Rattle.std.proofs.lemmas.Bool.{cases_eq, cases_lt, eq-eqb, ne_eqb, ltb-true, ltb-false, lt-ltb, le-ltb, lt-leb, le-leb, and_from, and_left, and_right}
+use Rattle.std.proofs.lemmas.List.{append-nil, drop_all, take_all, length-replicate, get_or-replicate, get_or_past, take_more, take-append-drop, get_or-take, get_or-drop, length-take, length-drop, get_or_default}
+use Rattle.std.proofs.lemmas.List.Elements.{recursion_from_All, filter-append}
 use Rattle.std.proofs.lemmas.List.Folds.{list_any-append, list_any_none}
+use Rattle.std.proofs.lemmas.Nat.Bits.{bit_at-zero}
+use Rattle.std.specs.Int.{bit_at}
 use Rattle.migration_model.specs.Touches.{GuestTouch, no_touch, is_written, pages_written, AreTouches}
-use Rattle.migration_model.proofs.Ranges.{filter_range_agree, filter_range_more, kept}
-use Rattle.round_planner.specs.Scanning.{is_met, AreMet, IsScan, IsNextBefore}
+use Rattle.migration_model.proofs.Ranges.{filter_range_agree}
+use Rattle.dirty_core.specs.Pages.{in_words, one_page, union, SamePages}
+use Rattle.round_planner.specs.Marking.{marked, word_count}
+use Rattle.round_planner.specs.Scanning.{is_met, AreMet, IsScan, IsScanWithin, IsNextBefore}
+use Rattle.round_planner.proofs.PageLists.{few_pages}
+use Rattle.round_planner.proofs.Plans.{scan_in_round}
+use Rattle.round_planner.proofs.Words.{none_kept, range_split}
 
 take_within : (P : GuestTouch → Type 0) (touches : List GuestTouch) (n : ℕ) → AllWithin P touches 0 n → All P (take n touches)
 take_within P touches n all k d low =
@@ -39,24 +46,35 @@ none_met touches tick n page early =
     (take_within (λ t. (eqb t.page page && leb tick t.tick) ≡ false) touches n
     (λ k d low high. and_right _ _ (lt-leb tick (get_or touches k d).tick (ltb-true _ _ (early k d low high)))))
 
+none_marked : (n page : ℕ) → in_words (replicate n 0) page ≡ false
+none_marked n page =
+    let zeros : List ℕ = replicate n 0 in
+    let len : length zeros ≡ n = length-replicate n 0 in
+    let word : get_or zeros (page / 64) 0 ≡ 0 = elim (cases_lt (page / 64) n) [
+      | inl low ↦ get_or-replicate n (page / 64) 0 0 low
+      | inr high ↦ get_or_past zeros (page / 64) 0 (omega (arith, high, len))
+    ] in
+    ap (λ w. eqb (bit_at w (page % 64)) 1) word ∙ ap (λ b. eqb b 1) (bit_at-zero (page % 64))
+
 -- with no page marked, the walk has just begun
-pub begun : (pages : ℕ) (touches : List GuestTouch) (tick n : ℕ) (marks : List Bool) → n ≤ length touches
+pub begun : (pages : ℕ) (touches : List GuestTouch) (tick n : ℕ) (marks : List ℕ) → n ≤ length touches
     → IsPartitionPoint (λ (t : GuestTouch). ltb t.tick tick ≡ true) (λ t. ltb t.tick tick ≡ false) touches n
-    → marks ≡ replicate pages false → IsScan pages touches tick tick n marks
+    → marks ≡ replicate (word_count pages) 0 → IsScan pages touches tick tick n marks
 begun pages touches tick n marks bound point is = record {
   order = omega arith;
   bound = bound;
   point = point;
   met = record {
-    len = omega (arith, ap length is, length-replicate pages false);
-    marked = λ page low. ap (λ (m : List Bool). get_or m page false) is ∙ get_or-replicate pages page false false low ∙ sym (none_met touches tick n page point.0);
+    len = ap (λ (m : List ℕ). length m) is ∙ length-replicate (word_count pages) 0;
+    marked = λ page low. ap (λ (m : List ℕ). in_words m page) is ∙ none_marked (word_count pages) page ∙ sym (none_met touches tick n page point.0);
+    none = λ page high. ap (λ (m : List ℕ). in_words m page) is ∙ none_marked (word_count pages) page;
   };
 }
 
-pub begun_again : (pages : ℕ) (touches : List GuestTouch) (from tick n : ℕ) (marks fresh : List Bool) → fresh ≡ replicate (length marks) false
+pub begun_again : (pages : ℕ) (touches : List GuestTouch) (from tick n : ℕ) (marks fresh : List ℕ) → fresh ≡ replicate (length marks) 0
     → IsScan pages touches from tick n marks → IsScan pages touches tick tick n fresh
 begun_again pages touches from tick n marks fresh is scan =
-    begun pages touches tick n fresh scan.bound scan.point (is ∙ ap (λ (k : ℕ). replicate k false) scan.met.len)
+    begun pages touches tick n fresh scan.bound scan.point (is ∙ ap (λ (k : ℕ). replicate k 0) scan.met.len)
 
 -- ---- what the marks say
 
@@ -78,32 +96,44 @@ written_at touches from tick n page point =
     ∙ or_false (list_any p (take n touches))
     ∙ list_any_agree p q (take n touches) same
 
-pub written_met : (pages : ℕ) (touches : List GuestTouch) (from tick n page : ℕ) (marks : List Bool) → IsScan pages touches from tick n marks
+pub written_met : (pages : ℕ) (touches : List GuestTouch) (from tick n page : ℕ) (marks : List ℕ) → IsScan pages touches from tick n marks
     → is_written touches from tick page ≡ is_met touches from n page
 written_met pages touches from tick n page marks scan = written_at touches from tick n page scan.point
 
-pub mark_is : (pages : ℕ) (touches : List GuestTouch) (from tick n page : ℕ) (marks : List Bool) → IsScan pages touches from tick n marks → page < pages
-    → get_or marks page false ≡ is_written touches from tick page
+pub mark_is : (pages : ℕ) (touches : List GuestTouch) (from tick n page : ℕ) (marks : List ℕ) → IsScan pages touches from tick n marks → page < pages
+    → in_words marks page ≡ is_written touches from tick page
 mark_is pages touches from tick n page marks scan low = scan.met.marked page low ∙ sym (written_met pages touches from tick n page marks scan)
 
 -- the pages that are marked are those written
-pub marked_pages : (pages : ℕ) (touches : List GuestTouch) (from tick n : ℕ) (marks : List Bool) → IsScan pages touches from tick n marks
-    → filter (λ page. get_or marks page false) (range_with_len 0 (length marks)) ≡ pages_written pages touches from tick
+pub marked_pages : (pages : ℕ) (touches : List GuestTouch) (from tick n : ℕ) (marks : List ℕ) → IsScan pages touches from tick n marks
+    → marked marks ≡ pages_written pages touches from tick
 marked_pages pages touches from tick n marks scan =
-    ap (λ (k : ℕ). filter (λ page. get_or marks page false) (range_with_len 0 k)) scan.met.len
-    ∙ filter_range_agree (is_written touches from tick) (λ page. get_or marks page false) 0 pages
+    let all = length marks * 64 in
+    let more : pages ≤ all = omega (arith, scan.met.len) in
+    let rest = filter (in_words marks) (range_with_len pages (all - pages)) in
+    let none : rest ≡ [] = none_kept (in_words marks) pages (all - pages) (λ page low high. scan.met.none page low) in
+    ap (filter (in_words marks)) (range_split 0 pages pages (all - pages) all (omega (arith, more)) (omega arith))
+    ∙ filter-append (in_words marks) (range_with_len 0 pages) (range_with_len pages (all - pages))
+    ∙ ap (λ (l : List ℕ). filter (in_words marks) (range_with_len 0 pages) ++ l) none
+    ∙ append-nil (filter (in_words marks) (range_with_len 0 pages))
+    ∙ filter_range_agree (is_written touches from tick) (in_words marks) 0 pages
     (λ page low high. mark_is pages touches from tick n page marks scan (omega arith))
+
+-- no more than all
+pub marked_few : (pages : ℕ) (touches : List GuestTouch) (from tick n : ℕ) (marks : List ℕ) → IsScan pages touches from tick n marks → length (marked marks) ≤ pages
+marked_few pages touches from tick n marks scan =
+    omega (arith, ap (λ (l : List ℕ). length l) (marked_pages pages touches from tick n marks scan), few_pages (is_written touches from tick) 0 pages)
 
 -- ---- how the walk goes on
 
 -- on its way to a tick
-pub record IsWalking (pages : ℕ) (touches : List GuestTouch) (from tick n : ℕ) (marks : List Bool) : Type 0 where
+pub record IsWalking (pages : ℕ) (touches : List GuestTouch) (from tick n : ℕ) (marks : List ℕ) : Type 0 where
   pub order : from ≤ tick
   pub early : AllWithin (λ t. ltb t.tick tick ≡ true) touches 0 n
   pub late : AllWithin (λ t. from ≤ t.tick) touches n (length touches)
   pub met : AreMet pages touches from n marks
 
-pub walk_begins : (pages : ℕ) (touches : List GuestTouch) (from upto tick n : ℕ) (marks : List Bool) → upto ≤ tick → IsScan pages touches from upto n marks
+pub walk_begins : (pages : ℕ) (touches : List GuestTouch) (from upto tick n : ℕ) (marks : List ℕ) → upto ≤ tick → IsScan pages touches from upto n marks
     → IsWalking pages touches from tick n marks
 walk_begins pages touches from upto tick n marks le scan = record {
   order = omega (arith, scan.order);
@@ -123,9 +153,10 @@ pub or_true : (b : Bool) → (b || true) ≡ true
 or_true true = refl
 or_true false = refl
 
-pub walk_on : (pages : ℕ) (touches : List GuestTouch) (from tick n page : ℕ) (marks : List Bool) → IsNextBefore pages touches n tick page
-    → IsWalking pages touches from tick n marks → IsWalking pages touches from tick (n + 1) (set marks page true)
-walk_on pages touches from tick n page marks next walk =
+pub walk_on : (pages : ℕ) (touches : List GuestTouch) (from tick n page : ℕ) (marks new : List ℕ) → IsNextBefore pages touches n tick page
+    → length new ≡ length marks → SamePages (in_words new) (union (in_words marks) (one_page page))
+    → IsWalking pages touches from tick n marks → IsWalking pages touches from tick (n + 1) new
+walk_on pages touches from tick n page marks new next same_len same walk =
     let t = get_or touches n no_touch in
     let late : from ≤ t.tick = walk.late n no_touch (omega arith) next.low in
     record {
@@ -138,23 +169,24 @@ walk_on pages touches from tick n page marks next walk =
       ];
       late = λ k d low high. walk.late k d (omega arith) high;
       met = record {
-        len = omega (arith, length-set marks page true, walk.met.len);
-        marked = λ p low. elim (cases_eq p page) [
-          | inl same ↦
-              let is_it : t.page ≡ p = omega (arith, next.page_is, same) in
+        len = same_len ∙ walk.met.len;
+        marked = λ p low. same p ∙ elim (cases_eq p page) [
+          | inl e ↦
+              let is_it : t.page ≡ p = omega (arith, next.page_is, e) in
               let hit : (eqb t.page p && leb from t.tick) ≡ true = and_from _ _ (eq-eqb t.page p is_it) (le-leb from t.tick late) in
-              ap (λ j. get_or (set marks page true) j false) same ∙ get_or-set_same marks page true false (omega (arith, walk.met.len, next.page_low))
+              ap (λ b. in_words marks p || b) (eq-eqb p page e) ∙ or_true _
               ∙ sym (met_more touches from n p next.low ∙ ap (λ b. is_met touches from n p || b) hit ∙ or_true _)
           | inr other ↦
               let is_not : t.page ≡ p → ⊥ = λ e. other (omega (arith, e, next.page_is)) in
               let miss : (eqb t.page p && leb from t.tick) ≡ false = and_left _ _ (ne_eqb t.page p is_not) in
-              get_or-set_other marks page p true false other ∙ walk.met.marked p low
+              ap (λ b. in_words marks p || b) (ne_eqb p page other) ∙ or_false _ ∙ walk.met.marked p low
               ∙ sym (met_more touches from n p next.low ∙ ap (λ b. is_met touches from n p || b) miss ∙ or_false _)
         ];
+        none = λ p high. same p ∙ ap (λ b. in_words marks p || b) (ne_eqb p page (λ e. omega (arith, e, high, next.page_low))) ∙ or_false _ ∙ walk.met.none p high;
       };
     }
 
-pub walk_ends : (pages : ℕ) (touches : List GuestTouch) (from tick n : ℕ) (marks : List Bool) → AreTouches pages touches → n ≤ length touches
+pub walk_ends : (pages : ℕ) (touches : List GuestTouch) (from tick n : ℕ) (marks : List ℕ) → AreTouches pages touches → n ≤ length touches
     → (n < length touches → tick ≤ (get_or touches n no_touch).tick) → IsWalking pages touches from tick n marks → IsScan pages touches from tick n marks
 walk_ends pages touches from tick n marks fits bound none walk = record {
   order = walk.order;
@@ -169,16 +201,15 @@ walk_ends pages touches from tick n marks fits bound none walk = record {
   met = walk.met;
 }
 
--- one page more that is looked at
-pub marks_more : (marks : List Bool) (n : ℕ) (mark : Bool) (old new : List ℕ) → n < length marks → mark ≡ get_or marks n mark
-    → old ≡ filter (λ page. get_or marks page false) (range_with_len 0 n) → new ≡ cond mark (old ++ n ∷ []) old
-    → new ≡ filter (λ page. get_or marks page false) (range_with_len 0 (n + 1))
-marks_more marks n mark old new low is old_is new_is =
-    let same : mark ≡ get_or marks n false = is ∙ get_or_default marks n mark false low in
-    new_is ∙ kept mark old n ∙ (λ i. old_is i ++ cond (same i) (n ∷ []) []) ∙ sym (filter_range_more (λ page. get_or marks page false) n)
-
 -- marks that are lent whole come back whole
-pub whole_again : (n : ℕ) (new old : List Bool) → length new ≡ length old → length new ≤ n → take n (new ++ drop (length new) old) ≡ new
+pub whole_again : (n : ℕ) (new old : List ℕ) → length new ≡ length old → length new ≤ n → take n (new ++ drop (length new) old) ≡ new
 whole_again n new old same fits =
     let none : drop (length new) old ≡ [] = drop_all (length new) old (omega (arith, same)) in
-    ap (λ (l : List Bool). take n (new ++ l)) none ∙ ap (take n) (append-nil new) ∙ take_all n new fits
+    ap (λ (l : List ℕ). take n (new ++ l)) none ∙ ap (take n) (append-nil new) ∙ take_all n new fits
+
+-- on to the end of a round, from no later than where its last page was looked at
+pub walked_on : (pages : ℕ) (touches : List GuestTouch) (from rate count ticks to next later : ℕ) (marks new : List ℕ) → to ≡ from + ticks → 1_000 * count ≤ ticks * rate
+    → IsScanWithin pages touches from (from + 1_000 * count / rate) next marks
+    → ((start upto : ℕ) → upto ≤ to → IsScan pages touches start upto next marks → IsScan pages touches start to later new) → IsScan pages touches from to later new
+walked_on pages touches from rate count ticks to next later marks new is enough within walk =
+    walk from within.tick (omega (arith, within.high, scan_in_round from rate count ticks enough, is)) within.scan

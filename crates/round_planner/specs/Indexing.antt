@@ -1,11 +1,11 @@
 -- What plans of one trace share, and a plan that is made of counts. The contracts of the index and of the planner speak of the
 -- first part.
-use Rattle.std.specs.Prelude.{◌≡◌, ℕ, ◌+◌, ◌*◌, ◌/◌, ◌&&◌, ◌<◌, ◌≤◌, nat_lt, nat_le, not, true, false, Bool, List, length, slice_index_or}
-use Rattle.std.specs.List.{filter, range_with_len}
+use Rattle.std.specs.Prelude.{◌≡◌, ℕ, ◌+◌, ◌*◌, ◌/◌, ◌&&◌, ◌<◌, ◌≤◌, nat_lt, nat_le, not, true, false, List, length, slice_index_or, take}
 use Rattle.std.specs.List.Sorted.{IsPartitionPoint}
 use Rattle.migration_model.specs.Rates.{MigrationSettings}
 use Rattle.migration_model.specs.Rounds.{NextRound, PlannedRound, IsSent}
 use Rattle.migration_model.specs.Touches.{GuestTouch, AreTouches, no_touch, pages_written}
+use Rattle.round_planner.specs.Marking.{word_count}
 use Rattle.round_planner.specs.Scanning.{is_met, CanCome, HasRun, IsScan, IsScanWithin}
 use Rattle.round_planner.specs.declared.scan.Scan.{Scan}
 use Rattle.round_planner.specs.declared.tally.Marks.{Marks}
@@ -22,24 +22,17 @@ pub record IsLast (touches : List GuestTouch) (n page place : ℕ) : Type 0 wher
   pub high : place ≤ n
   pub tells : (from low : ℕ) → IsPoint touches from low → low ≤ n → nat_le place low ≡ not (is_met touches from n page)
 
--- the pages of touches, and for each of them when the one before to its page was
+-- for each touch when the one before to its page was
 pub record RoundColumns : Type 0 where
-  pub pages : List ℕ
   pub earlier : List ℕ
 
 -- the index of a guest of so many pages with these touches
 pub record IsRoundIndexOf (pages : ℕ) (touches : List GuestTouch) (index : RoundColumns) : Type 0 where
   pub fits : AreTouches pages touches
-  pub pages_len : length index.pages ≡ length touches
   pub earlier_len : length index.earlier ≡ length touches
-  pub page : (i : ℕ) → i < length touches → slice_index_or index.pages i 0 ≡ (slice_index_or touches i no_touch).page
   pub earlier : (i : ℕ) → i < length touches → IsLast touches i (slice_index_or touches i no_touch).page (slice_index_or index.earlier i 0)
 
 -- ---- a plan that is made of counts, on its way
-
--- the pages that are marked, rising
-abbrev pub marked : ℕ → List Bool → List ℕ
-marked pages marks = filter (λ page. slice_index_or marks page false) (range_with_len 0 pages)
 
 -- so many of a round's pages are sent where pages may be skipped
 pub record HasSent (touches : List GuestTouch) (from rate : ℕ) (pages : List ℕ) (count : ℕ) : Type 0 where
@@ -73,11 +66,15 @@ pub record RanTo (pages : ℕ) (touches : List GuestTouch) (s : MigrationSetting
   pub bound : ran.next ≤ length touches
   pub point : IsPoint touches round.to ran.next
 
--- a round that may come, by its numbers and the marks of its pages; the walk stands at its first tick
+-- marks for the pages of a guest of so many, and room for a list of them
+pub record AreMarksOf (pages : ℕ) (marks : Marks) : Type 0 where
+  pub marks_len : length marks.scan.marks.items ≡ word_count pages
+  pub room_len : length marks.room.items ≡ pages
+
+-- a round that may come, by its numbers and, behind the first one, the list of its pages; the walk stands at its first tick
 pub record IsMarkedAt (pages : ℕ) (touches : List GuestTouch) (s : MigrationSettings) (coming : NextRound) (now : Standing) (marks : Marks) : Type 0 where
   pub at : StandsAt pages touches s coming now
-  pub list : coming.pages ≡ marked pages marks.listed.items
-  pub len : length marks.listed.items ≡ pages
+  pub list : 1 ≤ coming.done → coming.pages ≡ take now.listed marks.room.items
   pub room : length marks.room.items ≡ pages
   pub scan : IsScan pages touches coming.from coming.from marks.scan.next marks.scan.marks.items
 
@@ -85,12 +82,6 @@ pub record IsMarkedAt (pages : ℕ) (touches : List GuestTouch) (s : MigrationSe
 pub record CanMark (pages : ℕ) (touches : List GuestTouch) (s : MigrationSettings) (now : Standing) (marks : Marks) : Type 0 where
   pub coming : NextRound
   pub is : IsMarkedAt pages touches s coming now marks
-
--- marks for the pages of a guest of so many
-pub record AreMarksOf (pages : ℕ) (marks : Marks) : Type 0 where
-  pub listed_len : length marks.listed.items ≡ pages
-  pub marks_len : length marks.scan.marks.items ≡ pages
-  pub room_len : length marks.room.items ≡ pages
 
 -- a round that may come, and its marks where pages may be skipped
 pub record IsReady (pages : ℕ) (touches : List GuestTouch) (s : MigrationSettings) (coming : NextRound) (now : Standing) (marks : Marks) : Type 0 where
@@ -103,9 +94,9 @@ pub record CanRun (pages : ℕ) (touches : List GuestTouch) (s : MigrationSettin
   pub coming : NextRound
   pub ready : IsReady pages touches s coming now marks
 
--- the marks are of the pages that were written in these ticks, and the walk stands at the last of them
-pub record IsTurned (pages : ℕ) (touches : List GuestTouch) (from tick : ℕ) (marks : Marks) : Type 0 where
-  pub list : marked pages marks.listed.items ≡ pages_written pages touches from tick
+-- the first places of the room, so many, list the pages that were written in these ticks, and the walk begins anew at the last of them
+pub record IsTurned (pages : ℕ) (touches : List GuestTouch) (from tick count : ℕ) (marks : Marks) : Type 0 where
+  pub list : take count marks.room.items ≡ pages_written pages touches from tick
   pub scan : IsScan pages touches tick tick marks.scan.next marks.scan.marks.items
 
 -- so many of a round's pages are sent, and the walk is not past their ticks

@@ -1,36 +1,41 @@
 -- A walk over touches, on its way. No contract of a public call speaks of it.
-use Rattle.std.specs.Prelude.{◌≡◌, ℕ, ◌+◌, ◌*◌, ◌≤◌, ◌<◌, ◌&&◌, ◌==◌, ◌^◌, nat_lt, nat_le, true, false, Bool, List, length, take, slice_index_or}
+use Rattle.std.specs.Prelude.{◌≡◌, ℕ, ◌+◌, ◌*◌, ◌/◌, ◌%◌, ◌≤◌, ◌<◌, ◌&&◌, ◌==◌, ◌^◌, nat_lt, nat_le, true, false, Bool, List, length, take, slice_index_or}
 use Rattle.std.specs.List.{filter, list_any, range_with_len}
 use Rattle.std.specs.List.Sorted.{IsPartitionPoint}
 use Rattle.migration_model.specs.Rates.{MigrationSettings}
 use Rattle.migration_model.specs.Rounds.{NextRound, PlannedRound, IsRound}
 use Rattle.migration_model.specs.Touches.{GuestTouch, no_touch, pages_written}
+use Rattle.dirty_core.specs.Pages.{in_words}
+use Rattle.round_planner.specs.Marking.{word_count}
+use Rattle.round_planner.specs.declared.pace.Pace.{Pace}
+use Rattle.round_planner.specs.declared.pace.Progress.{Progress}
 
 -- whether one of the first touches, so many, is to the page and at a tick from `from` on
 abbrev pub is_met : List GuestTouch → ℕ → ℕ → ℕ → Bool
 is_met touches from next page = list_any (λ touch. (touch.page == page) && nat_le from touch.tick) (take next touches)
 
 -- the marks are of the pages that are met
-pub record AreMet (pages : ℕ) (touches : List GuestTouch) (from next : ℕ) (marks : List Bool) : Type 0 where
-  pub len : length marks ≡ pages
-  pub marked : (page : ℕ) → page < pages → slice_index_or marks page false ≡ is_met touches from next page
+pub record AreMet (pages : ℕ) (touches : List GuestTouch) (from next : ℕ) (marks : List ℕ) : Type 0 where
+  pub len : length marks ≡ word_count pages
+  pub marked : (page : ℕ) → page < pages → in_words marks page ≡ is_met touches from next page
+  pub none : (page : ℕ) → pages ≤ page → in_words marks page ≡ false
 
 -- the walk stands at a tick: those touches are the ones before it
-pub record IsScan (pages : ℕ) (touches : List GuestTouch) (from tick next : ℕ) (marks : List Bool) : Type 0 where
+pub record IsScan (pages : ℕ) (touches : List GuestTouch) (from tick next : ℕ) (marks : List ℕ) : Type 0 where
   pub order : from ≤ tick
   pub bound : next ≤ length touches
   pub point : IsPartitionPoint (λ touch. nat_lt touch.tick tick ≡ true) (λ touch. nat_lt touch.tick tick ≡ false) touches next
   pub met : AreMet pages touches from next marks
 
 -- the same at some tick that is no later than this one
-pub record IsScanWithin (pages : ℕ) (touches : List GuestTouch) (from limit next : ℕ) (marks : List Bool) : Type 0 where
+pub record IsScanWithin (pages : ℕ) (touches : List GuestTouch) (from limit next : ℕ) (marks : List ℕ) : Type 0 where
   pub tick : ℕ
   pub high : tick ≤ limit
   pub scan : IsScan pages touches from tick next marks
 
--- there is a mark for each page, and the walk is not past the last touch
-pub record HasRoom (pages : ℕ) (touches : List GuestTouch) (next : ℕ) (marks : List Bool) : Type 0 where
-  pub marks_len : length marks ≡ pages
+-- there are marks for all pages, and the walk is not past the last touch
+pub record HasRoom (pages : ℕ) (touches : List GuestTouch) (next : ℕ) (marks : List ℕ) : Type 0 where
+  pub marks_len : length marks ≡ word_count pages
   pub next_high : next ≤ length touches
 
 -- touch `next` is to the page, and before the tick
@@ -63,3 +68,15 @@ pub record HasRun (pages : ℕ) (touches : List GuestTouch) (s : MigrationSettin
   pub short : round.to ≤ round.from + 65_536_000
   pub few : length round.sent ≤ 65_536
   pub small : pages ≤ 65_536
+
+-- a pace that the numbers have room for: a page takes so many ticks, and parts of one more
+pub record IsPace (pace : Pace) : Type 0 where
+  pub some : 1 ≤ pace.rate
+  pub low : pace.from < 2 ^ 42
+  pub ticks_are : pace.ticks ≡ 1_000 / pace.rate
+  pub parts_are : pace.parts ≡ 1_000 % pace.rate
+
+-- where a round is that goes on at a pace and has sent so many pages
+pub record IsProgress (pace : Pace) (at : Progress) : Type 0 where
+  pub tick_is : at.tick ≡ pace.from + 1_000 * at.sent / pace.rate
+  pub part_is : at.part ≡ 1_000 * at.sent % pace.rate

@@ -9,11 +9,10 @@ use std::alloc::Global;
 use std::marker::Model;
 use trace_codec::Timeline;
 
-/// The pages of all touches, and for each touch when its page was touched before: 8 bytes a touch. With it the pages of a
-/// round are counted in one pass over numbers, with no note of any page.
+/// For each touch when its page was touched before: 4 bytes a touch. With it the pages of a round are counted in one pass over
+/// numbers, with no note of any page.
 #[derive(Debug, Drop)]
 pub struct RoundIndex {
-    pages: Vec<u32>,
     /// 1 more than the index of the last touch before to the same page, or 0.
     earlier: Vec<u32>,
 }
@@ -23,7 +22,7 @@ impl Model for RoundIndex {
 
     ghost Value = { RoundColumns };
 
-    ghost view = { λ i. record { pages = i.pages.items; earlier = i.earlier.items } };
+    ghost view = { λ i. record { earlier = i.earlier.items } };
 }
 
 impl RoundIndex {
@@ -34,15 +33,13 @@ impl RoundIndex {
     {
         let count = timeline.touch_count();
         let mut last = Vec::from_elem(alloc, 0u32, timeline.page_count() as usize)?;
-        let mut pages = Vec::with_capacity(alloc, count)?;
         let mut earlier = Vec::with_capacity(alloc, count)?;
         for number in 0..count {
             let page = timeline.touch(number).page;
-            pages.push(page)?;
             earlier.push(last[page as usize])?;
             last[page as usize] = number as u32 + 1;
         }
-        Ok(RoundIndex { pages, earlier })
+        Ok(RoundIndex { earlier })
     }
 
     /// How many of the touches from `low` on and before `high` are the first of their pages there.

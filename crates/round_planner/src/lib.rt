@@ -4,6 +4,8 @@
 mod error;
 mod index;
 mod laws;
+mod marks;
+mod pace;
 mod parts;
 mod planner;
 mod planning;

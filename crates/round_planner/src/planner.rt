@@ -26,13 +26,13 @@ impl Model for Planner {
 
     ghost Value = { ℕ };
 
-    ghost view = { λ p. length p.marks.listed.items };
+    ghost view = { λ p. length p.marks.room.items };
 
-    ghost invariant = { λ p. AreMarksOf (length p.marks.listed.items) p.marks };
+    ghost invariant = { λ p. AreMarksOf (length p.marks.room.items) p.marks };
 }
 
 impl Planner {
-    /// A planner for a guest. `Memory` is answered where its marks found no room: 6 bytes a page.
+    /// A planner for a guest. `Memory` is answered where its marks found no room: 33 bits a page.
     pub fn new<T: Timeline>(alloc: Global, timeline: &T) -> Result<Planner, PlanError>
         ensures pages { IfOk result (λ planner. planner ≡ T.pages timeline.now) }
         ensures refusal { IfErr result (λ e. e ≡ PlanError.Memory) }

@@ -116,9 +116,9 @@ fn ended(settings: &Settings, rounds: Vec<Round>, reason: Reason, stop: u64, las
     }
 }
 
-/// The plan of a migration. It costs as much as the touches in the ticks that its rounds cover, and a walk over one mark
-/// for each page in each round; the first of those touches is found by halves. `Memory` is answered where a list of
-/// pages or the rounds found no room.
+/// The plan of a migration. It costs as much as the touches in the ticks that its rounds cover, the pages of its lists, and a
+/// walk over one word for 64 pages in each round; the first of those touches is found by halves. `Memory` is answered where a
+/// list of pages or the rounds found no room.
 pub fn plan<T: Timeline>(
     alloc: Global,
     timeline: &T,

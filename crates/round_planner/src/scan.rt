@@ -4,18 +4,21 @@ ghost use Rattle.std.specs.Prelude.{◌≡◌, ◌≤◌, ◌<◌, ◌+◌, ◌*
 ghost use Rattle.std.specs.List.{All, filter, range_with_len};
 ghost use Rattle.migration_model.specs.Touches.{AreTouches, GuestTouch, is_written, no_touch};
 ghost use Rattle.migration_model.specs.Rounds.{IsSent};
-ghost use Rattle.round_planner.specs.Indexing.{HasSent, marked};
-ghost use Rattle.round_planner.specs.Scanning.{HasRoom, IsNextBefore, IsPageList, IsScan, IsScanWithin};
+ghost use Rattle.round_planner.specs.Indexing.{HasSent};
+ghost use Rattle.round_planner.specs.Marking.{marked};
+ghost use Rattle.round_planner.specs.Scanning.{HasRoom, IsNextBefore, IsPace, IsPageList, IsProgress, IsScan, IsScanWithin};
 
+use crate::marks::{is_marked, list_marked, mark, words_for};
+use crate::pace::{Pace, Progress};
 use std::alloc::{AllocError, Global};
 use trace_codec::Timeline;
 
 /// The touches before `next` are behind the walk; a page is marked where one of them, from the round's first tick on,
-/// was to it.
+/// was to it. The marks stand 64 to a word, the lowest bit first.
 #[derive(Drop)]
 pub(crate) struct Scan {
     pub(crate) next: usize,
-    pub(crate) marks: Vec<bool>,
+    pub(crate) marks: Vec<u64>,
 }
 
 /// Keeps a page, or not.
@@ -45,33 +48,9 @@ fn page_before<T: Timeline>(timeline: &T, next: usize, tick: u64) -> Option<u32>
     }
 }
 
-/// Writes the pages that are marked to the front of `room`, rising, and answers how many there are. Each page is written, and
-/// the next one over it where it is not marked: so no step depends on a mark, which nobody could foresee.
-fn list_marked(marks: &[bool], room: &mut [u32]) -> usize
-    requires len { length room.old ≡ length marks.now }
-    requires few { length marks.now < 2 ^ 32 }
-    ensures listed { take result room.new ≡ marked (length marks.now) marks.now }
-    ensures count { result ≤ length room.new }
-    ensures len { length room.new ≡ length room.old }
-{
-    let mut count = 0usize;
-    for page in 0..marks.len() {
-        room[count] = page as u32;
-        count += one_if(marks[page]) as usize;
-    }
-    count
-}
-
-/// 1 where the mark is set, else 0.
-fn one_if(mark: bool) -> u32
-    ensures { result ≡ (if mark then 1 else 0) }
-{
-    if mark { 1 } else { 0 }
-}
-
 /// Marks the pages of the touches from `next` on and before a tick, and answers which touch comes then. What changes here
 /// stands apart from the walk, so that it can be kept in registers.
-fn mark_until<T: Timeline>(timeline: &T, marks: &mut [bool], next: usize, tick: u64) -> usize
+fn mark_until<T: Timeline>(timeline: &T, marks: &mut [u64], next: usize, tick: u64) -> usize
     requires { HasRoom (T.pages timeline.now) (T.touches timeline.now) next marks.old }
     ensures room { HasRoom (T.pages timeline.now) (T.touches timeline.now) result marks.new }
     ensures walked { (from upto : ℕ) → upto ≤ tick → IsScan (T.pages timeline.now) (T.touches timeline.now) from upto next marks.old
@@ -79,7 +58,7 @@ fn mark_until<T: Timeline>(timeline: &T, marks: &mut [bool], next: usize, tick: 
 {
     let mut at = next;
     while let Some(page) = page_before(timeline, at, tick) {
-        marks[page as usize] = true;
+        mark(marks, page);
         at += 1;
     }
     at
@@ -94,7 +73,7 @@ impl Scan {
     ) -> Result<Scan, AllocError>
         ensures { IfOk result (λ scan. IsScan (T.pages timeline.now) (T.touches timeline.now) tick tick scan.next scan.marks.items) }
     {
-        let marks = Vec::from_elem(alloc, false, timeline.page_count() as usize)?;
+        let marks = Vec::from_elem(alloc, 0, words_for(timeline.page_count()))?;
         Ok(Scan {
             next: timeline.before(tick),
             marks,
@@ -116,19 +95,18 @@ impl Scan {
         ensures { (pages from tick : ℕ) (touches : List GuestTouch) → IsScan pages touches from tick self.old.next self.old.marks.items
             → IsScan pages touches tick tick self.new.next self.new.marks.items }
     {
-        self.marks.fill(false);
+        self.marks.fill(0);
     }
 
     /// The pages that are marked, rising.
     pub(crate) fn pages(&self, alloc: Global) -> Result<Vec<u32>, AllocError>
-        requires { length self.now.marks.items < 2 ^ 32 }
-        ensures { IfOk result (λ pages. pages.items ≡ filter (λ page. slice_index_or self.now.marks.items page false) (range_with_len 0 (length self.now.marks.items))) }
+        requires { length self.now.marks.items ≤ 1_024 }
+        ensures { IfOk result (λ pages. pages.items ≡ marked self.now.marks.items) }
     {
-        let mut pages = Vec::new(alloc);
-        for page in 0..self.marks.len() as u32 {
-            push_if(&mut pages, self.marks[page as usize], page)?;
-        }
-        Ok(pages)
+        let mut room = Vec::from_elem(alloc, 0, self.marks.len() * 64)?;
+        let count = list_marked(&self.marks, &mut room);
+        let (pages, _) = room.split_at(count);
+        Vec::from_slice(alloc, pages)
     }
 
     /// The pages of a round that are sent where those soon written again are skipped. The walk goes on to where the
@@ -149,47 +127,38 @@ impl Scan {
         ensures scan { IfOk result (λ sent. IsScanWithin (T.pages timeline.now) (T.touches timeline.now) from
             (from + 1_000 * length sent.items / rate) self.new.next self.new.marks.items) }
     {
+        let pace = Pace::new(from, rate);
+        let mut at = pace.begin();
         let mut sent = Vec::new(alloc);
         for page in pages {
-            let end = from + 1000 * sent.len() as u64 / rate;
-            self.advance(timeline, end);
-            push_if(&mut sent, !self.marks[*page as usize], *page)?;
+            let next = self.look(timeline, &pace, *page, at);
+            push_if(&mut sent, next.sent > at.sent, *page)?;
+            at = next;
         }
         Ok(sent)
     }
 
-    /// Looks at one page of a round at whose tick `end` so many pages are sent. It answers how many are sent then, and the
-    /// tick that the scan has come to.
-    fn look<T: Timeline>(
-        &mut self,
-        timeline: &T,
-        from: u64,
-        rate: u64,
-        page: usize,
-        sent: u32,
-        end: u64,
-    ) -> (u32, u64)
-        requires scan { IsScanWithin (T.pages timeline.now) (T.touches timeline.now) from end self.old.next self.old.marks.items }
-        requires end { end ≡ from + 1_000 * sent / rate }
+    /// Looks at one page of a round, and answers how far the round is then. The walk goes on to where it was.
+    fn look<T: Timeline>(&mut self, timeline: &T, pace: &Pace, page: u32, at: Progress) -> Progress
+        requires scan { IsScanWithin (T.pages timeline.now) (T.touches timeline.now) pace.now.from at.tick self.old.next self.old.marks.items }
         requires page { page < T.pages timeline.now }
-        requires few { sent < 65_536 }
-        requires rate { 1 ≤ rate }
-        requires from { from < 2 ^ 42 }
-        ensures sent { result.0 ≡ (if not (is_written (T.touches timeline.now) from end page) then sent + 1 else sent) }
-        ensures end { result.1 ≡ from + 1_000 * result.0 / rate }
-        ensures scan { IsScanWithin (T.pages timeline.now) (T.touches timeline.now) from result.1 self.new.next self.new.marks.items }
+        requires pace { IsPace pace.now }
+        requires at { IsProgress pace.now at }
+        requires few { at.sent < 65_536 }
+        ensures sent { result.sent ≡ (if not (is_written (T.touches timeline.now) pace.now.from at.tick page) then at.sent + 1 else at.sent) }
+        ensures at { IsProgress pace.now result }
+        ensures scan { IsScanWithin (T.pages timeline.now) (T.touches timeline.now) pace.now.from result.tick self.new.next self.new.marks.items }
     {
-        self.advance(timeline, end);
-        if self.marks[page] {
-            return (sent, end);
+        self.advance(timeline, at.tick);
+        if is_marked(&self.marks, page) {
+            return at;
         }
-        let sent = sent + 1;
-        (sent, from + 1000 * sent as u64 / rate)
+        pace.send(at)
     }
 
     /// How many of these pages of a round are sent where those soon written again are skipped. The walk goes on to where the
     /// scan of the last page ends.
-    fn count_sent_of<T: Timeline>(
+    pub(crate) fn count_sent<T: Timeline>(
         &mut self,
         timeline: &T,
         from: u64,
@@ -203,49 +172,11 @@ impl Scan {
         ensures sent { HasSent (T.touches timeline.now) from rate pages.now result }
         ensures scan { IsScanWithin (T.pages timeline.now) (T.touches timeline.now) from (from + 1_000 * result / rate) self.new.next self.new.marks.items }
     {
-        let mut sent = 0u32;
-        let mut end = from;
+        let pace = Pace::new(from, rate);
+        let mut at = pace.begin();
         for page in pages {
-            let seen = self.look(timeline, from, rate, *page as usize, sent, end);
-            sent = seen.0;
-            end = seen.1;
+            at = self.look(timeline, &pace, *page, at);
         }
-        sent
-    }
-
-    /// The same of the pages that are marked in `listed`. They are written to `room` first, which has a place for each page.
-    pub(crate) fn count_sent<T: Timeline>(
-        &mut self,
-        timeline: &T,
-        from: u64,
-        rate: u64,
-        listed: &[bool],
-        room: &mut [u32],
-    ) -> u32
-        requires scan { IsScan (T.pages timeline.now) (T.touches timeline.now) from from self.old.next self.old.marks.items }
-        requires listed { length listed.now ≡ T.pages timeline.now }
-        requires room { length room.old ≡ T.pages timeline.now }
-        requires few { T.pages timeline.now ≤ 65_536 }
-        requires rate { 1 ≤ rate }
-        requires from { from < 2 ^ 42 }
-        ensures sent { HasSent (T.touches timeline.now) from rate (marked (T.pages timeline.now) listed.now) result }
-        ensures scan { IsScanWithin (T.pages timeline.now) (T.touches timeline.now) from (from + 1_000 * result / rate) self.new.next self.new.marks.items }
-        ensures room { length room.new ≡ length room.old }
-    {
-        let count = list_marked(listed, room);
-        let (pages, _) = room.split_at(count);
-        self.count_sent_of(timeline, from, rate, pages)
-    }
-
-    /// How many pages are marked.
-    pub(crate) fn count(&self) -> u32
-        requires { length self.now.marks.items < 2 ^ 32 }
-        ensures { result ≡ length (marked (length self.now.marks.items) self.now.marks.items) }
-    {
-        let mut count = 0u32;
-        for mark in &self.marks {
-            count += one_if(*mark);
-        }
-        count
+        at.sent
     }
 }

@@ -6,15 +6,16 @@ ghost use Rattle.migration_model.specs.Rounds.{NextRound, first_round};
 ghost use Rattle.migration_model.specs.Sweeps.{IsOutcome, outcome_with};
 ghost use Rattle.migration_model.specs.Touches.{GuestTouch};
 ghost use Rattle.rate_limit.specs.Pacing.{reason_of};
+ghost use Rattle.round_planner.specs.Marking.{marked};
 ghost use Rattle.round_planner.specs.Scanning.{IsScan};
 ghost use Rattle.round_planner.specs.Indexing.{AreMarksOf, CanMark, CanRun, HasSentOf, IsMarkedAt, IsReady, IsTurned, IsRoundIndexOf, IsStanding, RanTo, StandsAt};
 
 use crate::index::RoundIndex;
+use crate::marks::list_marked;
 use crate::parts::Outcome;
 use crate::scan::Scan;
 use rate_limit::{Next, Reason, Settings, duration, next};
 use std::alloc::{AllocError, Global};
-use std::mem;
 use trace_codec::Timeline;
 
 /// The round that comes next.
@@ -46,9 +47,7 @@ pub(crate) struct Ran {
 pub(crate) struct Marks {
     /// The walk over the touches of a round.
     scan: Scan,
-    /// The pages of the round.
-    listed: Vec<bool>,
-    /// Room for a list of them.
+    /// Room for a list of the round's pages.
     room: Vec<u32>,
 }
 
@@ -58,9 +57,8 @@ impl Marks {
         ensures { IfOk result (λ marks. AreMarksOf (T.pages timeline.now) marks) }
     {
         let scan = Scan::new(alloc, timeline, 0)?;
-        let listed = Vec::from_elem(alloc, false, timeline.page_count() as usize)?;
         let room = Vec::from_elem(alloc, 0, timeline.page_count() as usize)?;
-        Ok(Marks { scan, listed, room })
+        Ok(Marks { scan, room })
     }
 
     /// How many pages a round sends, where pages may be skipped but in the first round.
@@ -69,17 +67,30 @@ impl Marks {
         requires marks { CanMark (T.pages timeline.now) (T.touches timeline.now) settings.now now.now self.old }
         ensures sent { (coming : NextRound) → IsMarkedAt (T.pages timeline.now) (T.touches timeline.now) settings.now coming now.now self.old
             → HasSentOf (T.pages timeline.now) (T.touches timeline.now) settings.now coming result self.new.scan }
-        ensures listed { self.new.listed ≡ self.old.listed }
         ensures room { length self.new.room.items ≡ length self.old.room.items }
     {
         if now.done == 0 {
             return now.listed;
         }
-        self.scan
-            .count_sent(timeline, now.from, now.rate, &self.listed, &mut self.room)
+        let (pages, _) = self.room.split_at(now.listed as usize);
+        self.scan.count_sent(timeline, now.from, now.rate, pages)
     }
 
-    /// Runs a round where pages may be skipped: the marks of the walk are then those of the pages written meanwhile.
+    /// Lists the pages that are marked, forgets the marks, and answers how many there were.
+    fn turn(&mut self) -> u32
+        requires marks { length self.old.scan.marks.items ≤ 1_024 }
+        requires room { length (marked self.old.scan.marks.items) ≤ length self.old.room.items }
+        ensures turned { (pages from tick : ℕ) (touches : List GuestTouch) → IsScan pages touches from tick self.old.scan.next self.old.scan.marks.items
+            → IsTurned pages touches from tick result self.new }
+        ensures count { result ≡ length (marked self.old.scan.marks.items) }
+        ensures room { length self.new.room.items ≡ length self.old.room.items }
+    {
+        let count = list_marked(&self.scan.marks, &mut self.room);
+        self.scan.restart();
+        count as u32
+    }
+
+    /// Runs a round where pages may be skipped. The pages written meanwhile are listed then, and no page is marked.
     fn marked_round<T: Timeline>(
         &mut self,
         timeline: &T,
@@ -90,18 +101,19 @@ impl Marks {
         requires marks { CanMark (T.pages timeline.now) (T.touches timeline.now) settings.now now.now self.old }
         ensures ran { (coming : NextRound) → IsMarkedAt (T.pages timeline.now) (T.touches timeline.now) settings.now coming now.now self.old
             → RanTo (T.pages timeline.now) (T.touches timeline.now) settings.now coming result }
-        ensures len { length self.new.listed.items ≡ T.pages timeline.now }
         ensures room { length self.new.room.items ≡ T.pages timeline.now }
-        ensures scan { IsScan (T.pages timeline.now) (T.touches timeline.now) now.now.from result.to self.new.scan.next self.new.scan.marks.items }
+        ensures turned { IsTurned (T.pages timeline.now) (T.touches timeline.now) now.now.from result.to result.dirtied self.new }
     {
         let sent = self.count_sent(timeline, settings, now);
         let to = now.from + duration(sent, now.rate);
         self.scan.advance(timeline, to);
+        let next = self.scan.next;
+        let dirtied = self.turn();
         Ran {
             sent,
             to,
-            next: self.scan.next,
-            dirtied: self.scan.count(),
+            next,
+            dirtied,
         }
     }
 
@@ -118,26 +130,13 @@ impl Marks {
         ensures ran { (coming : NextRound) → IsReady (T.pages timeline.now) (T.touches timeline.now) settings.now coming now.now self.old
             → RanTo (T.pages timeline.now) (T.touches timeline.now) settings.now coming result }
         ensures marks { AreMarksOf (T.pages timeline.now) self.new }
-        ensures scan { settings.now.skip ≡ true → IsScan (T.pages timeline.now) (T.touches timeline.now) now.now.from result.to self.new.scan.next self.new.scan.marks.items }
+        ensures turned { settings.now.skip ≡ true → IsTurned (T.pages timeline.now) (T.touches timeline.now) now.now.from result.to result.dirtied self.new }
     {
         if settings.asked().skip {
             self.marked_round(timeline, settings, now)
         } else {
             counted_round(timeline, index, settings, now)
         }
-    }
-
-    /// Makes the marks of a round those of the pages of the next one, where marks are kept at all.
-    fn turn(&mut self, settings: &Settings)
-        ensures marks { (pages : ℕ) → AreMarksOf pages self.old → AreMarksOf pages self.new }
-        ensures turned { (pages from tick : ℕ) (touches : List GuestTouch) → settings.now.skip ≡ true → AreMarksOf pages self.old
-            → IsScan pages touches from tick self.old.scan.next self.old.scan.marks.items → IsTurned pages touches from tick self.new }
-    {
-        if !settings.asked().skip {
-            return;
-        }
-        mem::swap(&mut self.scan.marks, &mut self.listed);
-        self.scan.marks.fill(false);
     }
 
     /// Makes all ready for the first round.
@@ -149,8 +148,7 @@ impl Marks {
         ensures settings { AreSettings settings.now }
     {
         let asked = settings.asked();
-        self.listed.fill(true);
-        self.scan.marks.fill(false);
+        self.scan.marks.fill(0);
         self.scan.next = timeline.before(asked.start);
         Standing {
             done: 0,
@@ -182,7 +180,6 @@ impl Marks {
             match next(settings, ran.dirtied, ran.to - now.from, done) {
                 Next::Stop(reason) => return ended(settings, done, total, reason, &ran),
                 Next::Go(rate) => {
-                    self.turn(settings);
                     now = Standing {
                         done,
                         from: ran.to,

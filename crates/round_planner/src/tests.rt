@@ -183,3 +183,40 @@ fn pages_that_are_skipped(rt: HostRuntime) -> Result<(), Fail> {
     assert_eq!(rt; made.last.as_slice(), [1, 3].as_slice());
     Ok(())
 }
+
+/// Pages at the edges of three words. In the second round, which sends a page in 7 ticks and 90 of 130 parts of one more, page 63
+/// is written one tick before its scan ends, page 64 just when it has ended, and page 129 in the tick that the parts of two
+/// pages make.
+#[test]
+fn pages_of_three_words(rt: HostRuntime) -> Result<(), Fail> {
+    let alloc = rt.alloc();
+    let touches = [
+        (10, 129),
+        (20, 64),
+        (30, 0),
+        (40, 63),
+        (1006, 63),
+        (1007, 64),
+        (1014, 129),
+    ];
+    let trace = guest(alloc, 130, &touches)?;
+    let mut asked = asked(200, 1, 0, true);
+    asked.min = 130;
+    let made = plan(alloc, &trace, &Settings::new(asked)?)?;
+    assert_eq!(rt; made.reason, Reason::Few);
+    assert_eq!(rt;
+        numbers(alloc, &made)?.as_slice(),
+        [
+            0, 1000, 130, 130, 130, 4, 1000, 1016, 130, 4, 2, 3, 1016, 1032, 189, 3, 3, 0, 1032, 0,
+            0, 135,
+        ]
+        .as_slice()
+    );
+    let second = made.rounds.get(1).ok_or("a second round")?;
+    assert_eq!(rt; second.pages.as_slice(), [0, 63, 64, 129].as_slice());
+    assert_eq!(rt; second.sent.as_slice(), [0, 64].as_slice());
+    let outcome = second_outcome(alloc, &trace, &Settings::new(asked)?)?;
+    assert_eq!(rt; (outcome.rounds, outcome.reason), (3, Reason::Few));
+    assert_eq!(rt; (outcome.stop, outcome.down, outcome.total), (1032, 0, 135));
+    Ok(())
+}

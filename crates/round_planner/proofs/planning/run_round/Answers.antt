@@ -1,11 +1,9 @@
 use Rattle.std.proofs.Common.{◌≡◌, ◌≤◌, ◌+◌, ◌*◌, ◌∙◌, length, refl, sym, ap, arith}
-use Rattle.std.specs.Prelude.{slice_index_or, false}
 use Rattle.migration_model.specs.Rates.{duration_of}
 use Rattle.migration_model.specs.Rounds.{NextRound}
 use Rattle.migration_model.specs.Touches.{pages_written}
 use Rattle.round_planner.proofs.Plans.{ran, sent_fits, ticks_few, scan_in_round}
-use Rattle.round_planner.proofs.PageLists.{few_pages}
-use Rattle.round_planner.proofs.Scans.{marked_pages}
+use Rattle.round_planner.proofs.Scans.{marked_few, marked_pages}
 use Rattle.round_planner.proofs.planning.run_round.Goals as goal
 
 pub overflow_cast-len : goal.overflow_cast-len
@@ -34,11 +32,13 @@ returns-clause-scan g c =
     let limit = scan_in_round now.from now.rate (length sent) c.duration.result enough in
     c.advance.ensures.walked now.from within.tick (omega (arith, within.high, limit, from)) within.scan
 
+pub pages-requires : goal.pages-requires
+pages-requires g c = omega (arith, c.advance.ensures.room.marks_len, c.requires.coming.list.few)
+
 pub overflow_cast-round : goal.overflow_cast-round
 overflow_cast-round g c =
-    let marks = c.advance.new.self.marks.items in
-    let room = c.advance.ensures.room in
-    omega (arith, c.len-2.ensures, ap length c.in_ok-dirtied.ensures, few_pages (λ page. slice_index_or marks page false) 0 (length marks), room.marks_len, c.requires.coming.list.few)
+    let few = marked_few _ _ c.args.coming.from _ c.advance.new.self.next c.advance.new.self.marks.items (returns-clause-scan g c) in
+    omega (arith, c.len-2.ensures, ap length c.in_ok-dirtied.ensures, few, c.requires.coming.list.few)
 
 pub returns-clause-ran : goal.returns-clause-ran
 returns-clause-ran g c =

@@ -1,15 +1,17 @@
-use Rattle.std.proofs.Common.{true, refl, arith}
-use Rattle.std.proofs.lemmas.List.{length-set}
+use Rattle.std.proofs.Common.{◌∙◌, refl, arith}
 use Rattle.round_planner.proofs.Scans.{walk_on, walk_ends}
 use Rattle.round_planner.proofs.scan.mark_until.Goals as goal
+
+pub mark-requires : goal.mark-requires
+mark-requires g c = omega (arith, c.loop-page.invariant.room.marks_len, c.in-Some.ensures.some.page_low)
 
 pub loop-page-preserved : goal.loop-page-preserved
 loop-page-preserved g c =
     let next = c.in-Some.ensures.some in
     let before = c.loop-page.invariant in
     record {
-      room = record { marks_len = omega (arith, length-set c.loop-page.marks c.in-Some.page true, before.room.marks_len); next_high = omega (arith, next.low) };
-      walking = λ from upto le scan. walk_on _ _ from c.args.tick c.loop-page.at c.in-Some.page c.loop-page.marks next (before.walking from upto le scan);
+      room = record { marks_len = c.mark.ensures.len ∙ before.room.marks_len; next_high = omega (arith, next.low) };
+      walking = λ from upto le scan. walk_on _ _ from c.args.tick c.loop-page.at c.in-Some.page c.loop-page.marks c.mark.new.marks next c.mark.ensures.len c.mark.ensures.pages (before.walking from upto le scan);
     }
 
 pub returns-clause-walked : goal.returns-clause-walked

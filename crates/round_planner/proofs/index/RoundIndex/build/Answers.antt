@@ -21,10 +21,8 @@ loop-number-preserved g c =
     let here : IsLast touches n at.page c.index.result.now =
     subst (λ x. IsLast touches n at.page x) (sym read) (subst (λ q. IsLast touches n q (get_or last p 0)) page_is (before.last p low)) in
     record {
-      pages_len = omega (arith, ap length c.in_ok-push.ensures.items, length_push c.loop-number.pages.items p, before.pages_len);
-      earlier_len = omega (arith, ap length c.in_ok-push-2.ensures.items, length_push c.loop-number.earlier.items c.index.result.now, before.earlier_len);
+      earlier_len = omega (arith, ap length c.in_ok-push.ensures.items, length_push c.loop-number.earlier.items c.index.result.now, before.earlier_len);
       last_len = omega (arith, length-set last p (n + 1), before.last_len);
-      page = push_more (λ i x. x ≡ (get_or touches i no_touch).page) c.loop-number.pages.items _ n p before.pages_len c.in_ok-push.ensures.items before.page page_is;
-      earlier = push_more (λ i x. IsLast touches i (get_or touches i no_touch).page x) c.loop-number.earlier.items _ n c.index.result.now before.earlier_len c.in_ok-push-2.ensures.items before.earlier here;
+      earlier = push_more (λ i x. IsLast touches i (get_or touches i no_touch).page x) c.loop-number.earlier.items _ n c.index.result.now before.earlier_len c.in_ok-push.ensures.items before.earlier here;
       last = λ page high. last_more touches n pages p page last inside before.last_len page_is before.last high;
     }

@@ -1,7 +1,12 @@
-use Rattle.std.proofs.Common.{arith}
-use Rattle.round_planner.proofs.Scans.{marks_more}
+use Rattle.std.proofs.Common.{ℕ, List, ◌*◌, ap, arith, length}
+use Rattle.dirty_core.specs.Pages.{in_words}
+use Rattle.round_planner.specs.Marking.{marked}
+use Rattle.round_planner.proofs.PageLists.{few_pages}
 use Rattle.round_planner.proofs.scan.Scan.pages.Goals as goal
 
-pub loop-page-preserved : goal.loop-page-preserved
-loop-page-preserved c =
-    marks_more c.args.self.now.marks.items c.loop-page.page c.index.result.now c.loop-page.pages.items c.push_if.new.pages.items (omega arith) c.index.ensures c.loop-page.invariant c.in_ok-push_if.ensures
+pub list_marked-count-requires-clause-room : goal.list_marked-count-requires-clause-room
+list_marked-count-requires-clause-room c =
+    let marks = c.args.self.now.marks.items in
+    let few = few_pages (in_words marks) 0 (length marks * 64) in
+    let same = ap (λ (l : List ℕ). length (marked l)) c.deref.ensures.value in
+    omega (arith, few, same, c.deref_mut.ensures.len, c.in_ok-room.ensures.len, c.len.ensures)

@@ -1,57 +1,57 @@
-use Rattle.std.proofs.Common.{◌≡◌, ◌<◌, ◌≤◌, ◌+◌, ◌*◌, ◌/◌, ◌∙◌, ℕ, List, [], ap, not, true, false, length, get_or, subst, sym, arith}
+use Rattle.std.proofs.Common.{◌≡◌, ◌≤◌, ◌+◌, ◌*◌, ◌/◌, ◌∙◌, ℕ, List, [], ◌∷◌, ◌++◌, cond, not, true, length, get_or, subst, sym, ap, arith}
 use Rattle.std.proofs.lemmas.List.{take_all, get_or_default}
 use Rattle.migration_model.specs.Rounds.{IsSent}
 use Rattle.migration_model.specs.Touches.{is_written}
-use Rattle.round_planner.proofs.PageLists.{list_low, list_few, list_rises, ticks_grow, ticks_fit}
-use Rattle.round_planner.proofs.Scans.{mark_is}
-use Rattle.round_planner.proofs.Skims.{skim, skim_more, skim_is_sent, grown}
+use Rattle.round_planner.specs.Scanning.{IsScanWithin}
+use Rattle.round_planner.proofs.Counted.{one_at_most, counts_up, counts_all}
+use Rattle.round_planner.proofs.PageLists.{list_low, list_few, list_rises}
+use Rattle.round_planner.proofs.Skims.{skim, skim_more, skim_is_sent}
 use Rattle.round_planner.proofs.scan.Scan.skim.Goals as goal
 
-pub overflow_mul-end : goal.overflow_mul-end
-overflow_mul-end g c = omega (arith, c.len.ensures, c.loop-page.invariant.short, list_few _ _ c.requires.pages)
+pub look-next-requires-clause-page : goal.look-next-requires-clause-page
+look-next-requires-clause-page g c = list_low _ _ c.requires.pages c.loop-page.page-index 0 (omega (arith, c.loop-page-test.true))
 
-pub overflow_add-end : goal.overflow_add-end
-overflow_add-end g c =
-    let few : c.len.result ≤ 65_536 = omega (arith, c.len.ensures, c.loop-page.invariant.short, list_few _ _ c.requires.pages) in
-    omega (arith, ticks_fit c.args.from c.args.rate c.len.result c.requires.from few)
-
-pub index-requires : goal.index-requires
-index-requires g c =
-    let low = list_low _ _ c.requires.pages c.loop-page.page-index 0 (omega arith) in
-    omega (arith, low, c.advance.ensures.room.marks_len)
+pub look-next-requires-clause-few : goal.look-next-requires-clause-few
+look-next-requires-clause-few g c = omega (arith, c.loop-page.invariant.short, c.loop-page-test.true, list_few _ _ c.requires.pages)
 
 pub loop-page-preserved : goal.loop-page-preserved
 loop-page-preserved g c =
-    let sent = c.loop-page.sent.items in
     let before = c.loop-page.invariant in
+    let looked = c.look-next.ensures in
+    let touches = g.T.Timeline.touches c.args.timeline.now in
     let i = c.loop-page.page-index in
     let pages = c.args.pages.now in
-    let limit = c.args.from + 1000 * c.len.result / c.args.rate in
     let page = get_or pages i 0 in
-    let len_is : c.len.result ≡ length sent = omega (arith, c.len.ensures) in
-    let same : limit ≡ c.args.from + 1000 * length sent / c.args.rate = ap (λ n. c.args.from + 1000 * n / c.args.rate) len_is in
-    let scan = c.advance.ensures.walked c.args.from before.scan.tick (omega (arith, before.scan.high, same)) before.scan.scan in
-    let one = grown (not c.index.result.now) page sent c.push_if.new.pages.items c.in_ok-push_if.ensures in
-    let inside : i < length pages = omega arith in
-    let low : page < g.T.Timeline.pages c.args.timeline.now = list_low _ _ c.requires.pages i 0 inside in
+    let pace = c.new-pace.ensures in
+    let old = c.loop-page.sent.items in
+    let at = c.loop-page.at in
+    let tick : at.tick ≡ c.args.from + 1_000 * length old / c.args.rate = before.at.tick_is ∙ (λ k. pace.from k + 1_000 * before.count k / pace.rate k) in
+    let sent = rw (pace.from) at looked.sent in
+    let mark = is_written touches c.args.from at.tick page in
+    let new : c.push_if.new.pages.items ≡ cond (not mark) (old ++ page ∷ []) old =
+    c.in_ok-push_if.ensures ∙ ap (λ b. cond b (old ++ page ∷ []) old) (counts_up (not mark) at.sent c.look-next.result.sent sent) in
     record {
-      scan = record {
-        tick = limit;
-        high = omega (arith, same, ticks_grow c.args.from c.args.rate (length sent) (length c.push_if.new.pages.items) c.requires.rate one.0);
-        scan = scan;
-      };
-      sent_is = skim_more _ c.args.from c.args.rate i page pages sent c.push_if.new.pages.items c.index.result.now inside (get_or_default pages i 0 page inside) before.sent_is
-          (c.index.ensures ∙ get_or_default c.advance.new.self.marks.items page c.index.result.now false (omega (arith, low, scan.met.len))
-          ∙ mark_is _ _ c.args.from limit c.advance.new.self.next page c.advance.new.self.marks.items scan low ∙ ap (λ t. is_written (g.T.Timeline.touches c.args.timeline.now) c.args.from t page) same)
-          c.in_ok-push_if.ensures;
-      short = omega (arith, before.short, one.1);
+      scan = rw (pace.from) at looked.scan;
+      at = looked.at;
+      count = counts_all (not mark) at.sent c.look-next.result.sent page old c.push_if.new.pages.items before.count sent new;
+      sent_is = skim_more touches c.args.from c.args.rate i page pages old c.push_if.new.pages.items mark c.loop-page-test.true (get_or_default pages i 0 page c.loop-page-test.true) before.sent_is
+          (ap (λ t. is_written touches c.args.from t page) tick) new;
+      short = omega (arith, before.short, one_at_most _ at.sent c.look-next.result.sent sent);
     }
 
 pub returns-clause-sent : goal.returns-clause-sent
 returns-clause-sent g c =
     let pages = c.args.pages.now in
-    let high : length pages ≤ c.loop-page.page-index = omega arith in
+    let high : length pages ≤ c.loop-page.page-index = omega (arith, c.loop-page-test.false) in
     let found : c.loop-page.sent.items ≡ skim (g.T.Timeline.touches c.args.timeline.now) c.args.from c.args.rate [] pages =
     c.loop-page.invariant.sent_is ∙ ap (λ ps. skim (g.T.Timeline.touches c.args.timeline.now) c.args.from c.args.rate [] ps) (take_all c.loop-page.page-index pages high) in
     subst (λ (l : List ℕ). IsSent true (g.T.Timeline.touches c.args.timeline.now) c.args.from c.args.rate pages l) (sym found)
     (skim_is_sent _ c.args.from c.args.rate pages (list_rises _ _ c.requires.pages))
+
+pub returns-clause-scan : goal.returns-clause-scan
+returns-clause-scan g c =
+    let before = c.loop-page.invariant in
+    let pace = c.new-pace.ensures in
+    let tick : c.loop-page.at.tick ≡ c.args.from + 1_000 * length c.loop-page.sent.items / c.args.rate =
+    before.at.tick_is ∙ (λ k. pace.from k + 1_000 * before.count k / pace.rate k) in
+    subst (λ (limit : ℕ). IsScanWithin (g.T.Timeline.pages c.args.timeline.now) (g.T.Timeline.touches c.args.timeline.now) c.args.from limit c.loop-page.self.next c.loop-page.self.marks.items) tick before.scan

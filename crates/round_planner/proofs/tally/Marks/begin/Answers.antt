@@ -1,4 +1,4 @@
-use Rattle.std.proofs.Common.{rules, ◌≡◌, ◌∙◌, true, false, refl, ap, subst, arith, length, replicate}
+use Rattle.std.proofs.Common.{rules, ◌≡◌, ◌∙◌, refl, ap, subst, arith, length, replicate}
 use Rattle.migration_model.specs.Rates.{MigrationSettings}
 use Rattle.round_planner.specs.Indexing.{IsPoint}
 use Rattle.round_planner.proofs.Outcomes.{begins}
@@ -12,8 +12,7 @@ returns-clause-ready g c =
     let start : c.asked.inside.start ≡ s.start = ap (λ (x : MigrationSettings). x.start) (c.asked.view_is ∙ c.asked-asked.ensures.value) in
     let min : c.asked.inside.min ≡ s.min = ap (λ (x : MigrationSettings). x.min) (c.asked.view_is ∙ c.asked-asked.ensures.value) in
     let point : IsPoint touches s.start c.before-self.result = subst (λ t. IsPoint touches t c.before-self.result) start c.before-self.ensures.point in
-    let listed : c.fill.new.self.items ≡ replicate (length c.args.self.now.listed.items) true = search rules in
-    let fresh : c.fill-2.new.self.items ≡ replicate (length c.args.self.now.scan.marks.items) false = search rules in
+    let fresh : c.fill.new.self.items ≡ replicate (length c.args.self.now.scan.marks.items) 0 = search rules in
     begins pages touches s _ _ c.asked-asked.ensures.in_range (omega (arith, c.page_count.ensures.some, c.page_count.ensures.pages))
     (omega (arith, c.page_count.ensures.few, c.page_count.ensures.pages)) refl start min c.page_count.ensures.pages c.before-self.ensures.bound point refl
-    (listed ∙ ap (λ n. replicate n true) c.requires.listed_len) (fresh ∙ ap (λ n. replicate n false) c.requires.marks_len) c.requires.room_len
+    (fresh ∙ ap (λ n. replicate n 0) c.requires.marks_len) c.requires.room_len

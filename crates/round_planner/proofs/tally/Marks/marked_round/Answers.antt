@@ -1,10 +1,10 @@
-use Rattle.std.proofs.Common.{◌≡◌, ◌∙◌, ◌+◌, ◌*◌, ◌≤◌, ℕ, length, refl, sym, ap, subst, arith}
+use Rattle.std.proofs.Common.{◌≡◌, ◌∙◌, ◌+◌, ℕ, length, refl, sym, ap, subst, arith}
 use Rattle.migration_model.specs.Rates.{duration_of}
 use Rattle.migration_model.specs.Rounds.{PlannedRound}
 use Rattle.migration_model.specs.Touches.{pages_written}
-use Rattle.round_planner.specs.Scanning.{IsScan}
-use Rattle.round_planner.proofs.Plans.{ran, scan_in_round}
-use Rattle.round_planner.proofs.Scans.{marked_pages}
+use Rattle.round_planner.specs.Indexing.{IsTurned}
+use Rattle.round_planner.proofs.Plans.{ran}
+use Rattle.round_planner.proofs.Scans.{marked_few, marked_pages, walked_on}
 use Rattle.round_planner.proofs.tally.Marks.marked_round.Goals as goal
 
 pub advance-requires : goal.advance-requires
@@ -12,16 +12,34 @@ advance-requires g c =
     let has = c.count_sent-sent.ensures.sent c.requires.marks.coming c.requires.marks.is in
     record { marks_len = has.within.scan.met.len; next_high = has.within.scan.bound }
 
-pub returns-clause-scan : goal.returns-clause-scan
-returns-clause-scan g c =
+pub turn-dirtied-requires-clause-marks : goal.turn-dirtied-requires-clause-marks
+turn-dirtied-requires-clause-marks g c = omega (arith, c.advance.ensures.room.marks_len, c.requires.marks.is.at.can.list.few)
+
+pub turn-dirtied-requires-clause-room : goal.turn-dirtied-requires-clause-room
+turn-dirtied-requires-clause-room g c =
+    let coming = c.requires.marks.coming in
+    let is = c.requires.marks.is in
+    let has = c.count_sent-sent.ensures.sent coming is in
+    let scan =
+    walked_on (g.T.Timeline.pages c.args.timeline.now) (g.T.Timeline.touches c.args.timeline.now) coming.from coming.rate c.count_sent-sent.result c.duration.result
+    (c.args.now.now.from + c.duration.result) _ _ _ _ (ap (λ t. t + c.duration.result) is.at.from_is) (rw (is.at.rate_is) at c.duration.ensures.enough) has.within c.advance.ensures.walked in
+    omega (arith, marked_few _ _ coming.from _ _ _ scan, c.count_sent-sent.ensures.room, is.room)
+
+pub returns-clause-room : goal.returns-clause-room
+returns-clause-room g c = omega (arith, c.turn-dirtied.ensures.room, c.count_sent-sent.ensures.room, c.requires.marks.is.room)
+
+pub returns-clause-turned : goal.returns-clause-turned
+returns-clause-turned g c =
+    let pages = g.T.Timeline.pages c.args.timeline.now in
+    let touches = g.T.Timeline.touches c.args.timeline.now in
     let coming = c.requires.marks.coming in
     let at = c.requires.marks.is.at in
-    let within = (c.count_sent-sent.ensures.sent coming c.requires.marks.is).within in
-    let enough : 1_000 * c.count_sent-sent.result ≤ c.duration.result * coming.rate = rw (at.rate_is) at c.duration.ensures.enough in
-    let limit = scan_in_round coming.from coming.rate c.count_sent-sent.result c.duration.result enough in
-    let S : ℕ → Type 0 = λ from. IsScan (g.T.Timeline.pages c.args.timeline.now) (g.T.Timeline.touches c.args.timeline.now) from (c.args.now.now.from + c.duration.result) c.advance.new.self.next
-    c.advance.new.self.marks.items in
-    subst S (sym at.from_is) (c.advance.ensures.walked coming.from within.tick (omega (arith, within.high, limit, at.from_is)) within.scan)
+    let has = c.count_sent-sent.ensures.sent coming c.requires.marks.is in
+    let to = c.args.now.now.from + c.duration.result in
+    let scan =
+    walked_on pages touches coming.from coming.rate c.count_sent-sent.result c.duration.result to _ _ _ _ (ap (λ t. t + c.duration.result) at.from_is)
+    (rw (at.rate_is) at c.duration.ensures.enough) has.within c.advance.ensures.walked in
+    subst (λ (from : ℕ). IsTurned pages touches from to c.turn-dirtied.result c.turn-dirtied.new.self) (sym at.from_is) (c.turn-dirtied.ensures.turned pages coming.from to touches scan)
 
 pub returns-clause-ran : goal.returns-clause-ran
 returns-clause-ran g c coming is =
@@ -29,14 +47,13 @@ returns-clause-ran g c coming is =
     let touches = g.T.Timeline.touches c.args.timeline.now in
     let at = is.at in
     let ticks = c.duration.result in
-    let count = c.count_sent-sent.result in
     let has = c.count_sent-sent.ensures.sent coming is in
     let to = coming.from + ticks in
     let to_is : c.args.now.now.from + ticks ≡ to = ap (λ a. a + ticks) at.from_is in
     let next = c.advance.new.self.next in
     let marks = c.advance.new.self.marks.items in
-    let S : ℕ → Type 0 = λ from. IsScan pages touches from (from + ticks) next marks in
-    let scan : IsScan pages touches coming.from to next marks = subst S at.from_is (returns-clause-scan g c) in
+    let scan =
+    walked_on pages touches coming.from coming.rate c.count_sent-sent.result ticks to _ _ _ _ refl (rw (at.rate_is) at c.duration.ensures.enough) has.within (rw to_is at c.advance.ensures.walked) in
     let dirtied = pages_written pages touches coming.from to in
     let round : PlannedRound = record { from = coming.from; to = to; rate = coming.rate; pages = coming.pages; sent = has.list; dirtied = length dirtied } in
     let ticks_are : ticks ≡ duration_of (length has.list) coming.rate = c.duration.ensures.value ∙ (λ i. duration_of (has.count_is i) (at.rate_is i)) in
@@ -47,7 +64,7 @@ returns-clause-ran g c coming is =
           (rw (has.count_is, at.rate_is) at c.duration.ensures.least) refl refl;
       to_is = to_is;
       sent_is = has.count_is;
-      dirtied_is = c.count.ensures ∙ ap length (marked_pages pages touches coming.from to next marks scan);
+      dirtied_is = c.turn-dirtied.ensures.count ∙ ap length (marked_pages pages touches coming.from to next marks scan);
       bound = scan.bound;
       point = scan.point;
     }

@@ -17,6 +17,5 @@ loop-reason-preserved g c =
     let now = c.loop-reason.now in
     let ran = c.run_round-ran.result in
     let round = c.run_round-ran.ensures in
-    goes_further pages touches c.args.settings.now now ran c.loop-reason.self c.turn.new.self c.in-Go.rate c.begin-now.ensures.settings way (round.ran way.coming way.ready)
-    (sym c.in-Go.ensures) (c.turn.ensures.marks pages round.marks)
-    (λ skips. c.turn.ensures.turned pages now.from ran.to touches skips round.marks (round.scan skips))
+    goes_further pages touches c.args.settings.now now ran c.loop-reason.self c.run_round-ran.new.self c.in-Go.rate c.begin-now.ensures.settings way (round.ran way.coming way.ready)
+    (sym c.in-Go.ensures) round.marks round.turned
