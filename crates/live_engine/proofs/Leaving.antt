@@ -16,7 +16,7 @@ use Rattle.dirty_words.specs.Facts.{OwnsPage}
 use Rattle.dirty_words.specs.Closing.{EachPageLeft, PageLeft, HasStored}
 use Rattle.dirty_words.specs.Seats.{TableView, GuestView, CopyView, ClosedView}
 use Rattle.live_seats.specs.declared.copier.Copier.{Copier}
-use Rattle.live_seats.specs.Outboxes.{OutboxView, IsSentAt}
+use Rattle.live_seats.specs.Outboxes.{IsSentAt}
 use Rattle.live_seats.specs.Outboxes as boxes
 use Rattle.live_seats.specs.Scans.{IsOwn}
 use Rattle.live_seats.specs.Replays.{OpensAt}

@@ -1,4 +1,4 @@
-use Rattle.std.proofs.Common.{◌≡◌, ◌^◌, List, ℕ, [], Option, Some, option_map, unwrap_or, length, sym, ap, ◌∙◌, arith}
+use Rattle.std.proofs.Common.{◌^◌, List, ℕ, [], Option, option_map, unwrap_or, length, sym, ap, ◌∙◌}
 use Rattle.migration_model.specs.Trace.{GuestTrace}
 use Rattle.migration_model.specs.Versions.{page_at}
 use Rattle.migration_model.proofs.Pages.{length-page_at}
