@@ -13,7 +13,7 @@ pub record IsWide (w : Width) (len limit : ℕ) : Type 0 where
   pub back : (bytes : List ℕ) → len ≤ length bytes → IsBytes bytes → text_of w (number_in w bytes) ≡ take len bytes
   pub below : (bytes : List ℕ) → IsBytes bytes → number_in w bytes < limit
 
-IsBytes-take : (n : ℕ) (bytes : List ℕ) → IsBytes bytes → IsBytes (take n bytes)
+pub IsBytes-take : (n : ℕ) (bytes : List ℕ) → IsBytes bytes → IsBytes (take n bytes)
 IsBytes-take n bytes h i =
     elim (cases_lt i n) [
       | inl lt ↦ rw (get_or-take n bytes i 0 lt) (h i)

@@ -1,9 +1,9 @@
 -- What was made of the bytes that were read, said of what the source held.
-use Rattle.std.proofs.Common.{ℕ, List, Option, Result, Ok, Err, inl, inr}
-use Rattle.std.specs.Prelude.{IfErr}
-use Rattle.migration_model.specs.Trace.{GuestTrace, Spells}
-use Rattle.trace_codec.specs.Source.{ReadsWhole}
-use Rattle.trace_codec.proofs.Sources.{refused_whole, whole_held}
+use Rattle.std.proofs.Common.{◌≡◌, ℕ, List, Option, Some, None, Result, Ok, Err, refl, sym, subst, inl, inr}
+use Rattle.std.specs.Prelude.{IfErr, IfSome}
+use Rattle.migration_model.specs.Trace.{GuestTrace, IsTrace, Spells, trace_text}
+use Rattle.trace_codec.specs.Source.{ReadsWhole, SourceSpells}
+use Rattle.trace_codec.proofs.Sources.{refused_whole, spelled_whole}
 use Rattle.precopy.specs.Output.{IsOutputOf, IsOutput, IsOutsideRun, IsWant, RefusesRun, RefusesText}
 use Rattle.precopy.specs.declared.job.Job.{Job}
 use Rattle.precopy.specs.declared.job.RunError.{RunError}
@@ -27,8 +27,28 @@ only_run (Err errors.Thread) memory = absurd memory
 only_run (Err (errors.Live e)) memory = tt
 only_run (Err errors.Write) memory = absurd memory
 
+pub memory_run : {T : Type 0} (r : Result T RunError) → IfErr r (λ e. e ≡ errors.Memory) → IfErr r IsOutsideRun
+memory_run (Ok x) memory = tt
+memory_run (Err e) memory = subst IsOutsideRun (sym memory) tt
+
+-- what was made of the bytes that were read was made of the trace that the source held
+pub made_source : (P : GuestTrace → Type 0) (old new : Option (List ℕ)) (bytes : List ℕ) → ReadsWhole old new bytes
+    → (trace : GuestTrace) × Spells bytes trace × P trace → (trace : GuestTrace) × IsTrace trace × SourceSpells old trace × P trace
+made_source P old new bytes whole made = (made.0, made.1.is_trace, spelled_whole old new bytes made.0 whole made.1, made.2)
+
+-- all that a source held, where it spells a trace
+held_text : (known : Option (List ℕ)) (trace : GuestTrace) → SourceSpells known trace → IfSome known (λ held. held ≡ trace_text trace)
+held_text None trace spells = tt
+held_text (Some held) trace spells = spells.text
+
 -- what was made is the output for all that the source held
-pub made_run : (job : Job) (output : List ℕ) (old new : Option (List ℕ)) (bytes : List ℕ) → ReadsWhole old new bytes
-    → (trace : GuestTrace) × Spells bytes trace × IsOutputOf job trace output → IsOutput old job output
-made_run job output old new bytes whole made =
-    record { bytes = bytes; trace = made.0; all = whole_held old new bytes made.0 whole made.1; spells = made.1; is_output = made.2 }
+pub made_run : (job : Job) (output : List ℕ) (known : Option (List ℕ)) → (trace : GuestTrace) × IsTrace trace × SourceSpells known trace × IsOutputOf job trace output
+    → IsOutput known job output
+made_run job output known made =
+    record {
+      bytes = trace_text made.0;
+      trace = made.0;
+      all = held_text known made.0 made.2;
+      spells = record { is_trace = made.1; text = refl };
+      is_output = made.3;
+    }

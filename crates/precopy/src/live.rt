@@ -1,11 +1,13 @@
 //! A live run over the trace that was read, and the memory of it that is asked for.
 
-ghost use Rattle.std.specs.Prelude.{◌≡◌, ℕ, List, IfErr, IfOk};
+ghost use Rattle.std.specs.Prelude.{◌≡◌, ◌≢◌, ◌↔◌, ℕ, List, IfErr, IfOk, Err, Some, false, true};
 ghost use Rattle.live_engine.specs.Runs.{IsLiveRun};
 ghost use Rattle.migration_model.specs.Live.{LiveRound as GuestRound};
 ghost use Rattle.migration_model.specs.Rates.{MigrationSettings};
-ghost use Rattle.migration_model.specs.Trace.{GuestTrace, Spells};
-ghost use Rattle.precopy.specs.Output.{IsShown, IsWant, RefusesText};
+ghost use Rattle.migration_model.specs.Trace.{GuestTrace, IsTrace, Spells};
+ghost use Rattle.trace_codec.specs.Source.{SourceSpells};
+ghost use Rattle.trace_codec.specs.declared.error.TraceError.TheVariants.{ReadFault};
+ghost use Rattle.precopy.specs.Output.{IsOutsideRun, IsShown, IsWant, RefusesRun, RefusesText};
 
 use crate::job::{RunError, Show};
 use live_engine::{Gate, Live, live_run};
@@ -13,7 +15,7 @@ use rate_limit::Settings;
 use std::alloc::Global;
 use std::sync::Wait;
 use std::thread::Threads;
-use trace_codec::{Trace, decode};
+use trace_codec::{Source, Trace, decode, read_bytes};
 
 /// The bytes of a live run's memory, where the guest stopped or at the end.
 fn shown(live: Live, show: Show) -> Vec<u8>
@@ -52,7 +54,7 @@ fn live_of_trace<R: Threads + Wait + Sync, G: Gate>(
 }
 
 /// The memory of a live run of the trace that the bytes spell.
-pub(crate) fn live_output<R: Threads + Wait + Sync, G: Gate>(
+fn live_of_bytes<R: Threads + Wait + Sync, G: Gate>(
     rt: &R,
     alloc: Global,
     settings: &Settings,
@@ -66,6 +68,29 @@ pub(crate) fn live_output<R: Threads + Wait + Sync, G: Gate>(
 {
     match decode(alloc, bytes) {
         Ok(trace) => live_of_trace(rt, alloc, settings, show, &trace, gate),
+        Err(refusal) => Err(RunError::Trace(refusal)),
+    }
+}
+
+/// The memory of a live run of the trace that a source holds.
+pub(crate) fn live_output<R: Threads + Wait + Sync, S: Source, G: Gate>(
+    rt: &R,
+    alloc: Global,
+    settings: &Settings,
+    show: Show,
+    source: &mut S,
+    gate: &G,
+) -> Result<Vec<u8>, RunError>
+    requires { S.has_failed source.old ≡ false }
+    ensures made { IfOk result (λ v. (trace : GuestTrace) × IsTrace trace × SourceSpells (S.remaining source.old) trace × IsShown show trace settings.now v.items) }
+    ensures refused { IfErr result (RefusesRun (S.remaining source.old)) }
+    ensures unwritten { IfErr result (λ e. e ≢ RunError.Write) }
+    ensures only { (bytes : List ℕ) (trace : GuestTrace) → S.remaining source.old ≡ Some bytes → Spells bytes trace
+        → IfErr result IsOutsideRun }
+    ensures read_failed { (result ≡ Err (RunError.Trace ReadFault)) ↔ (S.has_failed source.new ≡ true) }
+{
+    match read_bytes(alloc, source) {
+        Ok(bytes) => live_of_bytes(rt, alloc, settings, show, &bytes, gate),
         Err(refusal) => Err(RunError::Trace(refusal)),
     }
 }

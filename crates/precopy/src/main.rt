@@ -8,6 +8,8 @@ mod live;
 #[cfg(test)]
 mod live_tests;
 mod options;
+#[cfg(test)]
+mod piece_tests;
 mod running;
 mod sink;
 mod starting;

@@ -2,15 +2,16 @@
 
 ghost use Rattle.std.specs.Prelude.{◌≡◌, ◌≢◌, ◌↔◌, ℕ, List, IfErr, IfOk, OnErr, OnOk, Err, Some, false, true};
 ghost use Rattle.std.specs.Io.KnownBytes.{Appends, Keeps};
-ghost use Rattle.migration_model.specs.Trace.{GuestTrace, Spells};
+ghost use Rattle.migration_model.specs.Trace.{GuestTrace, IsTrace, Spells};
 ghost use Rattle.migration_model.specs.Memory.{image_of};
 ghost use Rattle.migration_model.specs.Rounds.{IsPlan};
 ghost use Rattle.migration_model.specs.Touches.{touches_in};
 ghost use Rattle.migration_model.specs.Windows.{working_sets_of};
 ghost use Rattle.trace_codec.specs.declared.error.TraceError.TheVariants.{ReadFault};
+ghost use Rattle.trace_codec.specs.Source.{SourceSpells};
 ghost use Rattle.image_build.specs.Replay.{RefusesReplay};
 ghost use Rattle.precopy.specs.Sink.{AppendsPart};
-ghost use Rattle.precopy.specs.Output.{IsOutput, IsOutputOf, IsOutsideRun, IsReport, IsSweep, IsWant, RefusesRun, RefusesText};
+ghost use Rattle.precopy.specs.Output.{IsOutput, IsOutsideRun, IsReport, IsSweep, RefusesRun, RefusesText};
 
 use crate::job::{Job, RunError};
 use crate::live::live_output;
@@ -67,7 +68,7 @@ fn run_error_of(error: ReplayError) -> RunError
 }
 
 /// The memory after all writes of the trace that the bytes spell.
-fn image_output(alloc: Global, bytes: &[u8]) -> Result<Vec<u8>, RunError>
+fn image_of_bytes(alloc: Global, bytes: &[u8]) -> Result<Vec<u8>, RunError>
     ensures made { IfOk result (λ v. (trace : GuestTrace) × Spells bytes.now trace × (v.items ≡ (image_of trace).bytes)) }
     ensures refused { IfErr result (RefusesText bytes.now) }
     ensures only { (trace : GuestTrace) → Spells bytes.now trace → IfErr result (λ e. e ≡ RunError.Memory) }
@@ -75,6 +76,22 @@ fn image_output(alloc: Global, bytes: &[u8]) -> Result<Vec<u8>, RunError>
     match replay_bytes(alloc, bytes) {
         Ok(image) => Ok(image.into_bytes()),
         Err(error) => Err(run_error_of(error)),
+    }
+}
+
+/// The memory after all writes of the trace that a source holds.
+fn image_output<S: Source>(alloc: Global, source: &mut S) -> Result<Vec<u8>, RunError>
+    requires { S.has_failed source.old ≡ false }
+    ensures made { IfOk result (λ v. (trace : GuestTrace) × IsTrace trace × SourceSpells (S.remaining source.old) trace × (v.items ≡ (image_of trace).bytes)) }
+    ensures refused { IfErr result (RefusesRun (S.remaining source.old)) }
+    ensures unwritten { IfErr result (λ e. e ≢ RunError.Write) }
+    ensures only { (bytes : List ℕ) (trace : GuestTrace) → S.remaining source.old ≡ Some bytes → Spells bytes trace
+        → IfErr result IsOutsideRun }
+    ensures read_failed { (result ≡ Err (RunError.Trace ReadFault)) ↔ (S.has_failed source.new ≡ true) }
+{
+    match read_bytes(alloc, source) {
+        Ok(bytes) => image_of_bytes(alloc, &bytes),
+        Err(error) => Err(RunError::Trace(error)),
     }
 }
 
@@ -117,18 +134,22 @@ fn report_of_log<R: Threads + Sync>(
     report_text(alloc, &log.shape(), settings, &tables, &planned).or(Err(RunError::Memory))
 }
 
-/// The report on the trace that the bytes spell.
-fn report_output<R: Threads + Sync>(
+/// The report on the trace that a source holds.
+fn report_output<R: Threads + Sync, S: Source>(
     rt: &R,
     alloc: Global,
     settings: &Settings,
-    bytes: &[u8],
+    source: &mut S,
 ) -> Result<Vec<u8>, RunError>
-    ensures made { IfOk result (λ v. (trace : GuestTrace) × Spells bytes.now trace × IsReport trace settings.now v.items) }
-    ensures refused { IfErr result (RefusesText bytes.now) }
-    ensures only { (trace : GuestTrace) → Spells bytes.now trace → IfErr result IsWant }
+    requires { S.has_failed source.old ≡ false }
+    ensures made { IfOk result (λ v. (trace : GuestTrace) × IsTrace trace × SourceSpells (S.remaining source.old) trace × IsReport trace settings.now v.items) }
+    ensures refused { IfErr result (RefusesRun (S.remaining source.old)) }
+    ensures unwritten { IfErr result (λ e. e ≢ RunError.Write) }
+    ensures only { (bytes : List ℕ) (trace : GuestTrace) → S.remaining source.old ≡ Some bytes → Spells bytes trace
+        → IfErr result IsOutsideRun }
+    ensures read_failed { (result ≡ Err (RunError.Trace ReadFault)) ↔ (S.has_failed source.new ≡ true) }
 {
-    match TouchLog::parse(alloc, bytes) {
+    match TouchLog::read(alloc, source) {
         Ok(log) => report_of_log(rt, alloc, settings, &log),
         Err(refusal) => Err(RunError::Trace(refusal)),
     }
@@ -149,41 +170,25 @@ fn sweep_of_log<R: Threads + Sync>(
     sweep_text(alloc, &lines).or(Err(RunError::Memory))
 }
 
-/// The sweep over the trace that the bytes spell.
-fn sweep_output<R: Threads + Sync>(
+/// The sweep over the trace that a source holds.
+fn sweep_output<R: Threads + Sync, S: Source>(
     rt: &R,
     alloc: Global,
     cases: &[Settings],
     workers: usize,
-    bytes: &[u8],
+    source: &mut S,
 ) -> Result<Vec<u8>, RunError>
-    ensures made { IfOk result (λ v. (trace : GuestTrace) × Spells bytes.now trace × IsSweep trace cases.now v.items) }
-    ensures refused { IfErr result (RefusesText bytes.now) }
-    ensures only { (trace : GuestTrace) → Spells bytes.now trace → IfErr result IsWant }
+    requires { S.has_failed source.old ≡ false }
+    ensures made { IfOk result (λ v. (trace : GuestTrace) × IsTrace trace × SourceSpells (S.remaining source.old) trace × IsSweep trace cases.now v.items) }
+    ensures refused { IfErr result (RefusesRun (S.remaining source.old)) }
+    ensures unwritten { IfErr result (λ e. e ≢ RunError.Write) }
+    ensures only { (bytes : List ℕ) (trace : GuestTrace) → S.remaining source.old ≡ Some bytes → Spells bytes trace
+        → IfErr result IsOutsideRun }
+    ensures read_failed { (result ≡ Err (RunError.Trace ReadFault)) ↔ (S.has_failed source.new ≡ true) }
 {
-    match TouchLog::parse(alloc, bytes) {
+    match TouchLog::read(alloc, source) {
         Ok(log) => sweep_of_log(rt, alloc, cases, workers, &log),
         Err(refusal) => Err(RunError::Trace(refusal)),
-    }
-}
-
-/// The output of a job over the trace that the bytes spell.
-fn output<R: Threads + Wait + Sync, G: Gate>(
-    rt: &R,
-    alloc: Global,
-    job: &Job,
-    bytes: &[u8],
-    gate: &G,
-) -> Result<Vec<u8>, RunError>
-    ensures made { IfOk result (λ v. (trace : GuestTrace) × Spells bytes.now trace × IsOutputOf job.now trace v.items) }
-    ensures refused { IfErr result (RefusesText bytes.now) }
-    ensures only { (trace : GuestTrace) → Spells bytes.now trace → IfErr result IsWant }
-{
-    match job {
-        Job::Image => image_output(alloc, bytes),
-        Job::Report(settings) => report_output(rt, alloc, settings, bytes),
-        Job::Live(settings, show) => live_output(rt, alloc, settings, *show, bytes, gate),
-        Job::Sweep { cases, workers } => sweep_output(rt, alloc, cases, *workers, bytes),
     }
 }
 
@@ -203,9 +208,11 @@ fn read_output<R: Threads + Wait + Sync, S: Source, G: Gate>(
         → IfErr result IsOutsideRun }
     ensures read_failed { (result ≡ Err (RunError.Trace ReadFault)) ↔ (S.has_failed source.new ≡ true) }
 {
-    match read_bytes(alloc, source) {
-        Ok(bytes) => output(rt, alloc, job, &bytes, gate),
-        Err(error) => Err(RunError::Trace(error)),
+    match job {
+        Job::Image => image_output(alloc, source),
+        Job::Report(settings) => report_output(rt, alloc, settings, source),
+        Job::Live(settings, show) => live_output(rt, alloc, settings, *show, source, gate),
+        Job::Sweep { cases, workers } => sweep_output(rt, alloc, cases, *workers, source),
     }
 }
 

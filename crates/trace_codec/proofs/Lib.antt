@@ -6,3 +6,6 @@ pub mod Sources
 pub mod Readers
 pub mod Spelling
 pub mod Made
+pub mod Longer
+pub mod Logs
+pub mod OneMore

@@ -1,18 +1,25 @@
 -- Bytes that a source gives one after another.
-use Rattle.std.proofs.Common.{◌≡◌, ℕ, ◌+◌, ◌^◌, ◌<◌, ◌≤◌, inl, inr, subst, List, [], ◌++◌, length, take, drop, Option, Some, None, Result, Ok, Err, refl, sym, ap, ◌∙◌, append_assoc, arith}
-use Rattle.std.specs.Io.KnownBytes.{Consumes}
+use Rattle.std.proofs.Common.{◌≡◌, false, ℕ, ◌+◌, ◌^◌, ◌<◌, ◌≤◌, inl, inr, subst, List, [], ◌++◌, length, take, drop, Option, Some, None, Result, Ok, Err, refl, sym, ap, ◌∙◌, append_assoc, arith}
+use Rattle.std.specs.Io.KnownBytes.{Consumes, IsAtEnd}
 use Rattle.std.proofs.Math.Seq.{take-add}
 use Rattle.std.proofs.lemmas.List.{append-nil, drop-drop, drop_all, length-append, length-drop, length-take, take-append-drop, take_at}
 use Rattle.std.proofs.lemmas.Bool.{cases_lt, lt-ltb}
 use Rattle.std.specs.Prelude.{IfErr, IfSome}
 use Rattle.migration_model.specs.Trace.{GuestTrace, Spells}
 use Rattle.trace_codec.specs.Source.{ReadsFrom, ReadsWhole, SourceSpells, SourceRefuses}
+use Rattle.trace_codec.proofs.Longer.{stays}
+use Rattle.trace_codec.specs.Pieces.{wants_bytes}
 use Rattle.trace_codec.specs.Refusals.{header_refusal, Refuses, RefusesUnlessMemory, in_header, in_write, behind}
 use Rattle.trace_codec.specs.declared.error.TraceError.{TraceError}
 use Rattle.trace_codec.specs.declared.error.TraceError.TheVariants.{TooLong}
 
 abbrev given : TraceError → Option TraceError
 given e = Some e
+
+-- no bytes are always there
+pub Consumes-nil : (a : Option (List ℕ)) → Consumes a a []
+Consumes-nil None = tt
+Consumes-nil (Some a) = refl
 
 pub Consumes-then : (a b c : Option (List ℕ)) (xs ys : List ℕ) → Consumes a b xs → Consumes b c ys → Consumes a c (xs ++ ys)
 Consumes-then None b c xs ys p q = tt
@@ -53,14 +60,6 @@ spelled_whole (Some xs) (Some ys) v trace whole spells =
     let short : length v ≤ 2 ^ 28 = rw spells.text spells.is_trace.short in
     subst (λ (x : List ℕ). Spells x trace) (whole_is xs ys v whole.0 whole.1 short) spells
 
--- bytes that spell a trace are all that the source held
-pub whole_held : (old new : Option (List ℕ)) (v : List ℕ) (trace : GuestTrace) → ReadsWhole old new v → Spells v trace → IfSome old (λ held. held ≡ v)
-whole_held None new v trace whole spells = tt
-whole_held (Some xs) None v trace whole spells = absurd whole.0
-whole_held (Some xs) (Some ys) v trace whole spells =
-    let short : length v ≤ 2 ^ 28 = rw spells.text spells.is_trace.short in
-    sym (whole_is xs ys v whole.0 whole.1 short)
-
 -- what is longer than a trace may be is refused for that alone
 header_too_long : (bytes : List ℕ) → 2 ^ 28 < length bytes → header_refusal bytes ≡ Some TooLong
 header_too_long bytes long = rw (lt-ltb (2 ^ 28) (length bytes) long) refl
@@ -91,6 +90,24 @@ only_whole (Some old) (Some ys) xs v trace is spells whole =
     let short : length xs ≤ 2 ^ 28 = rw spells.text spells.is_trace.short in
     let shorter : length v ≤ 2 ^ 28 = omega (arith, ap length same, ap length whole.0, length-append v ys) in
     subst (λ (x : List ℕ). Spells x trace) (sym (whole_is old ys v whole.0 whole.1 shorter ∙ same)) spells
+
+-- ---- the same of a text that came
+
+-- the cause of all that came is that of the source
+pub ended_refused : (old new : Option (List ℕ)) (text : List ℕ) (e : TraceError) → Consumes old new text → IsAtEnd new → Refuses text e → SourceRefuses old e
+ended_refused old new text e came ended refused = inr (refused_whole old new text e (came, λ short. ended) refused)
+
+-- more came than a trace may have
+pub long_refused : (old new : Option (List ℕ)) (text : List ℕ) → Consumes old new text → 2 ^ 28 < length text → SourceRefuses old TooLong
+long_refused old new text came long =
+    inr (refused_whole old new text TooLong (came, λ short. absurd (omega arith)) (in_header (header_too_long text long)))
+
+-- a cause that stands in what came, after the rest came too
+pub early_refused : (old new end : Option (List ℕ)) (text more : List ℕ) (e : TraceError) → Consumes old new text → Consumes new end more → IsAtEnd end
+    → length text + length more ≤ 2 ^ 28 → wants_bytes e ≡ false → Refuses text e → SourceRefuses old e
+early_refused old new end text more e came read_on ended short some refused =
+    ended_refused old end (text ++ more) e (Consumes-then old new end text more came read_on) ended
+    (stays text more e refused some (omega (arith, length-append text more)))
 
 -- ---- the same of what a call answered
 

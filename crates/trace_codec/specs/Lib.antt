@@ -2,3 +2,4 @@ pub mod Refusals
 pub mod Reading
 pub mod Writes
 pub mod Source
+pub mod Pieces

@@ -6,6 +6,8 @@ mod decoding;
 mod encoding;
 mod error;
 mod fields;
+mod log_reader;
+mod pieces;
 mod reader;
 mod reading;
 mod records;

@@ -1,6 +1,7 @@
 //! A trace from a source of bytes.
 
 ghost use Rattle.std.specs.Prelude.{◌≡◌, ◌↔◌, IfErr, IfOk, Err, Some, List, ℕ, MatchResult, true, false, ◌<◌, ◌≤◌, ◌+◌, take, drop, vec_len, is_none};
+ghost use Rattle.migration_model.specs.Numbers.{IsBytes};
 ghost use Rattle.migration_model.specs.Trace.{GuestTrace, Spells};
 ghost use Rattle.trace_codec.specs.Source.{ReadsFrom, ReadsWhole, IsOutside, SourceSpells, SourceRefuses};
 
@@ -33,11 +34,16 @@ fn with_room(bytes: Vec<u8>, filled: usize) -> Result<Vec<u8>, AllocError>
 }
 
 /// One read into the room behind the first `filled` bytes.
-fn read_behind<S: Source>(source: &mut S, bytes: &mut Vec<u8>, filled: usize) -> Option<usize>
+pub(crate) fn read_behind<S: Source>(
+    source: &mut S,
+    bytes: &mut Vec<u8>,
+    filled: usize,
+) -> Option<usize>
     requires unfailed { S.has_failed source.old ≡ false }
     requires room { filled < vec_len bytes.old }
     ensures len { vec_len bytes.new ≡ vec_len bytes.old }
     ensures kept { take filled bytes.new.items ≡ take filled bytes.old.items }
+    ensures fits { IsBytes bytes.new.items }
     ensures bytes { ReadsFrom (S.remaining source.old) (S.remaining source.new) result (drop filled bytes.new.items) }
     ensures failed { S.has_failed source.new ≡ is_none result }
 {

@@ -1,13 +1,17 @@
 //! A trace without what was written.
 
-ghost use Rattle.std.specs.Prelude.{◌≡◌, [], IfErr, IfOk, length, nat_lt};
+ghost use Rattle.std.specs.Prelude.{◌≡◌, ◌↔◌, [], ℕ, List, Err, IfErr, IfOk, MatchResult, Some, false, length, nat_lt, true};
 ghost use Rattle.migration_model.specs.Trace.{GuestTrace, Spells};
 ghost use Rattle.migration_model.specs.Touches.{AreTouches, GuestTouches, touches_in, touches_with};
+ghost use Rattle.trace_codec.specs.Pieces.{IsLogOf};
 ghost use Rattle.trace_codec.specs.Refusals.{RefusesUnlessMemory};
+ghost use Rattle.trace_codec.specs.Source.{IsOutside, SourceRefuses};
 
 use crate::error::TraceError;
+use crate::log_reader::log_of_source;
 use crate::reader::TraceReader;
 use crate::shape::Shape;
+use crate::source::Source;
 use crate::timeline::{Timeline, Touch};
 use std::alloc::Global;
 use std::marker::Model;
@@ -18,8 +22,8 @@ const SHORTEST_RECORD: usize = 17;
 /// When each write of a trace was, and to which page: 16 bytes a write, however long the writes are.
 #[derive(Debug, Drop)]
 pub struct TouchLog {
-    shape: Shape,
-    touches: Vec<Touch>,
+    pub(crate) shape: Shape,
+    pub(crate) touches: Vec<Touch>,
 }
 
 impl Model for TouchLog {
@@ -73,6 +77,20 @@ impl TouchLog {
         ensures only { (trace : GuestTrace) → Spells bytes.now trace → IfErr result (λ e. e ≡ TraceError.Memory) }
     {
         log_of_bytes(alloc, bytes)
+    }
+
+    /// Reads off a source what the trace that it holds touches, piece by piece in one room of 256 KiB: the bytes are never
+    /// held whole. The source is read to its end, or past the longest trace and no further, also where a refusal was found
+    /// before. Any failed read is `E17`, whatever came before it.
+    pub fn read<S: Source>(alloc: Global, source: &mut S) -> Result<TouchLog, TraceError>
+        requires { S.has_failed source.old ≡ false }
+        ensures found { IfOk result (IsLogOf (S.remaining source.old)) }
+        ensures refused { IfErr result (SourceRefuses (S.remaining source.old)) }
+        ensures only { (bytes : List ℕ) (trace : GuestTrace) → S.remaining source.old ≡ Some bytes → Spells bytes trace
+            → MatchResult result (λ log. log ≡ touches_in trace) IsOutside }
+        ensures failed { (result ≡ Err TraceError.ReadFault) ↔ (S.has_failed source.new ≡ true) }
+    {
+        log_of_source(alloc, source)
     }
 
     /// How large the trace is.
