@@ -14,7 +14,7 @@ use Rattle.trace_codec.specs.Pieces.{wants_bytes}
 use Rattle.trace_codec.specs.Reading.{HoldsWrites, IsReading}
 use Rattle.trace_codec.specs.Refusals.{header_refusal, write_refusal, Begins, Refuses, in_header, in_write, behind}
 use Rattle.trace_codec.specs.declared.error.TraceError.{TraceError}
-use Rattle.trace_codec.specs.declared.error.TraceError.TheVariants.{TooLong, ShortHeader, BadMagic, BadVersion, BadShift, BadReserved, BadPages, TooManyWrites, ShortRecord, TickOrder, TickTooLarge, PageOutOfRange, EmptyWrite, OutOfPage, ReadFault}
+use Rattle.trace_codec.specs.declared.error.TraceError.TheVariants.{ShortHeader, ShortRecord, TickOrder, TickTooLarge, PageOutOfRange, EmptyWrite, OutOfPage, ReadFault}
 
 -- ---- numbers
 
@@ -81,20 +81,6 @@ pub record IsKnown (e : TraceError) : Type 0 where
 
 known : (e : TraceError) → wants_bytes e ≡ false → (e ≡ ReadFault → ⊥) → IsKnown e
 known e some fault = record { some = some; fault = fault }
-
-header_causes : (bytes : List ℕ) → 16 ≤ length bytes → Each IsKnown (header_refusal bytes)
-header_causes bytes long =
-    each_or IsKnown _ _ _ (known TooLong refl (λ same. absurd cc))
-    (each_else IsKnown _ _ _ (le-ltb (length bytes) 16 long)
-    (each_or IsKnown _ _ _ (known BadMagic refl (λ same. absurd cc))
-    (each_or IsKnown _ _ _ (known BadVersion refl (λ same. absurd cc))
-    (each_or IsKnown _ _ _ (known BadShift refl (λ same. absurd cc))
-    (each_or IsKnown _ _ _ (known BadReserved refl (λ same. absurd cc))
-    (each_or IsKnown _ _ _ (known BadPages refl (λ same. absurd cc))
-    (each_or IsKnown _ _ _ (known TooManyWrites refl (λ same. absurd cc)) (each_none IsKnown))))))))
-
-pub header_known : (bytes : List ℕ) (e : TraceError) → 16 ≤ length bytes → header_refusal bytes ≡ Some e → IsKnown e
-header_known bytes e long is = header_causes bytes long e is
 
 -- why a write is refused that stands whole
 whole_causes : (shift pages before i : ℕ) (bytes : List ℕ) → 16 + length_in bytes ≤ length bytes → Each IsKnown (write_refusal shift pages before i bytes)

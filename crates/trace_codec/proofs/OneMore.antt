@@ -28,14 +28,6 @@ untaken_none now pieces rest count =
       fits = rw rest (λ k. omega arith);
     }
 
-pub untaken_more : (old mid new : Option (List ℕ)) (before after : PiecesState) (more : Bool) → IsUntaken old mid before
-    → HasRead mid new before after more → IsUntaken old new after
-untaken_more old mid new before after more untaken read =
-    record {
-      came = rw read.rest_is (CameAs-more old mid new before.rest before after more untaken.came read);
-      fits = rw read.rest_is (IsBytes-append before.rest read.bytes untaken.fits read.fits);
-    }
-
 -- the pieces at the end of the source
 pub CameAs-end : (old mid new : Option (List ℕ)) (text : List ℕ) (before after : PiecesState) (more : Bool) → more ≡ false → CameAs old mid before.count text
     → HasRead mid new before after more → Consumes old new text × IsAtEnd new

@@ -60,14 +60,6 @@ spelled_whole (Some xs) (Some ys) v trace whole spells =
     let short : length v ≤ 2 ^ 28 = rw spells.text spells.is_trace.short in
     subst (λ (x : List ℕ). Spells x trace) (whole_is xs ys v whole.0 whole.1 short) spells
 
--- bytes that spell a trace are all that the source held
-pub whole_held : (old new : Option (List ℕ)) (v : List ℕ) (trace : GuestTrace) → ReadsWhole old new v → Spells v trace → IfSome old (λ held. held ≡ v)
-whole_held None new v trace whole spells = tt
-whole_held (Some xs) None v trace whole spells = absurd whole.0
-whole_held (Some xs) (Some ys) v trace whole spells =
-    let short : length v ≤ 2 ^ 28 = rw spells.text spells.is_trace.short in
-    sym (whole_is xs ys v whole.0 whole.1 short)
-
 -- what is longer than a trace may be is refused for that alone
 header_too_long : (bytes : List ℕ) → 2 ^ 28 < length bytes → header_refusal bytes ≡ Some TooLong
 header_too_long bytes long = rw (lt-ltb (2 ^ 28) (length bytes) long) refl
