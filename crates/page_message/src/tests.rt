@@ -51,8 +51,8 @@ fn frames_are_appended(rt: HostRuntime) -> Result<(), Fail> {
     append_frame(&mut stream, &shape, 2, 0, &[0; 16])?;
     append_frame(&mut stream, &shape, 3, 4, &DATA_FRAME[9..])?;
     assert_eq!(rt; stream.len(), 34);
-    assert!(rt; stream[..9] == ZEROS_FRAME);
-    assert!(rt; stream[9..] == DATA_FRAME);
+    assert!(rt; &stream[..9] == ZEROS_FRAME.as_slice());
+    assert!(rt; &stream[9..] == DATA_FRAME.as_slice());
     Ok(())
 }
 
