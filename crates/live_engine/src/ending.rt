@@ -5,37 +5,31 @@ ghost use Rattle.dirty_core.specs.Pages.{in_words};
 ghost use Rattle.dirty_words.specs.Closing.{FitsPages};
 ghost use Rattle.migration_model.specs.Final.{shape_of_trace};
 ghost use Rattle.migration_model.specs.Images.{AreNotBeyond, HaveCurrent};
-ghost use Rattle.migration_model.specs.Memory.{image_before, image_of};
+ghost use Rattle.migration_model.specs.Memory.{image_before};
 ghost use Rattle.migration_model.specs.Versions.{version_before};
 ghost use Rattle.page_versions.specs.Index.{IsIndexOf};
+ghost use Rattle.live_engine.specs.Runs.{IsStoppedAt};
 
 use crate::error::LiveError;
 use crate::round::Crew;
 use collector::Part;
 use dirty_words::Closed;
-use image_build::{Image, of_parts, resume};
+use image_build::{Image, of_parts};
 use migration_model::{current_copies_make_memory, final_copy_makes_current};
 use std::alloc::Global;
 use std::sync::Wait;
 use std::thread::Threads;
 use stop_copy::final_copy;
 
-/// The memory where the guest stopped, and after all of its writes.
-#[derive(Drop)]
-pub(crate) struct Images {
-    pub(crate) at_stop: Image,
-    pub(crate) at_end: Image,
-}
-
 impl<'a, G> Crew<'a, G> {
-    /// Sends the pages that are marked still, and makes memory of what the parts then have; the guest resumes there.
+    /// Sends the pages that are marked still, and makes memory of what the parts then have.
     pub(crate) fn finish<R: Threads + Wait + Sync>(
         &self,
         rt: &R,
         alloc: Global,
         closed: &Closed,
         parts: Vec<Part>,
-    ) -> Result<Images, LiveError>
+    ) -> Result<Image, LiveError>
         requires of { IsIndexOf self.now.index.now self.now.trace.now }
         requires closed { FitsPages closed.now self.now.trace.now.pages (length self.now.trace.now.writes) }
         requires some_copiers { 1 ≤ self.now.copiers }
@@ -46,10 +40,10 @@ impl<'a, G> Crew<'a, G> {
         requires parts { AreNotBeyond self.now.trace.now (shape_of_trace self.now.trace.now) closed.now.versions parts.items }
         requires current { (page : ℕ) → page < self.now.trace.now.pages → ¬ IsTrue (in_words closed.now.dirty page)
             → HaveCurrent closed.now.versions parts.items page }
-        ensures at_stop { IfOk result (λ images. (tick : ℕ)
+        ensures at_stop { IfOk result (λ image. (tick : ℕ)
             → ((page : ℕ) → page < self.now.trace.now.pages → slice_index_or closed.now.versions page 0 ≡ version_before self.now.trace.now page tick)
-            → images.at_stop ≡ image_before self.now.trace.now tick) }
-        ensures at_end { IfOk result (λ images. images.at_end ≡ image_of self.now.trace.now) }
+            → image ≡ image_before self.now.trace.now tick) }
+        ensures stopped { IfOk result (IsStoppedAt self.now.trace.now closed.now.versions self.now.index.now) }
     {
         let trace = self.trace;
         let index = self.index;
@@ -66,7 +60,6 @@ impl<'a, G> Crew<'a, G> {
         final_copy_makes_current();
         current_copies_make_memory();
         let at_stop = of_parts(alloc, &trace.shape(), copied)?;
-        let at_end = resume(at_stop.copy(alloc)?, trace, index, &closed.versions);
-        Ok(Images { at_stop, at_end })
+        Ok(at_stop)
     }
 }

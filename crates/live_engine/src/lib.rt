@@ -7,9 +7,11 @@ mod opening;
 mod receiving;
 mod round;
 mod run;
+mod stopped;
 mod threads;
 
 pub use error::LiveError;
 pub use live_seats::{Gate, OpenGate, Point};
 pub use receiving::LiveRound;
-pub use run::{Live, live_run};
+pub use run::{Live, live_run, migrate};
+pub use stopped::Stopped;

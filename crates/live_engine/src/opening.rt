@@ -66,11 +66,39 @@ pub(crate) fn empty_parts(
     Ok(parts)
 }
 
-/// A desk for each copier, before the first round.
+/// How many pages have a write in the trace.
+fn written_pages(index: &PageIndex, pages: u32) -> usize
+    requires { pages ≤ index.now.pages }
+    ensures { result ≤ pages }
+{
+    let mut count = 0usize;
+    for page in 0..pages {
+        if !index.places(page).is_empty() {
+            count += 1;
+        }
+    }
+    count
+}
+
+/// The bytes that a frame has in front of its page.
+const HEAD: usize = 9;
+
+/// What each of so many streams gets of the frames of all pages, written pages whole: more than that seldom comes in a round.
+pub(crate) fn stream_room(trace: &Trace, index: &PageIndex, streams: usize) -> usize
+    requires of { IsIndexOf index.now trace.now }
+    requires some { 1 ≤ streams }
+{
+    let shape = trace.shape();
+    let bytes = written_pages(index, shape.pages) * shape.page_size();
+    (bytes + shape.pages as usize * HEAD) / streams
+}
+
+/// A desk for each copier, before the first round, whose streams have room for so many bytes each.
 pub(crate) fn new_desks(
     alloc: Global,
     copiers: usize,
     streams: usize,
+    room: usize,
 ) -> Result<VecDeque<Desk>, LiveError>
     requires some { 1 ≤ streams }
     requires few { streams ≤ 16 }
@@ -79,7 +107,7 @@ pub(crate) fn new_desks(
 {
     let mut desks = VecDeque::with_capacity(alloc, copiers)?;
     for _ in 0..copiers {
-        desks.push_back(Desk::new(alloc, streams)?)?;
+        desks.push_back(Desk::new(alloc, streams, room)?)?;
     }
     Ok(desks)
 }

@@ -4,20 +4,20 @@ ghost use Rattle.std.specs.Prelude.{◌≡◌, ◌&&◌, nat_le, ◌<◌, ◌≤
 ghost use Rattle.std.specs.List.{All};
 ghost use Rattle.dirty_core.specs.Start.{IsStart, start_with};
 ghost use Rattle.live_engine.specs.Joining.{AreJoined};
-ghost use Rattle.live_engine.specs.Runs.{IsLiveRun, IsUnderWay};
+ghost use Rattle.live_engine.specs.Runs.{IsLiveRun, IsStopped, IsUnderWay};
 ghost use Rattle.migration_model.specs.Live.{LiveRounds};
 ghost use Rattle.migration_model.specs.Rounds.{IsPlan, PlannedRound};
 ghost use Rattle.migration_model.specs.Touches.{touches_of};
 ghost use Rattle.page_versions.specs.Index.{IsIndexOf};
 
-use crate::ending::Images;
 use crate::error::LiveError;
-use crate::opening::{all_pages, empty_parts, new_desks, versions_before};
+use crate::opening::{all_pages, empty_parts, new_desks, stream_room, versions_before};
 use crate::receiving::{LiveRound, receive};
 use crate::round::{Crew, Left};
+use crate::stopped::Stopped;
 use collector::Part;
 use dirty_words::Closed;
-use image_build::Image;
+use image_build::{Image, resume};
 use live_seats::{Desk, Gate, Point, Ticks};
 use page_versions::PageIndex;
 use rate_limit::Settings;
@@ -59,6 +59,7 @@ impl<'a, G: Gate> Crew<'a, G> {
         ensures joined { IfOk result (λ p. AreJoined self.now.trace.now start [] [] p.closed p.parts.items) }
     {
         let shape = self.trace.shape();
+        let room = stream_room(self.trace, self.index, self.copiers * self.streams);
         let closed = Closed {
             versions: versions_before(alloc, self.trace, self.index, start)?,
             dirty: all_pages(alloc, shape.pages)?,
@@ -66,7 +67,7 @@ impl<'a, G: Gate> Crew<'a, G> {
         Ok(Progress {
             closed,
             parts: empty_parts(alloc, shape, self.streams)?,
-            desks: new_desks(alloc, self.copiers, self.streams)?,
+            desks: new_desks(alloc, self.copiers, self.streams, room)?,
             rounds: Vec::new(alloc),
         })
     }
@@ -157,18 +158,18 @@ pub struct Live {
     pub rounds: Vec<LiveRound>,
 }
 
-/// Performs a migration over the trace: in each of the planned rounds' ticks replayers change the guest's pages while
-/// copiers send them, all at once and each in a thread of its own; then the guest stops, and what is dirty still is sent. A
-/// refused run answers no image: `L2` where a thread was not started, and else `L1`. All threads have ended when it
-/// returns.
-pub fn live_run<G: Gate, R: Threads + Wait + Sync>(
+/// Performs a migration over the trace until the guest has stopped and all of its memory has come: in each of the planned
+/// rounds' ticks replayers change the guest's pages while copiers send them, all at once and each in a thread of its own;
+/// then the guest stops, and what is dirty still is sent. A refused migration answers no image: `L2` where a thread was not
+/// started, and else `L1`. All threads have ended when it returns.
+pub fn migrate<G: Gate, R: Threads + Wait + Sync>(
     rt: &R,
     alloc: Global,
     trace: &Trace,
     settings: &Settings,
     gate: &G,
-) -> Result<Live, LiveError>
-    ensures { IfOk result (λ live. IsLiveRun trace.now settings.now live.stop live.at_stop live.at_end live.rounds.items) }
+) -> Result<Stopped, LiveError>
+    ensures { IfOk result (λ s. IsStopped trace.now settings.now s.stop s.at_stop s.versions.items s.index s.rounds.items) }
 {
     let plan = plan(alloc, trace, settings)?;
     let index = PageIndex::build(rt, alloc, trace)?;
@@ -185,15 +186,44 @@ pub fn live_run<G: Gate, R: Threads + Wait + Sync>(
     let Progress {
         closed,
         parts,
-        desks: _,
+        desks,
         rounds,
     } = progress;
-    let images = crew.finish(rt, alloc, &closed, parts)?;
-    let Images { at_stop, at_end } = images;
+    // The room of the streams is given back before memory is made of the parts.
+    drop(desks);
+    let at_stop = crew.finish(rt, alloc, &closed, parts)?;
+    Ok(Stopped {
+        at_stop,
+        stop: plan.stop,
+        versions: closed.versions,
+        index,
+        rounds,
+    })
+}
+
+/// The same, and the guest then resumes: both memories are answered.
+pub fn live_run<G: Gate, R: Threads + Wait + Sync>(
+    rt: &R,
+    alloc: Global,
+    trace: &Trace,
+    settings: &Settings,
+    gate: &G,
+) -> Result<Live, LiveError>
+    ensures { IfOk result (λ live. IsLiveRun trace.now settings.now live.stop live.at_stop live.at_end live.rounds.items) }
+{
+    let stopped = migrate(rt, alloc, trace, settings, gate)?;
+    let Stopped {
+        at_stop,
+        stop,
+        versions,
+        index,
+        rounds,
+    } = stopped;
+    let at_end = resume(at_stop.copy(alloc)?, trace, &index, &versions);
     Ok(Live {
         at_stop,
         at_end,
-        stop: plan.stop,
+        stop,
         rounds,
     })
 }

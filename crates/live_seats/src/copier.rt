@@ -15,6 +15,7 @@ ghost use Rattle.live_seats.specs.Copies.{AdvancesScan, HasCopied, HasPeeked, Ha
 use crate::desk::{Desk, OpenDesk};
 use crate::error::SeatError;
 use crate::gate::{Gate, Point};
+use crate::outbox::Outbox;
 use dirty_words::{CopySeat, RoundTable};
 use page_versions::PageIndex;
 use std::alloc::Global;
@@ -46,6 +47,10 @@ struct Copying<'a> {
     seat: CopySeat,
     desk: OpenDesk<'a>,
 }
+
+/// How often a page is written that is kept between rounds. One that is written less often is made from zeros again in no
+/// more time than new memory for it takes.
+const HOT_WRITES: usize = 32;
 
 /// A page by its dirty word, and its bit there.
 fn page_at(word: usize, bit: u32) -> u32
@@ -88,8 +93,29 @@ impl<'a, G: Gate> Round<'a, G> {
         place
     }
 
-    /// Adds a page's frame at the place that was read to a stream.
-    fn post_page(
+    /// Adds a page's frame at the place that was read to a stream. The page is made from zeros.
+    fn post_cold(
+        &self,
+        alloc: Global,
+        outbox: &mut Outbox,
+        stream: usize,
+        page: u32,
+        place: u32,
+    ) -> Result<(), SeatError>
+        requires of { IsIndexOf self.now.index.now self.now.trace.now }
+        requires page { page < self.now.trace.now.pages }
+        requires stream { stream < length outbox.old.streams }
+        ensures { OnOk result ((text : List ℕ) × SpellsPage self.now.trace.now page place text × (outbox.new ≡ with_text stream text outbox.old)) }
+    {
+        let shape = self.trace.shape();
+        let stamp = place.min(shape.writes);
+        let bytes = self.index.bytes_at(alloc, self.trace, page, stamp)?;
+        outbox.post(stream, &shape, page, stamp, &bytes)?;
+        Ok(())
+    }
+
+    /// Adds a page's frame at the place that was read to a stream. The page is kept.
+    fn post_hot(
         &self,
         alloc: Global,
         desk: &mut OpenDesk<'_>,
@@ -114,6 +140,31 @@ impl<'a, G: Gate> Round<'a, G> {
         Ok(())
     }
 
+    /// Adds a page's frame at the place that was read to a stream.
+    fn post_page(
+        &self,
+        alloc: Global,
+        desk: &mut OpenDesk<'_>,
+        stream: usize,
+        page: u32,
+        place: u32,
+    ) -> Result<(), SeatError>
+        requires of { IsIndexOf self.now.index.now self.now.trace.now }
+        requires trace { desk.old.cache.trace ≡ self.now.trace.now }
+        requires page { page < self.now.trace.now.pages }
+        requires stream { stream < length desk.old.outbox.streams }
+        ensures posted { OnOk result ((text : List ℕ) × SpellsPage self.now.trace.now page place text × (desk.new.outbox ≡ with_text stream text desk.old.outbox)) }
+        ensures turn { desk.new.turn ≡ desk.old.turn }
+        ensures trace { desk.new.cache.trace ≡ desk.old.cache.trace }
+    {
+        if self.index.places(page).len() < HOT_WRITES {
+            self.post_cold(alloc, &mut desk.outbox, stream, page, place)?;
+            return Ok(());
+        }
+        self.post_hot(alloc, desk, stream, page, place)?;
+        Ok(())
+    }
+
     /// Whether the word of a page shows it now.
     fn shows(&self, seat: &mut CopySeat, page: u32) -> bool
         requires table { copy_table seat.old ≡ self.now.table.now }
@@ -127,6 +178,7 @@ impl<'a, G: Gate> Round<'a, G> {
 
     /// Sends a held page in the stream whose turn it is.
     fn send_page(&self, alloc: Global, page: u32, copier: &mut Copying<'_>) -> Result<(), SeatError>
+        requires of { IsIndexOf self.now.index.now self.now.trace.now }
         requires page { page < self.now.trace.now.pages }
         requires table { copy_table copier.old.seat ≡ self.now.table.now }
         requires held { IsTrue (in_words copier.old.seat.facts.held page) }
@@ -173,6 +225,7 @@ impl<'a, G: Gate> Round<'a, G> {
 
     /// Sends a held page in front of which none is held, or skips it where it is marked again and pages may be skipped.
     fn copy_page(&self, alloc: Global, page: u32, copier: &mut Copying<'_>) -> Result<(), SeatError>
+        requires of { IsIndexOf self.now.index.now self.now.trace.now }
         requires pages { length self.now.table.now.start.places ≡ self.now.trace.now.pages }
         requires ready { IsReady self.now.trace.now self.now.table.now copier.old.seat copier.old.desk }
         requires least { IsLeast copier.old.seat.facts page }
@@ -202,6 +255,7 @@ impl<'a, G: Gate> Round<'a, G> {
         bit: u32,
         copier: &mut Copying<'_>,
     ) -> Result<(), SeatError>
+        requires of { IsIndexOf self.now.index.now self.now.trace.now }
         requires pages { length self.now.table.now.start.places ≡ self.now.trace.now.pages }
         requires few { self.now.trace.now.pages ≤ 65_536 }
         requires ready { IsReady self.now.trace.now self.now.table.now copier.old.seat copier.old.desk }
@@ -229,6 +283,7 @@ impl<'a, G: Gate> Round<'a, G> {
         bits: u64,
         copier: &mut Copying<'_>,
     ) -> Result<(), SeatError>
+        requires of { IsIndexOf self.now.index.now self.now.trace.now }
         requires pages { length self.now.table.now.start.places ≡ self.now.trace.now.pages }
         requires few { self.now.trace.now.pages ≤ 65_536 }
         requires ready { IsReady self.now.trace.now self.now.table.now copier.old.seat copier.old.desk }
@@ -252,6 +307,7 @@ impl<'a, G: Gate> Round<'a, G> {
         word: usize,
         copier: &mut Copying<'_>,
     ) -> Result<(), SeatError>
+        requires of { IsIndexOf self.now.index.now self.now.trace.now }
         requires pages { length self.now.table.now.start.places ≡ self.now.trace.now.pages }
         requires few { self.now.trace.now.pages ≤ 65_536 }
         requires ready { IsReady self.now.trace.now self.now.table.now copier.old.seat copier.old.desk }

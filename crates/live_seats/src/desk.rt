@@ -16,8 +16,8 @@ use std::marker::Model;
 use stream_split::Dealer;
 use trace_codec::Trace;
 
-/// How many pages a copier keeps.
-const KEPT_PAGES: usize = 64;
+/// How many pages a copier keeps at most: as many as a trace may have.
+const KEPT_PAGES: usize = 65_536;
 
 /// What a copier keeps from round to round: whose turn it is, the pages that it sent last, and what it gave over at the end
 /// of the round before, whose room the next round uses again.
@@ -53,8 +53,8 @@ impl<'a> Model for OpenDesk<'a> {
 }
 
 impl Desk {
-    /// A desk before the first round, with so many streams, 1 to 16.
-    pub fn new(alloc: Global, streams: usize) -> Result<Desk, SeatError>
+    /// A desk before the first round, with so many streams, 1 to 16, each with room for so many bytes.
+    pub fn new(alloc: Global, streams: usize, room: usize) -> Result<Desk, SeatError>
         requires some { 1 ≤ streams }
         requires few { streams ≤ 16 }
         ensures { (trace : GuestTrace) → IfOk result (IsDesk trace streams) }
@@ -62,7 +62,7 @@ impl Desk {
         Ok(Desk {
             dealer: Dealer::new(streams),
             pages: KeptPages::new(alloc, KEPT_PAGES)?,
-            outbox: Outbox::new(alloc, streams)?,
+            outbox: Outbox::new(alloc, streams, room)?,
         })
     }
 

@@ -5,6 +5,7 @@ ghost use Rattle.live_seats.specs.declared.error.SeatError.TheVariants.{Memory};
 
 use page_cache::CacheError;
 use page_message::FrameError;
+use page_versions::IndexError;
 use std::alloc::{AllocError, AllocFailed};
 use stream_split::SplitError;
 use thiserror::Error;
@@ -37,6 +38,14 @@ impl From<SplitError> for SeatError {
     ghost from_gives = { λ _ e. e ≡ Memory };
 
     fn from(_error: SplitError) -> SeatError {
+        SeatError::Memory
+    }
+}
+
+impl From<IndexError> for SeatError {
+    ghost from_gives = { λ _ e. e ≡ Memory };
+
+    fn from(_error: IndexError) -> SeatError {
         SeatError::Memory
     }
 }

@@ -10,7 +10,6 @@ use crate::error::SeatError;
 use page_message::append_frame;
 use std::alloc::Global;
 use std::marker::Model;
-use stream_split::empty_streams;
 use trace_codec::Shape;
 
 /// The pages that a copier sent and skipped in a round, in the order of its steps, and the bytes that it sent.
@@ -42,15 +41,26 @@ fn empty_all(streams: &mut Vec<Vec<u8>>)
     }
 }
 
+/// So many empty streams, each with room for so many bytes.
+fn roomy_streams(alloc: Global, streams: usize, room: usize) -> Result<Vec<Vec<u8>>, SeatError>
+    ensures { IfOk result (λ v. map (λ s. s.items) v.items ≡ replicate streams []) }
+{
+    let mut outs = Vec::with_capacity(alloc, streams)?;
+    for _ in 0..streams {
+        outs.push(Vec::with_capacity(alloc, room)?)?;
+    }
+    Ok(outs)
+}
+
 impl Outbox {
-    /// Nothing as yet, for so many streams.
-    pub(crate) fn new(alloc: Global, streams: usize) -> Result<Outbox, SeatError>
+    /// Nothing as yet, for so many streams, each with room for so many bytes.
+    pub(crate) fn new(alloc: Global, streams: usize, room: usize) -> Result<Outbox, SeatError>
         ensures { IfOk result (λ outbox. outbox ≡ empty_outbox streams) }
     {
         Ok(Outbox {
             sent: Vec::new(alloc),
             skipped: Vec::new(alloc),
-            streams: empty_streams(alloc, streams)?,
+            streams: roomy_streams(alloc, streams, room)?,
         })
     }
 

@@ -26,14 +26,14 @@ impl Model for KeptPages {
 impl KeptPages {
     ghost use Rattle.page_cache.specs.Cache.{pages_with};
 
-    /// No pages yet, and at most `capacity` later.
+    /// No pages yet, and at most `capacity` later. Memory follows what is kept.
     pub fn new(alloc: Global, capacity: usize) -> Result<KeptPages, CacheError>
-        requires { (1 ≤ capacity) × (capacity ≤ 4_096) }
+        requires { (1 ≤ capacity) × (capacity ≤ 65_536) }
         ensures { IfOk result (λ pages. pages ≡ pages_with [] capacity) }
     {
         let capacity = NonZeroUsize::new(capacity).unwrap();
         Ok(KeptPages {
-            kept: LruCache::new(alloc, capacity)?,
+            kept: LruCache::sparse(alloc, capacity)?,
         })
     }
 }

@@ -1,8 +1,7 @@
 //! A live run over the trace that was read, and the memory of it that is asked for.
 
 ghost use Rattle.std.specs.Prelude.{◌≡◌, ◌≢◌, ◌↔◌, ℕ, List, IfErr, IfOk, Err, Some, false, true};
-ghost use Rattle.live_engine.specs.Runs.{IsLiveRun};
-ghost use Rattle.migration_model.specs.Live.{LiveRound as GuestRound};
+ghost use Rattle.live_engine.specs.Runs.{IsStopped, IsStoppedAt};
 ghost use Rattle.migration_model.specs.Rates.{MigrationSettings};
 ghost use Rattle.migration_model.specs.Trace.{GuestTrace, IsTrace, Spells};
 ghost use Rattle.trace_codec.specs.Source.{SourceSpells};
@@ -10,27 +9,22 @@ ghost use Rattle.trace_codec.specs.declared.error.TraceError.TheVariants.{ReadFa
 ghost use Rattle.precopy.specs.Output.{IsOutsideRun, IsShown, IsWant, RefusesRun, RefusesText};
 
 use crate::job::{RunError, Show};
-use live_engine::{Gate, Live, live_run};
+use live_engine::{Gate, LiveError, Stopped, migrate};
 use rate_limit::Settings;
 use std::alloc::Global;
 use std::sync::Wait;
 use std::thread::Threads;
-use trace_codec::{Source, Trace, decode, read_bytes};
+use trace_codec::{Source, Trace, read_trace};
 
-/// The bytes of a live run's memory, where the guest stopped or at the end.
-fn shown(live: Live, show: Show) -> Vec<u8>
-    ensures { (trace : GuestTrace) (settings : MigrationSettings) (rounds : List GuestRound)
-        → IsLiveRun trace settings live.stop live.at_stop live.at_end rounds → IsShown show trace settings result.items }
+/// The bytes of the memory of a guest that stopped: as they are, or after it has resumed.
+fn shown(stopped: Stopped, trace: &Trace, show: Show) -> Vec<u8>
+    requires { IsStoppedAt trace.now stopped.versions.items stopped.index stopped.at_stop }
+    ensures { (settings : MigrationSettings) → IsStopped trace.now settings stopped.stop stopped.at_stop stopped.versions.items stopped.index stopped.rounds.items
+        → IsShown show trace.now settings result.items }
 {
-    let Live {
-        at_stop,
-        at_end,
-        stop: _,
-        rounds: _,
-    } = live;
     match show {
-        Show::Stop => at_stop.into_bytes(),
-        Show::End => at_end.into_bytes(),
+        Show::Stop => stopped.at_stop.into_bytes(),
+        Show::End => stopped.resume(trace).into_bytes(),
     }
 }
 
@@ -43,32 +37,12 @@ fn live_of_trace<R: Threads + Wait + Sync, G: Gate>(
     trace: &Trace,
     gate: &G,
 ) -> Result<Vec<u8>, RunError>
-    ensures made { IfOk result (λ v. IsShown show trace.now settings.now v.items) }
-    ensures refused { (bytes : List ℕ) → IfErr result (RefusesText bytes) }
-    ensures want { IfErr result IsWant }
+    ensures made { IfOk result (λ v. IsTrace trace.now × IsShown show trace.now settings.now v.items) }
+    ensures refused { IfErr result (λ e. (error : LiveError) × (e ≡ RunError.Live error)) }
 {
-    match live_run(rt, alloc, trace, settings, gate) {
-        Ok(live) => Ok(shown(live, show)),
+    match migrate(rt, alloc, trace, settings, gate) {
+        Ok(stopped) => Ok(shown(stopped, trace, show)),
         Err(error) => Err(RunError::Live(error)),
-    }
-}
-
-/// The memory of a live run of the trace that the bytes spell.
-fn live_of_bytes<R: Threads + Wait + Sync, G: Gate>(
-    rt: &R,
-    alloc: Global,
-    settings: &Settings,
-    show: Show,
-    bytes: &[u8],
-    gate: &G,
-) -> Result<Vec<u8>, RunError>
-    ensures made { IfOk result (λ v. (trace : GuestTrace) × Spells bytes.now trace × IsShown show trace settings.now v.items) }
-    ensures refused { IfErr result (RefusesText bytes.now) }
-    ensures only { (trace : GuestTrace) → Spells bytes.now trace → IfErr result IsWant }
-{
-    match decode(alloc, bytes) {
-        Ok(trace) => live_of_trace(rt, alloc, settings, show, &trace, gate),
-        Err(refusal) => Err(RunError::Trace(refusal)),
     }
 }
 
@@ -89,8 +63,8 @@ pub(crate) fn live_output<R: Threads + Wait + Sync, S: Source, G: Gate>(
         → IfErr result IsOutsideRun }
     ensures read_failed { (result ≡ Err (RunError.Trace ReadFault)) ↔ (S.has_failed source.new ≡ true) }
 {
-    match read_bytes(alloc, source) {
-        Ok(bytes) => live_of_bytes(rt, alloc, settings, show, &bytes, gate),
+    match read_trace(alloc, source) {
+        Ok(trace) => live_of_trace(rt, alloc, settings, show, &trace, gate),
         Err(refusal) => Err(RunError::Trace(refusal)),
     }
 }

@@ -4,7 +4,7 @@ use Rattle.migration_model.specs.Versions.{page_at}
 use Rattle.migration_model.proofs.Pages.{length-page_at}
 use Rattle.page_cache.specs.Cache.{KeptPage}
 use Rattle.live_seats.specs.Desks.{OpenDeskView}
-use Rattle.live_seats.proofs.copier.Round.post_page.Goals as goal
+use Rattle.live_seats.proofs.copier.Round.post_hot.Goals as goal
 
 pub post-requires-clause-whole : goal.post-requires-clause-whole
 post-requires-clause-whole g c =

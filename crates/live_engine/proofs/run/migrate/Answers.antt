@@ -1,5 +1,5 @@
 use Rattle.live_engine.proofs.Running.{fits_pages}
-use Rattle.live_engine.proofs.run.live_run.Goals as goal
+use Rattle.live_engine.proofs.run.migrate.Goals as goal
 
 pub finish-requires-clause-closed : goal.finish-requires-clause-closed
 finish-requires-clause-closed g c κs within =
