@@ -83,14 +83,16 @@ fn written_pages(index: &PageIndex, pages: u32) -> usize
 /// The bytes that a frame has in front of its page.
 const HEAD: usize = 9;
 
-/// What each of so many streams gets of the frames of all pages, written pages whole: more than that seldom comes in a round.
+/// The bytes of the frames of all pages for each of so many streams, written pages whole, and a thirtieth and two pages
+/// more: they seldom are more in a round.
 pub(crate) fn stream_room(trace: &Trace, index: &PageIndex, streams: usize) -> usize
     requires of { IsIndexOf index.now trace.now }
     requires some { 1 ≤ streams }
 {
     let shape = trace.shape();
-    let bytes = written_pages(index, shape.pages) * shape.page_size();
-    (bytes + shape.pages as usize * HEAD) / streams
+    let bytes = written_pages(index, shape.pages) * shape.page_size() + shape.pages as usize * HEAD;
+    let share = bytes / streams;
+    share + share / 30 + 2 * (shape.page_size() + HEAD)
 }
 
 /// A desk for each copier, before the first round, whose streams have room for so many bytes each.
