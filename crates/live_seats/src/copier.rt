@@ -48,9 +48,12 @@ struct Copying<'a> {
     desk: OpenDesk<'a>,
 }
 
-/// How often a page is written that is kept between rounds. One that is written less often is made from zeros again in no
-/// more time than new memory for it takes.
-const HOT_WRITES: usize = 32;
+/// How often a page is written at least that is kept from round to round.
+const HOT_WRITES: usize = 8;
+
+/// How many bytes are kept for each write of a page at most. What is written less often is made from zeros again in no more
+/// time than new memory for it takes.
+const KEPT_FOR_A_WRITE: usize = 128;
 
 /// A page by its dirty word, and its bit there.
 fn page_at(word: usize, bit: u32) -> u32
@@ -91,6 +94,15 @@ impl<'a, G: Gate> Round<'a, G> {
         let place = seat.read(self.table, page);
         self.gate.at(Point::Read { copier, page });
         place
+    }
+
+    /// Whether a page is written so often that it is kept.
+    fn is_hot(&self, page: u32) -> bool
+        requires of { IsIndexOf self.now.index.now self.now.trace.now }
+        requires page { page < self.now.trace.now.pages }
+    {
+        let least = self.trace.shape().page_size() / KEPT_FOR_A_WRITE;
+        self.index.places(page).len() >= least.max(HOT_WRITES)
     }
 
     /// Adds a page's frame at the place that was read to a stream. The page is made from zeros.
@@ -157,11 +169,11 @@ impl<'a, G: Gate> Round<'a, G> {
         ensures turn { desk.new.turn ≡ desk.old.turn }
         ensures trace { desk.new.cache.trace ≡ desk.old.cache.trace }
     {
-        if self.index.places(page).len() < HOT_WRITES {
-            self.post_cold(alloc, &mut desk.outbox, stream, page, place)?;
+        if self.is_hot(page) {
+            self.post_hot(alloc, desk, stream, page, place)?;
             return Ok(());
         }
-        self.post_hot(alloc, desk, stream, page, place)?;
+        self.post_cold(alloc, &mut desk.outbox, stream, page, place)?;
         Ok(())
     }
 
