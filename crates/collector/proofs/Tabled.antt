@@ -1,14 +1,15 @@
 -- Tables of frames by page, and the parts that they are.
-use Rattle.std.proofs.Common.{◌≡◌, ℕ, zero, suc, ◌^◌, ltb, ◌+◌, ◌-◌, ◌<◌, ◌≤◌, List, [], ◌∷◌, ◌++◌, length, get_or, set, take, drop, map, replicate, Option, Some, None, IfSome, option_map, refl, sym, ap, ◌∙◌, append_assoc, arith}
+use Rattle.std.proofs.Common.{◌≡◌, ℕ, zero, suc, ◌^◌, ltb, ◌+◌, ◌-◌, ◌<◌, ◌≤◌, List, [], ◌∷◌, ◌++◌, length, get_or, set, take, drop, map, replicate, Option, Some, None, IfSome, IsSomeAnd, ◌≢◌, option_map, unwrap_or, refl, sym, ap, ◌∙◌, subst, append_assoc, arith}
 use Rattle.std.proofs.lemmas.Bool.{cond-true, lt-ltb}
 use Rattle.std.proofs.lemmas.List.{append-nil, length-map, length-replicate, length-append, length-set, map-append, map-set, set-append_left, replicate-append-replicate, replicate_more, take-append-drop, drop_more, take_more, take_more_set, drop-set-lt}
-use Rattle.migration_model.specs.Frames.{GuestShape, IsGuestShape, PageFrame, frame_with, IsFrame, content_of}
+use Rattle.migration_model.specs.Frames.{GuestShape, IsGuestShape, PageFrame, frame_with, IsFrame, IsZeros, content_of}
 use Rattle.migration_model.specs.Parts.{PageCopy, GuestPart, part_with, IsCopy, IsPart, later, later_each, join, copy_in, with_frame}
 use Rattle.migration_model.proofs.Parts.{later-nothing, later_each-nothing}
 use Rattle.collector.specs.Tables.{copies_of, IsTable, Grows, with_slot}
 use Rattle.std.specs.List.{All, fold}
+use Rattle.std.proofs.lemmas.Grind.{common_steps}
 use Rattle.std.proofs.lemmas.Option.{IfSome_then}
-use Rattle.std.proofs.lemmas.List.Elements.{All-from_get_or}
+use Rattle.std.proofs.lemmas.List.Elements.{All-from_get_or, All-replicate}
 
 pub Grows-nothing : (table : List (Option PageFrame)) (page : ℕ) → Grows table table page
 Grows-nothing table page = record { more = 0; items = sym (append-nil table); bound = omega arith }
@@ -118,6 +119,35 @@ taken_newer shape old put frame page stamp part view low own kept lt is =
     ∙ ap (set (copies_of shape old) frame.page) (sym (later_second found.0 copy (omega (arith, found.2))))
     ∙ ap (λ (o : Option PageCopy). set (copies_of shape old) frame.page (later o (Some copy))) (sym before))
     ∙ ap (λ (p : GuestPart). with_frame p frame) view
+
+pub tabled_new : (shape : GuestShape) (old new put : List (Option PageFrame)) (frame : PageFrame) (page : ℕ) → IsTable shape old → Grows old new page
+    → length new ≤ shape.pages → page ≡ frame.page → IsFrame shape frame → put ≡ set new page (Some frame) → IsTable shape put
+tabled_new shape old new put frame page tabled grows few own fits is =
+    record {
+      few = omega (arith, ap length is, length-set new page (Some frame));
+      own = λ n. grind (arith, common_steps, tabled.own n, grows.items, is);
+    }
+
+-- ---- a frame that there is no room for, by what was kept of its page
+
+not_as_long : (size : ℕ) (own new : Option (List ℕ)) → IfSome own (λ bytes. (length bytes ≡ size) × ¬ IsZeros bytes) → IfSome new (λ bytes. (length bytes ≡ size) × ¬ IsZeros bytes)
+    → IsSomeAnd new (λ bytes. option_map length own ≢ Some (length bytes)) → IsZeros (unwrap_or own (replicate size 0))
+not_as_long size None new whole fits long = All-replicate (λ byte. byte ≡ 0) size 0 refl
+not_as_long size (Some own) None whole fits long = absurd long
+not_as_long size (Some own) (Some new) whole fits long = absurd (long (ap (λ (n : ℕ). Some n) (whole.0 ∙ sym fits.0)))
+
+zeros_kept : (shape : GuestShape) (page : ℕ) (frame : PageFrame) (o : Option PageFrame) → IsFrame shape frame → IfSome o (λ f. (f.page ≡ page) × IsFrame shape f)
+    → IfSome o (λ f. IsSomeAnd frame.body (λ bytes. option_map length f.body ≢ Some (length bytes))) → IfSome (option_map (copy_in shape) o) (λ copy. IsZeros copy.content)
+zeros_kept shape page frame None fits own long = tt
+zeros_kept shape page frame (Some kept) fits own long = not_as_long (2 ^ shape.shift) kept.body frame.body own.1.body fits.body long
+
+pub refused_zeros : (shape : GuestShape) (table : List (Option PageFrame)) (frame : PageFrame) (page : ℕ) (part : GuestPart)
+    → part_with shape (copies_of shape table) ≡ part → IsTable shape table → IsFrame shape frame → page ≡ frame.page
+    → IfSome (get_or table page None) (λ f. IsSomeAnd frame.body (λ bytes. option_map length f.body ≢ Some (length bytes)))
+    → IfSome (get_or part.copies frame.page None) (λ copy. IsZeros copy.content)
+refused_zeros shape table frame page part view tabled fits own long =
+    subst (λ (p : GuestPart). IfSome (get_or p.copies frame.page None) (λ copy. IsZeros copy.content)) view
+    (rw (copy_at-table shape table frame.page, ← own) (zeros_kept shape page frame (get_or table page None) fits (tabled.own page) long))
 
 -- ---- what such a part is
 

@@ -1,7 +1,7 @@
 //! A part of a guest's memory.
 
 ghost use Rattle.std.specs.Prelude.{◌≡◌, ◌≤◌, List, [], IfErr, IfOk, IfSome, MatchResult, None, OnErr, OnOk, drop, length, option_map};
-ghost use Rattle.migration_model.specs.Frames.{IsFrame, PageFrame, SpellsStream};
+ghost use Rattle.migration_model.specs.Frames.{IsFrame, IsZeros, PageFrame, SpellsStream};
 ghost use Rattle.migration_model.specs.Parts.{GuestPart, IsPart, copy_at, copy_in, empty_part, join, part_with, with_frame, with_frames};
 ghost use Rattle.collector.specs.Fates.{IsFate, stamp_at};
 ghost use Rattle.collector.specs.Streams.{RefusesStream, TakesFrames};
@@ -11,8 +11,8 @@ ghost use Rattle.page_message.specs.Shapes.{shape_of};
 
 use crate::error::PartError;
 use crate::fate::Fate;
-use crate::table::{make_place, put_frame, stamp_in};
-use page_message::{Frame, FrameError, decode_frame};
+use crate::table::{make_place, put_frame, put_view, stamp_in};
+use page_message::{Frame, FrameError, FrameView, view_frame};
 use std::alloc::Global;
 use std::marker::Model;
 use trace_codec::Shape;
@@ -111,6 +111,29 @@ impl Part {
         }
     }
 
+    /// Takes a frame that stands in a stream. The bytes of a page are copied into the room of those that the part has of it, and
+    /// memory is refused only where it has none, or zeros.
+    fn accept_view(&mut self, view: &FrameView<'_>) -> Result<(), PartError>
+        requires { IsFrame self.old.shape view.now }
+        ensures kept { OnOk result (self.new ≡ with_frame self.old view.now) }
+        ensures unchanged { OnErr result (self.new ≡ self.old) }
+        ensures refused { OnErr result (IfSome (copy_at self.old view.now.page) (λ copy. IsZeros copy.content)) }
+    {
+        let page = view.page as usize;
+        match stamp_in(&self.frames, page) {
+            None => {
+                make_place(&mut self.frames, page)?;
+                put_view(&mut self.frames, page, self.alloc, view)?;
+                Ok(())
+            }
+            Some(stamp) if stamp < view.stamp => {
+                put_view(&mut self.frames, page, self.alloc, view)?;
+                Ok(())
+            }
+            Some(_) => Ok(()),
+        }
+    }
+
     /// Takes the frame at the front of some bytes, and answers how many of them it has.
     fn accept_front(&mut self, bytes: &[u8]) -> Result<usize, FrameError>
         ensures taken { IfOk result (λ size. TakesFrames self.old self.new bytes.now 1 (drop size bytes.now)) }
@@ -119,9 +142,9 @@ impl Part {
         ensures refused { IfErr result (RefusesFrame self.old.shape bytes.now) }
         ensures unchanged { OnErr result (self.new ≡ self.old) }
     {
-        let (frame, size) = decode_frame(self.alloc, &self.shape, bytes)?;
-        match self.accept(frame) {
-            Ok(_) => Ok(size),
+        let (view, size) = view_frame(&self.shape, bytes)?;
+        match self.accept_view(&view) {
+            Ok(()) => Ok(size),
             Err(PartError::Memory) => Err(FrameError::Memory),
         }
     }

@@ -1,10 +1,10 @@
 //! Frames by page.
 
-ghost use Rattle.std.specs.Prelude.{◌≡◌, ◌<◌, ◌^◌, None, OnOk, OnSome, Some, length, option_map, slice_index_or, slice_set, vec_len};
+ghost use Rattle.std.specs.Prelude.{◌≡◌, ◌≢◌, ◌<◌, ◌^◌, IfSome, IsSomeAnd, None, OnErr, OnOk, OnSome, Some, length, option_map, slice_index_or, slice_set, vec_len};
 ghost use Rattle.collector.specs.Tables.{Grows};
 
-use page_message::Frame;
-use std::alloc::AllocError;
+use page_message::{Frame, FrameView};
+use std::alloc::{AllocError, Global};
 
 /// The stamp of the frame that a table has of a page.
 pub(crate) fn stamp_in(table: &[Option<Frame>], page: usize) -> Option<u32>
@@ -35,4 +35,25 @@ pub(crate) fn put_frame(table: &mut Vec<Option<Frame>>, page: usize, frame: Fram
     ensures { table.new.items ≡ slice_set table.old.items page (Some frame) }
 {
     table[page] = Some(frame);
+}
+
+/// Puts the frame that is viewed in its place, over the frame that stands there, if there is one.
+pub(crate) fn put_view(
+    table: &mut Vec<Option<Frame>>,
+    page: usize,
+    alloc: Global,
+    view: &FrameView<'_>,
+) -> Result<(), AllocError>
+    requires { page < vec_len table.old }
+    ensures put { OnOk result (table.new.items ≡ slice_set table.old.items page (Some view.now)) }
+    ensures unchanged { OnErr result (table.new.items ≡ table.old.items) }
+    ensures refused { OnErr result (IfSome (slice_index_or table.old.items page None) (λ f. IsSomeAnd view.now.body (λ bytes. option_map length f.body ≢ Some (length bytes)))) }
+{
+    match &mut table[page] {
+        Some(frame) => frame.copy_from(alloc, view),
+        place => {
+            *place = Some(view.to_frame(alloc)?);
+            Ok(())
+        }
+    }
 }

@@ -4,7 +4,7 @@ ghost use Rattle.std.specs.Prelude.{◌≡◌, ◌<◌, ◌≤◌};
 ghost use Rattle.page_message.specs.Shapes.{shape_of};
 
 use crate::{Fate, Part, merge};
-use page_message::{Body, FrameError, frame_of};
+use page_message::{Body, FrameError, append_frame, frame_of};
 use std::alloc::Global;
 use std::test::Fail;
 use trace_codec::Shape;
@@ -87,6 +87,45 @@ fn frames_are_taken_to_the_end(rt: HostRuntime) -> Result<(), Fail> {
         (part.stamp(0), part.stamp(2), part.stamp(3)),
         (None, Some(0), Some(4))
     );
+    Ok(())
+}
+
+/// The spelling of page 1, each of whose bytes is this one.
+fn spelled(alloc: Global, stamp: u32, byte: u8) -> Result<Vec<u8>, Fail>
+    requires { stamp ≤ 5 }
+{
+    let mut stream = Vec::new(alloc);
+    append_frame(&mut stream, &shape(), 1, stamp, &[byte; 16])?;
+    Ok(stream)
+}
+
+/// Whether the part has page 1, and each of its bytes is this one.
+fn is_filled(part: &Part, byte: u8) -> bool {
+    match part.frame(1).map(|frame| &frame.body) {
+        Some(Body::Zero) => byte == 0,
+        Some(Body::Data(bytes)) => bytes.as_slice() == [byte; 16].as_slice(),
+        None => false,
+    }
+}
+
+#[test]
+fn newer_frames_are_copied_over_older_ones(rt: HostRuntime) -> Result<(), Fail> {
+    let mut part = Part::new(rt.alloc(), shape());
+    let first = spelled(rt.alloc(), 1, 7)?;
+    assert_eq!(rt; part.accept_bytes(&first), Ok(1));
+    assert!(rt; part.stamp(1) == Some(1) && is_filled(&part, 7));
+    let newer = spelled(rt.alloc(), 2, 8)?;
+    assert_eq!(rt; part.accept_bytes(&newer), Ok(1));
+    assert!(rt; part.stamp(1) == Some(2) && is_filled(&part, 8));
+    let zeros = spelled(rt.alloc(), 3, 0)?;
+    assert_eq!(rt; part.accept_bytes(&zeros), Ok(1));
+    assert!(rt; part.stamp(1) == Some(3) && is_filled(&part, 0));
+    let last = spelled(rt.alloc(), 5, 9)?;
+    assert_eq!(rt; part.accept_bytes(&last), Ok(1));
+    assert!(rt; part.stamp(1) == Some(5) && is_filled(&part, 9));
+    let older = spelled(rt.alloc(), 4, 6)?;
+    assert_eq!(rt; part.accept_bytes(&older), Ok(1));
+    assert!(rt; part.stamp(1) == Some(5) && is_filled(&part, 9));
     Ok(())
 }
 

@@ -1,5 +1,5 @@
 -- The frame that is read is the one that the bytes spell, and what is spelled is read.
-use Rattle.std.proofs.Common.{◌≡◌, ℕ, ◌+◌, ◌^◌, ◌<◌, ◌≤◌, true, false, eqb, List, [], ◌∷◌, ◌++◌, length, take, drop, Option, Some, None, Result, Ok, Err, IfOk, IfErr, MatchResult, refl, sym, ap, ◌∙◌, inl, inr, arith}
+use Rattle.std.proofs.Common.{◌≡◌, ℕ, ◌+◌, ◌^◌, ◌<◌, ◌≤◌, true, false, eqb, List, [], ◌∷◌, ◌++◌, length, take, drop, Option, Some, None, Result, Ok, Err, IfOk, IfErr, refl, sym, ap, ap₂, ◌∙◌, inl, inr, arith}
 use Rattle.std.specs.Int.{w32}
 use Rattle.std.proofs.lemmas.Bool.{cases_Bool, eqb-true, eqb-false, ltb-false, leb-false, le-ltb, lt-leb, cond-false}
 use Rattle.std.proofs.lemmas.List.{length-append, length-take-le, length-drop, drop-drop, drop_more, take_at, take-append-drop}
@@ -9,9 +9,8 @@ use Rattle.migration_model.proofs.Writes.{IsBytes-drop, number_front}
 use Rattle.migration_model.specs.Frames.{GuestShape, IsGuestShape, IsZeros, PageFrame, frame_with, IsFrame, frame_text, SpellsFrame}
 use Rattle.migration_model.proofs.Frames.{HasRoom-from_frame, page_again, stamp_again, same_front}
 use Rattle.page_message.specs.Reading.{page_in, stamp_in, kind_in, bytes_in, body_in, size_in}
-use Rattle.page_message.specs.Refusals.{frame_refusal, RefusesFrame}
+use Rattle.page_message.specs.Refusals.{frame_refusal}
 use Rattle.page_message.specs.declared.error.FrameError.{FrameError}
-use Rattle.page_message.specs.declared.error.FrameError.TheVariants.{Memory}
 use Rattle.page_message.proofs.Steps.{passed, passes}
 use Rattle.page_message.proofs.Zeros.{not_zeros, some_from_false}
 
@@ -112,15 +111,14 @@ never_refused shape bytes rest frame is fits same = ap (frame_refusal shape) sam
 
 -- so what begins with a spelling is read as that frame, and no other
 pub is_only : (shape : GuestShape) (bytes : List ℕ) (r : Result (PageFrame × ℕ) FrameError) → IsGuestShape shape
-    → IfOk r (λ read. SpellsFrame shape (take read.1 bytes) read.0) → IfOk r (λ read. read.1 ≤ length bytes) → IfErr r (RefusesFrame shape bytes)
+    → IfOk r (λ read. SpellsFrame shape (take read.1 bytes) read.0) → IfOk r (λ read. read.1 ≤ length bytes) → IfErr r (λ e. frame_refusal shape bytes ≡ Some e)
     → (frame : PageFrame) (rest : List ℕ) → IsFrame shape frame → bytes ≡ frame_text frame ++ rest
-    → MatchResult r (λ read. (read.0 ≡ frame) × (read.1 ≡ length (frame_text frame))) (λ e. e ≡ Memory)
+    → r ≡ Ok (frame, length (frame_text frame))
 is_only shape bytes (Ok read) is found within refused frame rest fits same =
     let texts : frame_text read.0 ++ drop read.1 bytes ≡ frame_text frame ++ rest =
     ap (λ (x : List ℕ). x ++ drop read.1 bytes) (sym found.text) ∙ take-append-drop read.1 bytes ∙ same in
     let front = same_front shape read.0 frame (drop read.1 bytes) rest is found.is_frame fits texts in
-    (front.0, sym (length-take-le read.1 bytes within) ∙ ap length found.text ∙ ap (λ (f : PageFrame). length (frame_text f)) front.0)
-is_only shape bytes (Err e) is found within refused frame rest fits same = elim refused [
-  | inl memory ↦ memory
-  | inr cause ↦ absurd (cc (cause, never_refused shape bytes rest frame is fits same))
-]
+    let size : read.1 ≡ length (frame_text frame) =
+    sym (length-take-le read.1 bytes within) ∙ ap length found.text ∙ ap (λ (f : PageFrame). length (frame_text f)) front.0 in
+    ap₂ (λ (f : PageFrame) (n : ℕ). Ok (f, n)) front.0 size
+is_only shape bytes (Err e) is found within refused frame rest fits same = absurd (cc (refused, never_refused shape bytes rest frame is fits same))

@@ -1,6 +1,6 @@
 //! Frames from bytes.
 
-ghost use Rattle.std.specs.Prelude.{◌≡◌, ◌≤◌, ◌+◌, ◌^◌, ◌++◌, ◌==◌, ℕ, List, IfErr, IfOk, MatchResult, None, OnOk, Some, drop, length, take};
+ghost use Rattle.std.specs.Prelude.{◌≡◌, ◌≤◌, ◌+◌, ◌^◌, ◌++◌, ◌==◌, ℕ, List, IfErr, IfOk, MatchResult, None, Ok, OnOk, Some, drop, length, option_map, take};
 ghost use Rattle.std.specs.List.{list_all};
 ghost use Rattle.std.specs.Int.{w32};
 ghost use Rattle.migration_model.specs.Frames.{IsFrame, PageFrame, SpellsFrame, frame_text};
@@ -12,9 +12,9 @@ ghost use Rattle.page_message.specs.Shapes.{shape_of};
 
 use crate::encoding::HEAD;
 use crate::error::FrameError;
-use crate::frame::{Body, Frame};
+use crate::frame::{Frame, FrameView};
 use byteorder::{ByteOrder, LittleEndian};
-use std::alloc::{AllocError, Global};
+use std::alloc::Global;
 use trace_codec::Shape;
 use zero_pages::is_zero;
 
@@ -76,27 +76,38 @@ fn checked_size(shape: &Shape, bytes: &[u8]) -> Result<usize, FrameError>
 }
 
 /// The body of the frame at the front of bytes that begin with one.
-fn body_at(alloc: Global, shape: &Shape, bytes: &[u8]) -> Result<Body, AllocError>
+fn body_at<'a>(shape: &Shape, bytes: &'a [u8]) -> Option<&'a [u8]>
     requires { frame_refusal (shape_of shape.now) bytes.now ≡ None }
-    ensures { IfOk result (λ body. body_of body ≡ body_in (shape_of shape.now) bytes.now) }
+    ensures { option_map (λ body. body.now) result ≡ body_in (shape_of shape.now) bytes.now }
 {
     if bytes[8] == 0 {
-        return Ok(Body::Zero);
+        return None;
     }
-    let page = Vec::from_slice(alloc, page_bytes(shape, bytes))?;
-    Ok(Body::Data(page))
+    Some(page_bytes(shape, bytes))
 }
 
-fn read_frame(alloc: Global, shape: &Shape, bytes: &[u8]) -> Result<(Frame, usize), FrameError>
+fn read_view<'a>(shape: &Shape, bytes: &'a [u8]) -> Result<(FrameView<'a>, usize), FrameError>
     ensures found { IfOk result (λ read. SpellsFrame (shape_of shape.now) (take read.1 bytes.now) read.0) }
     ensures within { IfOk result (λ read. read.1 ≤ length bytes.now) }
-    ensures refused { IfErr result (RefusesFrame (shape_of shape.now) bytes.now) }
+    ensures refused { IfErr result (λ e. frame_refusal (shape_of shape.now) bytes.now ≡ Some e) }
 {
     let size = checked_size(shape, bytes)?;
     let page = u32_in(bytes);
     let stamp = u32_in(&bytes[4..]);
-    let body = body_at(alloc, shape, bytes)?;
-    Ok((Frame { page, stamp, body }, size))
+    let body = body_at(shape, bytes);
+    Ok((FrameView { page, stamp, body }, size))
+}
+
+/// The frame at the front of some bytes, left where it stands, and how many of them it has. It takes no memory, and `F6` is
+/// never answered.
+pub fn view_frame<'a>(shape: &Shape, bytes: &'a [u8]) -> Result<(FrameView<'a>, usize), FrameError>
+    ensures found { IfOk result (λ read. SpellsFrame (shape_of shape.now) (take read.1 bytes.now) read.0) }
+    ensures within { IfOk result (λ read. read.1 ≤ length bytes.now) }
+    ensures refused { IfErr result (λ e. frame_refusal (shape_of shape.now) bytes.now ≡ Some e) }
+    ensures only { (frame : PageFrame) (rest : List ℕ) → IsFrame (shape_of shape.now) frame → bytes.now ≡ frame_text frame ++ rest
+        → result ≡ Ok (frame, length (frame_text frame)) }
+{
+    read_view(shape, bytes)
 }
 
 /// The frame at the front of some bytes, and how many of them it has. A page's bytes are copied once.
@@ -111,5 +122,7 @@ pub fn decode_frame(
     ensures only { (frame : PageFrame) (rest : List ℕ) → IsFrame (shape_of shape.now) frame → bytes.now ≡ frame_text frame ++ rest
         → MatchResult result (λ read. (read.0 ≡ frame) × (read.1 ≡ length (frame_text frame))) (λ e. e ≡ FrameError.Memory) }
 {
-    read_frame(alloc, shape, bytes)
+    let (view, size) = view_frame(shape, bytes)?;
+    let frame = view.to_frame(alloc)?;
+    Ok((frame, size))
 }

@@ -1,9 +1,10 @@
 //! A page at one of its versions.
 
-ghost use Rattle.std.specs.Prelude.{◌↔◌, IsTrue};
+ghost use Rattle.std.specs.Prelude.{◌≡◌, ◌≢◌, ◌↔◌, IfOk, IsSomeAnd, IsTrue, OnErr, OnOk, Some, length, option_map};
 ghost use Rattle.migration_model.specs.Frames.{IsFrame};
 ghost use Rattle.page_message.specs.Shapes.{shape_of};
 
+use std::alloc::{AllocError, Global};
 use std::marker::Model;
 use trace_codec::Shape;
 use zero_pages::is_zero;
@@ -35,8 +36,43 @@ impl Model for Frame {
     ghost view = { λ f. frame_with f.page f.stamp (body_of f.body) };
 }
 
+/// A frame whose page is left where it stands in a stream.
+#[derive(Debug, Drop)]
+pub struct FrameView<'a> {
+    pub page: u32,
+    pub stamp: u32,
+    /// The bytes of the page, not all of them 0, or None where all are.
+    pub body: Option<&'a [u8]>,
+}
+
+impl<'a> Model for FrameView<'a> {
+    ghost use Rattle.std.specs.Prelude.{option_map};
+    ghost use Rattle.migration_model.specs.Frames.{PageFrame, frame_with};
+
+    ghost Value = { PageFrame };
+
+    ghost view = { λ f. frame_with f.page f.stamp (option_map (λ bytes. bytes.now) f.body) };
+}
+
+impl<'a> FrameView<'a> {
+    /// The same frame with bytes of its own, which are copied once.
+    pub fn to_frame(&self, alloc: Global) -> Result<Frame, AllocError>
+        ensures { IfOk result (λ frame. frame ≡ self.now) }
+    {
+        let body = match self.body {
+            None => Body::Zero,
+            Some(bytes) => Body::Data(Vec::from_slice(alloc, bytes)?),
+        };
+        Ok(Frame {
+            page: self.page,
+            stamp: self.stamp,
+            body,
+        })
+    }
+}
+
 impl Body {
-    ghost use Rattle.std.specs.Prelude.{◌≡◌, ◌↔◌, ◌^◌, IfSome, IsTrue, length};
+    ghost use Rattle.std.specs.Prelude.{◌≡◌, ◌≢◌, ◌↔◌, ◌^◌, IfSome, IsSomeAnd, IsTrue, OnErr, OnOk, Some, length, option_map};
     ghost use Rattle.migration_model.specs.Frames.{IsZeros};
     ghost use Rattle.page_message.specs.Bodies.{body_of};
 
@@ -50,6 +86,26 @@ impl Body {
             Body::Data(bytes) => bytes.len() == shape.page_size() && !is_zero(bytes),
         }
     }
+
+    /// Puts these bytes into the room of the old ones where they are as many.
+    fn copy_from(&mut self, alloc: Global, bytes: Option<&[u8]>) -> Result<(), AllocError>
+        ensures copied { OnOk result (body_of self.new ≡ option_map (λ b. b.now) bytes.entry) }
+        ensures unchanged { OnErr result (body_of self.new ≡ body_of self.old) }
+        ensures refused { OnErr result (IsSomeAnd bytes.entry (λ b. option_map length (body_of self.old) ≢ Some (length b.now))) }
+    {
+        let Some(bytes) = bytes else {
+            *self = Body::Zero;
+            return Ok(());
+        };
+        if let Body::Data(own) = self {
+            if own.len() == bytes.len() {
+                own.copy_from_slice(bytes);
+                return Ok(());
+            }
+        }
+        *self = Body::Data(Vec::from_slice(alloc, bytes)?);
+        Ok(())
+    }
 }
 
 impl Frame {
@@ -58,5 +114,18 @@ impl Frame {
         ensures { IsTrue result ↔ IsFrame (shape_of shape.now) self.now }
     {
         self.page < shape.pages && self.stamp <= shape.writes && self.body.fits(shape)
+    }
+
+    /// Makes it the frame that is viewed. Its bytes are copied into the room of the old ones where they are as many; then, and
+    /// where all of them are 0, no memory is taken.
+    pub fn copy_from(&mut self, alloc: Global, view: &FrameView<'_>) -> Result<(), AllocError>
+        ensures copied { OnOk result (self.new ≡ view.now) }
+        ensures unchanged { OnErr result (self.new ≡ self.old) }
+        ensures refused { OnErr result (IsSomeAnd view.now.body (λ bytes. option_map length self.old.body ≢ Some (length bytes))) }
+    {
+        self.body.copy_from(alloc, view.body)?;
+        self.page = view.page;
+        self.stamp = view.stamp;
+        Ok(())
     }
 }

@@ -9,8 +9,8 @@ mod making;
 #[cfg(test)]
 mod tests;
 
-pub use decoding::decode_frame;
+pub use decoding::{decode_frame, view_frame};
 pub use encoding::{append_frame, encode_frame};
 pub use error::FrameError;
-pub use frame::{Body, Frame};
+pub use frame::{Body, Frame, FrameView};
 pub use making::frame_of;

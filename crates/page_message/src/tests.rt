@@ -2,7 +2,9 @@
 
 ghost use Rattle.std.specs.Prelude.{◌≡◌};
 
-use crate::{Body, Frame, FrameError, append_frame, decode_frame, encode_frame, frame_of};
+use crate::{
+    Body, Frame, FrameError, append_frame, decode_frame, encode_frame, frame_of, view_frame,
+};
 use std::alloc::AllocError;
 use std::test::Fail;
 use trace_codec::Shape;
@@ -79,6 +81,39 @@ fn bytes_of_a_page_come_back(rt: HostRuntime) -> Result<(), Fail> {
     assert!(rt; frame.fits(&shape));
     let text = encode_frame(rt.alloc(), &shape, &frame)?;
     assert!(rt; text.as_slice() == DATA_FRAME.as_slice());
+    Ok(())
+}
+
+#[test]
+fn frames_are_viewed_where_they_stand(rt: HostRuntime) -> Result<(), Fail> {
+    let shape = shape();
+    let (zeros, size) = view_frame(&shape, &ZEROS_FRAME)?;
+    assert_eq!(rt; (zeros.page, zeros.stamp, size), (2, 0, 9));
+    assert!(rt; zeros.body.is_none());
+    let (data, size) = view_frame(&shape, &DATA_FRAME)?;
+    assert_eq!(rt; (data.page, data.stamp, size), (3, 4, 25));
+    assert!(rt; data.body == Some(&DATA_FRAME[9..]));
+    Ok(())
+}
+
+#[test]
+fn frames_are_overwritten(rt: HostRuntime) -> Result<(), Fail> {
+    let shape = shape();
+    let other = changed(&rt, 10, 8, 25)?;
+    let (zeros, _) = view_frame(&shape, &ZEROS_FRAME)?;
+    let (data, _) = view_frame(&shape, &DATA_FRAME)?;
+    let (other, _) = view_frame(&shape, &other)?;
+    let mut frame = zeros.to_frame(rt.alloc())?;
+    frame.copy_from(rt.alloc(), &data)?;
+    assert_eq!(rt; (frame.page, frame.stamp), (3, 4));
+    assert!(rt; matches!(&frame.body, Body::Data(bytes) if bytes.as_slice() == &DATA_FRAME[9..]));
+    frame.copy_from(rt.alloc(), &other)?;
+    assert!(rt;
+        matches!(&frame.body, Body::Data(bytes) if bytes.first() == Some(&0) && bytes.get(1) == Some(&8))
+    );
+    frame.copy_from(rt.alloc(), &zeros)?;
+    assert_eq!(rt; (frame.page, frame.stamp), (2, 0));
+    assert!(rt; matches!(&frame.body, Body::Zero));
     Ok(())
 }
 
