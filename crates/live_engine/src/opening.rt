@@ -66,33 +66,17 @@ pub(crate) fn empty_parts(
     Ok(parts)
 }
 
-/// How many pages have a write in the trace.
-fn written_pages(index: &PageIndex, pages: u32) -> usize
-    requires { pages ≤ index.now.pages }
-    ensures { result ≤ pages }
-{
-    let mut count = 0usize;
-    for page in 0..pages {
-        if !index.places(page).is_empty() {
-            count += 1;
-        }
-    }
-    count
-}
-
 /// The bytes that a frame has in front of its page.
 const HEAD: usize = 9;
 
-/// The bytes of the frames of all pages for each of so many streams, written pages whole, and a thirtieth and two pages
-/// more: they seldom are more in a round.
-pub(crate) fn stream_room(trace: &Trace, index: &PageIndex, streams: usize) -> usize
-    requires of { IsIndexOf index.now trace.now }
-    requires some { 1 ≤ streams }
+/// The bytes of the frames of all pages for each of so many streams, and a thirtieth and two pages more: they seldom are more
+/// in a round.
+pub(crate) fn stream_room(shape: Shape, streams: usize) -> usize
+    requires { 1 ≤ streams }
 {
-    let shape = trace.shape();
-    let bytes = written_pages(index, shape.pages) * shape.page_size() + shape.pages as usize * HEAD;
-    let share = bytes / streams;
-    share + share / 30 + 2 * (shape.page_size() + HEAD)
+    let frame = shape.page_size() + HEAD;
+    let share = shape.pages as usize * frame / streams;
+    share + share / 30 + 2 * frame
 }
 
 /// A desk for each copier, before the first round, whose streams have room for so many bytes each.

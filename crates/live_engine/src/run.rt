@@ -59,7 +59,7 @@ impl<'a, G: Gate> Crew<'a, G> {
         ensures joined { IfOk result (λ p. AreJoined self.now.trace.now start [] [] p.closed p.parts.items) }
     {
         let shape = self.trace.shape();
-        let room = stream_room(self.trace, self.index, self.copiers * self.streams);
+        let room = stream_room(shape, self.copiers * self.streams);
         let closed = Closed {
             versions: versions_before(alloc, self.trace, self.index, start)?,
             dirty: all_pages(alloc, shape.pages)?,
