@@ -15,7 +15,6 @@ ghost use Rattle.live_seats.specs.Copies.{AdvancesScan, HasCopied, HasPeeked, Ha
 use crate::desk::{Desk, OpenDesk};
 use crate::error::SeatError;
 use crate::gate::{Gate, Point};
-use crate::outbox::Outbox;
 use dirty_words::{CopySeat, RoundTable};
 use page_versions::PageIndex;
 use std::alloc::Global;
@@ -108,21 +107,23 @@ impl<'a, G: Gate> Round<'a, G> {
     /// Adds a page's frame at the place that was read to a stream. The page is made from zeros.
     fn post_cold(
         &self,
-        alloc: Global,
-        outbox: &mut Outbox,
+        desk: &mut OpenDesk<'_>,
         stream: usize,
         page: u32,
         place: u32,
     ) -> Result<(), SeatError>
         requires of { IsIndexOf self.now.index.now self.now.trace.now }
         requires page { page < self.now.trace.now.pages }
-        requires stream { stream < length outbox.old.streams }
-        ensures { OnOk result ((text : List ℕ) × SpellsPage self.now.trace.now page place text × (outbox.new ≡ with_text stream text outbox.old)) }
+        requires stream { stream < length desk.old.outbox.streams }
+        ensures posted { OnOk result ((text : List ℕ) × SpellsPage self.now.trace.now page place text × (desk.new.outbox ≡ with_text stream text desk.old.outbox)) }
+        ensures turn { desk.new.turn ≡ desk.old.turn }
+        ensures trace { desk.new.cache.trace ≡ desk.old.cache.trace }
     {
         let shape = self.trace.shape();
         let stamp = place.min(shape.writes);
-        let bytes = self.index.bytes_at(alloc, self.trace, page, stamp)?;
-        outbox.post(stream, &shape, page, stamp, &bytes)?;
+        self.index
+            .bytes_into(self.trace, page, stamp, &mut desk.room)?;
+        desk.outbox.post(stream, &shape, page, stamp, &desk.room)?;
         Ok(())
     }
 
@@ -173,7 +174,7 @@ impl<'a, G: Gate> Round<'a, G> {
             self.post_hot(alloc, desk, stream, page, place)?;
             return Ok(());
         }
-        self.post_cold(alloc, &mut desk.outbox, stream, page, place)?;
+        self.post_cold(desk, stream, page, place)?;
         Ok(())
     }
 
@@ -348,7 +349,7 @@ impl<'a, G: Gate> Round<'a, G> {
     {
         let mut copier = Copying {
             seat,
-            desk: desk.open(self.trace, self.index),
+            desk: desk.open(alloc, self.trace, self.index),
         };
         let shape = self.trace.shape();
         let words = (shape.pages as usize + 63) / 64;

@@ -42,6 +42,8 @@ pub(crate) struct OpenDesk<'a> {
     pub(crate) dealer: Dealer,
     pub(crate) cache: PageCache<'a>,
     pub(crate) outbox: Outbox,
+    /// Where a page that is not kept is made.
+    pub(crate) room: Vec<u8>,
 }
 
 impl<'a> Model for OpenDesk<'a> {
@@ -67,7 +69,12 @@ impl Desk {
     }
 
     /// The desk at the beginning of a round: what was given over goes, and its room stays.
-    pub(crate) fn open<'a>(self, trace: &'a Trace, index: &'a PageIndex) -> OpenDesk<'a>
+    pub(crate) fn open<'a>(
+        self,
+        alloc: Global,
+        trace: &'a Trace,
+        index: &'a PageIndex,
+    ) -> OpenDesk<'a>
         requires of { IsIndexOf index.now trace.now }
         requires kept { AreKept trace.now self.pages.entries }
         ensures { result ≡ open_desk_with self.turn (cache_with trace.entry.now self.pages.entries self.pages.capacity) (empty_outbox (length self.outbox.streams)) }
@@ -83,6 +90,7 @@ impl Desk {
             dealer,
             cache: PageCache::with_pages(trace, index, pages),
             outbox,
+            room: Vec::new(alloc),
         }
     }
 }
@@ -97,6 +105,7 @@ impl<'a> OpenDesk<'a> {
             dealer,
             cache,
             outbox,
+            room: _,
         } = self;
         Desk {
             dealer,

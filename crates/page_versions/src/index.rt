@@ -1,13 +1,13 @@
 //! Where a trace writes each page.
 
-ghost use Rattle.std.specs.Prelude.{◌≡◌, ◌<◌, ◌≤◌, ◌↔◌, IfOk, IsTrue, length, nat_lt};
+ghost use Rattle.std.specs.Prelude.{◌≡◌, ◌<◌, ◌≤◌, ◌↔◌, IfOk, IsTrue, OnOk, length, nat_lt};
 ghost use Rattle.std.specs.List.{filter};
 ghost use Rattle.migration_model.specs.Trace.{GuestTrace};
 ghost use Rattle.migration_model.specs.Versions.{page_at, version_before as version_of};
 ghost use Rattle.page_versions.specs.Index.{GuestIndex, HasWritesOf, IsIndexOf, index_with, places_in, places_of};
 ghost use Rattle.page_versions.specs.Layout.{IsLaidOut};
 
-use crate::bytes::bytes_from;
+use crate::bytes::put_bytes;
 use crate::error::IndexError;
 use crate::laying::Parts;
 use crate::making::{are_touches, parts_of, touches_in};
@@ -105,7 +105,25 @@ impl PageIndex {
         requires version { version ≤ length trace.now.writes }
         ensures { IfOk result (λ v. v.items ≡ page_at trace.now page version) }
     {
-        bytes_from(alloc, trace, places_to(self.part(page), version))
+        let mut bytes = Vec::new(alloc);
+        self.bytes_into(trace, page, version, &mut bytes)?;
+        Ok(bytes)
+    }
+
+    /// The same in a room that is used again: what stood there goes.
+    pub fn bytes_into(
+        &self,
+        trace: &Trace,
+        page: u32,
+        version: u32,
+        room: &mut Vec<u8>,
+    ) -> Result<(), IndexError>
+        requires of { IsIndexOf self.now trace.now }
+        requires page { page < self.now.pages }
+        requires version { version ≤ length trace.now.writes }
+        ensures { OnOk result (room.new.items ≡ page_at trace.now page version) }
+    {
+        put_bytes(room, trace, places_to(self.part(page), version))
     }
 
     /// Whether the index has the trace's pages and touches.

@@ -128,6 +128,41 @@ fn bytes_of_pages(rt: HostRuntime) -> Result<(), Fail> {
     Ok(())
 }
 
+/// Makes a room a page at a version.
+fn put_into(
+    index: &PageIndex,
+    trace: &Trace,
+    page: u32,
+    version: u32,
+    room: &mut Vec<u8>,
+) -> Result<(), Fail> {
+    if !index.is_of(trace) {
+        return Err(Fail::from("the index of the trace"));
+    }
+    if page >= trace.pages {
+        return Err(Fail::from("a page"));
+    }
+    if version as usize > trace.writes.len() {
+        return Err(Fail::from("a version"));
+    }
+    Ok(index.bytes_into(trace, page, version, room)?)
+}
+
+#[test]
+fn pages_in_one_room(rt: HostRuntime) -> Result<(), Fail> {
+    let alloc = rt.alloc();
+    let trace = guest(alloc, 0)?;
+    let index = PageIndex::build(&rt, alloc, &trace)?;
+    let mut room = Vec::new(alloc);
+    for (page, version, at, byte) in [(1u32, 2u32, 15usize, 2u8), (0, 5, 0, 1), (1, 5, 15, 2)] {
+        let mut expected = [0u8; 16];
+        *expected.get_mut(at).ok_or("within the page")? = byte;
+        put_into(&index, &trace, page, version, &mut room)?;
+        assert_eq!(rt; room.as_slice(), expected.as_slice());
+    }
+    Ok(())
+}
+
 #[test]
 fn another_trace(rt: HostRuntime) -> Result<(), Fail> {
     let alloc = rt.alloc();

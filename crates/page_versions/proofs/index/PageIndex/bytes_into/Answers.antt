@@ -1,17 +1,17 @@
 use Rattle.std.proofs.Common.{ℕ, ◌≤◌, List, length, leb, ap, ◌∙◌}
 use Rattle.std.specs.List.{filter}
 use Rattle.std.proofs.lemmas.List.Elements.{All-filter}
-use Rattle.std.proofs.lemmas.Result.{IfOk-weaker}
+use Rattle.std.proofs.lemmas.Result.{on_ok_weaker}
 use Rattle.page_versions.specs.Pages.{bytes_by}
 use Rattle.page_versions.proofs.Places.{places_rise}
 use Rattle.page_versions.proofs.Pages.{page_at_is, places_fit}
-use Rattle.page_versions.proofs.index.PageIndex.bytes_at.Goals as goal
+use Rattle.page_versions.proofs.index.PageIndex.bytes_into.Goals as goal
 
 pub places_to-requires : goal.places_to-requires
 places_to-requires c = rw c.part.ensures (places_rise c.args.self.now.touches c.args.page)
 
-pub bytes_from-requires : goal.bytes_from-requires
-bytes_from-requires c =
+pub put_bytes-requires : goal.put_bytes-requires
+put_bytes-requires c =
     let P : ℕ → Type 0 = λ v. (1 ≤ v) × (v ≤ length c.args.trace.now.writes) in
     let page = places_fit c.args.trace.now c.args.self.now c.args.page c.requires.of in
     rw (c.places_to.ensures, c.part.ensures) (All-filter (λ v. leb v c.args.version) P _ page)
@@ -19,5 +19,5 @@ bytes_from-requires c =
 pub returns : goal.returns
 returns c =
     let places = c.places_to.ensures ∙ ap (λ (l : List ℕ). filter (λ (v : ℕ). leb v c.args.version) l) c.part.ensures in
-    IfOk-weaker c.bytes_from.result _ _ (λ v is. is ∙ ap (bytes_by c.args.trace.now) places
-    ∙ page_at_is c.args.trace.now c.args.self.now c.args.page c.args.version c.bytes_from.ensures.is_trace c.requires.of c.requires.page) c.bytes_from.ensures.bytes
+    on_ok_weaker c.put_bytes.result (λ is. is ∙ ap (bytes_by c.args.trace.now) places
+    ∙ page_at_is c.args.trace.now c.args.self.now c.args.page c.args.version c.put_bytes.ensures.is_trace c.requires.of c.requires.page) c.put_bytes.ensures.bytes
