@@ -7,3 +7,4 @@ pub mod Received
 pub mod Running
 pub mod Planned
 pub mod Rounding
+pub mod Taking

@@ -8,6 +8,7 @@ mod receiving;
 mod round;
 mod run;
 mod stopped;
+mod takers;
 mod threads;
 
 pub use error::LiveError;

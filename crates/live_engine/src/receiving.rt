@@ -3,7 +3,7 @@
 ghost use Rattle.std.specs.Prelude.{◌≡◌, ◌<◌, ◌++◌, ℕ, IfOk, List, OnOk, [], length, map, slice_index_or};
 ghost use Rattle.std.specs.List.{All};
 ghost use Rattle.migration_model.specs.Final.{shape_of_trace};
-ghost use Rattle.migration_model.specs.Frames.{PageFrame, SpellsStream};
+ghost use Rattle.migration_model.specs.Frames.{PageFrame};
 ghost use Rattle.migration_model.specs.Parts.{GuestPart, IsPart, with_frames};
 ghost use Rattle.migration_model.specs.Trace.{GuestTrace};
 ghost use Rattle.live_seats.specs.Outboxes.{IsPosted};
@@ -11,11 +11,13 @@ ghost use Rattle.live_engine.specs.Joining.{HaveReceived, Spelled};
 ghost use Rattle.live_engine.specs.Lists.{lists_of};
 
 use crate::error::LiveError;
+use crate::takers::{are_worth_threads, take_side_by_side, take_stream};
 use collector::Part;
 use live_seats::Desk;
 use std::alloc::Global;
 use std::collections::VecDeque;
 use std::marker::Model;
+use std::thread::Threads;
 
 /// What was done in one round. The lists go by copier, and then in the order of that copier's steps.
 #[derive(Debug, Drop)]
@@ -38,19 +40,8 @@ impl Model for LiveRound {
     ghost view = { λ r. live_round_with r.sent.items r.skipped.items r.deferred.items };
 }
 
-/// A part takes the frames of a stream.
-fn take_stream(part: &mut Part, bytes: &[u8]) -> Result<(), LiveError>
-    ensures { (frames : List PageFrame) → SpellsStream part.old.shape bytes.now frames
-        → OnOk result (part.new ≡ with_frames part.old frames) }
-{
-    if part.accept_bytes(bytes).is_err() {
-        return Err(LiveError::Memory);
-    }
-    Ok(())
-}
-
-/// Each part takes the frames of its stream.
-fn take_streams(parts: &mut Vec<Part>, streams: &[Vec<u8>]) -> Result<(), LiveError>
+/// Each part takes the frames of its stream, one part after the other.
+fn take_in_turn(parts: &mut Vec<Part>, streams: &[Vec<u8>]) -> Result<(), LiveError>
     requires { length parts.old.items ≡ length streams.now }
     ensures count { length parts.new.items ≡ length parts.old.items }
     ensures taken { (frames : List (List PageFrame)) → Spelled parts.old.items (map (λ s. s.items) streams.now) frames
@@ -62,14 +53,37 @@ fn take_streams(parts: &mut Vec<Part>, streams: &[Vec<u8>]) -> Result<(), LiveEr
     Ok(())
 }
 
+/// Each part takes the frames of its stream: in threads, where there is enough to take.
+fn take_streams<R: Threads + Sync>(
+    rt: &R,
+    alloc: Global,
+    parts: &mut Vec<Part>,
+    streams: &[Vec<u8>],
+) -> Result<(), LiveError>
+    requires { length parts.old.items ≡ length streams.now }
+    ensures count { length parts.new.items ≡ length parts.old.items }
+    ensures taken { (frames : List (List PageFrame)) → Spelled parts.old.items (map (λ s. s.items) streams.now) frames
+        → OnOk result ((i : ℕ) (d : GuestPart) → i < length parts.old.items → slice_index_or parts.new.items i d ≡ with_frames (slice_index_or parts.old.items i d) (slice_index_or frames i [])) }
+{
+    if are_worth_threads(streams) {
+        return take_side_by_side(rt, alloc, parts, streams);
+    }
+    take_in_turn(parts, streams)
+}
+
 /// The parts take what one copier gives over.
-fn take_desk(parts: &mut Vec<Part>, desk: &Desk) -> Result<(), LiveError>
+fn take_desk<R: Threads + Sync>(
+    rt: &R,
+    alloc: Global,
+    parts: &mut Vec<Part>,
+    desk: &Desk,
+) -> Result<(), LiveError>
     requires { length desk.now.outbox.streams ≡ length parts.old.items }
     ensures count { length parts.new.items ≡ length parts.old.items }
     ensures taken { (frames : List (List PageFrame)) → Spelled parts.old.items desk.now.outbox.streams frames
         → OnOk result ((i : ℕ) (d : GuestPart) → i < length parts.old.items → slice_index_or parts.new.items i d ≡ with_frames (slice_index_or parts.old.items i d) (slice_index_or frames i [])) }
 {
-    take_streams(parts, &desk.outbox.streams)?;
+    take_streams(rt, alloc, parts, &desk.outbox.streams)?;
     Ok(())
 }
 
@@ -95,7 +109,8 @@ pub(crate) struct Received {
 }
 
 /// The parts take what the copiers give over, copier by copier, and what these did is listed.
-pub(crate) fn receive(
+pub(crate) fn receive<R: Threads + Sync>(
+    rt: &R,
     alloc: Global,
     parts: &mut Vec<Part>,
     desks: Vec<Desk>,
@@ -112,7 +127,7 @@ pub(crate) fn receive(
     let mut skipped = Vec::new(alloc);
     let mut kept = VecDeque::with_capacity(alloc, desks.len())?;
     for desk in desks {
-        take_desk(parts, &desk)?;
+        take_desk(rt, alloc, parts, &desk)?;
         list_desk(&mut sent, &mut skipped, &desk)?;
         kept.push_back(desk)?;
     }

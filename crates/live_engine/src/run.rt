@@ -109,7 +109,7 @@ impl<'a, G: Gate> Crew<'a, G> {
         let left = self.run_round(rt, alloc, skip, ticks, closed, desks)?;
         let Left { closed, desks } = left;
         self.gate.at(Point::RoundClosed { round: number });
-        let received = receive(alloc, &mut parts, desks)?;
+        let received = receive(rt, alloc, &mut parts, desks)?;
         rounds.push(received.round)?;
         Ok(Progress {
             closed,

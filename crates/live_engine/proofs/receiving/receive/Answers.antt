@@ -8,7 +8,7 @@ use Rattle.live_engine.proofs.Received.{received_more, next_holds, lists_more}
 use Rattle.live_engine.proofs.receiving.receive.Goals as goal
 
 pub loop-desk-preserved : goal.loop-desk-preserved
-loop-desk-preserved c =
+loop-desk-preserved g c =
     let front = c.loop-desk.yielded in
     let old = into_iter_items c.loop-desk.desk-iterator in
     let rest = into_iter_items c.next.new.self in

@@ -9,9 +9,9 @@ use Rattle.live_engine.specs.Joining.{HaveReceived}
 use Rattle.live_engine.proofs.receiving.receive.Given as goal
 
 abbrev pub invariant-loop-desk : goal.invariant-loop-desk
-invariant-loop-desk l = record {
-  can_next : goal.iterator-loop-desk.can_next l.desk-iterator;
-  is_finite : goal.iterator-loop-desk.is_finite l.desk-iterator;
+invariant-loop-desk g l = record {
+  can_next : (goal.iterator-loop-desk g).can_next l.desk-iterator;
+  is_finite : (goal.iterator-loop-desk g).is_finite l.desk-iterator;
   all : l.yielded ++ into_iter_items l.desk-iterator ≡ l.fn.desks.items;
   sent : l.sent.items ≡ flat_map (λ d. d.outbox.sent) l.yielded;
   skipped : l.skipped.items ≡ flat_map (λ d. d.outbox.skipped) l.yielded;

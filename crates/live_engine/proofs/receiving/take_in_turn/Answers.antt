@@ -1,7 +1,7 @@
 use Rattle.std.proofs.Common.{◌<◌, length, ◌∙◌, arith}
 use Rattle.std.proofs.lemmas.List.{length-set, get_or-set_other}
 use Rattle.live_engine.proofs.Received.{taken_next, text_at}
-use Rattle.live_engine.proofs.receiving.take_streams.Goals as goal
+use Rattle.live_engine.proofs.receiving.take_in_turn.Goals as goal
 
 pub loop-index-preserved : goal.loop-index-preserved
 loop-index-preserved c =

@@ -2,7 +2,7 @@ use Rattle.std.proofs.Common.{◌≡◌, ℕ, ◌<◌, ◌≤◌, List, [], leng
 use Rattle.migration_model.specs.Frames.{PageFrame}
 use Rattle.migration_model.specs.Parts.{GuestPart, with_frames}
 use Rattle.live_engine.specs.Joining.{Spelled}
-use Rattle.live_engine.proofs.receiving.take_streams.Given as goal
+use Rattle.live_engine.proofs.receiving.take_in_turn.Given as goal
 
 abbrev pub invariant-loop-index : goal.invariant-loop-index
 invariant-loop-index l = record {
