@@ -3,7 +3,7 @@
 
 use crate::gates::{Counts, MarkedEarly, MarkedInTurn, MarkedLate, Meeting};
 use image_build::{Image, replay, replay_before};
-use live_engine::{Gate, Live, LiveError, LiveRound, OpenGate, live_run};
+use live_engine::{Gate, Live, LiveError, LiveRound, OpenGate, live_run, migrate};
 use rate_limit::{Asked, Settings};
 use std::alloc::Global;
 use std::sync::Wait;
@@ -135,6 +135,21 @@ fn the_guest_resumes_from_where_it_stopped(rt: HostRuntime) -> Result<(), Fail> 
     assert_eq!(rt; live.stop, 2000);
     assert!(rt; is_image(&live.at_stop, &AT_2000));
     assert!(rt; is_image(&live.at_end, &AT_END));
+    Ok(())
+}
+
+#[test]
+fn the_guest_resumes_in_the_memory_in_which_it_stopped(rt: HostRuntime) -> Result<(), Fail> {
+    let trace = guest(rt.alloc())?;
+    let settings = Settings::new(Asked {
+        max: 2,
+        rounds: 1,
+        ..asked()
+    })?;
+    let stopped = migrate(&rt, rt.alloc(), &trace, &settings, &OpenGate)?;
+    assert_eq!(rt; stopped.stop, 2000);
+    assert!(rt; is_image(&stopped.at_stop, &AT_2000));
+    assert!(rt; is_image(&stopped.resume(&trace), &AT_END));
     Ok(())
 }
 
@@ -276,5 +291,34 @@ fn sixteen_of_each_make_the_same_memory(rt: HostRuntime) -> Result<(), Fail> {
         assert!(rt; is_image(&live.at_stop, at_stop.bytes()));
         assert!(rt; is_image(&live.at_end, at_end.bytes()));
     }
+    Ok(())
+}
+
+/// A guest of 600 pages of 4,096 bytes, which writes each of them once.
+fn wide_guest(alloc: Global) -> Result<Trace, Fail> {
+    let mut writes = Vec::new(alloc);
+    for page in 0..600u32 {
+        writes.push(Write {
+            tick: 0,
+            page,
+            offset: 4000,
+            bytes: Vec::from_slice(alloc, &[1, (page % 251) as u8])?,
+        })?;
+    }
+    Ok(Trace::new(12, 600, writes)?)
+}
+
+#[test]
+fn parts_take_long_streams_side_by_side(rt: HostRuntime) -> Result<(), Fail> {
+    let alloc = rt.alloc();
+    let trace = wide_guest(alloc)?;
+    let settings = Settings::new(Asked {
+        streams: 3,
+        ..asked()
+    })?;
+    let live = live_run(&rt, alloc, &trace, &settings, &OpenGate)?;
+    let image = replay(alloc, &trace)?;
+    assert!(rt; is_image(&live.at_stop, image.bytes()));
+    assert!(rt; is_image(&live.at_end, image.bytes()));
     Ok(())
 }

@@ -4,7 +4,7 @@ use Rattle.std.specs.Prelude.{IfErr, IfSome}
 use Rattle.migration_model.specs.Trace.{GuestTrace, IsTrace, Spells, trace_text}
 use Rattle.trace_codec.specs.Source.{ReadsWhole, SourceSpells}
 use Rattle.trace_codec.proofs.Sources.{refused_whole, spelled_whole}
-use Rattle.precopy.specs.Output.{IsOutputOf, IsOutput, IsOutsideRun, IsWant, RefusesRun, RefusesText}
+use Rattle.precopy.specs.Output.{IsOutputOf, IsOutput, IsOutsideRun, RefusesRun, RefusesText}
 use Rattle.precopy.specs.declared.job.Job.{Job}
 use Rattle.precopy.specs.declared.job.RunError.{RunError}
 use Rattle.precopy.specs.declared.job.RunError.TheVariants as errors
@@ -16,16 +16,8 @@ refused_run (Err (errors.Trace e)) old new bytes whole (inl memory) = inl (inl m
 refused_run (Err (errors.Trace e)) old new bytes whole (inr refused) = inr (refused_whole old new bytes e whole refused)
 refused_run (Err errors.Memory) old new bytes whole refused = tt
 refused_run (Err errors.Thread) old new bytes whole refused = tt
-refused_run (Err (errors.Live e)) old new bytes whole refused = tt
+refused_run (Err (errors.Live e)) old new bytes whole refused = absurd refused
 refused_run (Err errors.Write) old new bytes whole refused = tt
-
-pub only_run : {T : Type 0} (r : Result T RunError) → IfErr r IsWant → IfErr r IsOutsideRun
-only_run (Ok x) memory = tt
-only_run (Err (errors.Trace e)) memory = inl memory
-only_run (Err errors.Memory) memory = tt
-only_run (Err errors.Thread) memory = absurd memory
-only_run (Err (errors.Live e)) memory = tt
-only_run (Err errors.Write) memory = absurd memory
 
 pub memory_run : {T : Type 0} (r : Result T RunError) → IfErr r (λ e. e ≡ errors.Memory) → IfErr r IsOutsideRun
 memory_run (Ok x) memory = tt

@@ -10,7 +10,6 @@ use Rattle.migration_model.specs.Windows.{working_sets_of}
 use Rattle.sweep_report.specs.Texts.{report_of, sweep_of}
 use Rattle.trace_codec.specs.Refusals.{RefusesUnlessMemory}
 use Rattle.trace_codec.specs.Source.{SourceRefuses, IsOutside}
-use Rattle.trace_codec.specs.declared.error.TraceError.TheVariants.{Memory}
 use Rattle.precopy.specs.declared.job.Job.{Job}
 use Rattle.precopy.specs.declared.job.Job.TheVariants as jobs
 use Rattle.precopy.specs.declared.job.Show.{Show}
@@ -72,18 +71,10 @@ IsOutsideRun errors.Thread = ⊤
 IsOutsideRun (errors.Live e) = ⊤
 IsOutsideRun errors.Write = ⊤
 
--- a text is refused as a trace for this, or a live run of one, or memory ran out
+-- a text is refused as a trace for this, or memory ran out
 abbrev pub RefusesText : List ℕ → RunError → Type 0
 RefusesText bytes (errors.Trace e) = RefusesUnlessMemory bytes e
 RefusesText bytes errors.Memory = ⊤
 RefusesText bytes errors.Thread = ⊥
-RefusesText bytes (errors.Live e) = ⊤
+RefusesText bytes (errors.Live e) = ⊥
 RefusesText bytes errors.Write = ⊥
-
--- memory ran out, or a live run was refused memory or a thread
-abbrev pub IsWant : RunError → Type 0
-IsWant (errors.Trace e) = e ≡ Memory
-IsWant errors.Memory = ⊤
-IsWant errors.Thread = ⊥
-IsWant (errors.Live e) = ⊤
-IsWant errors.Write = ⊥

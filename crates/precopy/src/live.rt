@@ -6,7 +6,7 @@ ghost use Rattle.migration_model.specs.Rates.{MigrationSettings};
 ghost use Rattle.migration_model.specs.Trace.{GuestTrace, IsTrace, Spells};
 ghost use Rattle.trace_codec.specs.Source.{SourceSpells};
 ghost use Rattle.trace_codec.specs.declared.error.TraceError.TheVariants.{ReadFault};
-ghost use Rattle.precopy.specs.Output.{IsOutsideRun, IsShown, IsWant, RefusesRun, RefusesText};
+ghost use Rattle.precopy.specs.Output.{IsOutsideRun, IsShown, RefusesRun};
 
 use crate::job::{RunError, Show};
 use live_engine::{Gate, LiveError, Stopped, migrate};
