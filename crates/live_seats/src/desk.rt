@@ -19,7 +19,7 @@ use trace_codec::Trace;
 /// How many pages a copier keeps at most: as many as a trace may have.
 const KEPT_PAGES: usize = 65_536;
 
-/// What a copier keeps from round to round: whose turn it is, the pages that it sent last, and what it gave over at the end
+/// What a copier keeps from round to round: whose turn it is, pages that it sent, and what it gave over at the end
 /// of the round before, whose room the next round uses again.
 #[derive(Drop)]
 pub struct Desk {
