@@ -10,6 +10,7 @@ use crate::error::SeatError;
 use page_message::append_frame;
 use std::alloc::Global;
 use std::marker::Model;
+use stream_split::empty_streams;
 use trace_codec::Shape;
 
 /// The pages that a copier sent and skipped in a round, in the order of its steps, and the bytes that it sent.
@@ -41,17 +42,6 @@ fn empty_all(streams: &mut Vec<Vec<u8>>)
     }
 }
 
-/// So many empty streams, each with room for so many bytes.
-fn roomy_streams(alloc: Global, streams: usize, room: usize) -> Result<Vec<Vec<u8>>, SeatError>
-    ensures { IfOk result (λ v. map (λ s. s.items) v.items ≡ replicate streams []) }
-{
-    let mut outs = Vec::with_capacity(alloc, streams)?;
-    for _ in 0..streams {
-        outs.push(Vec::with_capacity(alloc, room)?)?;
-    }
-    Ok(outs)
-}
-
 impl Outbox {
     /// Nothing as yet, for so many streams, each with room for so many bytes.
     pub(crate) fn new(alloc: Global, streams: usize, room: usize) -> Result<Outbox, SeatError>
@@ -60,7 +50,7 @@ impl Outbox {
         Ok(Outbox {
             sent: Vec::new(alloc),
             skipped: Vec::new(alloc),
-            streams: roomy_streams(alloc, streams, room)?,
+            streams: empty_streams(alloc, streams, room)?,
         })
     }
 

@@ -12,13 +12,13 @@ use page_message::{Frame, encode_frame};
 use std::alloc::Global;
 use trace_codec::Shape;
 
-/// So many empty streams.
-pub fn empty_streams(alloc: Global, streams: usize) -> Result<Vec<Vec<u8>>, SplitError>
+/// So many empty streams, each with room for so many bytes.
+pub fn empty_streams(alloc: Global, streams: usize, room: usize) -> Result<Vec<Vec<u8>>, SplitError>
     ensures { IfOk result (λ v. map (λ s. s.items) v.items ≡ replicate streams []) }
 {
     let mut outs = Vec::with_capacity(alloc, streams)?;
     for _ in 0..streams {
-        outs.push(Vec::new(alloc))?;
+        outs.push(Vec::with_capacity(alloc, room)?)?;
     }
     Ok(outs)
 }
@@ -52,7 +52,7 @@ pub fn split(
     requires frames { All (IsFrame (shape_of shape.now)) frames.items }
     ensures { IfOk result (λ v. map (λ s. s.items) v.items ≡ streams_of streams frames.items) }
 {
-    let mut outs = empty_streams(alloc, streams)?;
+    let mut outs = empty_streams(alloc, streams, 0)?;
     let mut dealer = Dealer::new(streams);
     for frame in &frames {
         let stream = dealer.deal();
