@@ -1,6 +1,6 @@
 //! Sets of pages kept by words, 64 pages to a word, the lowest bit first.
 
-ghost use Rattle.std.specs.Prelude.{◌≡◌, ◌↔◌, ◌+◌, ◌/◌, ◌*◌, ◌<◌, ◌≤◌, ◌^◌, ℕ, IsTrue, length};
+ghost use Rattle.std.specs.Prelude.{◌≡◌, ◌↔◌, ◌+◌, ◌/◌, ◌<◌, ◌≤◌, ◌^◌, ℕ, IsTrue, length};
 ghost use Rattle.dirty_core.specs.Pages.{in_words, one_page, word_pages, bit_pages, union, common, minus, IsWithin, SamePages};
 
 /// Whether a page is in the set. No page past the words is.

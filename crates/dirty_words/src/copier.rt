@@ -1,6 +1,6 @@
 //! A copier's seat: it harvests the marks of its words, restores and reads the pages that it holds.
 
-ghost use Rattle.std.specs.Prelude.{◌≡◌, ◌↔◌, ◌<◌, ℕ, List, [], IsTrue, IsFalse, IfOk, false, replicate, slice_index, bit_and, ◌^◌};
+ghost use Rattle.std.specs.Prelude.{◌≡◌, ◌↔◌, ◌<◌, ℕ, [], IsTrue, IsFalse, IfOk, false, replicate, slice_index, bit_and, ◌^◌};
 ghost use Rattle.dirty_core.specs.Pages.{in_words, word_pages, bit_pages, one_page, union, minus, IsWithin, SamePages};
 ghost use Rattle.dirty_words.specs.Facts.{first_copier, OwnsWord, CopyFits, HoldsNone, after_harvest, after_peek, after_restore, after_read};
 ghost use Rattle.dirty_words.specs.Plays.{lone_copier, IsAnswer, IsShown, IsOver};

@@ -1,6 +1,6 @@
 //! A guest's seat: it stores the places of its pages, and marks each page after its store.
 
-ghost use Rattle.std.specs.Prelude.{◌≡◌, ◌≢◌, ◌↔◌, ◌<◌, ℕ, List, [], None, Some, IsSome, IsTrue, IfOk};
+ghost use Rattle.std.specs.Prelude.{◌≡◌, ◌≢◌, ◌↔◌, ◌<◌, ℕ, [], None, Some, IsSome, IsTrue, IfOk};
 ghost use Rattle.dirty_words.specs.Facts.{first_guest, last_place, OwnsPage, after_store, after_mark, GuestFits};
 ghost use Rattle.dirty_words.specs.Seats.{guest_view, guest_table};
 ghost use Rattle.dirty_words.specs.Plays.{lone_guest};

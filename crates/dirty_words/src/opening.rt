@@ -1,7 +1,6 @@
 //! The words of a new table, and its seats, which are cut off one seat.
 
 ghost use Rattle.std.specs.Prelude.{◌≡◌, ℕ, ◌<◌, ◌^◌, ◌++◌, [], slice_index, IfOk, OnOk};
-ghost use Rattle.atomic_table.specs.Seated.{TableId};
 ghost use Rattle.dirty_words.specs.Facts.{opening_facts, copier_entries};
 ghost use Rattle.dirty_words.specs.Seats.{table_view};
 ghost use Rattle.dirty_words.specs.Closing.{first_guests, first_copiers};

@@ -1,9 +1,9 @@
 //! Memory as the frames of several parts make it together.
 
-ghost use Rattle.std.specs.Prelude.{◌≡◌, ◌+◌, ◌++◌, ◌<◌, ◌^◌, IfErr, IfOk, IfSome, MatchOption, OnOk, length, option_map};
+ghost use Rattle.std.specs.Prelude.{◌≡◌, ◌+◌, ◌++◌, ◌<◌, IfErr, IfOk, IfSome, OnOk, option_map};
 ghost use Rattle.std.specs.List.{All};
 ghost use Rattle.migration_model.specs.Frames.{GuestShape, IsFrame, content_of};
-ghost use Rattle.migration_model.specs.Images.{IsJoined, LacksFirst};
+ghost use Rattle.migration_model.specs.Images.{IsJoined};
 ghost use Rattle.migration_model.specs.Parts.{copy_at, copy_in, join_all, later};
 ghost use Rattle.page_message.specs.Shapes.{shape_of};
 ghost use Rattle.image_build.specs.Joins.{AddsPage, RefusesPage, RefusesParts};

@@ -4,45 +4,43 @@ ghost use Rattle.std.specs.Prelude.{◌≡◌, ◌*◌, ◌^◌, ◌≤◌, fold
 ghost use Rattle.std.specs.List.{All};
 ghost use Rattle.migration_model.specs.Memory.{apply, image_of, memory_with};
 ghost use Rattle.migration_model.specs.Resumed.{AtVersions, IsResumed};
-ghost use Rattle.migration_model.specs.Trace.{IsTrace};
 ghost use Rattle.page_versions.specs.Index.{IsIndexOf};
 ghost use Rattle.page_versions.specs.Pages.{write_at};
 
 use crate::image::Image;
 use crate::replaying::{place_of, write_over};
 use page_versions::PageIndex;
-use trace_codec::{Shape, Trace};
+use trace_codec::WriteLog;
 
 /// Puts the writes at these places over memory, in order.
-fn write_all(memory: &mut Vec<u8>, shape: Shape, trace: &Trace, places: &[u32])
-    requires shift { shape.shift ≡ trace.now.shift }
-    requires pages { shape.pages ≡ trace.now.pages }
-    requires len { length memory.old.items ≡ shape.pages * 2 ^ shape.shift }
-    requires places { All (λ place. (1 ≤ place) × (place ≤ length trace.now.writes)) places.now }
-    ensures { memory_with shape.shift shape.pages memory.new.items
-        ≡ fold (λ m place. apply m (write_at trace.now.writes place)) (memory_with shape.shift shape.pages memory.old.items) places.now }
+fn write_all<W: WriteLog>(memory: &mut Vec<u8>, trace: &W, places: &[u32])
+    requires len { length memory.old.items ≡ (W.trace trace.now).pages * 2 ^ (W.trace trace.now).shift }
+    requires places { All (λ place. (1 ≤ place) × (place ≤ length (W.trace trace.now).writes)) places.now }
+    ensures { memory_with (W.trace trace.now).shift (W.trace trace.now).pages memory.new.items
+        ≡ fold (λ m place. apply m (write_at (W.trace trace.now).writes place)) (memory_with (W.trace trace.now).shift (W.trace trace.now).pages memory.old.items) places.now }
 {
+    let shape = trace.shape();
     for place in places {
-        let write = &trace.writes[*place as usize - 1];
+        let write = trace.write(*place as usize - 1);
         let start = place_of(shape, write.page, write.offset);
-        write_over(memory, start, &write.bytes);
+        write_over(memory, start, write.bytes);
     }
 }
 
 /// Puts over each page of memory the trace's writes to it that come after the page's version. It takes no memory.
-pub fn resume(image: Image, trace: &Trace, index: &PageIndex, versions: &[u32]) -> Image
-    requires of { IsIndexOf index.now trace.now }
-    requires shift { image.shift ≡ trace.now.shift }
-    requires pages { image.pages ≡ trace.now.pages }
-    requires versions { length versions.now ≡ trace.now.pages }
-    ensures resumed { IsResumed trace.now versions.now image result }
-    ensures whole { AtVersions trace.now versions.now image → result ≡ image_of trace.now }
+pub fn resume<W: WriteLog>(image: Image, trace: &W, index: &PageIndex, versions: &[u32]) -> Image
+    requires of { IsIndexOf index.now (W.trace trace.now) }
+    requires shift { image.shift ≡ (W.trace trace.now).shift }
+    requires pages { image.pages ≡ (W.trace trace.now).pages }
+    requires versions { length versions.now ≡ (W.trace trace.now).pages }
+    ensures resumed { IsResumed (W.trace trace.now) versions.now image result }
+    ensures whole { AtVersions (W.trace trace.now) versions.now image → result ≡ image_of (W.trace trace.now) }
 {
     let shape = trace.shape();
     let mut memory = image.into_bytes();
     for page in 0..shape.pages {
         let version = versions[page as usize];
-        write_all(&mut memory, shape, trace, index.writes_after(page, version));
+        write_all(&mut memory, trace, index.writes_after(page, version));
     }
     Image::of(shape.shift, shape.pages, memory)
 }

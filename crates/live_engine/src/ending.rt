@@ -20,8 +20,9 @@ use std::alloc::Global;
 use std::sync::Wait;
 use std::thread::Threads;
 use stop_copy::final_copy;
+use trace_codec::WriteLog;
 
-impl<'a, G> Crew<'a, G> {
+impl<'a, W: WriteLog + Sync, G> Crew<'a, W, G> {
     /// Sends the pages that are marked still, and makes memory of what the parts then have.
     pub(crate) fn finish<R: Threads + Wait + Sync>(
         &self,
@@ -30,20 +31,20 @@ impl<'a, G> Crew<'a, G> {
         closed: &Closed,
         parts: Vec<Part>,
     ) -> Result<Image, LiveError>
-        requires of { IsIndexOf self.now.index.now self.now.trace.now }
-        requires closed { FitsPages closed.now self.now.trace.now.pages (length self.now.trace.now.writes) }
+        requires of { IsIndexOf self.now.index.now (W.trace self.now.trace.now) }
+        requires closed { FitsPages closed.now (W.trace self.now.trace.now).pages (length (W.trace self.now.trace.now).writes) }
         requires some_copiers { 1 ≤ self.now.copiers }
         requires few_copiers { self.now.copiers ≤ 16 }
         requires some_streams { 1 ≤ self.now.streams }
         requires few_streams { self.now.streams ≤ 16 }
         requires count { length parts.items ≡ self.now.streams }
-        requires parts { AreNotBeyond self.now.trace.now (shape_of_trace self.now.trace.now) closed.now.versions parts.items }
-        requires current { (page : ℕ) → page < self.now.trace.now.pages → ¬ IsTrue (in_words closed.now.dirty page)
+        requires parts { AreNotBeyond (W.trace self.now.trace.now) (shape_of_trace (W.trace self.now.trace.now)) closed.now.versions parts.items }
+        requires current { (page : ℕ) → page < (W.trace self.now.trace.now).pages → ¬ IsTrue (in_words closed.now.dirty page)
             → HaveCurrent closed.now.versions parts.items page }
         ensures at_stop { IfOk result (λ image. (tick : ℕ)
-            → ((page : ℕ) → page < self.now.trace.now.pages → slice_index_or closed.now.versions page 0 ≡ version_before self.now.trace.now page tick)
-            → image ≡ image_before self.now.trace.now tick) }
-        ensures stopped { IfOk result (IsStoppedAt self.now.trace.now closed.now.versions self.now.index.now) }
+            → ((page : ℕ) → page < (W.trace self.now.trace.now).pages → slice_index_or closed.now.versions page 0 ≡ version_before (W.trace self.now.trace.now) page tick)
+            → image ≡ image_before (W.trace self.now.trace.now) tick) }
+        ensures stopped { IfOk result (IsStoppedAt (W.trace self.now.trace.now) closed.now.versions self.now.index.now) }
     {
         let trace = self.trace;
         let index = self.index;

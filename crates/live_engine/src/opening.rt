@@ -17,21 +17,22 @@ use live_seats::Desk;
 use page_versions::PageIndex;
 use std::alloc::Global;
 use std::collections::VecDeque;
-use trace_codec::{Shape, Trace};
+use trace_codec::{Shape, WriteLog};
 
 /// The version of each page before a tick.
-pub(crate) fn versions_before(
+pub(crate) fn versions_before<W: WriteLog>(
     alloc: Global,
-    trace: &Trace,
+    trace: &W,
     index: &PageIndex,
     tick: u64,
 ) -> Result<Vec<u32>, LiveError>
-    requires { IsIndexOf index.now trace.now }
-    ensures count { IfOk result (λ v. length v.items ≡ trace.now.pages) }
-    ensures each { IfOk result (λ v. (page : ℕ) → page < trace.now.pages → slice_index v.items page ≡ version_before trace.now page tick) }
+    requires { IsIndexOf index.now (W.trace trace.now) }
+    ensures count { IfOk result (λ v. length v.items ≡ (W.trace trace.now).pages) }
+    ensures each { IfOk result (λ v. (page : ℕ) → page < (W.trace trace.now).pages → slice_index v.items page ≡ version_before (W.trace trace.now) page tick) }
 {
-    let mut versions = Vec::with_capacity(alloc, trace.pages as usize)?;
-    for page in 0..trace.pages {
+    let pages = trace.shape().pages;
+    let mut versions = Vec::with_capacity(alloc, pages as usize)?;
+    for page in 0..pages {
         versions.push(index.version_before(page, tick))?;
     }
     Ok(versions)

@@ -3,13 +3,10 @@
 ghost use Rattle.std.specs.Prelude.{◌≡◌, ◌<◌, ◌≤◌, ℕ, IfOk, length, map, slice_index};
 ghost use Rattle.std.specs.List.{All};
 ghost use Rattle.dirty_core.specs.Start.{IsStart, start_with};
-ghost use Rattle.dirty_words.specs.Closing.{first_guests, first_copiers};
 ghost use Rattle.live_engine.specs.Joining.{IsRound};
 ghost use Rattle.live_engine.specs.Lists.{lists_of};
-ghost use Rattle.live_engine.specs.Seated.{AreCopied, AreReplayed};
 ghost use Rattle.live_seats.specs.Desks.{IsDesk};
 ghost use Rattle.live_seats.specs.Outboxes.{IsPosted};
-ghost use Rattle.live_seats.specs.Replays.{OpensAt};
 ghost use Rattle.migration_model.specs.Versions.{version_before};
 ghost use Rattle.page_versions.specs.Index.{IsIndexOf};
 
@@ -23,12 +20,12 @@ use std::alloc::Global;
 use std::collections::VecDeque;
 use std::sync::Wait;
 use std::thread::Threads;
-use trace_codec::Trace;
+use trace_codec::WriteLog;
 
 /// What does not change from round to round.
 #[derive(Drop)]
-pub(crate) struct Crew<'a, G> {
-    pub(crate) trace: &'a Trace,
+pub(crate) struct Crew<'a, W, G> {
+    pub(crate) trace: &'a W,
     pub(crate) index: &'a PageIndex,
     pub(crate) gate: &'a G,
     pub(crate) replayers: usize,
@@ -65,7 +62,7 @@ pub(crate) struct Left {
     pub(crate) desks: Vec<Desk>,
 }
 
-impl<'a, G: Gate> Crew<'a, G> {
+impl<'a, W: WriteLog + Sync, G: Gate> Crew<'a, W, G> {
     /// Opens a table with what the round before closed, runs the round's threads on it, and closes it. After a refusal no
     /// table is closed.
     pub(crate) fn run_round<R: Threads + Wait + Sync>(
@@ -77,19 +74,19 @@ impl<'a, G: Gate> Crew<'a, G> {
         closed: Closed,
         desks: VecDeque<Desk>,
     ) -> Result<Left, LiveError>
-        requires of { IsIndexOf self.now.index.now self.now.trace.now }
+        requires of { IsIndexOf self.now.index.now (W.trace self.now.trace.now) }
         requires span { ticks.from ≤ ticks.to }
         requires start { IsStart (start_with closed.versions closed.dirty self.now.replayers self.now.copiers) }
-        requires size { length closed.versions ≡ self.now.trace.now.pages }
-        requires versions { (page : ℕ) → page < self.now.trace.now.pages → slice_index closed.versions page ≡ version_before self.now.trace.now page ticks.from }
+        requires size { length closed.versions ≡ (W.trace self.now.trace.now).pages }
+        requires versions { (page : ℕ) → page < (W.trace self.now.trace.now).pages → slice_index closed.versions page ≡ version_before (W.trace self.now.trace.now) page ticks.from }
         requires count { length desks.items ≡ self.now.copiers }
-        requires desks { All (IsDesk self.now.trace.now self.now.streams) desks.items }
-        ensures round { IfOk result (λ left. IsRound self.now.trace.now skip self.now.copiers closed.dirty ticks.from ticks.to left.closed (lists_of left.desks.items)) }
+        requires desks { All (IsDesk (W.trace self.now.trace.now) self.now.streams) desks.items }
+        ensures round { IfOk result (λ left. IsRound (W.trace self.now.trace.now) skip self.now.copiers closed.dirty ticks.from ticks.to left.closed (lists_of left.desks.items)) }
         ensures next { IfOk result (λ left. IsStart (start_with left.closed.versions left.closed.dirty self.now.replayers self.now.copiers)) }
-        ensures size { IfOk result (λ left. length left.closed.versions ≡ self.now.trace.now.pages) }
-        ensures posted { IfOk result (λ left. All (λ desk. IsPosted self.now.trace.now desk.outbox) left.desks.items) }
+        ensures size { IfOk result (λ left. length left.closed.versions ≡ (W.trace self.now.trace.now).pages) }
+        ensures posted { IfOk result (λ left. All (λ desk. IsPosted (W.trace self.now.trace.now) desk.outbox) left.desks.items) }
         ensures count { IfOk result (λ left. length left.desks.items ≡ self.now.copiers) }
-        ensures desks { IfOk result (λ left. All (IsDesk self.now.trace.now self.now.streams) left.desks.items) }
+        ensures desks { IfOk result (λ left. All (IsDesk (W.trace self.now.trace.now) self.now.streams) left.desks.items) }
     {
         let Closed { versions, dirty } = closed;
         let Some(opening) = Opening::new(versions, dirty, self.replayers, self.copiers) else {

@@ -1,8 +1,7 @@
 //! A live run: its rounds, one after the other, and its end.
 
-ghost use Rattle.std.specs.Prelude.{◌≡◌, ◌&&◌, nat_le, ◌<◌, ◌≤◌, ◌++◌, ◌∷◌, [], ℕ, List, IfOk, length, slice_index};
+ghost use Rattle.std.specs.Prelude.{◌≡◌, ◌&&◌, nat_le, ◌<◌, ◌≤◌, ◌++◌, ◌∷◌, [], List, IfOk};
 ghost use Rattle.std.specs.List.{All};
-ghost use Rattle.dirty_core.specs.Start.{IsStart, start_with};
 ghost use Rattle.live_engine.specs.Joining.{AreJoined};
 ghost use Rattle.live_engine.specs.Runs.{IsLiveRun, IsStopped, IsUnderWay};
 ghost use Rattle.migration_model.specs.Live.{LiveRounds};
@@ -19,14 +18,15 @@ use collector::Part;
 use dirty_words::Closed;
 use image_build::{Image, resume};
 use live_seats::{Desk, Gate, Point, Ticks};
-use page_versions::PageIndex;
+use page_versions::{IndexError, PageIndex};
 use rate_limit::Settings;
-use round_planner::{Plan, Round, plan};
+use round_planner::{Plan, PlanError, Round, plan};
 use std::alloc::Global;
 use std::collections::VecDeque;
 use std::sync::Wait;
+use std::thread;
 use std::thread::Threads;
-use trace_codec::Trace;
+use trace_codec::WriteLog;
 
 /// What a live run has come to between two rounds.
 #[derive(Drop)]
@@ -44,10 +44,10 @@ fn may_skip(skip: bool, number: usize) -> bool
     skip && number >= 1
 }
 
-impl<'a, G: Gate> Crew<'a, G> {
+impl<'a, W: WriteLog + Sync, G: Gate> Crew<'a, W, G> {
     /// Before the first round all pages are marked, and no part has any.
     pub(crate) fn begin(&self, alloc: Global, start: u64) -> Result<Progress, LiveError>
-        requires of { IsIndexOf self.now.index.now self.now.trace.now }
+        requires of { IsIndexOf self.now.index.now (W.trace self.now.trace.now) }
         requires some_replayers { 1 ≤ self.now.replayers }
         requires few_replayers { self.now.replayers ≤ 16 }
         requires some_copiers { 1 ≤ self.now.copiers }
@@ -55,8 +55,8 @@ impl<'a, G: Gate> Crew<'a, G> {
         requires some_streams { 1 ≤ self.now.streams }
         requires few_streams { self.now.streams ≤ 16 }
         ensures none { IfOk result (λ p. p.rounds.items ≡ []) }
-        ensures under_way { IfOk result (λ p. IsUnderWay self.now.trace.now self.now.replayers self.now.copiers self.now.streams p.closed p.parts.items p.desks.items) }
-        ensures joined { IfOk result (λ p. AreJoined self.now.trace.now start [] [] p.closed p.parts.items) }
+        ensures under_way { IfOk result (λ p. IsUnderWay (W.trace self.now.trace.now) self.now.replayers self.now.copiers self.now.streams p.closed p.parts.items p.desks.items) }
+        ensures joined { IfOk result (λ p. AreJoined (W.trace self.now.trace.now) start [] [] p.closed p.parts.items) }
     {
         let shape = self.trace.shape();
         let room = stream_room(shape, self.copiers * self.streams);
@@ -81,16 +81,16 @@ impl<'a, G: Gate> Crew<'a, G> {
         planned: &Round,
         progress: Progress,
     ) -> Result<Progress, LiveError>
-        requires of { IsIndexOf self.now.index.now self.now.trace.now }
+        requires of { IsIndexOf self.now.index.now (W.trace self.now.trace.now) }
         requires span { planned.now.from ≤ planned.now.to }
-        requires under_way { IsUnderWay self.now.trace.now self.now.replayers self.now.copiers self.now.streams progress.closed progress.parts.items progress.desks.items }
-        requires joined { (before : List PlannedRound) × AreJoined self.now.trace.now planned.now.from before progress.rounds.items progress.closed progress.parts.items }
-        ensures under_way { IfOk result (λ p. IsUnderWay self.now.trace.now self.now.replayers self.now.copiers self.now.streams p.closed p.parts.items p.desks.items) }
-        ensures joined { (before : List PlannedRound) → AreJoined self.now.trace.now planned.now.from before progress.rounds.items progress.closed progress.parts.items
-            → IfOk result (λ p. AreJoined self.now.trace.now planned.now.to (before ++ planned.now ∷ []) p.rounds.items p.closed p.parts.items) }
-        ensures law { (before : List PlannedRound) → AreJoined self.now.trace.now planned.now.from before progress.rounds.items progress.closed progress.parts.items
-            → LiveRounds self.now.trace.now skip self.now.copiers before progress.rounds.items
-            → IfOk result (λ p. LiveRounds self.now.trace.now skip self.now.copiers (before ++ planned.now ∷ []) p.rounds.items) }
+        requires under_way { IsUnderWay (W.trace self.now.trace.now) self.now.replayers self.now.copiers self.now.streams progress.closed progress.parts.items progress.desks.items }
+        requires joined { (before : List PlannedRound) × AreJoined (W.trace self.now.trace.now) planned.now.from before progress.rounds.items progress.closed progress.parts.items }
+        ensures under_way { IfOk result (λ p. IsUnderWay (W.trace self.now.trace.now) self.now.replayers self.now.copiers self.now.streams p.closed p.parts.items p.desks.items) }
+        ensures joined { (before : List PlannedRound) → AreJoined (W.trace self.now.trace.now) planned.now.from before progress.rounds.items progress.closed progress.parts.items
+            → IfOk result (λ p. AreJoined (W.trace self.now.trace.now) planned.now.to (before ++ planned.now ∷ []) p.rounds.items p.closed p.parts.items) }
+        ensures law { (before : List PlannedRound) → AreJoined (W.trace self.now.trace.now) planned.now.from before progress.rounds.items progress.closed progress.parts.items
+            → LiveRounds (W.trace self.now.trace.now) skip self.now.copiers before progress.rounds.items
+            → IfOk result (λ p. LiveRounds (W.trace self.now.trace.now) skip self.now.copiers (before ++ planned.now ∷ []) p.rounds.items) }
     {
         let Progress {
             closed,
@@ -127,14 +127,14 @@ impl<'a, G: Gate> Crew<'a, G> {
         settings: &Settings,
         plan: &Plan,
     ) -> Result<Progress, LiveError>
-        requires of { IsIndexOf self.now.index.now self.now.trace.now }
-        requires plan { IsPlan self.now.trace.now.pages (touches_of self.now.trace.now) settings.now plan.now }
+        requires of { IsIndexOf self.now.index.now (W.trace self.now.trace.now) }
+        requires plan { IsPlan (W.trace self.now.trace.now).pages (touches_of (W.trace self.now.trace.now)) settings.now plan.now }
         requires replayers { self.now.replayers ≡ settings.now.replayers }
         requires copiers { self.now.copiers ≡ settings.now.workers }
         requires streams { self.now.streams ≡ settings.now.streams }
-        ensures under_way { IfOk result (λ p. IsUnderWay self.now.trace.now self.now.replayers self.now.copiers self.now.streams p.closed p.parts.items p.desks.items) }
-        ensures joined { IfOk result (λ p. AreJoined self.now.trace.now plan.now.stop plan.now.rounds p.rounds.items p.closed p.parts.items) }
-        ensures law { IfOk result (λ p. LiveRounds self.now.trace.now settings.now.skip self.now.copiers plan.now.rounds p.rounds.items) }
+        ensures under_way { IfOk result (λ p. IsUnderWay (W.trace self.now.trace.now) self.now.replayers self.now.copiers self.now.streams p.closed p.parts.items p.desks.items) }
+        ensures joined { IfOk result (λ p. AreJoined (W.trace self.now.trace.now) plan.now.stop plan.now.rounds p.rounds.items p.closed p.parts.items) }
+        ensures law { IfOk result (λ p. LiveRounds (W.trace self.now.trace.now) settings.now.skip self.now.copiers plan.now.rounds p.rounds.items) }
     {
         let asked = settings.asked();
         let mut progress = self.begin(alloc, asked.start)?;
@@ -158,21 +158,48 @@ pub struct Live {
     pub rounds: Vec<LiveRound>,
 }
 
+/// The rounds that are planned over what a log tells.
+fn plan_of<W: WriteLog>(alloc: Global, trace: &W, settings: &Settings) -> Result<Plan, PlanError>
+    ensures { IfOk result (λ plan. IsPlan (W.trace trace.now).pages (touches_of (W.trace trace.now)) settings.now plan) }
+{
+    plan(alloc, trace, settings)
+}
+
+/// The planned rounds, and where the trace writes each page: both at once.
+fn plan_and_index<W: WriteLog + Sync, R: Threads + Sync>(
+    rt: &R,
+    alloc: Global,
+    trace: &W,
+    settings: &Settings,
+) -> (Result<Plan, PlanError>, Result<PageIndex, IndexError>)
+    ensures plan { IfOk result.0 (λ plan. IsPlan (W.trace trace.now).pages (touches_of (W.trace trace.now)) settings.now plan) }
+    ensures index { IfOk result.1 (λ index. IsIndexOf index (W.trace trace.now)) }
+{
+    let planned = || -> Result<Plan, PlanError>
+        ensures { IfOk result (λ plan. IsPlan (W.trace trace.entry.now).pages (touches_of (W.trace trace.entry.now)) settings.entry.now plan) }
+    { plan_of(alloc, trace, settings) };
+    let indexed = || -> Result<PageIndex, IndexError>
+        ensures { IfOk result (λ index. IsIndexOf index (W.trace trace.entry.now)) }
+    { PageIndex::build(rt, alloc, trace) };
+    thread::join(rt, planned, indexed)
+}
+
 /// Performs a migration over the trace until the guest has stopped and all of its memory has come: in each of the planned
 /// rounds' ticks replayers change the guest's pages while copiers send them, all at once and each in a thread of its own;
 /// then the guest stops, and what is dirty still is sent. A refused migration answers no image: `L2` where a thread was not
 /// started, and else `L1`. All threads have ended when it returns.
-pub fn migrate<G: Gate, R: Threads + Wait + Sync>(
+pub fn migrate<W: WriteLog + Sync, G: Gate, R: Threads + Wait + Sync>(
     rt: &R,
     alloc: Global,
-    trace: &Trace,
+    trace: &W,
     settings: &Settings,
     gate: &G,
 ) -> Result<Stopped, LiveError>
-    ensures { IfOk result (λ s. IsStopped trace.now settings.now s.stop s.at_stop s.versions.items s.index s.rounds.items) }
+    ensures { IfOk result (λ s. IsStopped (W.trace trace.now) settings.now s.stop s.at_stop s.versions.items s.index s.rounds.items) }
 {
-    let plan = plan(alloc, trace, settings)?;
-    let index = PageIndex::build(rt, alloc, trace)?;
+    let (plan, index) = plan_and_index(rt, alloc, trace, settings);
+    let plan = plan?;
+    let index = index?;
     let asked = settings.asked();
     let crew = Crew {
         trace,
@@ -202,14 +229,14 @@ pub fn migrate<G: Gate, R: Threads + Wait + Sync>(
 }
 
 /// The same, and the guest then resumes: both memories are answered.
-pub fn live_run<G: Gate, R: Threads + Wait + Sync>(
+pub fn live_run<W: WriteLog + Sync, G: Gate, R: Threads + Wait + Sync>(
     rt: &R,
     alloc: Global,
-    trace: &Trace,
+    trace: &W,
     settings: &Settings,
     gate: &G,
 ) -> Result<Live, LiveError>
-    ensures { IfOk result (λ live. IsLiveRun trace.now settings.now live.stop live.at_stop live.at_end live.rounds.items) }
+    ensures { IfOk result (λ live. IsLiveRun (W.trace trace.now) settings.now live.stop live.at_stop live.at_end live.rounds.items) }
 {
     let stopped = migrate(rt, alloc, trace, settings, gate)?;
     let Stopped {

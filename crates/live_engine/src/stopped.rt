@@ -7,7 +7,7 @@ ghost use Rattle.live_engine.specs.Runs.{IsStoppedAt};
 use crate::receiving::LiveRound;
 use image_build::{Image, resume};
 use page_versions::PageIndex;
-use trace_codec::Trace;
+use trace_codec::WriteLog;
 
 /// A guest that has stopped, and whose memory has come.
 #[derive(Debug, Drop)]
@@ -26,9 +26,9 @@ pub struct Stopped {
 
 impl Stopped {
     /// The guest's memory after all its writes: it resumes in the memory in which it stopped. It takes no memory.
-    pub fn resume(self, trace: &Trace) -> Image
-        requires { IsStoppedAt trace.now self.versions.items self.index self.at_stop }
-        ensures { result ≡ image_of trace.now }
+    pub fn resume<W: WriteLog>(self, trace: &W) -> Image
+        requires { IsStoppedAt (W.trace trace.now) self.versions.items self.index self.at_stop }
+        ensures { result ≡ image_of (W.trace trace.now) }
     {
         let Stopped {
             at_stop,

@@ -1,8 +1,8 @@
 //! The threads of a round: one for each replayer and one for each copier.
 
-ghost use Rattle.std.specs.Prelude.{Ok, ◌≡◌, ◌<◌, ℕ, IfOk, OnOk, length, map, Some, slice_get, slice_index_or};
+ghost use Rattle.std.specs.Prelude.{Ok, ◌≡◌, ◌<◌, IfOk, OnOk, length, map, Some, slice_index_or};
 ghost use Rattle.dirty_words.specs.Facts.{first_guest, first_copier};
-ghost use Rattle.dirty_words.specs.Seats.{guest_table, guest_view};
+ghost use Rattle.dirty_words.specs.Seats.{guest_table};
 ghost use Rattle.dirty_words.specs.Closing.{first_guests, first_copiers};
 ghost use Rattle.dirty_words.specs.Seats.{copy_table};
 ghost use Rattle.live_engine.specs.Seated.{AreCopied, AreReplayed, EachAt, IsReplayed};
@@ -20,34 +20,34 @@ use std::collections::VecDeque;
 use std::sync::Wait;
 use std::thread;
 use std::thread::{Promise, PromisedHandle, Scope, Threads, join_promised, scope_env};
-use trace_codec::Trace;
+use trace_codec::WriteLog;
 
 /// What a replayer's thread owes: its part of the round.
 #[derive(Drop)]
-struct Replays<'a> {
-    trace: &'a Trace,
+struct Replays<'a, W> {
+    trace: &'a W,
     table: &'a RoundTable,
     ticks: Ticks,
     number: usize,
 }
 
-impl<'a> Promise<GuestSeat> for Replays<'a> {
-    ghost kept_by = { λ p seat. IsReplayed p.trace.now p.table.now p.ticks.from p.ticks.to p.number seat };
+impl<'a, W: WriteLog> Promise<GuestSeat> for Replays<'a, W> {
+    ghost kept_by = { λ p seat. IsReplayed (W.trace p.trace.now) p.table.now p.ticks.from p.ticks.to p.number seat };
 }
 
 /// Starts a replayer.
-fn start_guest<'s, E, G: Gate>(
+fn start_guest<'s, E, W: WriteLog + Sync, G: Gate>(
     scope: &'s Scope<'s, E>,
-    trace: &'s Trace,
+    trace: &'s W,
     ticks: Ticks,
     table: &'s RoundTable,
     gate: &'s G,
     seat: GuestSeat,
-) -> Result<PromisedHandle<GuestSeat, Replays<'s>>, LiveError>
+) -> Result<PromisedHandle<GuestSeat, Replays<'s, W>>, LiveError>
     requires table { guest_table seat ≡ table.now }
     requires idle { seat.facts ≡ first_guest table.now.start seat.facts.number }
-    requires opening { OpensAt trace.now ticks.from table.now.start }
-    ensures { IfOk result (λ h. (h.promise.trace.now ≡ trace.now) × (h.promise.table.now ≡ table.now) × (h.promise.ticks ≡ ticks) × (h.promise.number ≡ seat.facts.number)) }
+    requires opening { OpensAt (W.trace trace.now) ticks.from table.now.start }
+    ensures { IfOk result (λ h. (W.trace h.promise.trace.now ≡ (W.trace trace.now)) × (h.promise.table.now ≡ table.now) × (h.promise.ticks ≡ ticks) × (h.promise.number ≡ seat.facts.number)) }
 {
     let promise = Replays {
         trace,
@@ -58,27 +58,27 @@ fn start_guest<'s, E, G: Gate>(
     let run = move || -> GuestSeat
         requires table { guest_table seat ≡ table.now }
         requires idle { seat.facts ≡ first_guest table.now.start seat.facts.number }
-        requires opening { OpensAt trace.now ticks.from table.now.start }
-        ensures { IsReplayed trace.entry.now table.entry.now ticks.from ticks.to seat.facts.number result }
+        requires opening { OpensAt (W.trace trace.now) ticks.from table.now.start }
+        ensures { IsReplayed (W.trace trace.entry.now) table.entry.now ticks.from ticks.to seat.facts.number result }
     { replay(trace, ticks, table, gate, seat) };
     scope.spawn_with(promise, run).or(Err(LiveError::Thread))
 }
 
 /// Starts the replayers, in order.
-fn start_guests<'s, E, G: Gate>(
+fn start_guests<'s, E, W: WriteLog + Sync, G: Gate>(
     scope: &'s Scope<'s, E>,
-    trace: &'s Trace,
+    trace: &'s W,
     ticks: Ticks,
     table: &'s RoundTable,
     gate: &'s G,
     seats: Vec<GuestSeat>,
-    handles: &mut Vec<PromisedHandle<GuestSeat, Replays<'s>>>,
+    handles: &mut Vec<PromisedHandle<GuestSeat, Replays<'s, W>>>,
 ) -> Result<(), LiveError>
     requires seats { seats.items ≡ first_guests table.now }
     requires none { length handles.old.items ≡ 0 }
-    requires opening { OpensAt trace.now ticks.from table.now.start }
+    requires opening { OpensAt (W.trace trace.now) ticks.from table.now.start }
     ensures count { OnOk result (length handles.new.items ≡ length seats.items) }
-    ensures started { OnOk result (EachAt (λ h i. (h.promise.trace.now ≡ trace.now) × (h.promise.table.now ≡ table.now) × (h.promise.ticks ≡ ticks) × (h.promise.number ≡ i)) handles.new.items) }
+    ensures started { OnOk result (EachAt (λ h i. (W.trace h.promise.trace.now ≡ (W.trace trace.now)) × (h.promise.table.now ≡ table.now) × (h.promise.ticks ≡ ticks) × (h.promise.number ≡ i)) handles.new.items) }
 {
     for seat in seats {
         handles.reserve(1).or(Err(LiveError::Memory))?;
@@ -89,13 +89,13 @@ fn start_guests<'s, E, G: Gate>(
 }
 
 /// Waits until all replayers have ended. Where memory runs out they are waited for as well.
-fn join_guests<'s, R: Threads>(
+fn join_guests<'s, W: WriteLog, R: Threads>(
     rt: &R,
-    handles: Vec<PromisedHandle<GuestSeat, Replays<'s>>>,
+    handles: Vec<PromisedHandle<GuestSeat, Replays<'s, W>>>,
 ) -> Result<Vec<GuestSeat>, LiveError>
     ensures count { IfOk result (λ seats. length seats.items ≡ length handles.entry.items) }
     ensures kept { IfOk result (λ seats. EachAt (λ seat i. (h : _) × (h ≡ slice_index_or handles.entry.items i h)
-        × IsReplayed h.promise.trace.now h.promise.table.now h.promise.ticks.from h.promise.ticks.to h.promise.number seat) seats.items) }
+        × IsReplayed (W.trace h.promise.trace.now) h.promise.table.now h.promise.ticks.from h.promise.ticks.to h.promise.number seat) seats.items) }
 {
     match join_promised(rt, handles) {
         Ok(seats) => Ok(seats),
@@ -110,32 +110,32 @@ fn join_guests<'s, R: Threads>(
 
 /// What a copier's thread owes: its part of the round, or a refusal.
 #[derive(Drop)]
-struct Copies<'a> {
-    trace: &'a Trace,
+struct Copies<'a, W> {
+    trace: &'a W,
     table: &'a RoundTable,
     skip: bool,
     number: usize,
     streams: usize,
 }
 
-impl<'a> Promise<Result<Copier, SeatError>> for Copies<'a> {
-    ghost kept_by = { λ p result. IfOk result (λ copier. HasCopied p.trace.now p.skip p.table.now p.number p.streams copier.seat copier.desk) };
+impl<'a, W: WriteLog> Promise<Result<Copier, SeatError>> for Copies<'a, W> {
+    ghost kept_by = { λ p result. IfOk result (λ copier. HasCopied (W.trace p.trace.now) p.skip p.table.now p.number p.streams copier.seat copier.desk) };
 }
 
 /// Starts a copier.
-fn start_copier<'s, E, G: Gate>(
+fn start_copier<'s, E, W: WriteLog + Sync, G: Gate>(
     scope: &'s Scope<'s, E>,
     alloc: Global,
-    round: &Round<'s, G>,
+    round: &Round<'s, W, G>,
     seat: CopySeat,
     desk: Desk,
-) -> Result<PromisedHandle<Result<Copier, SeatError>, Copies<'s>>, LiveError>
-    requires of { IsIndexOf round.now.index.now round.now.trace.now }
-    requires pages { length round.now.table.now.start.places ≡ round.now.trace.now.pages }
+) -> Result<PromisedHandle<Result<Copier, SeatError>, Copies<'s, W>>, LiveError>
+    requires of { IsIndexOf round.now.index.now (W.trace round.now.trace.now) }
+    requires pages { length round.now.table.now.start.places ≡ (W.trace round.now.trace.now).pages }
     requires table { copy_table seat ≡ round.now.table.now }
     requires idle { seat.facts ≡ first_copier round.now.table.now.start seat.facts.number }
-    requires desk { IsDesk round.now.trace.now round.now.streams desk }
-    ensures { IfOk result (λ h. (h.promise.trace.now ≡ round.now.trace.now) × (h.promise.table.now ≡ round.now.table.now) × (h.promise.skip ≡ round.now.skip) × (h.promise.number ≡ seat.facts.number) × (h.promise.streams ≡ round.now.streams)) }
+    requires desk { IsDesk (W.trace round.now.trace.now) round.now.streams desk }
+    ensures { IfOk result (λ h. (W.trace h.promise.trace.now ≡ (W.trace round.now.trace.now)) × (h.promise.table.now ≡ round.now.table.now) × (h.promise.skip ≡ round.now.skip) × (h.promise.number ≡ seat.facts.number) × (h.promise.streams ≡ round.now.streams)) }
 {
     let Round {
         trace,
@@ -153,12 +153,12 @@ fn start_copier<'s, E, G: Gate>(
         streams,
     };
     let run = move || -> Result<Copier, SeatError>
-        requires of { IsIndexOf index.now trace.now }
-        requires pages { length table.now.start.places ≡ trace.now.pages }
+        requires of { IsIndexOf index.now (W.trace trace.now) }
+        requires pages { length table.now.start.places ≡ (W.trace trace.now).pages }
         requires table { copy_table seat ≡ table.now }
         requires idle { seat.facts ≡ first_copier table.now.start seat.facts.number }
-        requires desk { IsDesk trace.now streams desk }
-        ensures { IfOk result (λ copier. HasCopied trace.entry.now skip table.entry.now seat.facts.number streams copier.seat copier.desk) }
+        requires desk { IsDesk (W.trace trace.now) streams desk }
+        ensures { IfOk result (λ copier. HasCopied (W.trace trace.entry.now) skip table.entry.now seat.facts.number streams copier.seat copier.desk) }
     {
         let round = Round {
             trace,
@@ -174,22 +174,22 @@ fn start_copier<'s, E, G: Gate>(
 }
 
 /// Starts the copiers, in order, each with its desk.
-fn start_copiers<'s, E, G: Gate>(
+fn start_copiers<'s, E, W: WriteLog + Sync, G: Gate>(
     scope: &'s Scope<'s, E>,
     alloc: Global,
-    round: &Round<'s, G>,
+    round: &Round<'s, W, G>,
     seats: Vec<CopySeat>,
     desks: VecDeque<Desk>,
-    handles: &mut Vec<PromisedHandle<Result<Copier, SeatError>, Copies<'s>>>,
+    handles: &mut Vec<PromisedHandle<Result<Copier, SeatError>, Copies<'s, W>>>,
 ) -> Result<(), LiveError>
-    requires of { IsIndexOf round.now.index.now round.now.trace.now }
-    requires pages { length round.now.table.now.start.places ≡ round.now.trace.now.pages }
+    requires of { IsIndexOf round.now.index.now (W.trace round.now.trace.now) }
+    requires pages { length round.now.table.now.start.places ≡ (W.trace round.now.trace.now).pages }
     requires seats { seats.items ≡ first_copiers round.now.table.now }
     requires count { length desks.items ≡ length seats.items }
-    requires desks { All (IsDesk round.now.trace.now round.now.streams) desks.items }
+    requires desks { All (IsDesk (W.trace round.now.trace.now) round.now.streams) desks.items }
     requires none { length handles.old.items ≡ 0 }
     ensures count { OnOk result (length handles.new.items ≡ length seats.items) }
-    ensures started { OnOk result (EachAt (λ h i. (h.promise.trace.now ≡ round.now.trace.now) × (h.promise.table.now ≡ round.now.table.now) × (h.promise.skip ≡ round.now.skip) × (h.promise.number ≡ i) × (h.promise.streams ≡ round.now.streams)) handles.new.items) }
+    ensures started { OnOk result (EachAt (λ h i. (W.trace h.promise.trace.now ≡ (W.trace round.now.trace.now)) × (h.promise.table.now ≡ round.now.table.now) × (h.promise.skip ≡ round.now.skip) × (h.promise.number ≡ i) × (h.promise.streams ≡ round.now.streams)) handles.new.items) }
 {
     let mut desks = desks;
     for seat in seats {
@@ -204,13 +204,13 @@ fn start_copiers<'s, E, G: Gate>(
 }
 
 /// Waits until all copiers have ended. Where memory runs out they are waited for as well.
-fn join_copiers<'s, R: Threads>(
+fn join_copiers<'s, W: WriteLog, R: Threads>(
     rt: &R,
-    handles: Vec<PromisedHandle<Result<Copier, SeatError>, Copies<'s>>>,
+    handles: Vec<PromisedHandle<Result<Copier, SeatError>, Copies<'s, W>>>,
 ) -> Result<Vec<Result<Copier, SeatError>>, LiveError>
     ensures count { IfOk result (λ copied. length copied.items ≡ length handles.entry.items) }
     ensures kept { IfOk result (λ copied. EachAt (λ r i. (h : _) × (h ≡ slice_index_or handles.entry.items i h)
-        × IfOk r (λ copier. HasCopied h.promise.trace.now h.promise.skip h.promise.table.now h.promise.number h.promise.streams copier.seat copier.desk)) copied.items) }
+        × IfOk r (λ copier. HasCopied (W.trace h.promise.trace.now) h.promise.skip h.promise.table.now h.promise.number h.promise.streams copier.seat copier.desk)) copied.items) }
 {
     match join_promised(rt, handles) {
         Ok(copied) => Ok(copied),
@@ -239,27 +239,27 @@ fn unrefused(
 }
 
 /// Starts all threads of a round, up to the first that is refused.
-fn start_all<'s, E, G: Gate>(
+fn start_all<'s, E, W: WriteLog + Sync, G: Gate>(
     scope: &'s Scope<'s, E>,
     alloc: Global,
-    round: &Round<'s, G>,
+    round: &Round<'s, W, G>,
     ticks: Ticks,
     seats: Seats,
-    guests: &mut Vec<PromisedHandle<GuestSeat, Replays<'s>>>,
-    copiers: &mut Vec<PromisedHandle<Result<Copier, SeatError>, Copies<'s>>>,
+    guests: &mut Vec<PromisedHandle<GuestSeat, Replays<'s, W>>>,
+    copiers: &mut Vec<PromisedHandle<Result<Copier, SeatError>, Copies<'s, W>>>,
 ) -> Result<(), LiveError>
-    requires of { IsIndexOf round.now.index.now round.now.trace.now }
-    requires opening { OpensAt round.now.trace.now ticks.from round.now.table.now.start }
+    requires of { IsIndexOf round.now.index.now (W.trace round.now.trace.now) }
+    requires opening { OpensAt (W.trace round.now.trace.now) ticks.from round.now.table.now.start }
     requires guests { seats.guests.items ≡ first_guests round.now.table.now }
     requires copiers { seats.copiers.items ≡ first_copiers round.now.table.now }
     requires count { length seats.desks.items ≡ length seats.copiers.items }
-    requires desks { All (IsDesk round.now.trace.now round.now.streams) seats.desks.items }
+    requires desks { All (IsDesk (W.trace round.now.trace.now) round.now.streams) seats.desks.items }
     requires no_guest { length guests.old.items ≡ 0 }
     requires no_copier { length copiers.old.items ≡ 0 }
     ensures guest_count { OnOk result (length guests.new.items ≡ length seats.guests.items) }
-    ensures guests { OnOk result (EachAt (λ h i. (h.promise.trace.now ≡ round.now.trace.now) × (h.promise.table.now ≡ round.now.table.now) × (h.promise.ticks ≡ ticks) × (h.promise.number ≡ i)) guests.new.items) }
+    ensures guests { OnOk result (EachAt (λ h i. (W.trace h.promise.trace.now ≡ (W.trace round.now.trace.now)) × (h.promise.table.now ≡ round.now.table.now) × (h.promise.ticks ≡ ticks) × (h.promise.number ≡ i)) guests.new.items) }
     ensures copier_count { OnOk result (length copiers.new.items ≡ length seats.copiers.items) }
-    ensures copiers { OnOk result (EachAt (λ h i. (h.promise.trace.now ≡ round.now.trace.now) × (h.promise.table.now ≡ round.now.table.now) × (h.promise.skip ≡ round.now.skip) × (h.promise.number ≡ i) × (h.promise.streams ≡ round.now.streams)) copiers.new.items) }
+    ensures copiers { OnOk result (EachAt (λ h i. (W.trace h.promise.trace.now ≡ (W.trace round.now.trace.now)) × (h.promise.table.now ≡ round.now.table.now) × (h.promise.skip ≡ round.now.skip) × (h.promise.number ≡ i) × (h.promise.streams ≡ round.now.streams)) copiers.new.items) }
 {
     let Seats {
         guests: guest_seats,
@@ -294,22 +294,22 @@ pub(crate) struct Seats {
 
 /// Runs a round's replayers and copiers, each in a thread of its own and all at once. Those that run are waited for before
 /// any refusal is answered; a thread that was not started is answered first.
-fn in_round<'s, E, G: Gate, R: Threads>(
+fn in_round<'s, E, W: WriteLog + Sync, G: Gate, R: Threads>(
     rt: &R,
     scope: &'s Scope<'s, E>,
     alloc: Global,
-    round: &Round<'s, G>,
+    round: &Round<'s, W, G>,
     ticks: Ticks,
     seats: Seats,
 ) -> Result<Finished, LiveError>
-    requires of { IsIndexOf round.now.index.now round.now.trace.now }
-    requires opening { OpensAt round.now.trace.now ticks.from round.now.table.now.start }
+    requires of { IsIndexOf round.now.index.now (W.trace round.now.trace.now) }
+    requires opening { OpensAt (W.trace round.now.trace.now) ticks.from round.now.table.now.start }
     requires guests { seats.guests.items ≡ first_guests round.now.table.now }
     requires copiers { seats.copiers.items ≡ first_copiers round.now.table.now }
     requires count { length seats.desks.items ≡ length seats.copiers.items }
-    requires desks { All (IsDesk round.now.trace.now round.now.streams) seats.desks.items }
-    ensures guests { IfOk result (λ finished. AreReplayed round.now.trace.now round.now.table.now ticks.from ticks.to finished.guests.items) }
-    ensures copiers { IfOk result (λ finished. AreCopied round.now.trace.now round.now.skip round.now.table.now round.now.streams finished.copiers.items) }
+    requires desks { All (IsDesk (W.trace round.now.trace.now) round.now.streams) seats.desks.items }
+    ensures guests { IfOk result (λ finished. AreReplayed (W.trace round.now.trace.now) round.now.table.now ticks.from ticks.to finished.guests.items) }
+    ensures copiers { IfOk result (λ finished. AreCopied (W.trace round.now.trace.now) round.now.skip round.now.table.now round.now.streams finished.copiers.items) }
 {
     let mut guests = Vec::new(alloc);
     let mut copiers = Vec::new(alloc);
@@ -323,21 +323,21 @@ fn in_round<'s, E, G: Gate, R: Threads>(
 }
 
 /// Runs a round's replayers and copiers, each in a thread of its own, and waits until all have ended.
-pub(crate) fn run_threads<G: Gate, R: Threads + Wait + Sync>(
+pub(crate) fn run_threads<W: WriteLog + Sync, G: Gate, R: Threads + Wait + Sync>(
     rt: &R,
     alloc: Global,
-    round: &Round<'_, G>,
+    round: &Round<'_, W, G>,
     ticks: Ticks,
     seats: Seats,
 ) -> Result<Finished, LiveError>
-    requires of { IsIndexOf round.now.index.now round.now.trace.now }
-    requires opening { OpensAt round.now.trace.now ticks.from round.now.table.now.start }
+    requires of { IsIndexOf round.now.index.now (W.trace round.now.trace.now) }
+    requires opening { OpensAt (W.trace round.now.trace.now) ticks.from round.now.table.now.start }
     requires guests { seats.guests.items ≡ first_guests round.now.table.now }
     requires copiers { seats.copiers.items ≡ first_copiers round.now.table.now }
     requires count { length seats.desks.items ≡ length seats.copiers.items }
-    requires desks { All (IsDesk round.now.trace.now round.now.streams) seats.desks.items }
-    ensures guests { IfOk result (λ finished. AreReplayed round.now.trace.now round.now.table.now ticks.from ticks.to finished.guests.items) }
-    ensures copiers { IfOk result (λ finished. AreCopied round.now.trace.now round.now.skip round.now.table.now round.now.streams finished.copiers.items) }
+    requires desks { All (IsDesk (W.trace round.now.trace.now) round.now.streams) seats.desks.items }
+    ensures guests { IfOk result (λ finished. AreReplayed (W.trace round.now.trace.now) round.now.table.now ticks.from ticks.to finished.guests.items) }
+    ensures copiers { IfOk result (λ finished. AreCopied (W.trace round.now.trace.now) round.now.skip round.now.table.now round.now.streams finished.copiers.items) }
 {
     let Round {
         trace,
@@ -351,14 +351,14 @@ pub(crate) fn run_threads<G: Gate, R: Threads + Wait + Sync>(
         scope_env(),
         rt,
         move |scope| -> Result<Finished, LiveError>
-            requires of { IsIndexOf index.now trace.now }
-            requires opening { OpensAt trace.now ticks.from table.now.start }
+            requires of { IsIndexOf index.now (W.trace trace.now) }
+            requires opening { OpensAt (W.trace trace.now) ticks.from table.now.start }
             requires guests { seats.guests.items ≡ first_guests table.now }
             requires copiers { seats.copiers.items ≡ first_copiers table.now }
             requires count { length seats.desks.items ≡ length seats.copiers.items }
-            requires desks { All (IsDesk trace.now streams) seats.desks.items }
-            ensures guests { IfOk result (λ finished. AreReplayed trace.entry.now table.entry.now ticks.from ticks.to finished.guests.items) }
-            ensures copiers { IfOk result (λ finished. AreCopied trace.entry.now skip table.entry.now streams finished.copiers.items) }
+            requires desks { All (IsDesk (W.trace trace.now) streams) seats.desks.items }
+            ensures guests { IfOk result (λ finished. AreReplayed (W.trace trace.entry.now) table.entry.now ticks.from ticks.to finished.guests.items) }
+            ensures copiers { IfOk result (λ finished. AreCopied (W.trace trace.entry.now) skip table.entry.now streams finished.copiers.items) }
         {
             let round = Round {
                 trace,

@@ -5,8 +5,9 @@ use Rattle.std.specs.List.Sorted.{IsPartitionPoint}
 use Rattle.std.proofs.lemmas.Bool.{cases_eq, cond-true, cond-false, eq-eqb, ne_eqb, ltb-true, lt-ltb, cases_lt}
 use Rattle.std.proofs.lemmas.Option.{slice_get_within, get_or_from_slice_get, slice_get-get_or}
 use Rattle.std.proofs.lemmas.List.{get_or-map, length-map}
-use Rattle.migration_model.specs.Trace.{GuestTrace, GuestWrite, write_with}
+use Rattle.migration_model.specs.Trace.{GuestTrace, GuestWrite}
 use Rattle.migration_model.specs.Touches.{GuestTouch, touch_of, touches_of, no_touch}
+use Rattle.trace_codec.specs.Writes.{no_write}
 use Rattle.dirty_core.specs.Start.{Start}
 use Rattle.dirty_core.specs.Runs.{IsVisited, place_after}
 use Rattle.dirty_core.specs.Machine.{last_visit}
@@ -42,9 +43,6 @@ last_or_before trace page first now place is = elim (cases_eq place (now + 1)) [
   | inl e ↦ inl e
   | inr apart ↦ inr (record { write = is.write; there = is.there; page_is = is.page_is; low = is.low; high = omega (arith, is.high, apart) })
 ]
-
-no_write : GuestWrite
-no_write = write_with 0 0 0 []
 
 -- the page of the write at an index
 page_there : (trace : GuestTrace) (page first end now : ℕ) (d : GuestWrite) → IsAmong trace page first end (now + 1) → (get_or trace.writes now d).page ≡ page
@@ -123,14 +121,15 @@ replays_one trace start number first now facts new d is low inside own new_is =
     subst (λ (f : GuestFacts). IsReplaying trace start number first (now + 1) f) (sym new_is) all
 
 -- the write at an index, whoever's page it is
-pub replays_next : (trace : GuestTrace) (start : Start) (number first now : ℕ) (facts new : GuestFacts) (write : GuestWrite) → IsReplaying trace start number first now facts
-    → first ≤ now → now < length trace.writes → write ≡ get_or trace.writes now write → IsStoredIfOwn write.page (now + 1) facts new
+pub replays_next : (trace : GuestTrace) (start : Start) (number first now page : ℕ) (facts new : GuestFacts) → IsReplaying trace start number first now facts
+    → first ≤ now → now < length trace.writes → page ≡ (get_or (touches_of trace) now no_touch).page → IsStoredIfOwn page (now + 1) facts new
     → IsReplaying trace start number first (now + 1) new
-replays_next trace start number first now facts new write is low inside same after =
-    let stored : IsStoredIfOwn (get_or trace.writes now write).page (now + 1) facts new = subst (λ (w : GuestWrite). IsStoredIfOwn w.page (now + 1) facts new) same after in
+replays_next trace start number first now page facts new is low inside same after =
+    let touched : page ≡ (get_or trace.writes now no_write).page = same ∙ ap (λ (t : GuestTouch). t.page) (get_or-map touch_of trace.writes now no_write no_touch inside) in
+    let stored : IsStoredIfOwn (get_or trace.writes now no_write).page (now + 1) facts new = subst (λ (p : ℕ). IsStoredIfOwn p (now + 1) facts new) touched after in
     elim stored [
-      | inl own ↦ replays_one trace start number first now facts new write is low inside own.0 own.1
-      | inr other ↦ subst (λ (f : GuestFacts). IsReplaying trace start number first (now + 1) f) (sym other.1) (passes_by trace start number first now facts write is other.0)
+      | inl own ↦ replays_one trace start number first now facts new no_write is low inside own.0 own.1
+      | inr other ↦ subst (λ (f : GuestFacts). IsReplaying trace start number first (now + 1) f) (sym other.1) (passes_by trace start number first now facts no_write is other.0)
     ]
 
 -- ---- the ticks of places

@@ -1,9 +1,8 @@
 //! What a copier does: it harvests its dirty words and sends their pages.
 
-ghost use Rattle.std.specs.Prelude.{◌≡◌, ◌<◌, ◌≤◌, ◌+◌, ◌*◌, ◌^◌, ◌&&◌, nat_le, ℕ, Bool, List, true, IsTrue, IfOk, OnOk, length, ◌/◌};
-ghost use Rattle.std.specs.Int.{bit_at};
+ghost use Rattle.std.specs.Prelude.{◌≡◌, ◌<◌, ◌≤◌, ◌+◌, ◌*◌, ◌^◌, ℕ, List, IsTrue, IfOk, OnOk, length, ◌/◌};
 ghost use Rattle.dirty_core.specs.Pages.{in_words, one_page, word_pages, bit_pages, union, minus, SamePages};
-ghost use Rattle.dirty_words.specs.Facts.{after_harvest, after_peek, after_read, first_copier, OwnsWord, HoldsNone};
+ghost use Rattle.dirty_words.specs.Facts.{after_harvest, after_read, first_copier, OwnsWord, HoldsNone};
 ghost use Rattle.dirty_words.specs.Plays.{IsAnswer, IsShown};
 ghost use Rattle.dirty_words.specs.Seats.{copy_table};
 ghost use Rattle.live_seats.specs.Desks.{IsDesk};
@@ -18,12 +17,12 @@ use crate::gate::{Gate, Point};
 use dirty_words::{CopySeat, RoundTable};
 use page_versions::PageIndex;
 use std::alloc::Global;
-use trace_codec::Trace;
+use trace_codec::WriteLog;
 
 /// What all copiers of a round share.
 #[derive(Drop)]
-pub struct Round<'a, G> {
-    pub trace: &'a Trace,
+pub struct Round<'a, W, G> {
+    pub trace: &'a W,
     pub index: &'a PageIndex,
     pub table: &'a RoundTable,
     pub gate: &'a G,
@@ -42,9 +41,9 @@ pub struct Copier {
 
 /// A copier in a round.
 #[derive(Drop)]
-struct Copying<'a> {
+struct Copying<'a, W: WriteLog> {
     seat: CopySeat,
-    desk: OpenDesk<'a>,
+    desk: OpenDesk<'a, W>,
 }
 
 /// How often a page is written at least that is kept from round to round.
@@ -63,7 +62,7 @@ fn page_at(word: usize, bit: u32) -> u32
     64 * word as u32 + bit
 }
 
-impl<'a, G: Gate> Round<'a, G> {
+impl<'a, W: WriteLog, G: Gate> Round<'a, W, G> {
     /// Takes the marked pages of a word.
     fn harvest(&self, seat: &mut CopySeat, word: usize) -> u64
         requires table { copy_table seat.old ≡ self.now.table.now }
@@ -97,8 +96,8 @@ impl<'a, G: Gate> Round<'a, G> {
 
     /// Whether a page is written so often that it is kept.
     fn is_hot(&self, page: u32) -> bool
-        requires of { IsIndexOf self.now.index.now self.now.trace.now }
-        requires page { page < self.now.trace.now.pages }
+        requires of { IsIndexOf self.now.index.now (W.trace self.now.trace.now) }
+        requires page { page < (W.trace self.now.trace.now).pages }
     {
         let least = self.trace.shape().page_size() / KEPT_FOR_A_WRITE;
         self.index.places(page).len() >= least.max(HOT_WRITES)
@@ -107,15 +106,15 @@ impl<'a, G: Gate> Round<'a, G> {
     /// Adds a page's frame at the place that was read to a stream. The page is made from zeros.
     fn post_cold(
         &self,
-        desk: &mut OpenDesk<'_>,
+        desk: &mut OpenDesk<'_, W>,
         stream: usize,
         page: u32,
         place: u32,
     ) -> Result<(), SeatError>
-        requires of { IsIndexOf self.now.index.now self.now.trace.now }
-        requires page { page < self.now.trace.now.pages }
+        requires of { IsIndexOf self.now.index.now (W.trace self.now.trace.now) }
+        requires page { page < (W.trace self.now.trace.now).pages }
         requires stream { stream < length desk.old.outbox.streams }
-        ensures posted { OnOk result ((text : List ℕ) × SpellsPage self.now.trace.now page place text × (desk.new.outbox ≡ with_text stream text desk.old.outbox)) }
+        ensures posted { OnOk result ((text : List ℕ) × SpellsPage (W.trace self.now.trace.now) page place text × (desk.new.outbox ≡ with_text stream text desk.old.outbox)) }
         ensures turn { desk.new.turn ≡ desk.old.turn }
         ensures trace { desk.new.cache.trace ≡ desk.old.cache.trace }
     {
@@ -131,15 +130,15 @@ impl<'a, G: Gate> Round<'a, G> {
     fn post_hot(
         &self,
         alloc: Global,
-        desk: &mut OpenDesk<'_>,
+        desk: &mut OpenDesk<'_, W>,
         stream: usize,
         page: u32,
         place: u32,
     ) -> Result<(), SeatError>
-        requires trace { desk.old.cache.trace ≡ self.now.trace.now }
-        requires page { page < self.now.trace.now.pages }
+        requires trace { desk.old.cache.trace ≡ (W.trace self.now.trace.now) }
+        requires page { page < (W.trace self.now.trace.now).pages }
         requires stream { stream < length desk.old.outbox.streams }
-        ensures posted { OnOk result ((text : List ℕ) × SpellsPage self.now.trace.now page place text × (desk.new.outbox ≡ with_text stream text desk.old.outbox)) }
+        ensures posted { OnOk result ((text : List ℕ) × SpellsPage (W.trace self.now.trace.now) page place text × (desk.new.outbox ≡ with_text stream text desk.old.outbox)) }
         ensures turn { desk.new.turn ≡ desk.old.turn }
         ensures trace { desk.new.cache.trace ≡ desk.old.cache.trace }
     {
@@ -157,16 +156,16 @@ impl<'a, G: Gate> Round<'a, G> {
     fn post_page(
         &self,
         alloc: Global,
-        desk: &mut OpenDesk<'_>,
+        desk: &mut OpenDesk<'_, W>,
         stream: usize,
         page: u32,
         place: u32,
     ) -> Result<(), SeatError>
-        requires of { IsIndexOf self.now.index.now self.now.trace.now }
-        requires trace { desk.old.cache.trace ≡ self.now.trace.now }
-        requires page { page < self.now.trace.now.pages }
+        requires of { IsIndexOf self.now.index.now (W.trace self.now.trace.now) }
+        requires trace { desk.old.cache.trace ≡ (W.trace self.now.trace.now) }
+        requires page { page < (W.trace self.now.trace.now).pages }
         requires stream { stream < length desk.old.outbox.streams }
-        ensures posted { OnOk result ((text : List ℕ) × SpellsPage self.now.trace.now page place text × (desk.new.outbox ≡ with_text stream text desk.old.outbox)) }
+        ensures posted { OnOk result ((text : List ℕ) × SpellsPage (W.trace self.now.trace.now) page place text × (desk.new.outbox ≡ with_text stream text desk.old.outbox)) }
         ensures turn { desk.new.turn ≡ desk.old.turn }
         ensures trace { desk.new.cache.trace ≡ desk.old.cache.trace }
     {
@@ -190,15 +189,20 @@ impl<'a, G: Gate> Round<'a, G> {
     }
 
     /// Sends a held page in the stream whose turn it is.
-    fn send_page(&self, alloc: Global, page: u32, copier: &mut Copying<'_>) -> Result<(), SeatError>
-        requires of { IsIndexOf self.now.index.now self.now.trace.now }
-        requires page { page < self.now.trace.now.pages }
+    fn send_page(
+        &self,
+        alloc: Global,
+        page: u32,
+        copier: &mut Copying<'_, W>,
+    ) -> Result<(), SeatError>
+        requires of { IsIndexOf self.now.index.now (W.trace self.now.trace.now) }
+        requires page { page < (W.trace self.now.trace.now).pages }
         requires table { copy_table copier.old.seat ≡ self.now.table.now }
         requires held { IsTrue (in_words copier.old.seat.facts.held page) }
-        requires trace { copier.old.desk.cache.trace ≡ self.now.trace.now }
+        requires trace { copier.old.desk.cache.trace ≡ (W.trace self.now.trace.now) }
         requires streams { length copier.old.desk.outbox.streams ≡ copier.old.desk.turn.streams }
         ensures table { copy_table copier.new.seat ≡ copy_table copier.old.seat }
-        ensures sent { OnOk result (HasSentPage self.now.trace.now page copier.old.seat.facts copier.old.desk.outbox copier.new.seat.facts copier.new.desk.outbox) }
+        ensures sent { OnOk result (HasSentPage (W.trace self.now.trace.now) page copier.old.seat.facts copier.old.desk.outbox copier.new.seat.facts copier.new.desk.outbox) }
         ensures trace { copier.new.desk.cache.trace ≡ copier.old.desk.cache.trace }
         ensures turn { copier.new.desk.turn.streams ≡ copier.old.desk.turn.streams }
     {
@@ -222,7 +226,7 @@ impl<'a, G: Gate> Round<'a, G> {
     }
 
     /// Gives a held page back, and lists it as skipped.
-    fn skip_page(&self, page: u32, copier: &mut Copying<'_>) -> Result<(), SeatError>
+    fn skip_page(&self, page: u32, copier: &mut Copying<'_, W>) -> Result<(), SeatError>
         requires table { copy_table copier.old.seat ≡ self.now.table.now }
         requires own { OwnsWord copier.old.seat.facts (page / 64) }
         requires held { IsTrue (in_words copier.old.seat.facts.held page) }
@@ -237,14 +241,19 @@ impl<'a, G: Gate> Round<'a, G> {
     }
 
     /// Sends a held page in front of which none is held, or skips it where it is marked again and pages may be skipped.
-    fn copy_page(&self, alloc: Global, page: u32, copier: &mut Copying<'_>) -> Result<(), SeatError>
-        requires of { IsIndexOf self.now.index.now self.now.trace.now }
-        requires pages { length self.now.table.now.start.places ≡ self.now.trace.now.pages }
-        requires ready { IsReady self.now.trace.now self.now.table.now copier.old.seat copier.old.desk }
+    fn copy_page(
+        &self,
+        alloc: Global,
+        page: u32,
+        copier: &mut Copying<'_, W>,
+    ) -> Result<(), SeatError>
+        requires of { IsIndexOf self.now.index.now (W.trace self.now.trace.now) }
+        requires pages { length self.now.table.now.start.places ≡ (W.trace self.now.trace.now).pages }
+        requires ready { IsReady (W.trace self.now.trace.now) self.now.table.now copier.old.seat copier.old.desk }
         requires least { IsLeast copier.old.seat.facts page }
         requires own { IsOwn copier.old.seat.facts page }
-        ensures ready { OnOk result (IsReady self.now.trace.now self.now.table.now copier.new.seat copier.new.desk) }
-        ensures scan { OnOk result (KeepsScan self.now.trace.now self.now.skip copier.old.seat.facts copier.old.desk.outbox copier.new.seat.facts copier.new.desk.outbox) }
+        ensures ready { OnOk result (IsReady (W.trace self.now.trace.now) self.now.table.now copier.new.seat copier.new.desk) }
+        ensures scan { OnOk result (KeepsScan (W.trace self.now.trace.now) self.now.skip copier.old.seat.facts copier.old.desk.outbox copier.new.seat.facts copier.new.desk.outbox) }
         ensures held { OnOk result (SamePages (in_words copier.new.seat.facts.held) (minus (in_words copier.old.seat.facts.held) (one_page page))) }
     {
         if !self.skip {
@@ -266,18 +275,18 @@ impl<'a, G: Gate> Round<'a, G> {
         word: usize,
         bits: u64,
         bit: u32,
-        copier: &mut Copying<'_>,
+        copier: &mut Copying<'_, W>,
     ) -> Result<(), SeatError>
-        requires of { IsIndexOf self.now.index.now self.now.trace.now }
-        requires pages { length self.now.table.now.start.places ≡ self.now.trace.now.pages }
-        requires few { self.now.trace.now.pages ≤ 65_536 }
-        requires ready { IsReady self.now.trace.now self.now.table.now copier.old.seat copier.old.desk }
+        requires of { IsIndexOf self.now.index.now (W.trace self.now.trace.now) }
+        requires pages { length self.now.table.now.start.places ≡ (W.trace self.now.trace.now).pages }
+        requires few { (W.trace self.now.trace.now).pages ≤ 65_536 }
+        requires ready { IsReady (W.trace self.now.trace.now) self.now.table.now copier.old.seat copier.old.desk }
         requires own { OwnsWord copier.old.seat.facts word }
-        requires real { (page : ℕ) → IsTrue (bit_pages word bits page) → page < self.now.trace.now.pages }
+        requires real { (page : ℕ) → IsTrue (bit_pages word bits page) → page < (W.trace self.now.trace.now).pages }
         requires bit { bit < 64 }
         requires holds { HoldsFrom word bits bit copier.old.seat.facts }
-        ensures ready { OnOk result (IsReady self.now.trace.now self.now.table.now copier.new.seat copier.new.desk) }
-        ensures scan { OnOk result (KeepsScan self.now.trace.now self.now.skip copier.old.seat.facts copier.old.desk.outbox copier.new.seat.facts copier.new.desk.outbox) }
+        ensures ready { OnOk result (IsReady (W.trace self.now.trace.now) self.now.table.now copier.new.seat copier.new.desk) }
+        ensures scan { OnOk result (KeepsScan (W.trace self.now.trace.now) self.now.skip copier.old.seat.facts copier.old.desk.outbox copier.new.seat.facts copier.new.desk.outbox) }
         ensures holds { OnOk result (HoldsFrom word bits (bit + 1) copier.new.seat.facts) }
     {
         if (bits >> bit) & 1 != 1 {
@@ -294,17 +303,17 @@ impl<'a, G: Gate> Round<'a, G> {
         alloc: Global,
         word: usize,
         bits: u64,
-        copier: &mut Copying<'_>,
+        copier: &mut Copying<'_, W>,
     ) -> Result<(), SeatError>
-        requires of { IsIndexOf self.now.index.now self.now.trace.now }
-        requires pages { length self.now.table.now.start.places ≡ self.now.trace.now.pages }
-        requires few { self.now.trace.now.pages ≤ 65_536 }
-        requires ready { IsReady self.now.trace.now self.now.table.now copier.old.seat copier.old.desk }
+        requires of { IsIndexOf self.now.index.now (W.trace self.now.trace.now) }
+        requires pages { length self.now.table.now.start.places ≡ (W.trace self.now.trace.now).pages }
+        requires few { (W.trace self.now.trace.now).pages ≤ 65_536 }
+        requires ready { IsReady (W.trace self.now.trace.now) self.now.table.now copier.old.seat copier.old.desk }
         requires own { OwnsWord copier.old.seat.facts word }
-        requires real { (page : ℕ) → IsTrue (bit_pages word bits page) → page < self.now.trace.now.pages }
+        requires real { (page : ℕ) → IsTrue (bit_pages word bits page) → page < (W.trace self.now.trace.now).pages }
         requires holds { HoldsFrom word bits 0 copier.old.seat.facts }
-        ensures ready { OnOk result (IsReady self.now.trace.now self.now.table.now copier.new.seat copier.new.desk) }
-        ensures scan { OnOk result (KeepsScan self.now.trace.now self.now.skip copier.old.seat.facts copier.old.desk.outbox copier.new.seat.facts copier.new.desk.outbox) }
+        ensures ready { OnOk result (IsReady (W.trace self.now.trace.now) self.now.table.now copier.new.seat copier.new.desk) }
+        ensures scan { OnOk result (KeepsScan (W.trace self.now.trace.now) self.now.skip copier.old.seat.facts copier.old.desk.outbox copier.new.seat.facts copier.new.desk.outbox) }
         ensures held { OnOk result (HoldsNone copier.new.seat.facts) }
     {
         for bit in 0..64 {
@@ -318,15 +327,15 @@ impl<'a, G: Gate> Round<'a, G> {
         &self,
         alloc: Global,
         word: usize,
-        copier: &mut Copying<'_>,
+        copier: &mut Copying<'_, W>,
     ) -> Result<(), SeatError>
-        requires of { IsIndexOf self.now.index.now self.now.trace.now }
-        requires pages { length self.now.table.now.start.places ≡ self.now.trace.now.pages }
-        requires few { self.now.trace.now.pages ≤ 65_536 }
-        requires ready { IsReady self.now.trace.now self.now.table.now copier.old.seat copier.old.desk }
+        requires of { IsIndexOf self.now.index.now (W.trace self.now.trace.now) }
+        requires pages { length self.now.table.now.start.places ≡ (W.trace self.now.trace.now).pages }
+        requires few { (W.trace self.now.trace.now).pages ≤ 65_536 }
+        requires ready { IsReady (W.trace self.now.trace.now) self.now.table.now copier.old.seat copier.old.desk }
         requires held { HoldsNone copier.old.seat.facts }
-        ensures ready { OnOk result (IsReady self.now.trace.now self.now.table.now copier.new.seat copier.new.desk) }
-        ensures scan { OnOk result (AdvancesScan self.now.trace.now self.now.skip word copier.old.seat.facts copier.old.desk.outbox copier.new.seat.facts copier.new.desk.outbox) }
+        ensures ready { OnOk result (IsReady (W.trace self.now.trace.now) self.now.table.now copier.new.seat copier.new.desk) }
+        ensures scan { OnOk result (AdvancesScan (W.trace self.now.trace.now) self.now.skip word copier.old.seat.facts copier.old.desk.outbox copier.new.seat.facts copier.new.desk.outbox) }
         ensures held { OnOk result (HoldsNone copier.new.seat.facts) }
     {
         if !copier.seat.owns(word) {
@@ -340,12 +349,12 @@ impl<'a, G: Gate> Round<'a, G> {
     /// What a copier does in a round: it harvests its words once, in rising order, and sends or skips the pages of each. The
     /// seat has done nothing before; what the desk gave over in the round before goes. Memory alone is refused.
     pub fn copy(&self, alloc: Global, seat: CopySeat, desk: Desk) -> Result<Copier, SeatError>
-        requires of { IsIndexOf self.now.index.now self.now.trace.now }
-        requires pages { length self.now.table.now.start.places ≡ self.now.trace.now.pages }
+        requires of { IsIndexOf self.now.index.now (W.trace self.now.trace.now) }
+        requires pages { length self.now.table.now.start.places ≡ (W.trace self.now.trace.now).pages }
         requires table { copy_table seat ≡ self.now.table.now }
         requires idle { seat.facts ≡ first_copier self.now.table.now.start seat.facts.number }
-        requires desk { IsDesk self.now.trace.now self.now.streams desk }
-        ensures { IfOk result (λ copier. HasCopied self.now.trace.now self.now.skip self.now.table.now seat.facts.number self.now.streams copier.seat copier.desk) }
+        requires desk { IsDesk (W.trace self.now.trace.now) self.now.streams desk }
+        ensures { IfOk result (λ copier. HasCopied (W.trace self.now.trace.now) self.now.skip self.now.table.now seat.facts.number self.now.streams copier.seat copier.desk) }
     {
         let mut copier = Copying {
             seat,

@@ -14,7 +14,7 @@ use page_versions::PageIndex;
 use std::alloc::Global;
 use std::marker::Model;
 use stream_split::Dealer;
-use trace_codec::Trace;
+use trace_codec::WriteLog;
 
 /// How many pages a copier keeps at most: as many as a trace may have.
 const KEPT_PAGES: usize = 65_536;
@@ -38,15 +38,15 @@ impl Model for Desk {
 
 /// A desk while a round lasts.
 #[derive(Drop)]
-pub(crate) struct OpenDesk<'a> {
+pub(crate) struct OpenDesk<'a, W: WriteLog> {
     pub(crate) dealer: Dealer,
-    pub(crate) cache: PageCache<'a>,
+    pub(crate) cache: PageCache<'a, W>,
     pub(crate) outbox: Outbox,
     /// Where a page that is not kept is made.
     pub(crate) room: Vec<u8>,
 }
 
-impl<'a> Model for OpenDesk<'a> {
+impl<'a, W: WriteLog> Model for OpenDesk<'a, W> {
     ghost use Rattle.live_seats.specs.Desks.{OpenDeskView, open_desk_with};
 
     ghost Value = { OpenDeskView };
@@ -69,15 +69,15 @@ impl Desk {
     }
 
     /// The desk at the beginning of a round: what was given over goes, and its room stays.
-    pub(crate) fn open<'a>(
+    pub(crate) fn open<'a, W: WriteLog>(
         self,
         alloc: Global,
-        trace: &'a Trace,
+        trace: &'a W,
         index: &'a PageIndex,
-    ) -> OpenDesk<'a>
-        requires of { IsIndexOf index.now trace.now }
-        requires kept { AreKept trace.now self.pages.entries }
-        ensures { result ≡ open_desk_with self.turn (cache_with trace.entry.now self.pages.entries self.pages.capacity) (empty_outbox (length self.outbox.streams)) }
+    ) -> OpenDesk<'a, W>
+        requires of { IsIndexOf index.now (W.trace trace.now) }
+        requires kept { AreKept (W.trace trace.now) self.pages.entries }
+        ensures { result ≡ open_desk_with self.turn (cache_with (W.trace trace.entry.now) self.pages.entries self.pages.capacity) (empty_outbox (length self.outbox.streams)) }
     {
         let Desk {
             dealer,
@@ -95,7 +95,7 @@ impl Desk {
     }
 }
 
-impl<'a> OpenDesk<'a> {
+impl<'a, W: WriteLog> OpenDesk<'a, W> {
     /// The desk at the end of a round.
     pub(crate) fn close(self) -> Desk
         ensures desk { result ≡ desk_with self.entry.turn (pages_with self.entry.cache.entries self.entry.cache.capacity) self.entry.outbox }

@@ -1,13 +1,13 @@
 //! What a replayer does: it changes its pages as the trace says.
 
-ghost use Rattle.std.specs.Prelude.{◌≡◌, ◌<◌, ◌≤◌, ◌+◌, ◌^◌, ℕ, None};
+ghost use Rattle.std.specs.Prelude.{◌≡◌, ◌<◌, ◌+◌, ◌^◌, None};
 ghost use Rattle.dirty_words.specs.Facts.{after_store, after_mark, first_guest, last_place, OwnsPage};
 ghost use Rattle.dirty_words.specs.Seats.{guest_table};
 ghost use Rattle.live_seats.specs.Replays.{HasReplayed, IsStoredIfOwn, OpensAt};
 
 use crate::gate::{Gate, Point};
 use dirty_words::{GuestSeat, RoundTable};
-use trace_codec::{Timeline, Trace};
+use trace_codec::{Timeline, WriteLog};
 
 /// The ticks of a round: from the first on, and before the second.
 #[derive(Clone, Copy, Debug)]
@@ -55,8 +55,8 @@ fn place_of(index: usize) -> u32
 
 /// Replays the writes of a round to the guest's own pages, in the order of the trace: of each it stores the place, and then
 /// marks the page. The seat has done nothing before, and the table opened with the versions before the round.
-pub fn replay<G: Gate>(
-    trace: &Trace,
+pub fn replay<W: WriteLog, G: Gate>(
+    trace: &W,
     ticks: Ticks,
     table: &RoundTable,
     gate: &G,
@@ -64,17 +64,19 @@ pub fn replay<G: Gate>(
 ) -> GuestSeat
     requires table { guest_table seat ≡ table.now }
     requires idle { seat.facts ≡ first_guest table.now.start seat.facts.number }
-    requires opening { OpensAt trace.now ticks.from table.now.start }
+    requires opening { OpensAt (W.trace trace.now) ticks.from table.now.start }
     ensures table { guest_table result ≡ table.now }
     ensures number { result.facts.number ≡ seat.facts.number }
-    ensures replayed { HasReplayed trace.now ticks.from ticks.to result.facts }
+    ensures replayed { HasReplayed (W.trace trace.now) ticks.from ticks.to result.facts }
 {
+    // It tells a trace: that is known where it was asked for the trace's shape.
+    let _ = trace.shape();
     let mut seat = seat;
     let first = trace.before(ticks.from);
     let end = trace.before(ticks.to);
     for index in first..end {
-        let page = trace.writes[index].page;
-        replay_own(table, gate, &mut seat, page, place_of(index));
+        let touch = trace.touch(index);
+        replay_own(table, gate, &mut seat, touch.page, place_of(index));
     }
     seat
 }

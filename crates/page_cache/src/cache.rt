@@ -13,46 +13,46 @@ use lru::LruCache;
 use page_versions::PageIndex;
 use std::alloc::Global;
 use std::marker::Model;
-use trace_codec::Trace;
+use trace_codec::WriteLog;
 
 /// Pages of a trace, each with the version that it was last asked for: at most so many, and the one that was not used for
 /// longest goes first.
 #[derive(Debug, Drop)]
-pub struct PageCache<'a> {
-    trace: &'a Trace,
+pub struct PageCache<'a, W: WriteLog> {
+    trace: &'a W,
     index: &'a PageIndex,
     kept: LruCache<u32, Kept>,
 }
 
-impl<'a> Model for PageCache<'a> {
+impl<'a, W: WriteLog> Model for PageCache<'a, W> {
     ghost Value = { GuestCache };
 
-    ghost view = { λ c. cache_with c.trace.now c.kept.entries c.kept.cap };
+    ghost view = { λ c. cache_with (W.trace c.trace.now) c.kept.entries c.kept.cap };
 
-    ghost invariant = { λ c. IsIndexOf c.index.now c.trace.now × AreKept c.trace.now c.kept.entries };
+    ghost invariant = { λ c. IsIndexOf c.index.now (W.trace c.trace.now) × AreKept (W.trace c.trace.now) c.kept.entries };
 }
 
-impl<'a> PageCache<'a> {
+impl<'a, W: WriteLog> PageCache<'a, W> {
     /// A cache that keeps nothing yet, and at most `capacity` pages later.
     pub fn new(
         alloc: Global,
-        trace: &'a Trace,
+        trace: &'a W,
         index: &'a PageIndex,
         capacity: usize,
-    ) -> Result<PageCache<'a>, CacheError>
-        requires of { IsIndexOf index.now trace.now }
+    ) -> Result<PageCache<'a, W>, CacheError>
+        requires of { IsIndexOf index.now (W.trace trace.now) }
         requires capacity { (1 ≤ capacity) × (capacity ≤ 4_096) }
-        ensures { IfOk result (λ cache. cache ≡ cache_with trace.now [] capacity) }
+        ensures { IfOk result (λ cache. cache ≡ cache_with (W.trace trace.now) [] capacity) }
     {
         let pages = KeptPages::new(alloc, capacity)?;
         Ok(PageCache::with_pages(trace, index, pages))
     }
 
     /// A cache that goes on with pages that one of the same trace kept.
-    pub fn with_pages(trace: &'a Trace, index: &'a PageIndex, pages: KeptPages) -> PageCache<'a>
-        requires of { IsIndexOf index.now trace.now }
-        requires kept { AreKept trace.now pages.entries }
-        ensures { result ≡ cache_with trace.now pages.entries pages.capacity }
+    pub fn with_pages(trace: &'a W, index: &'a PageIndex, pages: KeptPages) -> PageCache<'a, W>
+        requires of { IsIndexOf index.now (W.trace trace.now) }
+        requires kept { AreKept (W.trace trace.now) pages.entries }
+        ensures { result ≡ cache_with (W.trace trace.now) pages.entries pages.capacity }
     {
         let KeptPages { kept } = pages;
         PageCache { trace, index, kept }

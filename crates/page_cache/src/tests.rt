@@ -42,7 +42,7 @@ fn page_with(set: &[(usize, u8)]) -> Result<[u8; 16], Fail> {
 /// What the cache of a trace answers for a page of it.
 fn bytes_of(
     alloc: Global,
-    cache: &mut PageCache<'_>,
+    cache: &mut PageCache<'_, Trace>,
     trace: &Trace,
     page: u32,
     version: u32,
@@ -64,7 +64,7 @@ fn new_cache<'a>(
     trace: &'a Trace,
     index: &'a PageIndex,
     capacity: usize,
-) -> Result<PageCache<'a>, Fail>
+) -> Result<PageCache<'a, Trace>, Fail>
     ensures { IfOk result (λ cache. cache.trace ≡ trace.now) }
 {
     if !index.is_of(trace) || capacity == 0 || capacity > 4_096 {

@@ -5,7 +5,6 @@ ghost use Rattle.std.specs.List.{list_all};
 ghost use Rattle.std.specs.Int.{w32};
 ghost use Rattle.migration_model.specs.Frames.{IsFrame, PageFrame, SpellsFrame, frame_text};
 ghost use Rattle.migration_model.specs.Numbers.{number_in};
-ghost use Rattle.page_message.specs.Bodies.{body_of};
 ghost use Rattle.page_message.specs.Reading.{body_in, bytes_in, size_in};
 ghost use Rattle.page_message.specs.Refusals.{RefusesFrame, frame_refusal};
 ghost use Rattle.page_message.specs.Shapes.{shape_of};

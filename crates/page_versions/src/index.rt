@@ -15,7 +15,7 @@ use crate::searching::{greatest_before, places_after, places_to};
 use std::alloc::Global;
 use std::marker::Model;
 use std::thread::Threads;
-use trace_codec::{Touch, Trace};
+use trace_codec::{Touch, WriteLog};
 
 /// The writes of a trace by page: for each page the places of its writes, and their ticks. A write's place is 1 for the
 /// first write of the trace. The bytes that are written stay in the trace.
@@ -37,17 +37,18 @@ impl Model for PageIndex {
 
 impl PageIndex {
     /// The index of a trace. Pairs of page and place are sorted, in several threads.
-    pub fn build(
+    pub fn build<W: WriteLog>(
         rt: &(impl Threads + Sync),
         alloc: Global,
-        trace: &Trace,
+        trace: &W,
     ) -> Result<PageIndex, IndexError>
-        ensures { IfOk result (λ index. IsIndexOf index trace.now) }
+        ensures { IfOk result (λ index. IsIndexOf index (W.trace trace.now)) }
     {
+        let pages = trace.page_count();
         let touches = touches_in(alloc, trace)?;
-        let Parts { starts, places } = parts_of(rt, alloc, trace.pages, &touches)?;
+        let Parts { starts, places } = parts_of(rt, alloc, pages, &touches)?;
         Ok(PageIndex {
-            pages: trace.pages,
+            pages,
             touches,
             starts,
             places,
@@ -93,17 +94,17 @@ impl PageIndex {
     }
 
     /// The page after the first `version` writes of the trace. Only the page's own writes are put there.
-    pub fn bytes_at(
+    pub fn bytes_at<W: WriteLog>(
         &self,
         alloc: Global,
-        trace: &Trace,
+        trace: &W,
         page: u32,
         version: u32,
     ) -> Result<Vec<u8>, IndexError>
-        requires of { IsIndexOf self.now trace.now }
+        requires of { IsIndexOf self.now (W.trace trace.now) }
         requires page { page < self.now.pages }
-        requires version { version ≤ length trace.now.writes }
-        ensures { IfOk result (λ v. v.items ≡ page_at trace.now page version) }
+        requires version { version ≤ length (W.trace trace.now).writes }
+        ensures { IfOk result (λ v. v.items ≡ page_at (W.trace trace.now) page version) }
     {
         let mut bytes = Vec::new(alloc);
         self.bytes_into(trace, page, version, &mut bytes)?;
@@ -111,33 +112,33 @@ impl PageIndex {
     }
 
     /// The same in a room that is used again: what stood there goes.
-    pub fn bytes_into(
+    pub fn bytes_into<W: WriteLog>(
         &self,
-        trace: &Trace,
+        trace: &W,
         page: u32,
         version: u32,
         room: &mut Vec<u8>,
     ) -> Result<(), IndexError>
-        requires of { IsIndexOf self.now trace.now }
+        requires of { IsIndexOf self.now (W.trace trace.now) }
         requires page { page < self.now.pages }
-        requires version { version ≤ length trace.now.writes }
-        ensures { OnOk result (room.new.items ≡ page_at trace.now page version) }
+        requires version { version ≤ length (W.trace trace.now).writes }
+        ensures { OnOk result (room.new.items ≡ page_at (W.trace trace.now) page version) }
     {
         put_bytes(room, trace, places_to(self.part(page), version))
     }
 
     /// Whether the index has the trace's pages and touches.
-    fn has_touches_of(&self, trace: &Trace) -> bool
-        ensures { IsTrue result ↔ IsIndexOf self.now trace.now }
+    fn has_touches_of<W: WriteLog>(&self, trace: &W) -> bool
+        ensures { IsTrue result ↔ IsIndexOf self.now (W.trace trace.now) }
     {
-        self.pages == trace.pages && are_touches(&self.touches, &trace.writes)
+        self.pages == trace.page_count() && are_touches(&self.touches, trace)
     }
 
     /// Whether the index is of this trace: it has the trace's pages, and for each page the places and the ticks of its
     /// writes. It takes no memory.
-    pub fn is_of(&self, trace: &Trace) -> bool
-        ensures index { IsTrue result ↔ IsIndexOf self.now trace.now }
-        ensures each_page { IsTrue result ↔ HasWritesOf self.now trace.now }
+    pub fn is_of<W: WriteLog>(&self, trace: &W) -> bool
+        ensures index { IsTrue result ↔ IsIndexOf self.now (W.trace trace.now) }
+        ensures each_page { IsTrue result ↔ HasWritesOf self.now (W.trace trace.now) }
     {
         self.has_touches_of(trace)
     }

@@ -9,7 +9,7 @@ mod making;
 mod searching;
 mod sorting;
 
-pub use bytes::write_over;
+pub use bytes::put_writes;
 pub use error::IndexError;
 pub use index::PageIndex;
 pub use searching::places_to;

@@ -1,7 +1,7 @@
 //! What an index is made of.
 
-ghost use Rattle.std.specs.Prelude.{◌≡◌, ◌↔◌, ◌≤◌, IfOk, IsTrue, length, map};
-ghost use Rattle.migration_model.specs.Touches.{AreTouches, touch_of, touches_of};
+ghost use Rattle.std.specs.Prelude.{◌≡◌, ◌↔◌, ◌≤◌, IfOk, IsTrue};
+ghost use Rattle.migration_model.specs.Touches.{AreTouches};
 ghost use Rattle.page_versions.specs.Layout.{IsLaidOut};
 
 use crate::error::IndexError;
@@ -9,18 +9,17 @@ use crate::laying::{Parts, lay_out};
 use crate::sorting::{keys_of, sort_keys};
 use std::alloc::{AllocError, Global};
 use std::thread::Threads;
-use trace_codec::{Touch, Trace, Write};
+use trace_codec::{Timeline, Touch};
 
-/// When each write was, and to which page.
-pub(crate) fn touches_in(alloc: Global, trace: &Trace) -> Result<Vec<Touch>, AllocError>
-    ensures { IfOk result (λ v. v.items ≡ touches_of trace.now) }
+/// All touches in order.
+pub(crate) fn touches_in<T: Timeline>(alloc: Global, timeline: &T) -> Result<Vec<Touch>, AllocError>
+    ensures all { IfOk result (λ v. v.items ≡ T.touches timeline.now) }
+    ensures fits { IfOk result (λ v. AreTouches (T.pages timeline.now) v.items) }
 {
-    let mut touches = Vec::with_capacity(alloc, trace.writes.len())?;
-    for write in &trace.writes {
-        touches.push(Touch {
-            tick: write.tick,
-            page: write.page,
-        })?;
+    let count = timeline.touch_count();
+    let mut touches = Vec::with_capacity(alloc, count)?;
+    for index in 0..count {
+        touches.push(timeline.touch(index))?;
     }
     Ok(touches)
 }
@@ -41,17 +40,17 @@ pub(crate) fn parts_of(
     Ok(lay_out(alloc, pages, &keys)?)
 }
 
-/// Whether these are the touches of the writes.
-pub(crate) fn are_touches(touches: &[Touch], writes: &[Write]) -> bool
-    ensures { IsTrue result ↔ (touches.now ≡ map touch_of writes.now) }
+/// Whether these are all touches that are told.
+pub(crate) fn are_touches<T: Timeline>(touches: &[Touch], timeline: &T) -> bool
+    ensures { IsTrue result ↔ (touches.now ≡ T.touches timeline.now) }
 {
-    if touches.len() != writes.len() {
+    if touches.len() != timeline.touch_count() {
         return false;
     }
     for i in 0..touches.len() {
         let touch = touches[i];
-        let write = &writes[i];
-        if touch.tick != write.tick || touch.page != write.page {
+        let other = timeline.touch(i);
+        if touch.tick != other.tick || touch.page != other.page {
             return false;
         }
     }

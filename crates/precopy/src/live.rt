@@ -14,10 +14,10 @@ use rate_limit::Settings;
 use std::alloc::Global;
 use std::sync::Wait;
 use std::thread::Threads;
-use trace_codec::{Source, Trace, read_trace};
+use trace_codec::{Source, TraceText};
 
 /// The bytes of the memory of a guest that stopped: as they are, or after it has resumed.
-fn shown(stopped: Stopped, trace: &Trace, show: Show) -> Vec<u8>
+fn shown(stopped: Stopped, trace: &TraceText, show: Show) -> Vec<u8>
     requires { IsStoppedAt trace.now stopped.versions.items stopped.index stopped.at_stop }
     ensures { (settings : MigrationSettings) → IsStopped trace.now settings stopped.stop stopped.at_stop stopped.versions.items stopped.index stopped.rounds.items
         → IsShown show trace.now settings result.items }
@@ -34,7 +34,7 @@ fn live_of_trace<R: Threads + Wait + Sync, G: Gate>(
     alloc: Global,
     settings: &Settings,
     show: Show,
-    trace: &Trace,
+    trace: &TraceText,
     gate: &G,
 ) -> Result<Vec<u8>, RunError>
     ensures made { IfOk result (λ v. IsTrace trace.now × IsShown show trace.now settings.now v.items) }
@@ -63,7 +63,7 @@ pub(crate) fn live_output<R: Threads + Wait + Sync, S: Source, G: Gate>(
         → IfErr result IsOutsideRun }
     ensures read_failed { (result ≡ Err (RunError.Trace ReadFault)) ↔ (S.has_failed source.new ≡ true) }
 {
-    match read_trace(alloc, source) {
+    match TraceText::read(alloc, source) {
         Ok(trace) => live_of_trace(rt, alloc, settings, show, &trace, gate),
         Err(refusal) => Err(RunError::Trace(refusal)),
     }

@@ -1,6 +1,6 @@
 //! The settings that a migration and a report keep to.
 
-ghost use Rattle.std.specs.Prelude.{◌≡◌, ◌↔◌, ◌&&◌, nat_le, IfErr, IfOk, IsOk, None, Some};
+ghost use Rattle.std.specs.Prelude.{◌≡◌, ◌↔◌, ◌&&◌, IfErr, IfOk, IsOk, None, Some};
 ghost use Rattle.migration_model.specs.Rates.{AreSettings, MigrationSettings};
 ghost use Rattle.rate_limit.specs.Refusals.{is_between, is_parallelism, refusal_of};
 

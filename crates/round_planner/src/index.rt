@@ -1,6 +1,6 @@
 //! What the plans of one trace share.
 
-ghost use Rattle.std.specs.Prelude.{◌≡◌, ◌≤◌, ◌<◌, ◌-◌, ◌^◌, ℕ, IfErr, IfOk, drop, length, nat_le, take};
+ghost use Rattle.std.specs.Prelude.{◌≡◌, ◌≤◌, ◌<◌, ◌-◌, ◌^◌, IfErr, IfOk, drop, length, nat_le, take};
 ghost use Rattle.std.specs.List.{count_by};
 ghost use Rattle.round_planner.specs.Indexing.{IsRoundIndexOf};
 

@@ -1,6 +1,6 @@
 //! Marks of pages, 64 to a word, the lowest bit first.
 
-ghost use Rattle.std.specs.Prelude.{◌≡◌, ◌≤◌, ◌<◌, ◌+◌, ◌/◌, ◌++◌, ℕ, length, take};
+ghost use Rattle.std.specs.Prelude.{◌≡◌, ◌≤◌, ◌<◌, ◌+◌, ◌/◌, ◌++◌, length, take};
 ghost use Rattle.dirty_core.specs.Pages.{in_words, one_page, union, SamePages};
 ghost use Rattle.round_planner.specs.Marking.{marked, pages_of_word, word_count};
 

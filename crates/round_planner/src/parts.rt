@@ -1,7 +1,6 @@
 //! Plans and their rounds.
 
-ghost use Rattle.std.specs.Prelude.{◌≡◌, ◌≤◌, length};
-ghost use Rattle.std.specs.List.{All};
+ghost use Rattle.std.specs.Prelude.{◌≡◌};
 
 use rate_limit::Reason;
 use std::marker::Model;

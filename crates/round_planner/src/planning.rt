@@ -1,6 +1,6 @@
 //! A plan, round by round.
 
-ghost use Rattle.std.specs.Prelude.{◌≡◌, ◌≤◌, ◌<◌, ◌+◌, ◌*◌, ◌/◌, ◌&&◌, ℕ, nat_le, IfErr, IfOk, length};
+ghost use Rattle.std.specs.Prelude.{◌≡◌, ◌<◌, ◌+◌, ◌*◌, ◌/◌, ◌&&◌, nat_le, IfErr, IfOk, length};
 ghost use Rattle.std.specs.List.{range_with_len};
 ghost use Rattle.migration_model.specs.Rates.{duration_of};
 ghost use Rattle.migration_model.specs.Rounds.{IsPlan, IsSent, plan_with};

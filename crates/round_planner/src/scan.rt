@@ -1,7 +1,6 @@
 //! A walk over what is touched from a round's first tick on, which marks the pages that it meets.
 
-ghost use Rattle.std.specs.Prelude.{◌≡◌, ◌≤◌, ◌<◌, ◌+◌, ◌*◌, ◌/◌, ◌^◌, ◌++◌, ◌∷◌, ◌&&◌, [], not, ℕ, IfOk, IfSome, OnOk, None, if◌then◌else◌, true, false, List, length, slice_index_or, take};
-ghost use Rattle.std.specs.List.{All, filter, range_with_len};
+ghost use Rattle.std.specs.Prelude.{◌≡◌, ◌≤◌, ◌<◌, ◌+◌, ◌*◌, ◌/◌, ◌^◌, ◌++◌, ◌∷◌, [], not, ℕ, IfOk, IfSome, OnOk, None, if◌then◌else◌, true, List, length, slice_index_or};
 ghost use Rattle.migration_model.specs.Touches.{AreTouches, GuestTouch, is_written, no_touch};
 ghost use Rattle.migration_model.specs.Rounds.{IsSent};
 ghost use Rattle.round_planner.specs.Indexing.{HasSent};

@@ -18,32 +18,32 @@ use std::alloc::Global;
 use std::sync::Wait;
 use std::thread::Threads;
 use stream_split::Dealer;
-use trace_codec::Trace;
+use trace_codec::WriteLog;
 
 /// Gives each page that is still marked once more, at its version, to one of the parts, of which there is one for each
 /// stream. Frames are made in so many workers and dealt out in the order of their pages. After a refusal the parts are
 /// gone. `Thread` is answered only where a thread could not be started.
-pub fn final_copy<R: Threads + Wait + Sync>(
+pub fn final_copy<R: Threads + Wait + Sync, W: WriteLog + Sync>(
     rt: &R,
     alloc: Global,
-    trace: &Trace,
+    trace: &W,
     index: &PageIndex,
     closed: &Closed,
     workers: usize,
     streams: usize,
     parts: Vec<Part>,
 ) -> Result<Vec<Part>, CopyError>
-    requires of { IsIndexOf index.now trace.now }
-    requires closed { FitsPages closed.now trace.now.pages (length trace.now.writes) }
+    requires of { IsIndexOf index.now (W.trace trace.now) }
+    requires closed { FitsPages closed.now (W.trace trace.now).pages (length (W.trace trace.now).writes) }
     requires some_workers { 1 ≤ workers }
     requires few_workers { workers ≤ 16 }
     requires some_streams { 1 ≤ streams }
     requires few_streams { streams ≤ 16 }
     requires parts { length parts.items ≡ streams }
-    requires shapes { All (λ part. part.shape ≡ shape_of_trace trace.now) parts.items }
-    ensures { IfOk result (λ copied. IsFinalCopy trace.now closed.now.versions (in_words closed.now.dirty) parts.items copied.items) }
+    requires shapes { All (λ part. part.shape ≡ shape_of_trace (W.trace trace.now)) parts.items }
+    ensures { IfOk result (λ copied. IsFinalCopy (W.trace trace.now) closed.now.versions (in_words closed.now.dirty) parts.items copied.items) }
 {
-    let marked = pages_marked(alloc, &closed.dirty, trace.pages)?;
+    let marked = pages_marked(alloc, &closed.dirty, trace.shape().pages)?;
     let frames = frames_by_workers(rt, alloc, trace, index, &closed.versions, &marked, workers)?;
     let mut parts = parts;
     know_parts(&parts);

@@ -1,6 +1,6 @@
 //! Frames dealt out to parts.
 
-ghost use Rattle.std.specs.Prelude.{◌≡◌, ◌≤◌, ◌++◌, List, OnOk, length, slice_index_or, slice_set};
+ghost use Rattle.std.specs.Prelude.{◌≡◌, ◌++◌, List, OnOk, length};
 ghost use Rattle.std.specs.List.{All};
 ghost use Rattle.migration_model.specs.Frames.{IsFrame, PageFrame};
 ghost use Rattle.migration_model.specs.Parts.{IsPart};

@@ -9,41 +9,42 @@ use crate::error::CopyError;
 use page_message::{Frame, frame_of};
 use page_versions::PageIndex;
 use std::alloc::Global;
-use trace_codec::Trace;
+use trace_codec::WriteLog;
 
 /// The frame of a page at its version.
-fn frame_at(
+fn frame_at<W: WriteLog>(
     alloc: Global,
-    trace: &Trace,
+    trace: &W,
     index: &PageIndex,
     versions: &[u32],
     page: u32,
 ) -> Result<Frame, CopyError>
-    requires of { IsIndexOf index.now trace.now }
-    requires page { page < trace.now.pages }
-    requires versions { length versions.now ≡ trace.now.pages }
-    requires low { All (λ version. version ≤ length trace.now.writes) versions.now }
-    ensures frame { IfOk result (IsCurrentFrame trace.now versions.now) }
+    requires of { IsIndexOf index.now (W.trace trace.now) }
+    requires page { page < (W.trace trace.now).pages }
+    requires versions { length versions.now ≡ (W.trace trace.now).pages }
+    requires low { All (λ version. version ≤ length (W.trace trace.now).writes) versions.now }
+    ensures frame { IfOk result (IsCurrentFrame (W.trace trace.now) versions.now) }
     ensures own { IfOk result (λ frame. frame.page ≡ page) }
 {
+    let shape = trace.shape();
     let version = versions[page as usize];
     let bytes = index.bytes_at(alloc, trace, page, version)?;
-    Ok(frame_of(&trace.shape(), page, version, bytes))
+    Ok(frame_of(&shape, page, version, bytes))
 }
 
 /// The frames of these pages, in order, each at its version.
-pub(crate) fn frames_of(
+pub(crate) fn frames_of<W: WriteLog>(
     alloc: Global,
-    trace: &Trace,
+    trace: &W,
     index: &PageIndex,
     versions: &[u32],
     pages: &[u32],
 ) -> Result<Vec<Frame>, CopyError>
-    requires of { IsIndexOf index.now trace.now }
-    requires pages { All (λ page. page < trace.now.pages) pages.now }
-    requires versions { length versions.now ≡ trace.now.pages }
-    requires low { All (λ version. version ≤ length trace.now.writes) versions.now }
-    ensures { IfOk result (λ frames. AreCurrentFrames trace.now versions.now pages.now frames.items) }
+    requires of { IsIndexOf index.now (W.trace trace.now) }
+    requires pages { All (λ page. page < (W.trace trace.now).pages) pages.now }
+    requires versions { length versions.now ≡ (W.trace trace.now).pages }
+    requires low { All (λ version. version ≤ length (W.trace trace.now).writes) versions.now }
+    ensures { IfOk result (λ frames. AreCurrentFrames (W.trace trace.now) versions.now pages.now frames.items) }
 {
     let mut frames = Vec::with_capacity(alloc, pages.len())?;
     for page in pages {

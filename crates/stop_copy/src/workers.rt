@@ -15,7 +15,7 @@ use std::alloc::Global;
 use std::sync::Wait;
 use std::thread;
 use std::thread::{Promise, PromisedHandle, Scope, Threads, join_promised};
-use trace_codec::Trace;
+use trace_codec::WriteLog;
 
 /// Frames of as many pages take longer to make than a thread takes to start.
 const WORTH_A_THREAD: usize = 512;
@@ -25,30 +25,30 @@ type Made = Result<Vec<Frame>, CopyError>;
 
 /// A thread's promise: the frames of these pages, at these versions of the trace.
 #[derive(Drop)]
-struct MakesFrames<'a> {
-    trace: &'a Trace,
+struct MakesFrames<'a, W> {
+    trace: &'a W,
     versions: &'a [u32],
     pages: &'a [u32],
 }
 
-impl<'a> Promise<Made> for MakesFrames<'a> {
-    ghost kept_by = { λ p r. IfOk r (λ frames. AreCurrentFrames p.trace.now p.versions.now p.pages.now frames.items) };
+impl<'a, W: WriteLog> Promise<Made> for MakesFrames<'a, W> {
+    ghost kept_by = { λ p r. IfOk r (λ frames. AreCurrentFrames (W.trace p.trace.now) p.versions.now p.pages.now frames.items) };
 }
 
 /// Starts a thread that makes the frames of these pages.
-fn start_piece<'s, E>(
+fn start_piece<'s, E, W: WriteLog + Sync>(
     scope: &'s Scope<'s, E>,
     alloc: Global,
-    trace: &'s Trace,
+    trace: &'s W,
     index: &'s PageIndex,
     versions: &'s [u32],
     pages: &'s [u32],
-) -> Result<PromisedHandle<Made, MakesFrames<'s>>, CopyError>
-    requires of { IsIndexOf index.now trace.now }
-    requires pages { All (λ page. page < trace.now.pages) pages.now }
-    requires versions { length versions.now ≡ trace.now.pages }
-    requires low { All (λ version. version ≤ length trace.now.writes) versions.now }
-    ensures trace { IfOk result (λ h. h.promise.trace.now ≡ trace.now) }
+) -> Result<PromisedHandle<Made, MakesFrames<'s, W>>, CopyError>
+    requires of { IsIndexOf index.now (W.trace trace.now) }
+    requires pages { All (λ page. page < (W.trace trace.now).pages) pages.now }
+    requires versions { length versions.now ≡ (W.trace trace.now).pages }
+    requires low { All (λ version. version ≤ length (W.trace trace.now).writes) versions.now }
+    ensures trace { IfOk result (λ h. W.trace h.promise.trace.now ≡ W.trace trace.now) }
     ensures versions { IfOk result (λ h. h.promise.versions.now ≡ versions.now) }
     ensures pages { IfOk result (λ h. h.promise.pages.now ≡ pages.now) }
 {
@@ -58,34 +58,34 @@ fn start_piece<'s, E>(
         pages,
     };
     let run = move || -> Made
-        requires of { IsIndexOf index.now trace.now }
-        requires pages { All (λ page. page < trace.now.pages) pages.now }
-        requires versions { length versions.now ≡ trace.now.pages }
-        requires low { All (λ version. version ≤ length trace.now.writes) versions.now }
-        ensures { IfOk result (λ frames. AreCurrentFrames trace.entry.now versions.entry.now pages.entry.now frames.items) }
+        requires of { IsIndexOf index.now (W.trace trace.now) }
+        requires pages { All (λ page. page < (W.trace trace.now).pages) pages.now }
+        requires versions { length versions.now ≡ (W.trace trace.now).pages }
+        requires low { All (λ version. version ≤ length (W.trace trace.now).writes) versions.now }
+        ensures { IfOk result (λ frames. AreCurrentFrames (W.trace trace.entry.now) versions.entry.now pages.entry.now frames.items) }
     { frames_of(alloc, trace, index, versions, pages) };
     scope.spawn_with(promise, run).or(Err(CopyError::Thread))
 }
 
 /// Starts a thread for each piece of so many pages.
-fn start_pieces<'s, E>(
+fn start_pieces<'s, E, W: WriteLog + Sync>(
     scope: &'s Scope<'s, E>,
     alloc: Global,
-    trace: &'s Trace,
+    trace: &'s W,
     index: &'s PageIndex,
     versions: &'s [u32],
     pages: &'s [u32],
     size: usize,
-    handles: &mut Vec<PromisedHandle<Made, MakesFrames<'s>>>,
+    handles: &mut Vec<PromisedHandle<Made, MakesFrames<'s, W>>>,
 ) -> Result<(), CopyError>
-    requires of { IsIndexOf index.now trace.now }
-    requires pages { All (λ page. page < trace.now.pages) pages.now }
-    requires versions { length versions.now ≡ trace.now.pages }
-    requires low { All (λ version. version ≤ length trace.now.writes) versions.now }
+    requires of { IsIndexOf index.now (W.trace trace.now) }
+    requires pages { All (λ page. page < (W.trace trace.now).pages) pages.now }
+    requires versions { length versions.now ≡ (W.trace trace.now).pages }
+    requires low { All (λ version. version ≤ length (W.trace trace.now).writes) versions.now }
     requires size { 1 ≤ size }
     requires none { handles.old.items ≡ [] }
     ensures pieces { OnOk result (flat_map (λ h. h.promise.pages.now) handles.new.items ≡ pages.now) }
-    ensures same { OnOk result (All (λ h. (h.promise.trace.now ≡ trace.now) × (h.promise.versions.now ≡ versions.now)) handles.new.items) }
+    ensures same { OnOk result (All (λ h. (W.trace h.promise.trace.now ≡ W.trace trace.now) × (h.promise.versions.now ≡ versions.now)) handles.new.items) }
 {
     let mut rest = pages;
     while !rest.is_empty() {
@@ -99,12 +99,12 @@ fn start_pieces<'s, E>(
 }
 
 /// Joins the threads. Each is joined also where there is no memory for what they made.
-fn join_pieces<'s, R: Threads>(
+fn join_pieces<'s, R: Threads, W: WriteLog>(
     rt: &R,
-    handles: Vec<PromisedHandle<Made, MakesFrames<'s>>>,
+    handles: Vec<PromisedHandle<Made, MakesFrames<'s, W>>>,
 ) -> Result<Vec<Made>, CopyError>
     ensures { IfOk result (λ made. (trace : GuestTrace) (versions : List ℕ)
-        → All (λ h. (h.promise.trace.now ≡ trace) × (h.promise.versions.now ≡ versions)) handles.entry.items
+        → All (λ h. (W.trace h.promise.trace.now ≡ trace) × (h.promise.versions.now ≡ versions)) handles.entry.items
         → AreMade trace versions (map (λ h. h.promise.pages.now) handles.entry.items) made.items) }
 {
     match join_promised(rt, handles) {
@@ -119,22 +119,22 @@ fn join_pieces<'s, R: Threads>(
 }
 
 /// Starts the threads and joins them. Those that run are joined before any refusal is answered.
-fn make_in_scope<'s, E, R: Threads>(
+fn make_in_scope<'s, E, R: Threads, W: WriteLog + Sync>(
     rt: &R,
     scope: &'s Scope<'s, E>,
     alloc: Global,
-    trace: &'s Trace,
+    trace: &'s W,
     index: &'s PageIndex,
     versions: &'s [u32],
     pages: &'s [u32],
     size: usize,
 ) -> Result<Vec<Made>, CopyError>
-    requires of { IsIndexOf index.now trace.now }
-    requires pages { All (λ page. page < trace.now.pages) pages.now }
-    requires versions { length versions.now ≡ trace.now.pages }
-    requires low { All (λ version. version ≤ length trace.now.writes) versions.now }
+    requires of { IsIndexOf index.now (W.trace trace.now) }
+    requires pages { All (λ page. page < (W.trace trace.now).pages) pages.now }
+    requires versions { length versions.now ≡ (W.trace trace.now).pages }
+    requires low { All (λ version. version ≤ length (W.trace trace.now).writes) versions.now }
     requires size { 1 ≤ size }
-    ensures { IfOk result (λ made. AreMadeOf trace.now versions.now pages.now made.items) }
+    ensures { IfOk result (λ made. AreMadeOf (W.trace trace.now) versions.now pages.now made.items) }
 {
     let mut handles = Vec::new(alloc);
     let started = start_pieces(
@@ -167,21 +167,21 @@ fn all_frames(alloc: Global, made: Vec<Made>) -> Result<Vec<Frame>, CopyError>
 
 /// The frames of these pages, in order, each at its version, made by so many workers. Where there are few pages, no thread
 /// is started.
-pub(crate) fn frames_by_workers<R: Threads + Wait + Sync>(
+pub(crate) fn frames_by_workers<R: Threads + Wait + Sync, W: WriteLog + Sync>(
     rt: &R,
     alloc: Global,
-    trace: &Trace,
+    trace: &W,
     index: &PageIndex,
     versions: &[u32],
     pages: &[u32],
     workers: usize,
 ) -> Result<Vec<Frame>, CopyError>
-    requires of { IsIndexOf index.now trace.now }
-    requires pages { All (λ page. page < trace.now.pages) pages.now }
-    requires versions { length versions.now ≡ trace.now.pages }
-    requires low { All (λ version. version ≤ length trace.now.writes) versions.now }
+    requires of { IsIndexOf index.now (W.trace trace.now) }
+    requires pages { All (λ page. page < (W.trace trace.now).pages) pages.now }
+    requires versions { length versions.now ≡ (W.trace trace.now).pages }
+    requires low { All (λ version. version ≤ length (W.trace trace.now).writes) versions.now }
     requires some { 1 ≤ workers }
-    ensures { IfOk result (λ frames. AreCurrentFrames trace.now versions.now pages.now frames.items) }
+    ensures { IfOk result (λ frames. AreCurrentFrames (W.trace trace.now) versions.now pages.now frames.items) }
 {
     let size = (pages.len() / workers + 1).max(WORTH_A_THREAD);
     if pages.len() <= size {
@@ -191,12 +191,12 @@ pub(crate) fn frames_by_workers<R: Threads + Wait + Sync>(
         thread::scope_env(),
         rt,
         |scope| -> Result<Vec<Made>, CopyError>
-            requires of { IsIndexOf index.now trace.now }
-            requires pages { All (λ page. page < trace.now.pages) pages.now }
-            requires versions { length versions.now ≡ trace.now.pages }
-            requires low { All (λ version. version ≤ length trace.now.writes) versions.now }
+            requires of { IsIndexOf index.now (W.trace trace.now) }
+            requires pages { All (λ page. page < (W.trace trace.now).pages) pages.now }
+            requires versions { length versions.now ≡ (W.trace trace.now).pages }
+            requires low { All (λ version. version ≤ length (W.trace trace.now).writes) versions.now }
             requires size { 1 ≤ size }
-            ensures { IfOk result (λ made. AreMadeOf trace.entry.now versions.entry.now pages.entry.now made.items) }
+            ensures { IfOk result (λ made. AreMadeOf (W.trace trace.entry.now) versions.entry.now pages.entry.now made.items) }
         { make_in_scope(rt, scope, alloc, trace, index, versions, pages, size) },
     )?;
     all_frames(alloc, made)

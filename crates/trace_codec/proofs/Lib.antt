@@ -9,3 +9,4 @@ pub mod Made
 pub mod Longer
 pub mod Logs
 pub mod OneMore
+pub mod Texts

@@ -3,3 +3,4 @@ pub mod Reading
 pub mod Writes
 pub mod Source
 pub mod Pieces
+pub mod Texts

@@ -2,9 +2,8 @@
 
 ghost use Rattle.std.specs.Prelude.{◌≡◌, ◌++◌, ◌^◌, ◌<◌, IfErr, IfOk, OnOk, length};
 ghost use Rattle.std.specs.Int.{w16, w32, w64};
-ghost use Rattle.std.specs.List.{flat_map};
 ghost use Rattle.migration_model.specs.Numbers.{text_of};
-ghost use Rattle.migration_model.specs.Trace.{IsTrace, Spells, header_text, trace_text, write_text};
+ghost use Rattle.migration_model.specs.Trace.{Spells, header_text, trace_text, write_text};
 
 use crate::error::TraceError;
 use crate::trace::Trace;

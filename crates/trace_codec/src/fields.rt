@@ -1,9 +1,9 @@
 //! The numbers at the front of some bytes, and the two kinds of refusal that are read off them.
 
-ghost use Rattle.std.specs.Prelude.{◌≡◌, ◌≤◌, ◌+◌, ℕ, length, drop, slice_index, IfOk, IfErr, OnOk, Some, None};
+ghost use Rattle.std.specs.Prelude.{◌≡◌, ◌≤◌, ◌+◌, length, drop, slice_index, IfOk, IfErr, OnOk, Some, None};
 ghost use Rattle.std.specs.Int.{w16, w32, w64};
 ghost use Rattle.migration_model.specs.Numbers.{number_in};
-ghost use Rattle.migration_model.specs.TraceReading.{tick_in, length_in, rest_after};
+ghost use Rattle.migration_model.specs.TraceReading.{tick_in, rest_after};
 ghost use Rattle.trace_codec.specs.Refusals.{header_refusal, write_refusal};
 
 use crate::error::TraceError;

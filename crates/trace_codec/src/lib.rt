@@ -14,11 +14,15 @@ mod records;
 mod shape;
 mod source;
 mod test_source;
+#[cfg(test)]
+mod tests;
 mod timeline;
 mod touch_log;
 mod trace;
+mod trace_text;
 mod view;
 mod write;
+mod write_log;
 
 pub use decoding::decode;
 pub use encoding::encode;
@@ -32,5 +36,7 @@ pub use test_source::TestSource;
 pub use timeline::{Timeline, Touch};
 pub use touch_log::TouchLog;
 pub use trace::Trace;
+pub use trace_text::TraceText;
 pub use view::TraceView;
 pub use write::{Write, WriteView};
+pub use write_log::WriteLog;

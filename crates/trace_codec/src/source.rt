@@ -1,6 +1,6 @@
 //! Where the bytes of a trace come from.
 
-ghost use Rattle.std.specs.Prelude.{◌≡◌, ◌≤◌, ◌<◌, ℕ, Bool, List, Option, Some, None, is_none, false, vec_len, drop};
+ghost use Rattle.std.specs.Prelude.{◌≡◌, ◌<◌, ℕ, Bool, List, Option, Some, None, is_none, false};
 ghost use Rattle.trace_codec.specs.Source.{SourceState, source_state, ReadsFrom};
 
 use std::io;

@@ -17,7 +17,7 @@ use std::alloc::Global;
 use std::marker::Model;
 
 /// The bytes of the shortest record: its numbers, and one byte that is written.
-const SHORTEST_RECORD: usize = 17;
+pub(crate) const SHORTEST_RECORD: usize = 17;
 
 /// When each write of a trace was, and to which page: 16 bytes a write, however long the writes are.
 #[derive(Debug, Drop)]

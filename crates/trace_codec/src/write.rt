@@ -21,6 +21,28 @@ impl Model for Write {
     ghost view = { λ w. write_with w.tick w.page w.offset w.bytes.items };
 }
 
+impl Write {
+    ghost use Rattle.trace_codec.specs.Writes.{shown};
+
+    /// The same write, whose bytes are left where they stand.
+    pub fn view(&self) -> WriteView<'_>
+        ensures { shown result ≡ self.now }
+    {
+        let Write {
+            tick,
+            page,
+            offset,
+            bytes,
+        } = self;
+        WriteView {
+            tick: *tick,
+            page: *page,
+            offset: *offset,
+            bytes,
+        }
+    }
+}
+
 /// A guest write whose bytes are left where they stand in a trace.
 #[derive(Clone, Copy, Debug)]
 pub struct WriteView<'a> {

@@ -1,7 +1,6 @@
 //! One pass over the writes of a trace.
 
 ghost use Rattle.std.specs.Prelude.{◌≡◌, ◌+◌, ◌^◌, ◌<◌, ◌≤◌, IfOk, OnOk, length, nat_le};
-ghost use Rattle.migration_model.specs.Windows.{WindowRow};
 ghost use Rattle.working_sets.specs.Counting.{blank, CanAdd, counted, finished, HasRoom, mark_of, marked, started, turned, with_row, written};
 
 use crate::hot::hot_pages;

@@ -23,8 +23,8 @@ start_copier-requires-clause-idle g c κs within =
 
 pub start_copier-requires-clause-desk : goal.start_copier-requires-clause-desk
 start_copier-requires-clause-desk g c κs within =
-    All-head (IsDesk c.args.round.now.trace.now c.args.round.now.streams) c.in-Some-pop_front.desk c.pop_front.new.self.items
-    (subst (All (IsDesk c.args.round.now.trace.now c.args.round.now.streams)) c.in-Some-pop_front.ensures.items c.loop-seat.invariant.desks)
+    All-head (IsDesk (g.W.WriteLog.trace c.args.round.now.trace.now) c.args.round.now.streams) c.in-Some-pop_front.desk c.pop_front.new.self.items
+    (subst (All (IsDesk (g.W.WriteLog.trace c.args.round.now.trace.now) c.args.round.now.streams)) c.in-Some-pop_front.ensures.items c.loop-seat.invariant.desks)
 
 pub loop-seat-preserved : goal.loop-seat-preserved
 loop-seat-preserved g c =
@@ -41,7 +41,7 @@ loop-seat-preserved g c =
       rest = rest_of c.loop-seat.yielded (into_iter_items c.loop-seat.seat-iterator) (into_iter_items c.next.new.self) c.args.seats.items c.in-Some.seat
           c.in-Some.ensures.steps.0 c.loop-seat.invariant.rest;
       count_left = grind (arith, c.in-Some-pop_front.ensures.len, c.loop-seat.invariant.count_left, ap length c.in-Some.ensures.steps.0);
-      desks = All-rest (IsDesk c.args.round.now.trace.now c.args.round.now.streams) c.in-Some-pop_front.desk c.pop_front.new.self.items c.loop-seat.desks.items (c.in-Some-pop_front.ensures.items) c.loop-seat.invariant.desks;
-      started = subst (λ hs. EachAt (λ h i. (h.promise.trace.now ≡ c.args.round.now.trace.now) × (h.promise.table.now ≡ c.args.round.now.table.now) × (h.promise.skip ≡ c.args.round.now.skip) × (h.promise.number ≡ i) × (h.promise.streams ≡ c.args.round.now.streams)) hs) (sym items)
-          (each_push (λ h i. (h.promise.trace.now ≡ c.args.round.now.trace.now) × (h.promise.table.now ≡ c.args.round.now.table.now) × (h.promise.skip ≡ c.args.round.now.skip) × (h.promise.number ≡ i) × (h.promise.streams ≡ c.args.round.now.streams)) before handle c.loop-seat.invariant.started (c.in_ok-handle.ensures.0, c.in_ok-handle.ensures.1, c.in_ok-handle.ensures.2, number, c.in_ok-handle.ensures.4));
+      desks = All-rest (IsDesk (g.W.WriteLog.trace c.args.round.now.trace.now) c.args.round.now.streams) c.in-Some-pop_front.desk c.pop_front.new.self.items c.loop-seat.desks.items (c.in-Some-pop_front.ensures.items) c.loop-seat.invariant.desks;
+      started = subst (λ hs. EachAt (λ h i. (g.W.WriteLog.trace h.promise.trace.now ≡ (g.W.WriteLog.trace c.args.round.now.trace.now)) × (h.promise.table.now ≡ c.args.round.now.table.now) × (h.promise.skip ≡ c.args.round.now.skip) × (h.promise.number ≡ i) × (h.promise.streams ≡ c.args.round.now.streams)) hs) (sym items)
+          (each_push (λ h i. (g.W.WriteLog.trace h.promise.trace.now ≡ (g.W.WriteLog.trace c.args.round.now.trace.now)) × (h.promise.table.now ≡ c.args.round.now.table.now) × (h.promise.skip ≡ c.args.round.now.skip) × (h.promise.number ≡ i) × (h.promise.streams ≡ c.args.round.now.streams)) before handle c.loop-seat.invariant.started (c.in_ok-handle.ensures.0, c.in_ok-handle.ensures.1, c.in_ok-handle.ensures.2, number, c.in_ok-handle.ensures.4));
     }

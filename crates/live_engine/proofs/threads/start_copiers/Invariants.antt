@@ -12,6 +12,6 @@ invariant-loop-seat g l = record {
   count : length l.handles.items ≡ length l.yielded;
   rest : l.yielded ++ into_iter_items l.seat-iterator ≡ l.fn.seats.items;
   count_left : length l.desks.items ≡ length (into_iter_items l.seat-iterator);
-  desks : All (IsDesk l.round.trace.now l.round.streams) l.desks.items;
-  started : EachAt (λ h i. (h.promise.trace.now ≡ l.round.trace.now) × (h.promise.table.now ≡ l.round.table.now) × (h.promise.skip ≡ l.round.skip) × (h.promise.number ≡ i) × (h.promise.streams ≡ l.round.streams)) l.handles.items;
+  desks : All (IsDesk (g.W.WriteLog.trace l.round.trace.now) l.round.streams) l.desks.items;
+  started : EachAt (λ h i. (g.W.WriteLog.trace h.promise.trace.now ≡ (g.W.WriteLog.trace l.round.trace.now)) × (h.promise.table.now ≡ l.round.table.now) × (h.promise.skip ≡ l.round.skip) × (h.promise.number ≡ i) × (h.promise.streams ≡ l.round.streams)) l.handles.items;
 }

@@ -32,6 +32,6 @@ loop-seat-preserved g c =
       count = one_longer before handle c.loop-seat.yielded c.in-Some.seat c.push_reserved.new.self.items items c.loop-seat.invariant.count;
       rest = rest_of c.loop-seat.yielded (into_iter_items c.loop-seat.seat-iterator) (into_iter_items c.next.new.self) c.args.seats.items c.in-Some.seat
           c.in-Some.ensures.steps.0 c.loop-seat.invariant.rest;
-      started = subst (λ hs. EachAt (λ h i. (h.promise.trace.now ≡ c.args.trace.now) × (h.promise.table.now ≡ c.args.table.now) × (h.promise.ticks ≡ c.args.ticks) × (h.promise.number ≡ i)) hs) (sym items)
-          (each_push (λ h i. (h.promise.trace.now ≡ c.args.trace.now) × (h.promise.table.now ≡ c.args.table.now) × (h.promise.ticks ≡ c.args.ticks) × (h.promise.number ≡ i)) before handle c.loop-seat.invariant.started (c.in_ok-handle.ensures.0, c.in_ok-handle.ensures.1, c.in_ok-handle.ensures.2, number));
+      started = subst (λ hs. EachAt (λ h i. (g.W.WriteLog.trace h.promise.trace.now ≡ (g.W.WriteLog.trace c.args.trace.now)) × (h.promise.table.now ≡ c.args.table.now) × (h.promise.ticks ≡ c.args.ticks) × (h.promise.number ≡ i)) hs) (sym items)
+          (each_push (λ h i. (g.W.WriteLog.trace h.promise.trace.now ≡ (g.W.WriteLog.trace c.args.trace.now)) × (h.promise.table.now ≡ c.args.table.now) × (h.promise.ticks ≡ c.args.ticks) × (h.promise.number ≡ i)) before handle c.loop-seat.invariant.started (c.in_ok-handle.ensures.0, c.in_ok-handle.ensures.1, c.in_ok-handle.ensures.2, number));
     }

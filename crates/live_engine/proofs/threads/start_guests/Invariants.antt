@@ -9,5 +9,5 @@ invariant-loop-seat g l = record {
   is_finite : (goal.iterator-loop-seat g).is_finite l.seat-iterator;
   count : length l.handles.items ≡ length l.yielded;
   rest : l.yielded ++ into_iter_items l.seat-iterator ≡ l.fn.seats.items;
-  started : EachAt (λ h i. (h.promise.trace.now ≡ l.trace) × (h.promise.table.now ≡ l.table) × (h.promise.ticks ≡ l.ticks) × (h.promise.number ≡ i)) l.handles.items;
+  started : EachAt (λ h i. (g.W.WriteLog.trace h.promise.trace.now ≡ (g.W.WriteLog.trace l.trace)) × (h.promise.table.now ≡ l.table) × (h.promise.ticks ≡ l.ticks) × (h.promise.number ≡ i)) l.handles.items;
 }

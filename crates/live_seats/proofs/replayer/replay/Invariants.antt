@@ -7,5 +7,5 @@ abbrev pub invariant-loop-index : goal.invariant-loop-index
 invariant-loop-index g l = record {
   table : guest_table l.seat ≡ l.table;
   within : l.first < l.index → l.index ≤ l.end;
-  is : IsReplaying l.trace l.table.start l.fn.seat.facts.number l.first l.index l.seat.facts;
+  is : IsReplaying (g.W.WriteLog.trace l.trace) l.table.start l.fn.seat.facts.number l.first l.index l.seat.facts;
 }

@@ -1,6 +1,5 @@
-use Rattle.std.proofs.Common.{◌≡◌, take, map}
-use Rattle.migration_model.specs.Touches.{touch_of}
+use Rattle.std.proofs.Common.{◌≡◌, take}
 use Rattle.page_versions.proofs.making.touches_in.Given as goal
 
-abbrev pub invariant-loop-write : goal.invariant-loop-write
-invariant-loop-write l = l.touches.items ≡ map touch_of (take l.write-index l.write-items)
+abbrev pub invariant-loop-index : goal.invariant-loop-index
+invariant-loop-index g l = l.touches.items ≡ take l.index (g.T.Timeline.touches l.timeline)

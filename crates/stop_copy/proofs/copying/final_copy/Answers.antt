@@ -2,7 +2,6 @@ use Rattle.std.proofs.Common.{◌≡◌, [], ap, ◌∙◌, arith}
 use Rattle.std.proofs.lemmas.List.{append-nil}
 use Rattle.dirty_core.specs.Pages.{in_words}
 use Rattle.dirty_words.specs.Seats.{ClosedView}
-use Rattle.migration_model.specs.Trace.{GuestTrace}
 use Rattle.stream_split.specs.Deals.{Turn}
 use Rattle.stop_copy.specs.Copies.{after_dealing, marked_pages}
 use Rattle.stop_copy.specs.Copies.{AreCurrentFrames}
@@ -13,20 +12,18 @@ use Rattle.stop_copy.proofs.copying.final_copy.Goals as goal
 pub frames_by_workers-requires-clause-pages : goal.frames_by_workers-requires-clause-pages
 frames_by_workers-requires-clause-pages g c = λ κs le.
     let dirty : c.deref.result.now ≡ c.args.closed.now.dirty = c.deref.ensures.value ∙ ap (λ (v : ClosedView). v.dirty) c.closed.view_is in
-    let pages : c.trace.inside.pages ≡ c.args.trace.now.pages = ap (λ (t : GuestTrace). t.pages) c.trace.view_is in
-    rw (c.deref-3.ensures.value, c.in_ok-marked.ensures, dirty, pages) (marked_low (in_words c.args.closed.now.dirty) c.args.trace.now.pages)
+    rw (c.deref-3.ensures.value, c.in_ok-marked.ensures, dirty, c.shape.ensures.pages) (marked_low (in_words c.args.closed.now.dirty) (g.W.WriteLog.trace c.args.trace.now).pages)
 
 pub returns : goal.returns
 returns g c =
     let dirty : c.deref.result.now ≡ c.args.closed.now.dirty = c.deref.ensures.value ∙ ap (λ (v : ClosedView). v.dirty) c.closed.view_is in
     let versions : c.deref-2.result.now ≡ c.args.closed.now.versions = c.deref-2.ensures.value ∙ ap (λ (v : ClosedView). v.versions) c.closed.view_is in
-    let pages : c.trace.inside.pages ≡ c.args.trace.now.pages = ap (λ (t : GuestTrace). t.pages) c.trace.view_is in
-    let marked : c.deref-3.result.now ≡ marked_pages (in_words c.args.closed.now.dirty) c.args.trace.now.pages =
-    c.deref-3.ensures.value ∙ c.in_ok-marked.ensures ∙ (λ i. marked_pages (in_words (dirty i)) (pages i)) in
+    let marked : c.deref-3.result.now ≡ marked_pages (in_words c.args.closed.now.dirty) (g.W.WriteLog.trace c.args.trace.now).pages =
+    c.deref-3.ensures.value ∙ c.in_ok-marked.ensures ∙ (λ i. marked_pages (in_words (dirty i)) (c.shape.ensures.pages i)) in
     let frames = c.in_ok-frames.frames.items in
-    let are : AreCurrentFrames c.args.trace.now c.args.closed.now.versions (marked_pages (in_words c.args.closed.now.dirty) c.args.trace.now.pages) frames =
+    let are : AreCurrentFrames (g.W.WriteLog.trace c.args.trace.now) c.args.closed.now.versions (marked_pages (in_words c.args.closed.now.dirty) (g.W.WriteLog.trace c.args.trace.now).pages) frames =
     rw (versions, marked) at c.in_ok-frames.ensures in
     let first : c.new-dealer.result.next ≡ 0 = ap (λ (t : Turn). t.next) c.new-dealer.ensures in
-    IsFinalCopy-from_dealing c.args.trace.now c.args.closed.now.versions (in_words c.args.closed.now.dirty) c.args.parts.items c.deal_out.new.parts.items frames
+    IsFinalCopy-from_dealing (g.W.WriteLog.trace c.args.trace.now) c.args.closed.now.versions (in_words c.args.closed.now.dirty) c.args.parts.items c.deal_out.new.parts.items frames
     (rw c.deref-4.ensures.value at c.know_parts.ensures) c.requires.shapes (omega (arith, c.requires.parts, c.requires.some_streams)) c.requires.closed.real are
     (c.in_ok-deal_out.ensures.dealt [] ∙ (λ i. after_dealing (first i) c.args.parts.items (append-nil frames i)))

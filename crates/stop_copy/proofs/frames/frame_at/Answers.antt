@@ -7,13 +7,13 @@ use Rattle.stop_copy.proofs.Framed.{IsCurrentFrame-from}
 use Rattle.stop_copy.proofs.frames.frame_at.Goals as goal
 
 pub frame_of-requires-clause-whole : goal.frame_of-requires-clause-whole
-frame_of-requires-clause-whole c =
-    let len = ap length c.in_ok-bytes.ensures ∙ length-page_at c.args.trace.now c.args.page _ c.shape.ensures.is_trace c.requires.page in
-    rw c.shape.ensures.shift (omega (arith, len, c.in_ok-bytes.bytes.ok.0))
+frame_of-requires-clause-whole g c =
+    let len = ap length c.in_ok-bytes.ensures ∙ length-page_at (g.W.WriteLog.trace c.args.trace.now) c.args.page _ c.shape-shape.ensures.is_trace c.requires.page in
+    rw c.shape-shape.ensures.shift (omega (arith, len, c.in_ok-bytes.bytes.ok.0))
 
 pub returns-clause-frame : goal.returns-clause-frame
-returns-clause-frame c =
-    let shape : shape_of c.shape.result ≡ shape_of_trace c.args.trace.now =
-    λ i. shape_with (c.shape.ensures.shift i) (c.shape.ensures.pages i) (c.shape.ensures.writes i) in
-    IsCurrentFrame-from c.args.trace.now c.args.versions.now c.args.page (shape_of c.shape.result) c.frame_of.result c.in_ok-bytes.bytes.items shape
+returns-clause-frame g c =
+    let shape : shape_of c.shape-shape.result ≡ shape_of_trace (g.W.WriteLog.trace c.args.trace.now) =
+    λ i. shape_with (c.shape-shape.ensures.shift i) (c.shape-shape.ensures.pages i) (c.shape-shape.ensures.writes i) in
+    IsCurrentFrame-from (g.W.WriteLog.trace c.args.trace.now) c.args.versions.now c.args.page (shape_of c.shape-shape.result) c.frame_of.result c.in_ok-bytes.bytes.items shape
     c.frame_of.ensures.fits c.frame_of.ensures.page c.frame_of.ensures.stamp c.frame_of.ensures.content c.in_ok-bytes.ensures

@@ -8,10 +8,10 @@ use Rattle.stop_copy.proofs.Framed.{AreCurrentFrames-more}
 use Rattle.stop_copy.proofs.frames.frames_of.Goals as goal
 
 pub loop-page-preserved : goal.loop-page-preserved
-loop-page-preserved c =
+loop-page-preserved g c =
     let pages = c.args.pages.now in
     let i = c.loop-page.page-index in
     let page = get_or pages i 0 in
-    subst (λ (frames : List PageFrame). AreCurrentFrames c.args.trace.now c.args.versions.now (take (i + 1) pages) frames) (sym c.in_ok-push.ensures.items)
-    (AreCurrentFrames-more c.args.trace.now c.args.versions.now pages i page c.loop-page.frames.items c.in_ok-frame_at.field-0 (omega (arith, c.loop-page-test.true))
+    subst (λ (frames : List PageFrame). AreCurrentFrames (g.W.WriteLog.trace c.args.trace.now) c.args.versions.now (take (i + 1) pages) frames) (sym c.in_ok-push.ensures.items)
+    (AreCurrentFrames-more (g.W.WriteLog.trace c.args.trace.now) c.args.versions.now pages i page c.loop-page.frames.items c.in_ok-frame_at.field-0 (omega (arith, c.loop-page-test.true))
     (get_or_default pages i 0 page (omega (arith, c.loop-page-test.true))) c.loop-page.invariant c.in_ok-frame_at.ensures.frame c.in_ok-frame_at.ensures.own)

@@ -3,4 +3,4 @@ use Rattle.stop_copy.specs.Copies.{AreCurrentFrames}
 use Rattle.stop_copy.proofs.frames.frames_of.Given as goal
 
 abbrev pub invariant-loop-page : goal.invariant-loop-page
-invariant-loop-page l = AreCurrentFrames l.trace l.versions (take l.page-index l.pages) l.frames.items
+invariant-loop-page g l = AreCurrentFrames (g.W.WriteLog.trace l.trace) l.versions (take l.page-index l.pages) l.frames.items

@@ -7,5 +7,5 @@ returns-clause-under_way g c = record {
   size = search rules;
   parts_are = search rules;
   desks_are = search rules;
-  each = c.in_ok-new_desks.ensures.each c.args.self.now.trace.now;
+  each = c.in_ok-new_desks.ensures.each (g.W.WriteLog.trace c.args.self.now.trace.now);
 }

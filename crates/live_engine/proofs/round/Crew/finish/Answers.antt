@@ -11,7 +11,7 @@ use Rattle.live_engine.proofs.round.Crew.finish.Goals as goal
 
 pub returns-clause-at_stop : goal.returns-clause-at_stop
 returns-clause-at_stop g c = λ tick at.
-    let trace = c.args.self.now.trace.now in
+    let trace = (g.W.WriteLog.trace c.args.self.now.trace.now) in
     let copied = c.in_ok-copied.copied.items in
     let versions = c.args.closed.now.versions in
     let shape : shape_of c.shape.result ≡ shape_of_trace trace = λ i. shape_with (c.shape.ensures.shift i) (c.shape.ensures.pages i) (c.shape.ensures.writes i) in
@@ -22,7 +22,7 @@ returns-clause-at_stop g c = λ tick at.
 
 pub returns-clause-stopped : goal.returns-clause-stopped
 returns-clause-stopped g c =
-    let trace = c.args.self.now.trace.now in
+    let trace = (g.W.WriteLog.trace c.args.self.now.trace.now) in
     let copied = c.in_ok-copied.copied.items in
     let versions = c.args.closed.now.versions in
     let shape : shape_of c.shape.result ≡ shape_of_trace trace = λ i. shape_with (c.shape.ensures.shift i) (c.shape.ensures.pages i) (c.shape.ensures.writes i) in

@@ -10,7 +10,7 @@ use Rattle.live_engine.proofs.round.Crew.next_round.Goals as goal
 
 pub returns-clause-joined : goal.returns-clause-joined
 returns-clause-joined g c before joined =
-    let trace = c.args.self.now.trace.now in
+    let trace = (g.W.WriteLog.trace c.args.self.now.trace.now) in
     let copiers = c.args.self.now.copiers in
     let plan = c.args.planned.now in
     let old = c.args.progress.closed in
@@ -26,7 +26,7 @@ returns-clause-joined g c before joined =
 
 pub returns-clause-law : goal.returns-clause-law
 returns-clause-law g c before joined law =
-    let trace = c.args.self.now.trace.now in
+    let trace = (g.W.WriteLog.trace c.args.self.now.trace.now) in
     let copiers = c.args.self.now.copiers in
     let plan = c.args.planned.now in
     let old = c.args.progress.closed in
@@ -46,5 +46,5 @@ returns-clause-under_way g c = record {
   size = c.in_ok-left.ensures.size;
   parts_are = c.receive.ensures.count ∙ c.requires.under_way.parts_are;
   desks_are = ap length c.in_ok-received.ensures.desks ∙ c.in_ok-left.ensures.count;
-  each = subst (All (IsDesk c.args.self.now.trace.now c.args.self.now.streams)) (sym c.in_ok-received.ensures.desks) c.in_ok-left.ensures.desks;
+  each = subst (All (IsDesk (g.W.WriteLog.trace c.args.self.now.trace.now) c.args.self.now.streams)) (sym c.in_ok-received.ensures.desks) c.in_ok-left.ensures.desks;
 }

@@ -15,11 +15,11 @@ run_threads-requires-clause-count g c κs within =
 
 pub close-closed-requires-clause-guests : goal.close-closed-requires-clause-guests
 close-closed-requires-clause-guests g c =
-    idle_guests c.args.self.now.trace.now c.in_ok-table.field-0.table c.args.ticks.from c.args.ticks.to c.in_ok-finished.finished.guests.items c.in_ok-finished.ensures.guests
+    idle_guests (g.W.WriteLog.trace c.args.self.now.trace.now) c.in_ok-table.field-0.table c.args.ticks.from c.args.ticks.to c.in_ok-finished.finished.guests.items c.in_ok-finished.ensures.guests
 
 pub close-closed-requires-clause-copiers : goal.close-closed-requires-clause-copiers
 close-closed-requires-clause-copiers g c =
-    idle_copiers c.args.self.now.trace.now c.args.skip c.in_ok-table.field-0.table c.args.self.now.streams c.in_ok-finished.finished.copiers.items c.in_ok-seats.field-0.seats.items
+    idle_copiers (g.W.WriteLog.trace c.args.self.now.trace.now) c.args.skip c.in_ok-table.field-0.table c.args.self.now.streams c.in_ok-finished.finished.copiers.items c.in_ok-seats.field-0.seats.items
     c.in_ok-seats.ensures.seats c.in_ok-finished.ensures.copiers
 
 pub returns-clause-round : goal.returns-clause-round
@@ -28,19 +28,19 @@ returns-clause-round g c =
     let table = c.in_ok-table.field-0.table in
     let start_is : table.start ≡ start_with c.args.closed.versions c.args.closed.dirty crew.replayers crew.copiers =
     c.in_ok-table.ensures.table ∙ c.in-Some.ensures.given ∙ ap (λ (v : ClosedView). start_with v.versions v.dirty crew.replayers crew.copiers) c.closed.view_is in
-    round_is crew.trace.now c.args.skip table c.args.ticks.from c.args.ticks.to crew.streams crew.replayers crew.copiers c.in_ok-finished.finished.guests.items
+    round_is (g.W.WriteLog.trace crew.trace.now) c.args.skip table c.args.ticks.from c.args.ticks.to crew.streams crew.replayers crew.copiers c.in_ok-finished.finished.guests.items
     c.in_ok-finished.finished.copiers.items c.in_ok-seats.field-0.seats.items c.in_ok-seats.field-0.desks.items c.args.closed c.close-closed.result c.requires.span
-    (opens_so crew.trace.now c.args.ticks.from table.start c.args.closed crew.replayers crew.copiers start_is c.requires.size c.requires.versions)
+    (opens_so (g.W.WriteLog.trace crew.trace.now) c.args.ticks.from table.start c.args.closed crew.replayers crew.copiers start_is c.requires.size c.requires.versions)
     (subst (λ (s : Start). IsStart s) (sym c.in_ok-table.ensures.table) c.in_ok-table.ensures.start)
     start_is c.in_ok-finished.ensures.guests c.in_ok-finished.ensures.copiers c.in_ok-seats.ensures.seats c.in_ok-seats.ensures.desks
     c.close-closed.ensures.pages c.close-closed.ensures.next
 
 pub returns-clause-posted : goal.returns-clause-posted
 returns-clause-posted g c =
-    all_posted c.args.self.now.trace.now c.args.skip c.in_ok-table.field-0.table c.args.self.now.streams c.in_ok-finished.finished.copiers.items
+    all_posted (g.W.WriteLog.trace c.args.self.now.trace.now) c.args.skip c.in_ok-table.field-0.table c.args.self.now.streams c.in_ok-finished.finished.copiers.items
     c.in_ok-seats.field-0.desks.items c.in_ok-seats.ensures.desks c.in_ok-finished.ensures.copiers
 
 pub returns-clause-desks : goal.returns-clause-desks
 returns-clause-desks g c =
-    all_desks c.args.self.now.trace.now c.args.skip c.in_ok-table.field-0.table c.args.self.now.streams c.in_ok-finished.finished.copiers.items
+    all_desks (g.W.WriteLog.trace c.args.self.now.trace.now) c.args.skip c.in_ok-table.field-0.table c.args.self.now.streams c.in_ok-finished.finished.copiers.items
     c.in_ok-seats.field-0.desks.items c.in_ok-seats.ensures.desks c.in_ok-finished.ensures.copiers

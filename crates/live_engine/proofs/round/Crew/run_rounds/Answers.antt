@@ -8,7 +8,7 @@ use Rattle.live_engine.proofs.round.Crew.run_rounds.Goals as goal
 
 pub loop-number-preserved : goal.loop-number-preserved
 loop-number-preserved g c =
-    let trace = c.args.self.now.trace.now in
+    let trace = (g.W.WriteLog.trace c.args.self.now.trace.now) in
     let copiers = c.args.self.now.copiers in
     let plan = c.args.plan.now in
     let number = c.loop-number.number in

@@ -7,8 +7,8 @@ use Rattle.live_engine.proofs.round.Crew.run_rounds.Given as goal
 
 abbrev pub invariant-loop-number : goal.invariant-loop-number
 invariant-loop-number g l = record {
-  under_way : IsUnderWay l.self.trace.now l.self.replayers l.self.copiers l.self.streams l.progress.closed l.progress.parts.items l.progress.desks.items;
-  law : LiveRounds l.self.trace.now l.settings.skip l.self.copiers (take l.number l.plan.rounds) l.progress.rounds.items;
-  joined : (tick : ℕ) × Remaining l.self.trace.now l.settings l.plan tick (drop l.number l.plan.rounds)
-      × AreJoined l.self.trace.now tick (take l.number l.plan.rounds) l.progress.rounds.items l.progress.closed l.progress.parts.items;
+  under_way : IsUnderWay (g.W.WriteLog.trace l.self.trace.now) l.self.replayers l.self.copiers l.self.streams l.progress.closed l.progress.parts.items l.progress.desks.items;
+  law : LiveRounds (g.W.WriteLog.trace l.self.trace.now) l.settings.skip l.self.copiers (take l.number l.plan.rounds) l.progress.rounds.items;
+  joined : (tick : ℕ) × Remaining (g.W.WriteLog.trace l.self.trace.now) l.settings l.plan tick (drop l.number l.plan.rounds)
+      × AreJoined (g.W.WriteLog.trace l.self.trace.now) tick (take l.number l.plan.rounds) l.progress.rounds.items l.progress.closed l.progress.parts.items;
 }

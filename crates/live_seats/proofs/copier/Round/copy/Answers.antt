@@ -16,7 +16,7 @@ pub loop-word-init : goal.loop-word-init
 loop-word-init g c =
     let desk = c.open.result in
     let count = length c.args.desk.outbox.streams in
-    let begins = copy_begins c.args.self.now.trace.now c.args.self.now.skip c.args.self.now.table.now.start c.args.seat.facts.number count
+    let begins = copy_begins (g.W.WriteLog.trace c.args.self.now.trace.now) c.args.self.now.skip c.args.self.now.table.now.start c.args.seat.facts.number count
     c.args.seat.facts desk.outbox c.requires.idle (ap (λ (d : OpenDeskView). d.outbox) c.open.ensures) in
     let streams = ap (λ (d : OpenDeskView). length d.outbox.streams) c.open.ensures ∙ length-replicate count [] ∙ c.requires.desk.streams_are in
     let turns = ap (λ (d : OpenDeskView). d.turn.streams) c.open.ensures ∙ c.requires.desk.turns in
@@ -39,7 +39,7 @@ returns g c =
       table_is = rest.ready.table_is;
       number_is = rest.number;
       is_desk = record {
-        kept = subst (λ (d : DeskView). AreKept c.args.self.now.trace.now d.pages.entries) (sym c.close.ensures.desk)
+        kept = subst (λ (d : DeskView). AreKept (g.W.WriteLog.trace c.args.self.now.trace.now) d.pages.entries) (sym c.close.ensures.desk)
             (subst (λ (t : GuestTrace). AreKept t copier.desk.cache.entries) rest.ready.trace_is c.close.ensures.kept);
         turns = ap (λ (d : DeskView). d.turn.streams) c.close.ensures.desk ∙ rest.turns;
         streams_are = ap (λ (o : OutboxView). length o.streams) outbox ∙ rest.ready.streams ∙ rest.turns;
@@ -48,5 +48,5 @@ returns g c =
       scanned = rw outbox
           (subst (λ (n : ℕ). IsScanned c.args.self.now.skip n copier.seat.facts copier.desk.outbox)
           (words c.loop-word.word _ _ c.loop-word.auto.word-end c.loop-word-test.false c.shape-shape.ensures.pages) rest.scanned);
-      posted = subst (λ (o : OutboxView). IsPosted c.args.self.now.trace.now o) (sym outbox) rest.posted;
+      posted = subst (λ (o : OutboxView). IsPosted (g.W.WriteLog.trace c.args.self.now.trace.now) o) (sym outbox) rest.posted;
     }

@@ -4,7 +4,7 @@ use Rattle.live_seats.proofs.copier.Round.copy_bits.Given as goal
 
 abbrev pub invariant-loop-bit : goal.invariant-loop-bit
 invariant-loop-bit g l = record {
-  ready : IsReady l.self.trace.now l.self.table.now l.copier.seat l.copier.desk;
-  scan : KeepsScan l.self.trace.now l.self.skip l.fn.copier.seat.facts l.fn.copier.desk.outbox l.copier.seat.facts l.copier.desk.outbox;
+  ready : IsReady (g.W.WriteLog.trace l.self.trace.now) l.self.table.now l.copier.seat l.copier.desk;
+  scan : KeepsScan (g.W.WriteLog.trace l.self.trace.now) l.self.skip l.fn.copier.seat.facts l.fn.copier.desk.outbox l.copier.seat.facts l.copier.desk.outbox;
   holds : HoldsFrom l.word l.bits l.bit l.copier.seat.facts;
 }

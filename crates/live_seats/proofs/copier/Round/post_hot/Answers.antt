@@ -8,7 +8,7 @@ use Rattle.live_seats.proofs.copier.Round.post_hot.Goals as goal
 
 pub post-requires-clause-whole : goal.post-requires-clause-whole
 post-requires-clause-whole g c =
-    let trace = c.args.self.now.trace.now in
+    let trace = (g.W.WriteLog.trace c.args.self.now.trace.now) in
     let stamp = c.min-stamp.result in
     let same = ap (λ (d : OpenDeskView). d.cache.trace) c.desk.view_is ∙ c.requires.trace in
     let bytes = ap (λ (o : Option (List ℕ)). unwrap_or o []) (c.in-Some.ensures ∙ ap (option_map (λ (k : KeptPage). k.bytes)) c.in_ok-keep.ensures.last) in

@@ -1,0 +1,19 @@
+-- Where the records of a trace stand in its bytes.
+use Rattle.std.specs.Prelude.{◌≡◌, ◌<◌, ℕ, List, drop, length, slice_index_or}
+use Rattle.migration_model.specs.Trace.{GuestTrace, trace_with}
+use Rattle.migration_model.specs.TraceReading.{rest_of, writes_in}
+use Rattle.trace_codec.specs.Reading.{IsView}
+
+-- the trace whose writes, so many, stand behind the header in these bytes
+abbrev pub held_trace : ℕ → ℕ → ℕ → List ℕ → GuestTrace
+held_trace shift pages count bytes = trace_with shift pages (writes_in count (drop 16 bytes))
+
+-- the positions of the first records of a trace, so many: at each of them stands what is left behind the records before
+pub record ArePositions (bytes : List ℕ) (count : ℕ) (positions : List ℕ) : Type 0 where
+  pub count_is : length positions ≡ count
+  pub stands : (n d : ℕ) → n < count → drop (slice_index_or positions n d) bytes ≡ rest_of n (drop 16 bytes)
+
+-- what a trace that is held as its bytes keeps: they hold its writes behind the header, and these are the positions of all
+pub record IsHeldText (shift pages count : ℕ) (bytes positions : List ℕ) : Type 0 where
+  pub is_view : IsView shift pages count (drop 16 bytes)
+  pub are_positions : ArePositions bytes count positions
