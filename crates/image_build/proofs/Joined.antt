@@ -1,17 +1,18 @@
 -- Memory made of parts, page by page.
-use Rattle.std.proofs.Common.{◌≡◌, ℕ, inl, inr, zero, suc, ◌+◌, ◌*◌, ◌^◌, ◌<◌, ltb, List, [], ◌∷◌, ◌++◌, length, drop, replicate, get_or, Option, Some, None, Result, Ok, Err, IfErr, IsErrAnd, refl, sym, subst, ap, ◌∙◌, arith}
-use Rattle.std.specs.List.{fold, flat_map, range_with_len}
+use Rattle.std.proofs.Common.{◌≡◌, ℕ, inl, inr, zero, suc, ◌+◌, ◌-◌, ◌*◌, ◌^◌, ◌<◌, ltb, List, [], ◌∷◌, ◌++◌, length, take, drop, replicate, get_or, Option, Some, None, IfSome, refl, sym, subst, ap, ◌∙◌, arith}
+use Rattle.std.specs.List.{All, between, fold, flat_map, range_with_len}
 use Rattle.std.proofs.lemmas.Bool.{cases_lt, lt-ltb, le-ltb, cond-true, cond-false}
-use Rattle.std.proofs.lemmas.List.{at_drop_more, length-append, flat_map_more}
+use Rattle.std.proofs.lemmas.List.{at_drop_more, length-append, length-replicate, flat_map_more}
 use Rattle.std.proofs.lemmas.List.Elements.{All-head, All-tail, All-nil, All-cons}
-use Rattle.migration_model.specs.Frames.{GuestShape}
-use Rattle.migration_model.specs.Parts.{PageCopy, GuestPart, copy_at, empty_part, later, join, join_all}
-use Rattle.migration_model.specs.Memory.{GuestMemory, memory_with}
-use Rattle.migration_model.specs.Images.{bytes_of, bytes_of_first, InNoPart, HaveFirst, IsJoined, LacksFirst}
+use Rattle.std.specs.Prelude.{unwrap_or}
+use Rattle.migration_model.specs.Frames.{GuestShape, IsFrame, IsZeros, PageFrame}
+use Rattle.migration_model.specs.Parts.{PageCopy, GuestPart, copy_at, copy_in, empty_part, later, join, join_all}
+use Rattle.migration_model.specs.Memory.{memory_with, page_of}
+use Rattle.migration_model.specs.Images.{bytes_of, bytes_of_first, InNoPart, HaveFirst, IsJoined}
+use Rattle.migration_model.proofs.Current.{piece_at}
 use Rattle.migration_model.proofs.Parts.{get_or-later_each}
 use Rattle.migration_model.proofs.Ranges.{range_more}
-use Rattle.image_build.specs.Joins.{AddsPage, RefusesPage, RefusesParts}
-use Rattle.image_build.specs.declared.error.ImageError.{ImageError}
+use Rattle.image_build.specs.Joins.{IsMissing, IsWhole, WholeParts, memory_by}
 use Rattle.image_build.specs.declared.error.ImageError.TheVariants as errors
 
 -- what is kept of a page after the parts that are left
@@ -90,58 +91,97 @@ join-from_InNoPart shape parts page lacks = copy_at-join_all shape parts page �
 
 -- ---- page after page
 
+-- a page that the join has, in its size
+abbrev pub HasPage : WholeParts → ℕ → Type 0
+HasPage whole page = (copy : PageCopy) × (copy_at (join_all whole.shape whole.parts) page ≡ Some copy) × (length copy.content ≡ 2 ^ whole.shape.shift)
+
+size_of : (n : ℕ) (body : Option (List ℕ)) → IfSome body (λ bytes. (length bytes ≡ n) × ¬ IsZeros bytes) → length (unwrap_or body (replicate n 0)) ≡ n
+size_of n None fits = length-replicate n 0
+size_of n (Some bytes) fits = fits.0
+
 -- the first pages, so many, are there
-pub record Joins (shape : GuestShape) (parts : List GuestPart) (count : ℕ) (bytes : List ℕ) : Type 0 where
-  pub have : HaveFirst parts count
-  pub is : bytes ≡ bytes_of_first (join_all shape parts) count
-  pub len : length bytes ≡ count * 2 ^ shape.shift
+abbrev pub HasFirst : WholeParts → ℕ → Type 0
+HasFirst whole count = (page : ℕ) → page < count → HasPage whole page
 
-pub Joins-nothing : (shape : GuestShape) (parts : List GuestPart) → Joins shape parts 0 []
-Joins-nothing shape parts = record { have = λ page low. absurd (omega arith); is = refl; len = omega arith }
-
-have_more : (shape : GuestShape) (parts : List GuestPart) (count : ℕ) (c : PageCopy) → HaveFirst parts count → copy_at (join_all shape parts) count ≡ Some c
-    → HaveFirst parts (count + 1)
-have_more shape parts count c have has page low lacks = elim (cases_lt page count) [
-  | inl below ↦ have page below lacks
-  | inr above ↦
-      let same : page ≡ count = omega arith in
-      absurd (cc (sym (join-from_InNoPart shape parts page lacks) ∙ ap (λ p. copy_at (join_all shape parts) p) same ∙ has))
+pub HasFirst-more : (whole : WholeParts) (count : ℕ) → HasFirst whole count → HasPage whole count → HasFirst whole (count + 1)
+HasFirst-more whole count before has page low = elim (cases_lt page count) [
+  | inl below ↦ before page below
+  | inr above ↦ subst (HasPage whole) (omega arith) has
 ]
 
-pub Joins-more : (shape : GuestShape) (parts : List GuestPart) (count : ℕ) (old new : List ℕ) → Joins shape parts count old → AddsPage shape parts count old new
-    → Joins shape parts (count + 1) new
-Joins-more shape parts count old new before adds =
-    let joined = join_all shape parts in
-    let piece : ℕ → List ℕ = λ page. bytes_of (copy_at joined page) in
-    record {
-      have = have_more shape parts count adds.copy before.have adds.has;
-      is = adds.text
-          ∙ ap (λ (x : List ℕ). x ++ adds.copy.content) before.is
-          ∙ ap (λ (o : Option PageCopy). bytes_of_first joined count ++ bytes_of o) (sym adds.has)
-          ∙ flat_map_more piece [] (range_with_len 0 count) count
-          ∙ ap (λ (l : List ℕ). flat_map piece l) (sym (range_more count));
-      len = omega (arith, ap length adds.text, length-append old adds.copy.content, adds.size, before.len);
-    }
+-- the bytes of a page that a frame has
+pub size_in : (shape : GuestShape) (frame : PageFrame) → IsFrame shape frame → length (copy_in shape frame).content ≡ 2 ^ shape.shift
+size_in shape frame fits = size_of (2 ^ shape.shift) frame.body fits.body
+
+pub HasPage-from_frame : (whole : WholeParts) (page : ℕ) (frame : PageFrame) → copy_at (join_all whole.shape whole.parts) page ≡ Some (copy_in whole.shape frame)
+    → IsFrame whole.shape frame → HasPage whole page
+HasPage-from_frame whole page frame has fits = (copy_in whole.shape frame, has, size_in whole.shape frame fits)
+
+-- they are in some part
+pub HaveFirst-from_join : (whole : WholeParts) (count : ℕ) → HasFirst whole count → HaveFirst whole.parts count
+HaveFirst-from_join whole count first page low lacks =
+    cc (sym (join-from_InNoPart whole.shape whole.parts page lacks) ∙ (first page low).1)
 
 -- a page that is refused after the first pages is the least that is in no part
-pub refused_first : (shape : GuestShape) (parts : List GuestPart) (page : ℕ) (bytes : List ℕ) (e : ImageError)
-    → page < shape.pages → Joins shape parts page bytes → RefusesPage parts page e → RefusesParts shape parts e
-refused_first shape parts page bytes (errors.Missing p) low before refuses =
-    subst (λ (q : ℕ). LacksFirst shape parts q) (sym refuses.0) (record { low = low; lacks = refuses.1; first = before.have })
-refused_first shape parts page bytes errors.Memory low before refuses = refuses
+pub refused_first : (whole : WholeParts) (page : ℕ) → page < whole.shape.pages → HasFirst whole page → copy_at (join_all whole.shape whole.parts) page ≡ None
+    → IsMissing whole.shape whole.parts (errors.Missing page)
+refused_first whole page low before none = record {
+  page = page;
+  names = refl;
+  lacks = record { low = low; lacks = InNoPart-from_join whole.shape whole.parts page none; first = HaveFirst-from_join whole page before };
+}
 
-pub passed_on : (P : ImageError → Type 0) (r : Result GuestMemory ImageError) (e : ImageError) → IsErrAnd r (λ f. f ≡ e) → P e → IfErr r P
-passed_on P (Ok image) e is holds = absurd is
-passed_on P (Err f) e is holds = subst P (sym is) holds
+pub IsWhole-from_all : (whole : WholeParts) (count : ℕ) → All (λ part. part.shape ≡ whole.shape) whole.parts → HasFirst whole count → count ≡ whole.shape.pages → IsWhole whole
+IsWhole-from_all whole count shapes first all = record { shapes = shapes; each = λ page low. first page (omega (arith, low, all)) }
 
-pub IsJoined-from_all : (shape : GuestShape) (parts : List GuestPart) (count : ℕ) (bytes : List ℕ) (memory : GuestMemory)
-    → Joins shape parts count bytes → count ≡ shape.pages → memory ≡ memory_with shape.shift shape.pages bytes → IsJoined shape parts memory
-IsJoined-from_all shape parts count bytes memory joins all is =
-    let joined = join_all shape parts in
-    let same = shape-join_all shape parts in
+pub IsJoined-from_all : (whole : WholeParts) (count : ℕ) → HasFirst whole count → count ≡ whole.shape.pages → IsJoined whole.shape whole.parts (memory_by whole)
+IsJoined-from_all whole count first all = record {
+  whole = subst (λ (n : ℕ). HaveFirst whole.parts n) all (HaveFirst-from_join whole count first);
+  is = refl;
+}
+
+-- the bytes of the first pages, so many
+pub record Makes (whole : WholeParts) (count : ℕ) (bytes : List ℕ) : Type 0 where
+  pub is : bytes ≡ bytes_of_first (join_all whole.shape whole.parts) count
+  pub len : length bytes ≡ count * 2 ^ whole.shape.shift
+
+pub Makes-nothing : (whole : WholeParts) → Makes whole 0 []
+Makes-nothing whole = record { is = refl; len = omega arith }
+
+pub Makes-more : (whole : WholeParts) (count : ℕ) (copy : PageCopy) (old new : List ℕ) → Makes whole count old
+    → copy_at (join_all whole.shape whole.parts) count ≡ Some copy → length copy.content ≡ 2 ^ whole.shape.shift → new ≡ old ++ copy.content
+    → Makes whole (count + 1) new
+Makes-more whole count copy old new before has size text =
+    let joined = join_all whole.shape whole.parts in
+    let piece : ℕ → List ℕ = λ page. bytes_of (copy_at joined page) in
     record {
-      whole = subst (λ (n : ℕ). HaveFirst parts n) all joins.have;
-      is = is
-          ∙ ap (memory_with shape.shift shape.pages) (joins.is ∙ ap (λ (n : ℕ). bytes_of_first joined n) all)
-          ∙ ap (λ (s : GuestShape). memory_with s.shift s.pages (bytes_of_first joined s.pages)) (sym same);
+      is = text
+          ∙ ap (λ (x : List ℕ). x ++ copy.content) before.is
+          ∙ ap (λ (o : Option PageCopy). bytes_of_first joined count ++ bytes_of o) (sym has)
+          ∙ flat_map_more piece [] (range_with_len 0 count) count
+          ∙ ap (λ (l : List ℕ). flat_map piece l) (sym (range_more count));
+      len = omega (arith, ap length text, length-append old copy.content, size, before.len);
     }
+
+pub memory_from_all : (whole : WholeParts) (count : ℕ) (bytes : List ℕ) → Makes whole count bytes → count ≡ whole.shape.pages
+    → memory_with whole.shape.shift whole.shape.pages bytes ≡ memory_by whole
+memory_from_all whole count bytes makes all =
+    let joined = join_all whole.shape whole.parts in
+    ap (memory_with whole.shape.shift whole.shape.pages) (makes.is ∙ ap (λ (n : ℕ). bytes_of_first joined n) all)
+    ∙ ap (λ (s : GuestShape). memory_with s.shift s.pages (bytes_of_first joined s.pages)) (sym (shape-join_all whole.shape whole.parts))
+
+-- a page of the memory is what the join has of it
+pub page_by : (whole : WholeParts) (page : ℕ) (copy : PageCopy) → IsWhole whole → page < whole.shape.pages
+    → copy_at (join_all whole.shape whole.parts) page ≡ Some copy → page_of (memory_by whole) page ≡ copy.content
+page_by whole page copy is low has =
+    let joined = join_all whole.shape whole.parts in
+    let n = 2 ^ whole.shape.shift in
+    let piece : ℕ → List ℕ = λ p. bytes_of (copy_at joined p) in
+    let len : page * n + n - page * n ≡ n = omega arith in
+    let front : 0 + page ≡ page = omega arith in
+    ap (λ (s : GuestShape). between (page * 2 ^ s.shift) (page * 2 ^ s.shift + 2 ^ s.shift) (bytes_of_first joined s.pages)) (shape-join_all whole.shape whole.parts)
+    ∙ ap (λ k. take k (drop (page * n) (bytes_of_first joined whole.shape.pages))) len
+    ∙ piece_at piece n 0 whole.shape.pages page low
+    (λ p below. let there = is.each p (omega (arith, below)) in ap (λ (o : Option PageCopy). length (bytes_of o)) there.1 ∙ there.2)
+    ∙ ap piece front
+    ∙ ap bytes_of has

@@ -1,22 +1,36 @@
--- Memory made of parts, page by page.
-use Rattle.std.specs.Prelude.{◌≡◌, ℕ, ◌^◌, List, ◌++◌, length, ⊤, Some}
+-- Memory that stands in parts.
+use Rattle.std.specs.Prelude.{◌≡◌, ℕ, ◌<◌, ◌^◌, List, length, ⊤, Some}
+use Rattle.std.specs.List.{All}
 use Rattle.migration_model.specs.Frames.{GuestShape}
-use Rattle.migration_model.specs.Images.{InNoPart, LacksFirst}
+use Rattle.migration_model.specs.Images.{LacksFirst, memory_in}
+use Rattle.migration_model.specs.Memory.{GuestMemory}
 use Rattle.migration_model.specs.Parts.{PageCopy, GuestPart, copy_at, join_all}
 use Rattle.image_build.specs.declared.error.ImageError.{ImageError}
 use Rattle.image_build.specs.declared.error.ImageError.TheVariants as errors
 
--- the bytes that the join of the parts has of this page were put behind those that were there
-pub record AddsPage (shape : GuestShape) (parts : List GuestPart) (page : ℕ) (old new : List ℕ) : Type 0 where
-  pub copy : PageCopy
-  pub has : copy_at (join_all shape parts) page ≡ Some copy
-  pub size : length copy.content ≡ 2 ^ shape.shift
-  pub text : new ≡ old ++ copy.content
+-- parts of a guest of this shape
+pub record WholeParts : Type 0 where
+  pub shape : GuestShape
+  pub parts : List GuestPart
 
--- the page is in no part, or memory ran out
-abbrev pub RefusesPage : List GuestPart → ℕ → ImageError → Type 0
-RefusesPage parts page (errors.Missing p) = (p ≡ page) × InNoPart parts page
-RefusesPage parts page errors.Memory = ⊤
+abbrev pub whole_with : GuestShape → List GuestPart → WholeParts
+whole_with shape parts = record { shape = shape; parts = parts }
+
+-- the memory that they make together
+abbrev pub memory_by : WholeParts → GuestMemory
+memory_by whole = memory_in (join_all whole.shape whole.parts)
+
+-- they have all pages of the guest
+pub record IsWhole (whole : WholeParts) : Type 0 where
+  pub shapes : All (λ part. part.shape ≡ whole.shape) whole.parts
+  pub each : (page : ℕ) → page < whole.shape.pages
+      → (copy : PageCopy) × (copy_at (join_all whole.shape whole.parts) page ≡ Some copy) × (length copy.content ≡ 2 ^ whole.shape.shift)
+
+-- the refusal names the least page that is in no part
+pub record IsMissing (shape : GuestShape) (parts : List GuestPart) (error : ImageError) : Type 0 where
+  pub page : ℕ
+  pub names : error ≡ errors.Missing page
+  pub lacks : LacksFirst shape parts page
 
 -- this is the least page that is in no part, or memory ran out
 abbrev pub RefusesParts : GuestShape → List GuestPart → ImageError → Type 0

@@ -3,6 +3,7 @@
 
 mod error;
 mod image;
+mod joined_parts;
 mod joining;
 mod replaying;
 mod resuming;
@@ -11,6 +12,6 @@ mod tests;
 
 pub use error::{ImageError, ReplayError};
 pub use image::Image;
-pub use joining::of_parts;
+pub use joined_parts::{JoinedParts, of_parts};
 pub use replaying::{replay, replay_before, replay_bytes, replay_view};
 pub use resuming::resume;

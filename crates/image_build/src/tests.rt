@@ -3,7 +3,7 @@
 ghost use Rattle.std.specs.Prelude.{◌≡◌, ◌<◌, ◌≤◌, ◌^◌, length};
 ghost use Rattle.page_message.specs.Shapes.{shape_of};
 
-use crate::{ImageError, of_parts};
+use crate::{ImageError, JoinedParts, of_parts};
 use collector::Part;
 use page_message::frame_of;
 use std::alloc::Global;
@@ -80,6 +80,38 @@ fn parts_together_give_memory(rt: HostRuntime) -> Result<(), Fail> {
     Ok(())
 }
 
+/// Puts a page of memory that stands in parts into a room.
+fn page_into(memory: &JoinedParts, page: u32, room: &mut Vec<u8>) -> Result<(), Fail> {
+    let shape = memory.shape();
+    if page >= shape.pages || room.len() != shape.page_size() {
+        return Err(Fail::from("a page of the memory"));
+    }
+    memory.page_into(page, room);
+    Ok(())
+}
+
+#[test]
+fn pages_stand_in_parts(rt: HostRuntime) -> Result<(), Fail> {
+    let alloc = rt.alloc();
+    let shape = shape();
+    let mut first = Part::new(alloc, shape);
+    give(alloc, &mut first, &shape, 0, 1, &FIRST)?;
+    give(alloc, &mut first, &shape, 1, 3, &SECOND_OLD)?;
+    give(alloc, &mut first, &shape, 2, 0, &THIRD)?;
+    let mut second = Part::new(alloc, shape);
+    give(alloc, &mut second, &shape, 1, 5, &SECOND)?;
+    give(alloc, &mut second, &shape, 3, 4, &FOURTH)?;
+    let memory = JoinedParts::new(shape, vec![in alloc; first, second]?)?;
+    let mut room = Vec::from_elem(alloc, 7u8, 16)?;
+    for (page, bytes) in [(3, &FOURTH), (1, &SECOND), (2, &THIRD), (0, &FIRST)] {
+        page_into(&memory, page, &mut room)?;
+        assert_eq!(rt; room.as_slice(), bytes.as_slice());
+    }
+    let image = memory.image(alloc)?;
+    assert_eq!(rt; image.bytes(), MEMORY.as_slice());
+    Ok(())
+}
+
 #[test]
 fn least_page_in_no_part_is_named(rt: HostRuntime) -> Result<(), Fail> {
     let alloc = rt.alloc();
@@ -90,6 +122,8 @@ fn least_page_in_no_part_is_named(rt: HostRuntime) -> Result<(), Fail> {
     let refused = of_parts(alloc, &shape, vec![in alloc; part]?);
     assert_eq!(rt; refused.err(), Some(ImageError::Missing(1)));
     let refused = of_parts(alloc, &shape, Vec::new(alloc));
+    assert_eq!(rt; refused.err(), Some(ImageError::Missing(0)));
+    let refused = JoinedParts::new(shape, Vec::new(alloc));
     assert_eq!(rt; refused.err(), Some(ImageError::Missing(0)));
     Ok(())
 }

@@ -1,5 +1,5 @@
 -- A live run between two rounds, and when it has ended.
-use Rattle.std.specs.Prelude.{◌≡◌, ℕ, List, length}
+use Rattle.std.specs.Prelude.{◌≡◌, ℕ, ◌*◌, ◌^◌, ◌<◌, ◌≤◌, List, length, slice_index_or}
 use Rattle.std.specs.List.{All}
 use Rattle.migration_model.specs.Trace.{GuestTrace, IsTrace}
 use Rattle.migration_model.specs.Memory.{GuestMemory, image_before, image_of}
@@ -28,7 +28,9 @@ pub record IsStoppedAt (trace : GuestTrace) (versions : List ℕ) (index : Guest
   pub is_index : IsIndexOf index trace
   pub shift : memory.shift ≡ trace.shift
   pub pages : memory.pages ≡ trace.pages
+  pub len : length memory.bytes ≡ memory.pages * 2 ^ memory.shift
   pub count : length versions ≡ trace.pages
+  pub within : (page : ℕ) → page < trace.pages → slice_index_or versions page 0 ≤ length trace.writes
   pub at : AtVersions trace versions memory
 
 -- A guest that has stopped by the plan: it has the memory at the plan's stop tick, each page at its version, and the rounds

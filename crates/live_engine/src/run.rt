@@ -8,6 +8,7 @@ ghost use Rattle.migration_model.specs.Live.{LiveRounds};
 ghost use Rattle.migration_model.specs.Rounds.{IsPlan, PlannedRound};
 ghost use Rattle.migration_model.specs.Touches.{touches_of};
 ghost use Rattle.page_versions.specs.Index.{IsIndexOf};
+ghost use Rattle.image_build.specs.Joins.{memory_by};
 
 use crate::error::LiveError;
 use crate::opening::{all_pages, empty_parts, new_desks, stream_room, versions_before};
@@ -195,7 +196,7 @@ pub fn migrate<W: WriteLog + Sync, G: Gate, R: Threads + Wait + Sync>(
     settings: &Settings,
     gate: &G,
 ) -> Result<Stopped, LiveError>
-    ensures { IfOk result (λ s. IsStopped (W.trace trace.now) settings.now s.stop s.at_stop s.versions.items s.index s.rounds.items) }
+    ensures { IfOk result (λ s. IsStopped (W.trace trace.now) settings.now s.stop (memory_by s.memory) s.versions.items s.index s.rounds.items) }
 {
     let (plan, index) = plan_and_index(rt, alloc, trace, settings);
     let plan = plan?;
@@ -216,11 +217,11 @@ pub fn migrate<W: WriteLog + Sync, G: Gate, R: Threads + Wait + Sync>(
         desks,
         rounds,
     } = progress;
-    // The room of the streams is given back before memory is made of the parts.
+    // The streams have nothing more to bring: their room is given back.
     drop(desks);
-    let at_stop = crew.finish(rt, alloc, &closed, parts)?;
+    let memory = crew.finish(rt, alloc, &closed, parts)?;
     Ok(Stopped {
-        at_stop,
+        memory,
         stop: plan.stop,
         versions: closed.versions,
         index,
@@ -240,12 +241,13 @@ pub fn live_run<W: WriteLog + Sync, G: Gate, R: Threads + Wait + Sync>(
 {
     let stopped = migrate(rt, alloc, trace, settings, gate)?;
     let Stopped {
-        at_stop,
+        memory,
         stop,
         versions,
         index,
         rounds,
     } = stopped;
+    let at_stop = memory.image(alloc)?;
     let at_end = resume(at_stop.copy(alloc)?, trace, &index, &versions);
     Ok(Live {
         at_stop,

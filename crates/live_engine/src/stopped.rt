@@ -1,11 +1,12 @@
 //! A guest that has stopped, and resumes.
 
-ghost use Rattle.std.specs.Prelude.{◌≡◌};
-ghost use Rattle.migration_model.specs.Memory.{image_of};
+ghost use Rattle.std.specs.Prelude.{◌≡◌, ◌<◌, ◌^◌, length};
+ghost use Rattle.migration_model.specs.Memory.{image_of, page_of};
+ghost use Rattle.image_build.specs.Joins.{memory_by};
 ghost use Rattle.live_engine.specs.Runs.{IsStoppedAt};
 
 use crate::receiving::LiveRound;
-use image_build::{Image, resume};
+use image_build::JoinedParts;
 use page_versions::PageIndex;
 use trace_codec::WriteLog;
 
@@ -13,7 +14,7 @@ use trace_codec::WriteLog;
 #[derive(Debug, Drop)]
 pub struct Stopped {
     /// The guest's memory where it stopped.
-    pub at_stop: Image,
+    pub memory: JoinedParts,
     /// The tick at which it stopped.
     pub stop: u64,
     /// The version at which each page stopped.
@@ -25,18 +26,17 @@ pub struct Stopped {
 }
 
 impl Stopped {
-    /// The guest's memory after all its writes: it resumes in the memory in which it stopped. It takes no memory.
-    pub fn resume<W: WriteLog>(self, trace: &W) -> Image
-        requires { IsStoppedAt (W.trace trace.now) self.versions.items self.index self.at_stop }
-        ensures { result ≡ image_of (W.trace trace.now) }
+    /// Puts a page of the guest's memory after all its writes into a room of as many bytes: the page as it stopped, and over
+    /// it the writes that come after. It takes no memory.
+    pub fn resumed_page<W: WriteLog>(&self, trace: &W, page: u32, room: &mut Vec<u8>)
+        requires stopped { IsStoppedAt (W.trace trace.now) self.now.versions.items self.now.index (memory_by self.now.memory) }
+        requires page { page < (W.trace trace.now).pages }
+        requires room { length room.old.items ≡ 2 ^ (W.trace trace.now).shift }
+        ensures { room.new.items ≡ page_of (image_of (W.trace trace.now)) page }
     {
-        let Stopped {
-            at_stop,
-            stop: _,
-            versions,
-            index,
-            rounds: _,
-        } = self;
-        resume(at_stop, trace, &index, &versions)
+        let writes = trace.shape().writes;
+        let version = self.versions[page as usize];
+        self.memory.page_into(page, room);
+        self.index.bring_on(trace, page, version, writes, room);
     }
 }

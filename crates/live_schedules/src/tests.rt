@@ -1,9 +1,12 @@
 //! Worked examples: a guest of 4 pages of 16 bytes that writes pages 0 and 1 at ticks 0 and 5, page 1 at tick 1200, and
 //! pages 3 and 1 at tick 2500.
 
+ghost use Rattle.image_build.specs.Joins.{memory_by};
+ghost use Rattle.live_engine.specs.Runs.{IsStoppedAt};
+
 use crate::gates::{Counts, MarkedEarly, MarkedInTurn, MarkedLate, Meeting};
 use image_build::{Image, replay, replay_before};
-use live_engine::{Gate, Live, LiveError, LiveRound, OpenGate, live_run, migrate};
+use live_engine::{Gate, Live, LiveError, LiveRound, OpenGate, Stopped, live_run, migrate};
 use rate_limit::{Asked, Settings};
 use std::alloc::Global;
 use std::sync::Wait;
@@ -138,6 +141,17 @@ fn the_guest_resumes_from_where_it_stopped(rt: HostRuntime) -> Result<(), Fail> 
     Ok(())
 }
 
+/// Puts a page of the guest's memory after all its writes into a room.
+fn resume_into(stopped: &Stopped, trace: &Trace, page: u32, room: &mut Vec<u8>) -> Result<(), Fail>
+    requires { IsStoppedAt trace.now stopped.now.versions.items stopped.now.index (memory_by stopped.now.memory) }
+{
+    if page >= trace.pages || room.len() != trace.shape().page_size() {
+        return Err(Fail::from("a page of the guest"));
+    }
+    stopped.resumed_page(trace, page, room);
+    Ok(())
+}
+
 #[test]
 fn the_guest_resumes_in_the_memory_in_which_it_stopped(rt: HostRuntime) -> Result<(), Fail> {
     let trace = guest(rt.alloc())?;
@@ -148,8 +162,13 @@ fn the_guest_resumes_in_the_memory_in_which_it_stopped(rt: HostRuntime) -> Resul
     })?;
     let stopped = migrate(&rt, rt.alloc(), &trace, &settings, &OpenGate)?;
     assert_eq!(rt; stopped.stop, 2000);
-    assert!(rt; is_image(&stopped.at_stop, &AT_2000));
-    assert!(rt; is_image(&stopped.resume(&trace), &AT_END));
+    let at_stop = stopped.memory.image(rt.alloc())?;
+    assert!(rt; is_image(&at_stop, &AT_2000));
+    let mut room = Vec::from_elem(rt.alloc(), 7u8, 16)?;
+    for (page, bytes) in AT_END.chunks(16).enumerate() {
+        resume_into(&stopped, &trace, page as u32, &mut room)?;
+        assert!(rt; room.as_slice() == bytes);
+    }
     Ok(())
 }
 

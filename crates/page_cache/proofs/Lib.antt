@@ -1,2 +1,1 @@
-pub mod Later
 pub mod Entries

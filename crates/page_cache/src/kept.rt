@@ -5,7 +5,7 @@ ghost use Rattle.migration_model.specs.Versions.{page_at};
 ghost use Rattle.page_versions.specs.Index.{IsIndexOf};
 ghost use Rattle.page_cache.specs.Cache.{IsKept, KeptPage, page_with};
 
-use page_versions::{PageIndex, places_to, put_writes};
+use page_versions::PageIndex;
 use std::marker::Model;
 use trace_codec::WriteLog;
 
@@ -37,10 +37,7 @@ impl Kept {
         requires version { version ≤ length (W.trace trace.now).writes }
         ensures { self.new ≡ page_with version (page_at (W.trace trace.now) page version) }
     {
-        // It tells a trace: that is known where it was asked for the trace's shape.
-        let _ = trace.shape();
-        let places = places_to(index.writes_after(page, self.version), version);
-        put_writes(&mut self.bytes, trace, places);
+        index.bring_on(trace, page, self.version, version, &mut self.bytes);
         self.version = version;
     }
 }

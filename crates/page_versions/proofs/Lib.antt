@@ -5,3 +5,4 @@ pub mod Orders
 pub mod Stamps
 pub mod Keyed
 pub mod Laid
+pub mod Later

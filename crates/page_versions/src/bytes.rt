@@ -51,7 +51,7 @@ fn put_in_turn<W: WriteLog>(bytes: &mut Vec<u8>, trace: &W, places: &[u32])
 }
 
 /// Puts the writes at these places over the bytes of their page.
-pub fn put_writes<W: WriteLog>(bytes: &mut Vec<u8>, trace: &W, places: &[u32])
+pub(crate) fn put_writes<W: WriteLog>(bytes: &mut Vec<u8>, trace: &W, places: &[u32])
     requires room { length bytes.old.items ≡ 2 ^ (W.trace trace.now).shift }
     requires places { All (λ place. (1 ≤ place) × (place ≤ length (W.trace trace.now).writes)) places.now }
     requires is_trace { IsTrace (W.trace trace.now) }

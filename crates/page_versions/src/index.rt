@@ -7,7 +7,7 @@ ghost use Rattle.migration_model.specs.Versions.{page_at, version_before as vers
 ghost use Rattle.page_versions.specs.Index.{GuestIndex, HasWritesOf, IsIndexOf, index_with, places_in, places_of};
 ghost use Rattle.page_versions.specs.Layout.{IsLaidOut};
 
-use crate::bytes::put_bytes;
+use crate::bytes::{put_bytes, put_writes};
 use crate::error::IndexError;
 use crate::laying::Parts;
 use crate::making::{are_touches, parts_of, touches_in};
@@ -125,6 +125,28 @@ impl PageIndex {
         ensures { OnOk result (room.new.items ≡ page_at (W.trace trace.now) page version) }
     {
         put_bytes(room, trace, places_to(self.part(page), version))
+    }
+
+    /// Brings a page on from one version to a later one: only its writes in between are put over its bytes. It takes no memory.
+    pub fn bring_on<W: WriteLog>(
+        &self,
+        trace: &W,
+        page: u32,
+        from: u32,
+        to: u32,
+        bytes: &mut Vec<u8>,
+    )
+        requires of { IsIndexOf self.now (W.trace trace.now) }
+        requires page { page < self.now.pages }
+        requires later { from ≤ to }
+        requires version { to ≤ length (W.trace trace.now).writes }
+        requires bytes { bytes.old.items ≡ page_at (W.trace trace.now) page from }
+        ensures { bytes.new.items ≡ page_at (W.trace trace.now) page to }
+    {
+        // It tells a trace: that is known where it was asked for the trace's shape.
+        let _ = trace.shape();
+        let places = places_to(self.writes_after(page, from), to);
+        put_writes(bytes, trace, places);
     }
 
     /// Whether the index has the trace's pages and touches.

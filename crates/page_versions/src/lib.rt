@@ -9,10 +9,8 @@ mod making;
 mod searching;
 mod sorting;
 
-pub use bytes::put_writes;
 pub use error::IndexError;
 pub use index::PageIndex;
-pub use searching::places_to;
 
 #[cfg(test)]
 mod tests;

@@ -68,7 +68,7 @@ pub(crate) fn greatest_before(touches: &[Touch], places: &[u32], tick: u64) -> u
 }
 
 /// The places that are not after a version.
-pub fn places_to(places: &[u32], version: u32) -> &[u32]
+pub(crate) fn places_to(places: &[u32], version: u32) -> &[u32]
     requires { IsNonDecreasing places.now }
     ensures { result.now ≡ filter (λ place. nat_le place version) places.now }
 {

@@ -163,6 +163,50 @@ fn pages_in_one_room(rt: HostRuntime) -> Result<(), Fail> {
     Ok(())
 }
 
+/// A page at a version, brought on to a later one.
+fn brought_on(
+    alloc: Global,
+    index: &PageIndex,
+    trace: &Trace,
+    page: u32,
+    from: u32,
+    to: u32,
+) -> Result<Vec<u8>, Fail> {
+    if !index.is_of(trace) {
+        return Err(Fail::from("the index of the trace"));
+    }
+    if page >= trace.pages {
+        return Err(Fail::from("a page"));
+    }
+    if from > to || to as usize > trace.writes.len() {
+        return Err(Fail::from("a later version"));
+    }
+    let mut bytes = index.bytes_at(alloc, trace, page, from)?;
+    index.bring_on(trace, page, from, to, &mut bytes);
+    Ok(bytes)
+}
+
+#[test]
+fn pages_at_later_versions(rt: HostRuntime) -> Result<(), Fail> {
+    let alloc = rt.alloc();
+    let trace = guest(alloc, 0)?;
+    let index = PageIndex::build(&rt, alloc, &trace)?;
+    for (page, from, to, first, third, last) in [
+        (1u32, 0u32, 2u32, 0u8, 0u8, 2u8),
+        (1, 2, 3, 3, 0, 2),
+        (1, 3, 3, 3, 0, 2),
+        (1, 2, 5, 0, 0, 2),
+        (3, 3, 4, 0, 4, 0),
+        (2, 0, 5, 0, 0, 0),
+    ] {
+        let bytes = brought_on(alloc, &index, &trace, page, from, to)?;
+        assert_eq!(rt; bytes.first(), Some(&first));
+        assert_eq!(rt; bytes.get(2), Some(&third));
+        assert_eq!(rt; bytes.last(), Some(&last));
+    }
+    Ok(())
+}
+
 #[test]
 fn another_trace(rt: HostRuntime) -> Result<(), Fail> {
     let alloc = rt.alloc();

@@ -1,2 +1,4 @@
 pub mod Sinks
 pub mod Runs
+pub mod Memories
+pub mod Pieces

@@ -1,2 +1,4 @@
 pub mod Sink
 pub mod Output
+pub mod Shown
+pub mod Bytes

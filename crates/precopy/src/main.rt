@@ -8,9 +8,11 @@ mod live;
 #[cfg(test)]
 mod live_tests;
 mod options;
+mod output;
 #[cfg(test)]
 mod piece_tests;
 mod running;
+mod shown;
 mod sink;
 mod starting;
 mod test_sink;

@@ -12,9 +12,11 @@ ghost use Rattle.trace_codec.specs.Source.{SourceSpells};
 ghost use Rattle.image_build.specs.Replay.{RefusesReplay};
 ghost use Rattle.precopy.specs.Sink.{AppendsPart};
 ghost use Rattle.precopy.specs.Output.{IsOutput, IsOutsideRun, IsReport, IsSweep, RefusesRun, RefusesText};
+ghost use Rattle.precopy.specs.Bytes.{bytes_in};
 
 use crate::job::{Job, RunError};
 use crate::live::live_output;
+use crate::output::{Output, write_output};
 use crate::sink::Sink;
 use image_build::{ReplayError, replay_bytes};
 use live_engine::Gate;
@@ -30,31 +32,6 @@ use working_sets::{Tables, TablesError, par_tables};
 
 /// How many touches there have to be for tables and plan to be made side by side: fewer take less time than a thread's start.
 const WORTH_A_THREAD: usize = 1 << 18;
-
-/// Writes all of some bytes and flushes.
-pub(crate) fn write_out<K: Sink>(sink: &mut K, bytes: &[u8]) -> Result<(), RunError>
-    requires { K.has_failed sink.old ≡ false }
-    ensures written { OnOk result (Appends (K.contents sink.old) (K.contents sink.new) bytes.now) }
-    ensures flushed { OnOk result (K.is_flushed sink.new ≡ true) }
-    ensures unfailed { OnOk result (K.has_failed sink.new ≡ false) }
-    ensures part { OnErr result (AppendsPart (K.contents sink.old) (K.contents sink.new) bytes.now) }
-    ensures error { IfErr result (λ e. e ≡ RunError.Write) }
-    ensures failed { OnErr result (K.has_failed sink.new ≡ true) }
-{
-    let mut done = 0usize;
-    while done < bytes.len() {
-        let (_, rest) = bytes.split_at(done);
-        match sink.write(rest) {
-            None => return Err(RunError::Write),
-            Some(count) => done += count,
-        }
-    }
-    if sink.flush() {
-        Ok(())
-    } else {
-        Err(RunError::Write)
-    }
-}
 
 /// The same refusal, as one of a run.
 fn run_error_of(error: ReplayError) -> RunError
@@ -199,9 +176,9 @@ fn read_output<R: Threads + Wait + Sync, S: Source, G: Gate>(
     job: &Job,
     source: &mut S,
     gate: &G,
-) -> Result<Vec<u8>, RunError>
+) -> Result<Output, RunError>
     requires { S.has_failed source.old ≡ false }
-    ensures made { IfOk result (λ v. IsOutput (S.remaining source.old) job.now v.items) }
+    ensures made { IfOk result (λ output. IsOutput (S.remaining source.old) job.now (bytes_in output)) }
     ensures refused { IfErr result (RefusesRun (S.remaining source.old)) }
     ensures unwritten { IfErr result (λ e. e ≢ RunError.Write) }
     ensures only { (bytes : List ℕ) (trace : GuestTrace) → S.remaining source.old ≡ Some bytes → Spells bytes trace
@@ -209,16 +186,21 @@ fn read_output<R: Threads + Wait + Sync, S: Source, G: Gate>(
     ensures read_failed { (result ≡ Err (RunError.Trace ReadFault)) ↔ (S.has_failed source.new ≡ true) }
 {
     match job {
-        Job::Image => image_output(alloc, source),
-        Job::Report(settings) => report_output(rt, alloc, settings, source),
-        Job::Live(settings, show) => live_output(rt, alloc, settings, *show, source, gate),
-        Job::Sweep { cases, workers } => sweep_output(rt, alloc, cases, *workers, source),
+        Job::Image => Ok(Output::Text(image_output(alloc, source)?)),
+        Job::Report(settings) => Ok(Output::Text(report_output(rt, alloc, settings, source)?)),
+        Job::Live(settings, show) => {
+            let memory = live_output(rt, alloc, settings, *show, source, gate)?;
+            Ok(Output::Memory(memory))
+        }
+        Job::Sweep { cases, workers } => {
+            Ok(Output::Text(sweep_output(rt, alloc, cases, *workers, source)?))
+        }
     }
 }
 
 /// Runs one job: reads a trace to the end of the source, makes the whole output, and then writes it and flushes. Nothing
-/// is written before the output is whole, so each error but `Write` leaves nothing written, and that one a beginning. The
-/// threads of a live run call the gate; no other job does.
+/// is written while anything but a write can still fail, so each error but `Write` leaves nothing written, and that one a
+/// beginning. The threads of a live run call the gate; no other job does.
 pub fn run<R: Threads + Wait + Sync, S: Source, K: Sink, G: Gate>(
     rt: &R,
     alloc: Global,
@@ -247,7 +229,7 @@ pub fn run<R: Threads + Wait + Sync, S: Source, K: Sink, G: Gate>(
     ensures write_failed { (result ≡ Err RunError.Write) ↔ (K.has_failed sink.new ≡ true) }
 {
     match read_output(rt, alloc, job, source, gate) {
-        Ok(output) => write_out(sink, &output),
+        Ok(output) => write_output(alloc, sink, &output),
         Err(error) => Err(error),
     }
 }

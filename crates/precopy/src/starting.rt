@@ -6,7 +6,8 @@ ghost use Rattle.precopy.specs.Output.{IsOutput};
 
 use crate::command::{WordsError, WordsRefusal, job_of};
 use crate::job::{Job, RunError};
-use crate::running::{run, write_out};
+use crate::output::write_out;
+use crate::running::run;
 use crate::sink::Sink;
 use arrayvec::ArrayString;
 use live_engine::OpenGate;

@@ -1,4 +1,3 @@
-use Rattle.std.proofs.Common.{◌∙◌}
 use Rattle.page_versions.proofs.index.PageIndex.build.Goals as goal
 
 pub parts_of-requires-clause-fits : goal.parts_of-requires-clause-fits

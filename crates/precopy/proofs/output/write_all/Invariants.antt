@@ -1,6 +1,6 @@
 use Rattle.std.proofs.Common.{◌≡◌, ◌≤◌, ◌-◌, false, take, length}
 use Rattle.std.specs.Io.KnownBytes.{Appends}
-use Rattle.precopy.proofs.running.write_out.Given as goal
+use Rattle.precopy.proofs.output.write_all.Given as goal
 
 abbrev pub invariant-loop-done : goal.invariant-loop-done
 invariant-loop-done g l = record {

@@ -1,6 +1,6 @@
 use Rattle.std.proofs.Common.{arith}
 use Rattle.precopy.proofs.Sinks.{Appends-more}
-use Rattle.precopy.proofs.running.write_out.Goals as goal
+use Rattle.precopy.proofs.output.write_all.Goals as goal
 
 pub loop-done-preserved : goal.loop-done-preserved
 loop-done-preserved g c =
