@@ -1,0 +1,43 @@
+-- The values of the ends of lanes, as contracts see them. A frame is the list of its bytes. This project's own.
+use Rattle.std.specs.Prelude.{◌≡◌, ℕ, ◌<◌, List, ◌++◌}
+use denote.RawPtr.{Ptr}
+
+-- Which lane it is: where its ring lies, how many frames that holds, and the names of what its two ends know.
+pub record LaneId : Type 0 where
+  pub words : Ptr
+  pub slots : Ptr
+  pub capacity : ℕ
+  pub names : ℕ × ℕ
+
+-- the end that sends: its lane, how many more frames are known to fit, and all frames sent so far, the first one first
+pub record OutView : Type 0 where
+  pub lane : LaneId
+  pub room : ℕ
+  pub sent : List (List ℕ)
+
+-- the end that takes: its lane, all frames taken so far, the first one first, and those that it has seen and takes next
+pub record InView : Type 0 where
+  pub lane : LaneId
+  pub taken : List (List ℕ)
+  pub seen : List (List ℕ)
+
+-- the first frames of all these are these
+pub record Begins (first all : List (List ℕ)) : Type 0 where
+  pub later : List (List ℕ)
+  pub is : first ++ later ≡ all
+
+-- one more frame fits
+abbrev pub HasRoom : OutView → Type 0
+HasRoom out = 0 < out.room
+
+-- the two ends of one lane
+abbrev pub IsLane : OutView → InView → Type 0
+IsLane out end = end.lane ≡ out.lane
+
+-- the same end, which may have sent since
+abbrev pub SameOut : OutView → OutView → Type 0
+SameOut before after = after.lane ≡ before.lane
+
+-- the same end, which may have taken since
+abbrev pub SameIn : InView → InView → Type 0
+SameIn before after = after.lane ≡ before.lane

@@ -1,0 +1,86 @@
+//! The two ends of a lane.
+
+ghost use Rattle.std.specs.Prelude.{◌≡◌, ◌+◌, ◌<◌, ◌≤◌, ◌↔◌, [], ◌∷◌, ◌++◌, length, IsTrue, IfOk, IfSome, IfNone};
+ghost use Rattle.stream_lanes.specs.Ends.{Begins, HasRoom, SameOut, SameIn};
+ghost use Rattle.stream_lanes.specs.Grids.{IsNewLane};
+
+use rtrb::{Consumer, Producer, RingBuffer};
+use std::alloc::{AllocError, Global};
+use std::marker::Model;
+
+/// The end of a lane that sends. To a contract it is which lane it is of, the room that it knows of, and what it sent.
+#[derive(Drop)]
+pub struct LaneOut {
+    pub(crate) producer: Producer<Vec<u8>>,
+}
+
+impl Model for LaneOut {
+    ghost use Rattle.stream_lanes.specs.Ends.{OutView};
+    ghost use Rattle.stream_lanes.specs.Rings.{out_view};
+
+    ghost Value = { OutView };
+
+    ghost view = { λ o. out_view o.producer };
+}
+
+/// The end of a lane that takes. To a contract it is which lane it is of, what it took, and what it has seen.
+#[derive(Drop)]
+pub struct LaneIn {
+    pub(crate) consumer: Consumer<Vec<u8>>,
+}
+
+impl Model for LaneIn {
+    ghost use Rattle.stream_lanes.specs.Ends.{InView};
+    ghost use Rattle.stream_lanes.specs.Rings.{in_view};
+
+    ghost Value = { InView };
+
+    ghost view = { λ i. in_view i.consumer };
+}
+
+/// A lane with room for so many frames.
+pub(crate) fn lane(alloc: Global, capacity: usize) -> Result<(LaneOut, LaneIn), AllocError>
+    ensures { IfOk result (λ ends. IsNewLane capacity ends.0 ends.1) }
+{
+    let (producer, consumer) = RingBuffer::new(alloc, capacity)?;
+    Ok((LaneOut { producer }, LaneIn { consumer }))
+}
+
+impl LaneOut {
+    /// Whether one more frame fits. It looks at the other end, which makes room as it takes.
+    pub fn has_room(&mut self) -> bool
+        ensures lane { SameOut self.old self.new }
+        ensures sent { self.new.sent ≡ self.old.sent }
+        ensures kept { self.old.room ≤ self.new.room }
+        ensures room { IsTrue result ↔ HasRoom self.new }
+        ensures few { length self.old.sent < self.old.lane.capacity → IsTrue result }
+    {
+        !self.producer.is_full()
+    }
+
+    /// Sends a frame. It takes no memory.
+    pub fn send(&mut self, frame: Vec<u8>)
+        requires { HasRoom self.old }
+        ensures lane { SameOut self.old self.new }
+        ensures sent { self.new.sent ≡ self.old.sent ++ frame.items ∷ [] }
+        ensures room { self.old.room ≡ self.new.room + 1 }
+    {
+        self.producer.push_reserved(frame);
+    }
+}
+
+impl LaneIn {
+    /// The first frame that was sent and not taken yet, if one has come. It takes no memory.
+    #[tactic(auto, using(crate::proofs::Seen::begins_with_next))]
+    pub fn take(&mut self) -> Option<Vec<u8>>
+        ensures lane { SameIn self.old self.new }
+        ensures taken { IfSome result (λ frame. self.new.taken ≡ self.old.taken ++ frame.items ∷ []) }
+        ensures seen { IfSome result (λ frame. Begins self.old.seen (frame.items ∷ self.new.seen)) }
+        ensures none { IfNone result ((self.new.taken ≡ self.old.taken) × (self.old.seen ≡ []) × (self.new.seen ≡ [])) }
+    {
+        if self.consumer.is_empty() {
+            return None;
+        }
+        Some(self.consumer.pop_known())
+    }
+}

@@ -1,0 +1,16 @@
+//! Lanes of frames, from each sender to each receiver: nobody waits at either end.
+#![tactic(auto)]
+
+mod ends;
+mod error;
+mod grid;
+mod making;
+mod rest;
+#[cfg(test)]
+mod tests;
+
+pub use ends::{LaneIn, LaneOut};
+pub use error::LaneError;
+pub use grid::Lanes;
+pub use making::lanes;
+pub use rest::{Rest, drain};

@@ -1,0 +1,62 @@
+//! Lanes from each worker to each stream.
+
+ghost use Rattle.std.specs.Prelude.{◌≡◌, [], length, map, replicate, IfOk};
+ghost use Rattle.stream_lanes.specs.Grids.{IsGrid, AddsLane, AddsWorker};
+
+use crate::ends::{LaneIn, LaneOut, lane};
+use crate::error::LaneError;
+use crate::grid::Lanes;
+use std::alloc::Global;
+
+/// So many streams with no ends, each with room for one of each worker.
+fn empty_ins(alloc: Global, streams: usize, workers: usize) -> Result<Vec<Vec<LaneIn>>, LaneError>
+    ensures { IfOk result (λ ins. map (λ row. row.items) ins.items ≡ replicate streams []) }
+{
+    let mut ins = Vec::with_capacity(alloc, streams)?;
+    for _ in 0..streams {
+        ins.push(Vec::with_capacity(alloc, workers)?)?;
+    }
+    Ok(ins)
+}
+
+/// A new lane, whose taking end is added to those of its stream.
+fn add_lane(alloc: Global, capacity: usize, ends: &mut Vec<LaneIn>) -> Result<LaneOut, LaneError>
+    ensures { IfOk result (λ out. AddsLane capacity out ends.old.items ends.new.items) }
+{
+    let (out, end) = lane(alloc, capacity)?;
+    ends.push(end)?;
+    Ok(out)
+}
+
+/// One worker's lanes, one to each stream.
+fn add_worker(
+    alloc: Global,
+    capacity: usize,
+    ins: &mut Vec<Vec<LaneIn>>,
+) -> Result<Vec<LaneOut>, LaneError>
+    ensures count { IfOk result (λ outs. length outs.items ≡ length ins.old.items) }
+    ensures added { IfOk result (λ outs. AddsWorker capacity outs.items ins.old.items ins.new.items) }
+{
+    let mut outs = Vec::with_capacity(alloc, ins.len())?;
+    for stream in 0..ins.len() {
+        outs.push(add_lane(alloc, capacity, &mut ins[stream])?)?;
+    }
+    Ok(outs)
+}
+
+/// A lane from each worker to each stream, each with room for so many frames. The lanes' other calls take no memory.
+pub fn lanes(
+    alloc: Global,
+    workers: usize,
+    streams: usize,
+    capacity: usize,
+) -> Result<Lanes, LaneError>
+    ensures { IfOk result (λ lanes. IsGrid workers streams capacity lanes.outs.items lanes.ins.items) }
+{
+    let mut ins = empty_ins(alloc, streams, workers)?;
+    let mut outs = Vec::with_capacity(alloc, workers)?;
+    for _ in 0..workers {
+        outs.push(add_worker(alloc, capacity, &mut ins)?)?;
+    }
+    Ok(Lanes { outs, ins })
+}
