@@ -76,6 +76,7 @@ impl JoinedParts {
 
     /// The shape of the trace that the parts are of.
     pub fn shape(&self) -> Shape
+        ensures shape { shape_of result ≡ self.now.shape }
         ensures shift { result.shift ≡ (memory_by self.now).shift }
         ensures pages { result.pages ≡ (memory_by self.now).pages }
     {
