@@ -8,7 +8,7 @@ use Rattle.stream_lanes.specs.Ends.{OutView, InView}
 use Rattle.stream_lanes.specs.Grids.{IsNewLane, IsGrid, AddsLane, AddsWorker}
 
 -- what stands in a list with one more
-at_push : {X : Type 0} (xs : List X) (y x : X) (k : ℕ) → slice_get (xs ++ y ∷ []) k ≡ Some x → (slice_get xs k ≡ Some x) ⊎ ((k ≡ length xs) × (y ≡ x))
+pub at_push : {X : Type 0} (xs : List X) (y x : X) (k : ℕ) → slice_get (xs ++ y ∷ []) k ≡ Some x → (slice_get xs k ≡ Some x) ⊎ ((k ≡ length xs) × (y ≡ x))
 at_push [] y x zero there = inr (refl, same_Some y x there)
 at_push [] y x (suc k) there = absurd (none-some x there)
 at_push (z ∷ zs) y x zero there = inl there
@@ -17,7 +17,7 @@ at_push (z ∷ zs) y x (suc k) there = elim (at_push zs y x k there) [
   | inr last ↦ inr (ap suc last.0, last.1)
 ]
 
-within : {X : Type 0} (xs : List X) (k : ℕ) → k < length xs → (x : X) × (slice_get xs k ≡ Some x)
+pub within : {X : Type 0} (xs : List X) (k : ℕ) → k < length xs → (x : X) × (slice_get xs k ≡ Some x)
 within [] k low = absurd (omega (arith, low))
 within (x ∷ xs) zero low = (x, refl)
 within (x ∷ xs) (suc k) low = within xs k (omega (arith, low))

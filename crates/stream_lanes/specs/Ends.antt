@@ -1,5 +1,6 @@
 -- The values of the ends of lanes, as contracts see them. A frame is the list of its bytes. This project's own.
 use Rattle.std.specs.Prelude.{◌≡◌, ℕ, ◌<◌, List, ◌++◌}
+use Rattle.std.specs.List.{Any, Contains}
 use denote.RawPtr.{Ptr}
 
 -- Which lane it is: where its ring lies, how many frames that holds, and the names of what its two ends know.
@@ -41,3 +42,11 @@ SameOut before after = after.lane ≡ before.lane
 -- the same end, which may have taken since
 abbrev pub SameIn : InView → InView → Type 0
 SameIn before after = after.lane ≡ before.lane
+
+-- the frame was sent on one of these lanes
+abbrev pub IsSentOn : List OutView → List ℕ → Type 0
+IsSentOn outs frame = Any (λ out. Contains out.sent frame) outs
+
+-- the frame was taken from one of these lanes
+abbrev pub IsTakenFrom : List InView → List ℕ → Type 0
+IsTakenFrom ends frame = Any (λ end. Contains end.taken frame) ends

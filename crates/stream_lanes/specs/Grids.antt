@@ -36,3 +36,17 @@ pub record AddsWorker (capacity : ℕ) (outs : List OutView) (before after : Lis
   pub added : (stream : ℕ) (out : OutView) (old new : Vec InView Global) → slice_get outs stream ≡ Some out
       → slice_get before stream ≡ Some old → slice_get after stream ≡ Some new → AddsLane capacity out old.items new.items
   pub rest : (stream : ℕ) → length outs ≤ stream → slice_get after stream ≡ slice_get before stream
+
+-- the same ends, by stream
+pub record AreColumns (streams : ℕ) (rows columns : List (Vec OutView Global)) : Type 0 where
+  pub count : length columns ≡ streams
+  pub sizes : All (λ column. length column.items ≡ length rows) columns
+  pub same : (worker stream : ℕ) (row column : Vec OutView Global) → slice_get rows worker ≡ Some row → slice_get columns stream ≡ Some column
+      → slice_get column.items worker ≡ slice_get row.items stream
+
+-- the ends of one more worker, each added to those of its stream
+pub record AddsRow (row : List OutView) (before after : List (Vec OutView Global)) : Type 0 where
+  pub count : length after ≡ length before
+  pub added : (stream : ℕ) (out : OutView) (old new : Vec OutView Global) → slice_get row stream ≡ Some out
+      → slice_get before stream ≡ Some old → slice_get after stream ≡ Some new → new.items ≡ old.items ++ out ∷ []
+  pub rest : (stream : ℕ) → length row ≤ stream → slice_get after stream ≡ slice_get before stream

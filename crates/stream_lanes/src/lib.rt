@@ -8,9 +8,11 @@ mod making;
 mod rest;
 #[cfg(test)]
 mod tests;
+mod turning;
 
 pub use ends::{LaneIn, LaneOut};
 pub use error::LaneError;
 pub use grid::Lanes;
 pub use making::lanes;
 pub use rest::{Rest, drain};
+pub use turning::by_stream;

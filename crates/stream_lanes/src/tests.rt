@@ -3,7 +3,7 @@
 ghost use Rattle.std.specs.Prelude.{◌≡◌, IfOk, IfSome, Some, slice_get};
 ghost use Rattle.stream_lanes.specs.Ends.{IsLane, SameIn, SameOut};
 
-use crate::{LaneIn, LaneOut, Lanes, drain, lanes};
+use crate::{LaneIn, LaneOut, Lanes, by_stream, drain, lanes};
 use std::alloc::{AllocError, Global};
 use std::snapshot::Snapshot;
 use std::test::Fail;
@@ -112,6 +112,15 @@ fn lanes_cross(rt: HostRuntime) -> Result<(), Fail> {
     send_each(rt.alloc(), outs)?;
     let bytes = take_each(rt.alloc(), ins)?;
     assert_eq!(rt; bytes.as_slice(), [1, 4, 2, 5, 3, 6].as_slice());
+    Ok(())
+}
+
+#[test]
+fn columns_are_of_the_same_lanes(rt: HostRuntime) -> Result<(), Fail> {
+    let Lanes { outs, ins } = lanes(rt.alloc(), 2, 3, 4)?;
+    send_each(rt.alloc(), by_stream(rt.alloc(), 3, outs)?)?;
+    let bytes = take_each(rt.alloc(), ins)?;
+    assert_eq!(rt; bytes.as_slice(), [1, 2, 3, 4, 5, 6].as_slice());
     Ok(())
 }
 

@@ -1,0 +1,8 @@
+pub mod Came
+pub mod Had
+pub mod Taken
+pub mod Texts
+pub mod Holding
+pub mod Stood
+pub mod Ends
+pub mod Owned

@@ -1,0 +1,24 @@
+use Rattle.std.proofs.Common.{ℕ, List, [], ◌∷◌, ◌++◌, refl, sym, ap, subst, ◌∙◌, append_assoc, append-nil}
+use Rattle.stream_receivers.specs.Held.{Accepts}
+use Rattle.stream_receivers.proofs.Holding.{accepts_none, accepts_both}
+use Rattle.stream_receivers.proofs.taking.accept_rest.Goals as goal
+
+pub loop-text-init : goal.loop-text-init
+loop-text-init c = record { texts = []; together = refl; accepts = accepts_none c.args.part.now c.args.refusal }
+
+pub loop-text-preserved : goal.loop-text-preserved
+loop-text-preserved c =
+    let before = c.loop-text.invariant in
+    let text = c.in-Some.text.items in
+    let next : Accepts c.loop-text.part c.accept_next-refusal.new.part c.loop-text.refusal c.accept_next-refusal.result (text ∷ []) = c.accept_next-refusal.ensures in
+    record {
+      texts = before.texts ++ text ∷ [];
+      together = append_assoc before.texts (text ∷ []) c.take.new.self ∙ ap (λ xs. before.texts ++ xs) (sym c.in-Some.ensures.next) ∙ before.together;
+      accepts = accepts_both c.args.part.now c.loop-text.part c.accept_next-refusal.new.part c.args.refusal c.loop-text.refusal c.accept_next-refusal.result before.texts (text ∷ []) before.accepts next;
+    }
+
+pub returns : goal.returns
+returns c =
+    let before = c.loop-text.invariant in
+    subst (λ (ts : List (List ℕ)). Accepts c.args.part.now c.loop-text.part c.args.refusal c.loop-text.refusal ts)
+    (sym (append-nil before.texts) ∙ ap (λ xs. before.texts ++ xs) (sym c.in_default.ensures.none.0) ∙ before.together) before.accepts

@@ -1,0 +1,12 @@
+//! The receivers of the streams of a live migration: each takes frames from the lanes of its stream into its part.
+#![tactic(auto)]
+
+mod error;
+mod owning;
+mod receiver;
+mod taking;
+#[cfg(test)]
+mod tests;
+
+pub use error::ReceiverError;
+pub use receiver::Receiver;

@@ -1,0 +1,108 @@
+//! The receiver of a stream.
+
+ghost use Rattle.std.specs.Prelude.{◌≡◌, ◌<◌, IfErr, IfOk, IfSome, IsErr, IsTrue, Some, [], false, length, map, slice_get, true};
+ghost use Rattle.std.specs.List.{All};
+ghost use Rattle.migration_model.specs.Parts.{empty_part};
+ghost use Rattle.page_message.specs.Shapes.{shape_of};
+ghost use Rattle.stream_lanes.specs.Ends.{InView, IsSentOn};
+ghost use Rattle.stream_receivers.specs.Receivers.{AreEnds, AreFrames, HasFrames, IsReceiver, TakesOne, receiver_with};
+
+use crate::error::ReceiverError;
+use crate::taking::{accept_next, accept_rests};
+use collector::Part;
+use std::alloc::Global;
+use std::marker::Model;
+use stream_lanes::{LaneIn, LaneOut};
+use trace_codec::Shape;
+
+/// What takes the frames of one stream, which come on a lane from each worker, into a part of the guest's memory.
+///
+/// Once a frame is refused, for want of memory or since the bytes are not the spelling of one frame, the receiver goes on to
+/// take frames, so that the lanes have room, and drops them. At the end it answers why, in place of its part.
+#[derive(Drop)]
+pub struct Receiver {
+    ends: Vec<LaneIn>,
+    part: Part,
+    refusal: Option<ReceiverError>,
+}
+
+impl Model for Receiver {
+    ghost use Rattle.std.specs.Prelude.{is_some};
+    ghost use Rattle.stream_receivers.specs.Receivers.{ReceiverView, receiver_with};
+
+    ghost Value = { ReceiverView };
+
+    ghost use Rattle.stream_lanes.specs.Ends.{IsTakenFrom};
+    ghost use Rattle.stream_receivers.specs.Held.{IsHeld};
+
+    ghost view = { λ r. receiver_with r.ends.items r.part (is_some r.refusal) };
+
+    ghost invariant = { λ r. IsHeld r.part.shape (IsTakenFrom r.ends.items) r.part r.refusal };
+}
+
+impl Receiver {
+    /// A receiver of the lanes with these ends, in order of the workers, that took nothing yet. It takes no memory.
+    pub fn new(alloc: Global, shape: Shape, ends: Vec<LaneIn>) -> Receiver
+        requires { All (λ end. end.taken ≡ []) ends.items }
+        ensures { result ≡ receiver_with ends.items (empty_part (shape_of shape)) false }
+    {
+        Receiver {
+            ends,
+            part: Part::new(alloc, shape),
+            refusal: None,
+        }
+    }
+
+    /// How many lanes it has.
+    pub fn lanes(&self) -> usize
+        ensures count { result ≡ length self.now.ends }
+        ensures is_receiver { IsReceiver self.now }
+    {
+        self.ends.len()
+    }
+
+    /// Whether a frame was refused.
+    pub fn is_refused(&self) -> bool
+        ensures { result ≡ self.now.is_refused }
+    {
+        self.refusal.is_some()
+    }
+
+    /// Takes the next frame from a worker's lane, if one has come, and answers whether. The part has it then, unless a frame is
+    /// refused or was before.
+    pub fn take(&mut self, worker: usize) -> bool
+        requires { worker < length self.old.ends }
+        ensures lanes { map (λ end. end.lane) self.new.ends ≡ map (λ end. end.lane) self.old.ends }
+        ensures shape { self.new.part.shape ≡ self.old.part.shape }
+        ensures refused { self.old.is_refused ≡ true → self.new.is_refused ≡ true }
+        ensures none { result ≡ false → self.new ≡ self.old }
+        ensures seen { result ≡ false → (end : InView) → slice_get self.old.ends worker ≡ Some end → end.seen ≡ [] }
+        ensures some { IsTrue result → TakesOne worker self.old.ends self.new.ends }
+    {
+        let Some(text) = self.ends[worker].take() else {
+            return false;
+        };
+        self.refusal = accept_next(&mut self.part, self.refusal, text);
+        true
+    }
+
+    /// Takes what is left on its lanes, whose other ends these are, in order of the workers, and gives its part away. It answers
+    /// the first refusal, if there was one.
+    pub fn finish(self, outs: Vec<LaneOut>) -> Result<Part, ReceiverError>
+        requires { AreEnds outs.items self.ends }
+        ensures received { AreFrames self.part.shape (IsSentOn outs.items) → IfOk result (HasFrames self.part.shape (IsSentOn outs.items)) }
+        ensures frames { IfOk result (λ _. AreFrames self.part.shape (IsSentOn outs.items)) }
+        ensures refused { self.is_refused ≡ true → IsErr result }
+        ensures only { AreFrames self.part.shape (IsSentOn outs.items) → IfErr result (λ e. e ≡ ReceiverError.Memory) }
+    {
+        let Receiver {
+            ends,
+            mut part,
+            refusal,
+        } = self;
+        match accept_rests(&mut part, refusal, ends, outs) {
+            None => Ok(part),
+            Some(error) => Err(error),
+        }
+    }
+}

@@ -1,0 +1,77 @@
+//! Frames that come to a part, each as a text of its own.
+
+ghost use Rattle.std.specs.Prelude.{◌≡◌, ◌∷◌, IfErr, IfSome, OnOk, Some, []};
+ghost use Rattle.migration_model.specs.Frames.{PageFrame, SpellsFrame};
+ghost use Rattle.stream_lanes.specs.Ends.{IsSentOn, IsTakenFrom};
+ghost use Rattle.stream_receivers.specs.Held.{Accepts, IsHeld};
+ghost use Rattle.stream_receivers.specs.Receivers.{AreEnds};
+ghost use Rattle.stream_receivers.specs.Texts.{TakesText};
+
+use crate::error::ReceiverError;
+use crate::owning::own_frame;
+use collector::Part;
+use stream_lanes::{LaneIn, LaneOut, Rest, drain};
+
+/// Takes a text, which is to spell one frame. The page's bytes keep the room of the text.
+pub(crate) fn accept(part: &mut Part, text: Vec<u8>) -> Result<(), ReceiverError>
+    ensures shape { part.new.shape ≡ part.old.shape }
+    ensures taken { OnOk result (TakesText part.old part.new text.items) }
+    ensures only { (frame : PageFrame) → SpellsFrame part.old.shape text.items frame → IfErr result (λ e. e ≡ ReceiverError.Memory) }
+{
+    let frame = own_frame(&part.shape(), text)?;
+    match part.accept(frame) {
+        Ok(_) => Ok(()),
+        Err(_) => Err(ReceiverError::Memory),
+    }
+}
+
+/// Takes a text, unless something was refused before, and answers the first refusal.
+pub(crate) fn accept_next(
+    part: &mut Part,
+    refusal: Option<ReceiverError>,
+    text: Vec<u8>,
+) -> Option<ReceiverError>
+    ensures { Accepts part.old part.new refusal result (text.items ∷ []) }
+{
+    match refusal {
+        Some(error) => Some(error),
+        None => accept(part, text).err(),
+    }
+}
+
+/// Takes what is left on a lane, unless something was refused before, and answers the first refusal.
+pub(crate) fn accept_rest(
+    part: &mut Part,
+    refusal: Option<ReceiverError>,
+    rest: Rest,
+) -> Option<ReceiverError>
+    ensures { Accepts part.old part.new refusal result rest }
+{
+    let mut refusal = refusal;
+    let mut rest = rest;
+    while let Some(text) = rest.take() {
+        refusal = accept_next(part, refusal, text);
+    }
+    refusal
+}
+
+/// Takes what is left on each lane, and answers the first refusal.
+pub(crate) fn accept_rests(
+    part: &mut Part,
+    refusal: Option<ReceiverError>,
+    ends: Vec<LaneIn>,
+    outs: Vec<LaneOut>,
+) -> Option<ReceiverError>
+    requires ends { AreEnds outs.items ends.items }
+    requires held { IsHeld part.old.shape (IsTakenFrom ends.items) part.old refusal }
+    ensures shape { part.new.shape ≡ part.old.shape }
+    ensures kept { IfSome refusal (λ e. result ≡ Some e) }
+    ensures held { IsHeld part.old.shape (IsSentOn outs.items) part.new result }
+{
+    let mut refusal = refusal;
+    for (out, end) in outs.into_iter().zip(ends) {
+        let rest = drain(out, end);
+        refusal = accept_rest(part, refusal, rest);
+    }
+    refusal
+}
