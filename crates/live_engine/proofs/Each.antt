@@ -1,11 +1,11 @@
 -- Elements and their indexes.
 use Rattle.std.proofs.Common.{Result, Ok, IfOk, ◌≡◌, ℕ, zero, suc, ◌+◌, ◌<◌, inl, inr, List, [], ◌∷◌, ◌++◌, length, get_or, map, refl, sym, ap, subst, ◌∙◌, arith}
 use Rattle.std.specs.Prelude.{Some, slice_get}
-use Rattle.std.specs.List.{range_with_len}
+use Rattle.std.specs.List.{All, Any, range_with_len}
 use Rattle.std.proofs.lemmas.Bool.{cases_lt}
 use Rattle.std.proofs.lemmas.List.{get_or_append_left, get_or-append-add, length-append, get_or_default, get_or-map, length-map}
 use Rattle.std.proofs.lemmas.List.FromFn.{length-map-range_with_len, get_or-map-range_with_len}
-use Rattle.std.proofs.lemmas.Option.{slice_get_within, get_or_from_slice_get}
+use Rattle.std.proofs.lemmas.Option.{slice_get_within, get_or_from_slice_get, slice_get-get_or}
 use Rattle.live_engine.specs.Seated.{EachAt}
 
 pub pick : {X : Type 0} (xs : List X) (i : ℕ) → i < length xs → (x : X) × (x ≡ get_or xs i x)
@@ -62,3 +62,55 @@ each_ok {X} {E} Holds xs rs is all i low =
     let e = all i (omega (arith, low, len)) in
     let there : e.0 ≡ Ok p.0 = e.1 ∙ ap (λ (l : List (Result X E)). get_or l i e.0) (sym is) ∙ get_or-map Ok xs i p.0 e.0 low ∙ ap Ok (sym p.1) in
     (p.0, p.1, subst (λ r. IfOk r (λ x. Holds x i)) there e.2)
+
+-- some element, and its index
+pub any_at : {X : Type 0} (P : X → Type 0) (xs : List X) (i : ℕ) (x : X) → slice_get xs i ≡ Some x → P x → Any P xs
+any_at P xs i x there holds = (i, x, slice_get_within xs i x there, get_or_from_slice_get xs i x x there, holds)
+
+pub any_there : {X : Type 0} (P : X → Type 0) (xs : List X) → Any P xs → (i : ℕ) × (x : X) × (slice_get xs i ≡ Some x) × P x
+any_there P xs some =
+    let low = some.2 in
+    let at = some.3 in
+    (some.0, some.1, slice_get-get_or xs some.0 some.1 low ∙ ap Some at, some.4)
+
+-- an element of a list that was made of another
+pub made_of : {X Y : Type 0} (f : X → Y) (xs : List X) (i : ℕ) (y : Y) → slice_get (map f xs) i ≡ Some y → (x : X) × (slice_get xs i ≡ Some x) × (f x ≡ y)
+made_of f xs i y there =
+    let len : length (map f xs) ≡ length xs = length-map xs f in
+    let within = slice_get_within (map f xs) i y there in
+    let low : i < length xs = omega (arith, within, len) in
+    let p = pick xs i low in (
+      p.0,
+      slice_get-get_or xs i p.0 low ∙ ap Some (sym p.1),
+      ap f p.1 ∙ sym (get_or-map f xs i p.0 y low) ∙ get_or_from_slice_get (map f xs) i y y there,
+    )
+
+pub makes_at : {X Y : Type 0} (f : X → Y) (xs : List X) (i : ℕ) (x : X) → slice_get xs i ≡ Some x → slice_get (map f xs) i ≡ Some (f x)
+makes_at f xs i x there =
+    let low = slice_get_within xs i x there in
+    let len : length (map f xs) ≡ length xs = length-map xs f in
+    slice_get-get_or (map f xs) i (f x) (omega (arith, low, len)) ∙ ap Some (get_or-map f xs i x (f x) low ∙ ap f (get_or_from_slice_get xs i x x there))
+
+-- a list of as many elements, each the same as that of another
+pub same_at : {X : Type 0} (xs ys : List X) → length xs ≡ length ys → ((i : ℕ) (d : X) → i < length xs → get_or xs i d ≡ get_or ys i d) → xs ≡ ys
+same_at [] [] len each = refl
+same_at [] (y ∷ ys) len each = absurd (omega (arith, len))
+same_at (x ∷ xs) [] len each = absurd (omega (arith, len))
+same_at (x ∷ xs) (y ∷ ys) len each = λ i. each 0 x (omega arith) i ∷ same_at xs ys (omega (arith, len)) (λ k d low. each (suc k) d (omega (arith, low))) i
+
+pub all_at : {X : Type 0} (P : X → Type 0) (xs : List X) → ((i : ℕ) (x : X) → slice_get xs i ≡ Some x → P x) → All P xs
+all_at P xs each k d low = each k (get_or xs k d) (slice_get-get_or xs k d low)
+
+pub all_there : {X : Type 0} (P : X → Type 0) (xs : List X) (i : ℕ) (x : X) → All P xs → slice_get xs i ≡ Some x → P x
+all_there P xs i x all there = subst P (get_or_from_slice_get xs i x x there) (all i x (slice_get_within xs i x there))
+
+-- the element at an index that there is
+pub within : {X : Type 0} (xs : List X) (i : ℕ) → i < length xs → (x : X) × (slice_get xs i ≡ Some x)
+within xs i low = let p = pick xs i low in (p.0, slice_get-get_or xs i p.0 low ∙ ap Some (sym p.1))
+
+-- lists of the same images have the same images of elements at an index
+pub same_image : {X Y Z : Type 0} (f : X → Z) (g : Y → Z) (xs : List X) (ys : List Y) (i : ℕ) (x : X) → map f xs ≡ map g ys → slice_get xs i ≡ Some x
+    → (y : Y) × (slice_get ys i ≡ Some y) × (f x ≡ g y)
+same_image f g xs ys i x same there =
+    let found = made_of g ys i (f x) (ap (λ l. slice_get l i) (sym same) ∙ makes_at f xs i x there) in
+    (found.0, found.1, sym found.2)

@@ -1,9 +1,15 @@
 -- The seats of a table that has just opened, one after the other.
-use Rattle.std.proofs.Common.{◌≡◌, ℕ, ◌+◌, List, [], ◌∷◌, ◌++◌, length, sym, ap, ◌∙◌}
-use Rattle.std.proofs.lemmas.List.{append_assoc, length-append}
+use Rattle.std.proofs.Common.{◌≡◌, ℕ, ◌+◌, List, [], ◌∷◌, ◌++◌, length, map, get_or, sym, ap, subst, ◌∙◌, arith}
+use Rattle.std.proofs.lemmas.List.{append_assoc, append-nil, get_or-append-add, get_or-map, length-append, map-append}
+use Rattle.std.proofs.lemmas.Grind.{flat_map-append}
+use Rattle.std.specs.Prelude.{Some, slice_get}
+use Rattle.std.specs.List.{All, flat_map}
+use Rattle.std.proofs.lemmas.Option.{slice_get-get_or}
 use Rattle.dirty_words.specs.Facts.{first_guest, first_copier}
 use Rattle.dirty_words.specs.Closing.{first_guests, first_copiers}
 use Rattle.dirty_words.specs.Seats.{TableView, GuestView, CopyView, guest_view, copy_view}
+use Rattle.live_seats.specs.Desks.{DeskView}
+use Rattle.live_engine.specs.Lists.{rows_of}
 use Rattle.live_engine.proofs.Each.{made_at}
 
 -- the next of a list, when those in front of it were given out
@@ -25,3 +31,36 @@ pub copier_at : (table : TableView) (items front old rest : List CopyView) (seat
     → seat ≡ copy_view table.id (first_copier table.start (length front))
 copier_at table items front old rest seat first steps all =
     made_at (λ (number : ℕ). copy_view table.id (first_copier table.start number)) table.start.copiers front seat rest (next_of front old rest items seat steps all ∙ first)
+
+-- the lanes of the next desk, when those in front of it were given out
+pub row_first : (front old rest all : List DeskView) (desk : DeskView) (number : ℕ) → old ≡ desk ∷ rest → front ++ old ≡ all → number ≡ length front
+    → desk.outs ≡ get_or (rows_of all) number []
+row_first front old rest all desk number steps is at =
+    let whole : front ++ (desk ∷ rest) ≡ all = next_of front old rest all desk steps is in
+    let len : length all ≡ length front + length (desk ∷ rest) = sym (ap length whole) ∙ length-append front (desk ∷ rest) in
+    let here : get_or all (length front + 0) desk ≡ desk = ap (λ l. get_or l (length front + 0) desk) (sym whole) ∙ get_or-append-add front (desk ∷ rest) 0 desk in
+    let place : length front + 0 ≡ number = omega (arith, at) in
+    sym (ap (λ (k : ℕ). get_or (rows_of all) k []) (sym place) ∙ get_or-map (λ (d : DeskView). d.outs) all (length front + 0) desk [] (omega (arith, len)) ∙ ap (λ (d : DeskView). d.outs) here)
+
+pub lists_more : {X Y : Type 0} (f : X → List Y) (front : List X) (x : X) (before : List Y) → before ≡ flat_map f front → before ++ f x ≡ flat_map f (front ++ x ∷ [])
+lists_more f front x before is = ap (λ l. l ++ f x) is ∙ ap (λ l. flat_map f front ++ l) (sym (append-nil (f x))) ∙ sym (flat_map-append f front (x ∷ []))
+
+pub maps_more : {X Y : Type 0} (f : X → Y) (front : List X) (x : X) (before : List Y) → before ≡ map f front → before ++ f x ∷ [] ≡ map f (front ++ x ∷ [])
+maps_more f front x before is = ap (λ l. l ++ f x ∷ []) is ∙ sym (map-append f front (x ∷ []))
+
+-- what all have, the next has
+pub next_holds : {X : Type 0} (P : X → Type 0) (front old rest all : List X) (x : X) → old ≡ x ∷ rest → front ++ old ≡ all → All P all → P x
+next_holds P front old rest all x steps is holds =
+    let whole : front ++ (x ∷ rest) ≡ all = next_of front old rest all x steps is in
+    let here : get_or all (length front + 0) x ≡ x = ap (λ l. get_or l (length front + 0) x) (sym whole) ∙ get_or-append-add front (x ∷ rest) 0 x in
+    let len : length all ≡ length front + length (x ∷ rest) = sym (ap length whole) ∙ length-append front (x ∷ rest) in
+    subst P here (holds (length front + 0) x (omega (arith, len)))
+
+-- the next of a list stands behind those that were given out
+pub next_there : {X : Type 0} (front old rest all : List X) (x : X) (number : ℕ) → old ≡ x ∷ rest → front ++ old ≡ all → length front ≡ number → slice_get all number ≡ Some x
+next_there front old rest all x number steps is at =
+    let whole : front ++ (x ∷ rest) ≡ all = next_of front old rest all x steps is in
+    let here : get_or all (length front + 0) x ≡ x = ap (λ l. get_or l (length front + 0) x) (sym whole) ∙ get_or-append-add front (x ∷ rest) 0 x in
+    let len : length all ≡ length front + length (x ∷ rest) = sym (ap length whole) ∙ length-append front (x ∷ rest) in
+    let place : length front + 0 ≡ number = omega (arith, at) in
+    ap (slice_get all) (sym place) ∙ slice_get-get_or all (length front + 0) x (omega (arith, len)) ∙ ap Some here

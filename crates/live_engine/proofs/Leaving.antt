@@ -1,11 +1,10 @@
 -- What a round leaves, from what its threads gave back and from what the closed table tells of each page.
-use Rattle.std.proofs.Common.{◌≡◌, ℕ, ◌+◌, ◌/◌, ◌%◌, ◌<◌, ◌≤◌, ◌⊎◌, inl, inr, Bool, List, [], ◌∷◌, ◌++◌, length, map, get_or, refl, sym, ap, subst, ◌∙◌, arith}
+use Rattle.std.proofs.Common.{◌≡◌, ℕ, ◌+◌, ◌/◌, ◌%◌, ◌<◌, ◌≤◌, ◌⊎◌, inl, inr, Bool, List, [], ◌∷◌, ◌++◌, length, map, refl, sym, ap, subst, ◌∙◌, arith}
 use Rattle.std.specs.Prelude.{Some, IsTrue, is_some, slice_get, slice_index}
 use Rattle.std.specs.List.{Contains, flat_map}
 use Rattle.std.proofs.Math.Nat.{mod-lt}
 use Rattle.std.proofs.lemmas.List.{get_or-map, length-map, map-append}
 use Rattle.std.proofs.lemmas.Option.{slice_get-get_or, same_Some}
-use Rattle.std.proofs.lemmas.List.Elements.{Contains-get_or}
 use Rattle.migration_model.specs.Trace.{GuestTrace}
 use Rattle.migration_model.specs.Versions.{IsWritten, version_before}
 use Rattle.migration_model.specs.Live.{IsPlaceOf, LiveRound, live_round_with, IsInScanOrder, IsListed}
@@ -15,6 +14,7 @@ use Rattle.dirty_core.specs.Runs.{IsVisited, place_after}
 use Rattle.dirty_words.specs.Facts.{OwnsPage}
 use Rattle.dirty_words.specs.Closing.{EachPageLeft, PageLeft, HasStored}
 use Rattle.dirty_words.specs.Seats.{TableView, GuestView, CopyView, ClosedView}
+use Rattle.stream_lanes.specs.Ends.{OutView}
 use Rattle.live_seats.specs.declared.copier.Copier.{Copier}
 use Rattle.live_seats.specs.Outboxes.{IsSentAt}
 use Rattle.live_seats.specs.Outboxes as boxes
@@ -23,36 +23,20 @@ use Rattle.live_seats.specs.Replays.{OpensAt}
 use Rattle.live_engine.specs.Seated.{IsReplayed, AreReplayed, IsCopied, AreCopied}
 use Rattle.live_engine.specs.Joining.{IsRound}
 use Rattle.live_engine.proofs.Each.{each_got}
-use Rattle.live_engine.proofs.ScanOrder.{in_piece, in_all, in_scan_order}
+use Rattle.live_engine.proofs.ScanOrder.{fst_in, place_of, in_piece, in_all, in_scan_order}
 use Rattle.live_engine.proofs.Visits.{last_is_visit, visit_has_last, stored_is_visit, place_is_written, written_has_place, version_stored}
-use Rattle.live_seats.proofs.Basics.{false_true, in_none}
-
--- the page of a pair that is listed, and a pair of a page that is
-fst_in : (sent : List (ℕ × ℕ)) (page place : ℕ) → Contains sent (page, place) → Contains (map (λ (s : ℕ × ℕ). s.0) sent) page
-fst_in sent page place c =
-    let len : length (map (λ (s : ℕ × ℕ). s.0) sent) ≡ length sent = length-map sent (λ (s : ℕ × ℕ). s.0) in
-    let low = c.1 in
-    (c.0, omega (arith, low, len), get_or-map (λ (s : ℕ × ℕ). s.0) sent c.0 (page, place) page c.1 ∙ ap (λ (s : ℕ × ℕ). s.0) c.2)
-
-place_of : (sent : List (ℕ × ℕ)) (page : ℕ) → Contains (map (λ (s : ℕ × ℕ). s.0) sent) page → (place : ℕ) × Contains sent (page, place)
-place_of sent page c =
-    let len : length (map (λ (s : ℕ × ℕ). s.0) sent) ≡ length sent = length-map sent (λ (s : ℕ × ℕ). s.0) in
-    let low = c.1 in
-    let inside : c.0 < length sent = omega (arith, low, len) in
-    let at : ℕ × ℕ = get_or sent c.0 (page, 0) in
-    let first : at.0 ≡ page = sym (get_or-map (λ (s : ℕ × ℕ). s.0) sent c.0 (page, 0) page inside) ∙ c.2 in
-    (at.1, subst (λ (p : ℕ). Contains sent (p, at.1)) first (Contains-get_or sent c.0 (page, 0) inside))
+use Rattle.live_seats.proofs.Basics.{false_true}
 
 zero_and : (i : ℕ) → i ≡ 0 + i
 zero_and i = omega arith
 
 -- all that is known when the table is closed
-pub record IsClosedRound (trace : GuestTrace) (skip : Bool) (table : TableView) (from to streams : ℕ) (guests : List GuestView) (copiers : List Copier) (closed : ClosedView) : Type 0 where
+pub record IsClosedRound (trace : GuestTrace) (skip : Bool) (table : TableView) (from to streams : ℕ) (rows : List (List OutView)) (guests : List GuestView) (copiers : List Copier) (closed : ClosedView) : Type 0 where
   pub span : from ≤ to
   pub opens : OpensAt trace from table.start
   pub is_start : IsStart table.start
   pub replayed : AreReplayed trace table from to guests
-  pub copied : AreCopied trace skip table streams copiers
+  pub copied : AreCopied trace skip table streams rows copiers
   pub left : EachPageLeft table.start guests (map (λ c. c.seat) copiers) closed
   pub next : IsStart (start_with closed.versions closed.dirty table.start.guests table.start.copiers)
 
@@ -62,28 +46,31 @@ sent_by c = c.desk.outbox.sent
 abbrev skipped_by : Copier → List ℕ
 skipped_by c = c.desk.outbox.skipped
 
--- what all copiers sent and skipped, in order of their numbers
-abbrev pub round_of : List Copier → LiveRound
-round_of copiers = live_round_with (flat_map sent_by copiers) (flat_map skipped_by copiers) []
+abbrev deferred_by : Copier → List ℕ
+deferred_by c = c.desk.outbox.deferred
 
-pages_by : (copiers : List Copier) → map (λ (s : ℕ × ℕ). s.0) (flat_map sent_by copiers) ≡ flat_map (λ (c : Copier). map (λ (s : ℕ × ℕ). s.0) (sent_by c)) copiers
+-- what all copiers sent, skipped and deferred, in order of their numbers
+abbrev pub round_of : List Copier → LiveRound
+round_of copiers = live_round_with (flat_map sent_by copiers) (flat_map skipped_by copiers) (flat_map deferred_by copiers)
+
+pub pages_by : (copiers : List Copier) → map (λ (s : ℕ × ℕ). s.0) (flat_map sent_by copiers) ≡ flat_map (λ (c : Copier). map (λ (s : ℕ × ℕ). s.0) (sent_by c)) copiers
 pages_by [] = refl
 pages_by (c ∷ cs) = map-append (λ (s : ℕ × ℕ). s.0) (sent_by c) (flat_map sent_by cs) ∙ ap (λ (pages : List ℕ). map (λ (s : ℕ × ℕ). s.0) (sent_by c) ++ pages) (pages_by cs)
 
 -- a page with its guest and its copier
-record Owned (trace : GuestTrace) (skip : Bool) (table : TableView) (from to streams page : ℕ) (copiers : List Copier) (closed : ClosedView) : Type 0 where
+record Owned (trace : GuestTrace) (skip : Bool) (table : TableView) (from to streams page : ℕ) (rows : List (List OutView)) (copiers : List Copier) (closed : ClosedView) : Type 0 where
   guest : GuestView
   replayed : IsReplayed trace table from to (page % table.start.guests) guest
   owns : OwnsPage guest.facts page
   copier : Copier
   there : slice_get copiers (page / 64 % table.start.copiers) ≡ Some copier
-  copied : IsCopied trace skip table streams copier (page / 64 % table.start.copiers)
+  copied : IsCopied trace skip table streams rows copier (page / 64 % table.start.copiers)
   own : IsOwn copier.seat.facts page
   left : PageLeft table.start guest.facts copier.seat.facts closed page
 
-module _ (trace : GuestTrace) (skip : Bool) (table : TableView) (from to streams : ℕ) (guests : List GuestView) (copiers : List Copier) (closed : ClosedView)
-    (is : IsClosedRound trace skip table from to streams guests copiers closed) where
-  owned : (page : ℕ) → page < trace.pages → Owned trace skip table from to streams page copiers closed
+module _ (trace : GuestTrace) (skip : Bool) (table : TableView) (from to streams : ℕ) (rows : List (List OutView)) (guests : List GuestView) (copiers : List Copier) (closed : ClosedView)
+    (is : IsClosedRound trace skip table from to streams rows guests copiers closed) where
+  owned : (page : ℕ) → page < trace.pages → Owned trace skip table from to streams page rows copiers closed
   owned page real =
       let start : Start = table.start in
       let g : ℕ = page % start.guests in
@@ -120,10 +107,10 @@ module _ (trace : GuestTrace) (skip : Bool) (table : TableView) (from to streams
       }
 
   -- what a copier listed is its own
-  listing : (i : ℕ) (copier : Copier) (page : ℕ) → slice_get copiers i ≡ Some copier → boxes.IsListed copier.desk.outbox page
+  pub listing : (i : ℕ) (copier : Copier) (page : ℕ) → slice_get copiers i ≡ Some copier → boxes.IsListed copier.desk.outbox page
       → (page < trace.pages) × (page / 64 % table.start.copiers ≡ i)
   listing i copier page there listed =
-      let copied : IsCopied trace skip table streams copier i = each_got (IsCopied trace skip table streams) copiers i copier is.copied.each there in
+      let copied : IsCopied trace skip table streams rows copier i = each_got (IsCopied trace skip table streams rows) copiers i copier is.copied.each there in
       let own : IsOwn copier.seat.facts page = (copied.scanned.listed page listed).0 in
       let start_is : copier.seat.facts.start ≡ table.start = ap (λ (t : TableView). t.start) copied.table_is in
       let real : page < length copier.seat.facts.start.places = own.page_real in
@@ -142,12 +129,12 @@ module _ (trace : GuestTrace) (skip : Bool) (table : TableView) (from to streams
   sent_listed : (copier : Copier) (page place : ℕ) → Contains (sent_by copier) (page, place) → boxes.IsListed copier.desk.outbox page
   sent_listed copier page place sent = inl (fst_in (sent_by copier) page place sent)
 
-  stored_written : (page : ℕ) (o : Owned trace skip table from to streams page copiers closed) → HasStored o.guest.facts page → IsWritten trace from to page
+  stored_written : (page : ℕ) (o : Owned trace skip table from to streams page rows copiers closed) → HasStored o.guest.facts page → IsWritten trace from to page
   stored_written page o stored =
       let visit = stored_is_visit o.guest.facts.stores page stored in
       place_is_written trace page from to visit.0 (o.replayed.replayed.stored page visit.0 visit.1).1
 
-  written_stored : (page : ℕ) (o : Owned trace skip table from to streams page copiers closed) → IsWritten trace from to page → HasStored o.guest.facts page
+  written_stored : (page : ℕ) (o : Owned trace skip table from to streams page rows copiers closed) → IsWritten trace from to page → HasStored o.guest.facts page
   written_stored page o written =
       let place = written_has_place trace page from to written in
       let last = visit_has_last o.guest.facts.stores page place.0 (o.replayed.replayed.all page place.0 o.owns place.1) in
@@ -174,27 +161,38 @@ module _ (trace : GuestTrace) (skip : Bool) (table : TableView) (from to streams
   skipped_own : (page : ℕ) → Contains (round_of copiers).skipped page → (real : page < trace.pages) × Contains (owned page real).copier.desk.outbox.skipped page
   skipped_own page skipped =
       let found = in_piece skipped_by copiers page skipped in
-      let real = (listing found.0 found.1 page found.2 (inr found.3)).0 in
-      (real, subst (λ (c : Copier). Contains (skipped_by c) page) (by_own found.0 found.1 page found.2 (inr found.3) real) found.3)
+      let real = (listing found.0 found.1 page found.2 (inr (inl found.3))).0 in
+      (real, subst (λ (c : Copier). Contains (skipped_by c) page) (by_own found.0 found.1 page found.2 (inr (inl found.3)) real) found.3)
+
+  deferred_own : (page : ℕ) → Contains (round_of copiers).deferred page → (real : page < trace.pages) × Contains (owned page real).copier.desk.outbox.deferred page
+  deferred_own page deferred =
+      let found = in_piece deferred_by copiers page deferred in
+      let real = (listing found.0 found.1 page found.2 (inr (inr found.3))).0 in
+      (real, subst (λ (c : Copier). Contains (deferred_by c) page) (by_own found.0 found.1 page found.2 (inr (inr found.3)) real) found.3)
 
   listed_own : (page : ℕ) → IsListed (round_of copiers) page → (real : page < trace.pages) × boxes.IsListed (owned page real).copier.desk.outbox page
   listed_own page (inl sent) =
       let stamp = place_of (round_of copiers).sent page sent in
       let o = sent_own page stamp.0 stamp.1 in
       (o.0, inl (fst_in (sent_by (owned page o.0).copier) page stamp.0 o.1))
-  listed_own page (inr (inl skipped)) = let o = skipped_own page skipped in (o.0, inr o.1)
-  listed_own page (inr (inr deferred)) = absurd (in_none page deferred)
+  listed_own page (inr (inl skipped)) = let o = skipped_own page skipped in (o.0, inr (inl o.1))
+  listed_own page (inr (inr deferred)) = let o = deferred_own page deferred in (o.0, inr (inr o.1))
 
-  own_listed : (page : ℕ) (o : Owned trace skip table from to streams page copiers closed) → boxes.IsListed o.copier.desk.outbox page → IsListed (round_of copiers) page
+  own_listed : (page : ℕ) (o : Owned trace skip table from to streams page rows copiers closed) → boxes.IsListed o.copier.desk.outbox page → IsListed (round_of copiers) page
   own_listed page o (inl sent) =
       let stamp = place_of (sent_by o.copier) page sent in
       inl (fst_in (round_of copiers).sent page stamp.0 (in_all sent_by copiers (page / 64 % table.start.copiers) o.copier (page, stamp.0) o.there stamp.1))
-  own_listed page o (inr skipped) = inr (inl (in_all skipped_by copiers (page / 64 % table.start.copiers) o.copier page o.there skipped))
+  own_listed page o (inr (inl skipped)) = inr (inl (in_all skipped_by copiers (page / 64 % table.start.copiers) o.copier page o.there skipped))
+  own_listed page o (inr (inr deferred)) = inr (inr (in_all deferred_by copiers (page / 64 % table.start.copiers) o.copier page o.there deferred))
+
+  -- the page's own copier is the same, however it is known that the page is the guest's
+  same_owner : (page : ℕ) (one two : page < trace.pages) → (owned page one).copier ≡ (owned page two).copier
+  same_owner page one two = same_Some (owned page one).copier (owned page two).copier (sym (owned page one).there ∙ (owned page two).there)
 
   in_words_of : (page : ℕ) → page < trace.pages → page / 64 < (trace.pages + 63) / 64
   in_words_of page real = omega (arith, real)
 
-  was_marked : (page : ℕ) (o : Owned trace skip table from to streams page copiers closed) → (in_words o.copier.seat.facts.start.dirty page) ≡ in_words table.start.dirty page
+  was_marked : (page : ℕ) (o : Owned trace skip table from to streams page rows copiers closed) → (in_words o.copier.seat.facts.start.dirty page) ≡ in_words table.start.dirty page
   was_marked page o = ap (λ (t : TableView). in_words t.start.dirty page) o.copied.table_is
 
   visit_stamp : (page place : ℕ) (real : page < trace.pages) → IsVisited (owned page real).copier.seat.facts.reads page place
@@ -239,9 +237,15 @@ module _ (trace : GuestTrace) (skip : Bool) (table : TableView) (from to streams
         let o = owned page real in
         elim (o.left.only_due marked) [
           | inl stored ↦ inl (stored_written page o stored)
-          | inr returned ↦ inr (in_all skipped_by copiers (page / 64 % table.start.copiers) o.copier page o.there
-              (o.copied.scanned.returned page o.own (in_words_of page real) returned))
+          | inr returned ↦ elim (o.copied.scanned.returned page o.own (in_words_of page real) returned) [
+            | inl skipped ↦ inr (inl (in_all skipped_by copiers (page / 64 % table.start.copiers) o.copier page o.there skipped))
+            | inr deferred ↦ inr (inr (in_all deferred_by copiers (page / 64 % table.start.copiers) o.copier page o.there deferred))
+          ]
         ];
+    put_off = λ page deferred.
+        let own = deferred_own page deferred in
+        let o = owned page own.0 in
+        o.left.returned (o.copied.scanned.deferred page own.1);
     caught_up = λ page real either.
         let o = owned page real in
         let known : IsTrue (in_words table.start.dirty page) ⊎ HasStored o.guest.facts page = elim either [
@@ -258,17 +262,31 @@ module _ (trace : GuestTrace) (skip : Bool) (table : TableView) (from to streams
         ];
     sent_order = subst (λ (pages : List ℕ). IsInScanOrder table.start.copiers pages) (sym (pages_by copiers))
         (in_scan_order table.start.copiers (λ (c : Copier). map (λ (s : ℕ × ℕ). s.0) (sent_by c)) 0 copiers (λ i copier there.
-        let copied : IsCopied trace skip table streams copier i = each_got (IsCopied trace skip table streams) copiers i copier is.copied.each there in
+        let copied : IsCopied trace skip table streams rows copier i = each_got (IsCopied trace skip table streams rows) copiers i copier is.copied.each there in
         (copied.scanned.sent_rise, λ page sent. (listing i copier page there (inl sent)).1 ∙ zero_and i)));
     skipped_order = in_scan_order table.start.copiers skipped_by 0 copiers (λ i copier there.
-        let copied : IsCopied trace skip table streams copier i = each_got (IsCopied trace skip table streams) copiers i copier is.copied.each there in
-        (copied.scanned.skipped_rise, λ page skipped. (listing i copier page there (inr skipped)).1 ∙ zero_and i));
+        let copied : IsCopied trace skip table streams rows copier i = each_got (IsCopied trace skip table streams rows) copiers i copier is.copied.each there in
+        (copied.scanned.skipped_rise, λ page skipped. (listing i copier page there (inr (inl skipped))).1 ∙ zero_and i));
+    deferred_order = in_scan_order table.start.copiers deferred_by 0 copiers (λ i copier there.
+        let copied : IsCopied trace skip table streams rows copier i = each_got (IsCopied trace skip table streams rows) copiers i copier is.copied.each there in
+        (copied.scanned.deferred_rise, λ page deferred. (listing i copier page there (inr (inr deferred))).1 ∙ zero_and i));
     apart = λ page sent skipped.
         let stamp = place_of (round_of copiers).sent page sent in
         let own = sent_own page stamp.0 stamp.1 in
         let other = skipped_own page skipped in
         let o = owned page own.0 in
         o.copied.scanned.apart page (fst_in (sent_by o.copier) page stamp.0 own.1)
-        (subst (λ (c : Copier). Contains (skipped_by c) page) (same_Some (owned page other.0).copier o.copier (sym (owned page other.0).there ∙ o.there)) other.1);
-    none_deferred = refl;
+        (subst (λ (c : Copier). Contains (skipped_by c) page) (same_owner page other.0 own.0) other.1);
+    deferred_apart = λ page deferred.
+        let own = deferred_own page deferred in
+        let o = owned page own.0 in
+        let apart = o.copied.scanned.deferred_apart page own.1 in (
+          (λ sent.
+              let stamp = place_of (round_of copiers).sent page sent in
+              let other = sent_own page stamp.0 stamp.1 in
+              apart.0 (fst_in (sent_by o.copier) page stamp.0 (subst (λ (c : Copier). Contains (sent_by c) (page, stamp.0)) (same_owner page other.0 own.0) other.1))),
+          (λ skipped.
+              let other = skipped_own page skipped in
+              apart.1 (subst (λ (c : Copier). Contains (skipped_by c) page) (same_owner page other.0 own.0) other.1)),
+        );
   }

@@ -3,8 +3,9 @@ pub mod FirstSeats
 pub mod Visits
 pub mod ScanOrder
 pub mod Leaving
-pub mod Received
+pub mod Posted
 pub mod Running
 pub mod Planned
 pub mod Rounding
-pub mod Taking
+pub mod Crossed
+pub mod Arrived

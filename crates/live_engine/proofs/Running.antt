@@ -1,53 +1,33 @@
 -- How rounds are joined: what holds after one follows from what held before it and from what it did.
-use Rattle.std.proofs.Common.{◌≡◌, ℕ, zero, suc, ◌+◌, ◌-◌, ◌/◌, ◌<◌, ◌≤◌, ◌⊎◌, inl, inr, Bool, true, false, leb, ◌&&◌, List, [], ◌∷◌, ◌++◌, length, take, get_or, replicate, min, refl, sym, ap, subst, ◌∙◌, arith}
-use Rattle.std.specs.Prelude.{Option, Some, None, IfSome, IsSomeAnd, slice_get, slice_index}
-use Rattle.std.specs.List.{All, Contains}
+use Rattle.std.proofs.Common.{◌≡◌, ℕ, zero, suc, ◌+◌, ◌-◌, ◌/◌, ◌<◌, ◌≤◌, ◌⊎◌, inl, inr, Bool, true, false, cond, eqb, leb, ◌&&◌, List, [], ◌∷◌, ◌++◌, length, map, take, get_or, refl, sym, ap, subst, ◌∙◌, arith}
+use Rattle.std.specs.Prelude.{Some, slice_get, slice_index}
+use Rattle.std.specs.List.{All, Contains, count_by, flat_map, sum_by}
 use Rattle.std.proofs.lemmas.Bool.{cases_Bool, cases_lt, and_parts}
-use Rattle.std.proofs.lemmas.List.{get_or_append_left, get_or-append-add, length-append, get_or_default, get_or_past, get_or-replicate, length-replicate}
+use Rattle.std.proofs.lemmas.Grind.{flat_map-append}
+use Rattle.std.proofs.lemmas.List.{get_or_append_left, get_or-append-add, get_or-map, length-append, length-map, get_or_default}
+use Rattle.std.proofs.lemmas.List.Elements.{All-head, All-tail}
+use Rattle.std.proofs.lemmas.List.Sums.{sum_by-append, sum_by-cons}
 use Rattle.std.proofs.lemmas.Option.{none-some, same_Some, slice_get_within, get_or_from_slice_get, slice_get-get_or}
 use Rattle.migration_model.specs.Trace.{GuestTrace}
 use Rattle.migration_model.specs.Touches.{touches_of, is_written}
 use Rattle.migration_model.specs.Versions.{IsWritten, version_before}
 use Rattle.migration_model.specs.Rounds.{PlannedRound}
-use Rattle.migration_model.specs.Parts.{GuestPart, PageCopy, IsPart, copy_at, empty_part, IsHonest}
-use Rattle.migration_model.specs.Frames.{GuestShape}
-use Rattle.migration_model.specs.Images.{HaveCurrent}
-use Rattle.migration_model.specs.Final.{shape_of_trace}
-use Rattle.migration_model.specs.Live.{IsPlaceOf, LiveRound, KeepsLaw, LiveRounds, IsSentWith, WasCurrent, IsDue}
+use Rattle.migration_model.specs.Live.{IsPlaceOf, LiveRound, KeepsLaw, LiveRounds, IsSentWith, WasCurrent, IsDue, pages_sent, page_copier, sent_by_copier}
 use Rattle.migration_model.proofs.Touches.{written_is_lem}
 use Rattle.migration_model.proofs.Placed.{version_is_place, version_rises}
 use Rattle.dirty_core.specs.Pages.{in_words}
 use Rattle.dirty_words.specs.Seats.{ClosedView}
 use Rattle.dirty_words.specs.Closing.{FitsPages}
+use Rattle.stream_lanes.specs.Ends.{LaneId, OutView}
 use Rattle.live_seats.specs.Desks.{DeskView}
+use Rattle.live_seats.specs.Outboxes.{frames_sent}
+use Rattle.live_engine.specs.Lists.{rows_of}
 use Rattle.live_engine.specs.Runs.{IsUnderWay}
-use Rattle.live_engine.specs.Joining.{IsRound, IsMarked, HaveReceived, AreJoined}
-use Rattle.live_engine.proofs.Each.{pick}
+use Rattle.live_engine.specs.Joining.{IsRound, IsMarked, IsSentBy, lanes_of, HaveCapacity, HaveSentNothing, HavePosted, IsHonestText, IsCurrentText, AreJoined}
+use Rattle.live_engine.proofs.Each.{all_there, pick}
+use Rattle.live_engine.proofs.ScanOrder.{fst_in}
 use Rattle.live_engine.proofs.Visits.{version_stays}
 use Rattle.live_seats.proofs.Basics.{false_leb, false_true, in_none}
-
-if_some : {X : Type 0} {P : X → Type 0} (o : Option X) → ((x : X) → o ≡ Some x → P x) → IfSome o P
-if_some None all = tt
-if_some (Some x) all = all x refl
-
-some_and : {X : Type 0} {P : X → Type 0} (o : Option X) → IsSomeAnd o P → (x : X) × (o ≡ Some x) × P x
-some_and None is = absurd is
-some_and (Some x) is = (x, refl, is)
-
-some_from : {X : Type 0} (P : X → Type 0) (o : Option X) (x : X) → o ≡ Some x → P x → IsSomeAnd o P
-some_from P o x there holds = subst (λ q. IsSomeAnd q P) (sym there) holds
-
-abbrev no_one : Option PageCopy
-no_one = None
-
-no_place : (shape : GuestShape) (page : ℕ) → shape.pages ≤ page → length (replicate shape.pages no_one) ≤ page
-no_place shape page past = rw (length-replicate shape.pages no_one) past
-
-no_copy : (shape : GuestShape) (page : ℕ) (copy : PageCopy) → copy_at (empty_part shape) page ≡ Some copy → ⊥
-no_copy shape page copy there = elim (cases_lt page shape.pages) [
-  | inl low ↦ none-some copy (sym (get_or-replicate shape.pages page None None low) ∙ there)
-  | inr past ↦ none-some copy (sym (get_or_past (replicate shape.pages no_one) page None (no_place shape page past)) ∙ there)
-]
 
 -- a version is no greater than the number of writes
 version_low : (trace : GuestTrace) (page tick : ℕ) → version_before trace page tick ≤ length trace.writes
@@ -59,6 +39,47 @@ version_low trace page tick = elim (version_is_place trace page tick) [
 and_none : (a b : Bool) → b ≡ false → (a && b) ≡ false
 and_none true b e = e
 and_none false b e = refl
+
+-- ---- what was sent on lanes
+
+-- an element is no greater than the sum
+sum_holds : {X : Type 0} (f : X → ℕ) (xs : List X) (i : ℕ) (x : X) → i < length xs → get_or xs i x ≡ x → f x ≤ sum_by f xs
+sum_holds f [] i x low there = absurd (omega (arith, low))
+sum_holds f (y ∷ ys) zero x low there = let same : f y ≡ f x = ap f there in omega (arith, same, sum_by-cons f y ys)
+sum_holds f (y ∷ ys) (suc i) x low there = let rest = sum_holds f ys i x (omega (arith, low)) there in omega (arith, rest, sum_by-cons f y ys)
+
+-- the capacity of one of the lanes
+capacity_at : (lane : ℕ) (rows : List (List OutView)) (copier : ℕ) (outs : List OutView) (i : ℕ) (out : OutView) → HaveCapacity lane (lanes_of rows)
+    → slice_get rows copier ≡ Some outs → i < length outs → get_or outs i out ≡ out → out.lane.capacity ≡ lane
+capacity_at lane rows copier outs i out capacity there low at =
+    let ids : List LaneId = map (λ (o : OutView). o.lane) outs in
+    let within = slice_get_within rows copier outs there in
+    let row : get_or (lanes_of rows) copier ids ≡ ids = get_or-map (λ (row : List OutView). map (λ (o : OutView). o.lane) row) rows copier outs ids within
+    ∙ ap (λ (row : List OutView). map (λ (o : OutView). o.lane) row) (get_or_from_slice_get rows copier outs outs there) in
+    let count : length (lanes_of rows) ≡ length rows = length-map rows (λ (row : List OutView). map (λ (o : OutView). o.lane) row) in
+    let own : All (λ (id : LaneId). id.capacity ≡ lane) ids = subst (All (λ (id : LaneId). id.capacity ≡ lane)) row (capacity copier ids (omega (arith, within, count))) in
+    let one : get_or ids i out.lane ≡ out.lane = get_or-map (λ (o : OutView). o.lane) outs i out out.lane low ∙ ap (λ (o : OutView). o.lane) at in
+    sym (ap (λ (id : LaneId). id.capacity) one) ∙ own i out.lane (omega (arith, low, length-map outs (λ (o : OutView). o.lane)))
+
+-- what a copier sent in rounds of which one more came
+sent_more : (copiers : ℕ) (rounds : List LiveRound) (round : LiveRound) (copier : ℕ)
+    → sent_by_copier copiers (rounds ++ round ∷ []) copier ≡ sent_by_copier copiers rounds copier + sent_by_copier copiers (round ∷ []) copier
+sent_more copiers rounds round copier =
+    ap (count_by (λ (page : ℕ). eqb (page_copier copiers page) copier)) (flat_map-append pages_sent rounds (round ∷ []))
+    ∙ sum_by-append (λ (page : ℕ). cond (eqb (page_copier copiers page) copier) 1 0) (flat_map pages_sent rounds) (flat_map pages_sent (round ∷ []))
+
+-- lanes on which nothing was sent
+no_frames : (outs : List OutView) → All (λ (out : OutView). out.sent ≡ []) outs → frames_sent outs ≡ 0
+no_frames [] none = refl
+no_frames (out ∷ outs) none =
+    let here : length out.sent ≡ 0 = ap length (All-head (λ (o : OutView). o.sent ≡ []) out outs none) in
+    omega (arith, here, sum_by-cons (λ (o : OutView). length o.sent) out outs, no_frames outs (All-tail (λ (o : OutView). o.sent ≡ []) out outs none))
+
+nothing_sent : (rows : List (List OutView)) (text : List ℕ) → HaveSentNothing rows → IsSentBy rows text → ⊥
+nothing_sent rows text none (c, outs, low, at, (s, out, inside, there, sent)) =
+    let row : All (λ (o : OutView). o.sent ≡ []) outs = subst (All (λ (o : OutView). o.sent ≡ [])) at (none c outs low) in
+    let empty : out.sent ≡ [] = ap (λ (o : OutView). o.sent) (sym there) ∙ row s out inside in
+    in_none text (subst (λ (texts : List (List ℕ)). Contains texts text) empty sent)
 
 -- ---- lists with one more at their end
 
@@ -91,10 +112,10 @@ take_whole [] = refl
 take_whole (x ∷ xs) = ap (λ l. x ∷ l) (take_whole xs)
 
 -- the law over rounds of which one more keeps it
-pub law_more : (trace : GuestTrace) (skip : Bool) (copiers : ℕ) (planned : List PlannedRound) (rounds : List LiveRound) (plan : PlannedRound) (round : LiveRound)
-    → LiveRounds trace skip copiers planned rounds → KeepsLaw trace skip copiers planned rounds plan round
-    → LiveRounds trace skip copiers (planned ++ plan ∷ []) (rounds ++ round ∷ [])
-law_more trace skip copiers planned rounds plan round law keeps =
+pub law_more : (trace : GuestTrace) (skip : Bool) (copiers lane : ℕ) (planned : List PlannedRound) (rounds : List LiveRound) (plan : PlannedRound) (round : LiveRound)
+    → LiveRounds trace skip copiers lane planned rounds → KeepsLaw trace skip copiers lane planned rounds plan round
+    → LiveRounds trace skip copiers lane (planned ++ plan ∷ []) (rounds ++ round ∷ [])
+law_more trace skip copiers lane planned rounds plan round law keeps =
     let lp : length (planned ++ plan ∷ []) ≡ length planned + 1 = length-append planned (plan ∷ []) in
     let lr : length (rounds ++ round ∷ []) ≡ length rounds + 1 = length-append rounds (round ∷ []) in
     record {
@@ -107,8 +128,8 @@ law_more trace skip copiers planned rounds plan round law keeps =
             | inl inside ↦
                 let inside_rounds : i < length rounds = omega (arith, inside, law.count) in
                 let old = law.each i p r (at_front planned plan p i inside p_there) (at_front rounds round r i inside_rounds r_there) in
-                subst (λ (ps : List PlannedRound). KeepsLaw trace skip copiers ps (take i (rounds ++ round ∷ [])) p r) (sym (planned_take (omega (arith, inside))))
-                (subst (λ (rs : List LiveRound). KeepsLaw trace skip copiers (take i planned) rs p r) (sym (rounds_take (omega (arith, inside_rounds)))) old)
+                subst (λ (ps : List PlannedRound). KeepsLaw trace skip copiers lane ps (take i (rounds ++ round ∷ [])) p r) (sym (planned_take (omega (arith, inside))))
+                (subst (λ (rs : List LiveRound). KeepsLaw trace skip copiers lane (take i planned) rs p r) (sym (rounds_take (omega (arith, inside_rounds)))) old)
             | inr behind ↦
                 let here : i ≡ length planned = omega (arith, behind, low, lp) in
                 let here_rounds : i ≡ length rounds = here ∙ sym law.count in
@@ -116,9 +137,9 @@ law_more trace skip copiers planned rounds plan round law keeps =
                 let r_is : round ≡ r = at_end rounds round r (ap (slice_get (rounds ++ round ∷ [])) (sym here_rounds) ∙ r_there) in
                 let planned_is : take i (planned ++ plan ∷ []) ≡ planned = planned_take (omega (arith, here)) ∙ ap (λ (k : ℕ). take k planned) here ∙ take_whole planned in
                 let rounds_is : take i (rounds ++ round ∷ []) ≡ rounds = rounds_take (omega (arith, here_rounds)) ∙ ap (λ (k : ℕ). take k rounds) here_rounds ∙ take_whole rounds in
-                subst (λ (ps : List PlannedRound). KeepsLaw trace skip copiers ps (take i (rounds ++ round ∷ [])) p r) (sym planned_is)
-                (subst (λ (rs : List LiveRound). KeepsLaw trace skip copiers planned rs p r) (sym rounds_is)
-                (subst (λ (x : PlannedRound). KeepsLaw trace skip copiers planned rounds x r) p_is (subst (λ (y : LiveRound). KeepsLaw trace skip copiers planned rounds plan y) r_is keeps)))
+                subst (λ (ps : List PlannedRound). KeepsLaw trace skip copiers lane ps (take i (rounds ++ round ∷ [])) p r) (sym planned_is)
+                (subst (λ (rs : List LiveRound). KeepsLaw trace skip copiers lane planned rs p r) (sym rounds_is)
+                (subst (λ (x : PlannedRound). KeepsLaw trace skip copiers lane planned rounds x r) p_is (subst (λ (y : LiveRound). KeepsLaw trace skip copiers lane planned rounds plan y) r_is keeps)))
           ];
     }
 
@@ -164,8 +185,9 @@ marked_or_not dirty page = elim (cases_Bool (in_words dirty page)) [
 ]
 
 module _ (trace : GuestTrace) (skip : Bool) (copiers from to : ℕ) (planned : List PlannedRound) (rounds : List LiveRound) (plan : PlannedRound) (round : LiveRound)
-    (old new : ClosedView) (parts after : List GuestPart) (le : from ≤ to) (from_is : plan.from ≡ from) (to_is : plan.to ≡ to)
-    (joined : AreJoined trace from planned rounds old parts) (is : IsRound trace skip copiers old.dirty from to new round) where
+    (old new : ClosedView) (before after : List (List OutView)) (le : from ≤ to) (from_is : plan.from ≡ from) (to_is : plan.to ≡ to)
+    (joined : AreJoined trace copiers from planned rounds old before) (is : IsRound trace skip copiers old.dirty from to new round)
+    (posted : HavePosted trace copiers round before after) where
   written_now : (page : ℕ) → IsWritten trace from to page → IsWritten trace plan.from plan.to page
   written_now page w = subst (λ (a : ℕ). IsWritten trace a plan.to page) (sym from_is) (subst (λ (b : ℕ). IsWritten trace from b page) (sym to_is) w)
 
@@ -186,12 +208,112 @@ module _ (trace : GuestTrace) (skip : Bool) (copiers from to : ℕ) (planned : L
     ]
   ]
 
-  pub keeps_law : (1 ≤ length rounds ⊎ (skip ≡ false)) → KeepsLaw trace skip copiers planned rounds plan round
-  keeps_law later_or_all = record {
+  -- a frame that was sent by the round's end is that of a page at a version that it had by then
+  honest_after : (text : List ℕ) → IsSentBy after text → IsHonestText trace new.versions text
+  honest_after text sent = elim (posted.new text sent) [
+    | inl earlier ↦
+        let honest = joined.honest text earlier in
+        let real : honest.frame.page < trace.pages = honest.spells.is_frame.page in
+        record {
+          frame = honest.frame;
+          spells = honest.spells;
+          content = honest.content;
+          bound = omega (arith, honest.bound, joined.versions honest.frame.page real, is.versions honest.frame.page real, version_rises trace honest.frame.page from to le);
+        }
+    | inr now ↦
+        let page : ℕ = now.0 in
+        let place : ℕ = now.1 in
+        let spells = now.3 in
+        let real : page < trace.pages = (is.only page (inl (fst_in round.sent page place now.2))).0 in
+        let over = is.over page place now.2 in
+        let stamp = spells.is_frame.stamp_is in
+        let low : spells.frame.stamp ≤ slice_index new.versions page = omega (arith, over, stamp, is.versions page real) in
+        record {
+          frame = spells.frame;
+          spells = spells.spells;
+          content = spells.is_frame.content;
+          bound = subst (λ (p : ℕ). spells.frame.stamp ≤ slice_index new.versions p) (sym spells.is_frame.page_is) low;
+        }
+  ]
+
+  current_after : (page : ℕ) → page < trace.pages → (IsMarked new.dirty page → ⊥) → (text : List ℕ) × IsSentBy after text × IsCurrentText trace new.versions page text
+  current_after page real unmarked = elim (sent_or_before page real unmarked) [
+    | inl sent ↦
+        let version : ℕ = version_before trace page to in
+        let found = posted.all page version sent in
+        let spells = found.2 in
+        let stamp = spells.is_frame.stamp_is in (
+          found.0,
+          found.1,
+          record {
+            frame = spells.frame;
+            spells = spells.spells;
+            page_is = spells.is_frame.page_is;
+            stamp_is = omega (arith, stamp, is.versions page real, version_low trace page to);
+          },
+        )
+    | inr earlier ↦
+        let found = joined.current page real earlier.1 in
+        let current = found.2 in (
+          found.0,
+          posted.kept found.0 found.1,
+          record {
+            frame = current.frame;
+            spells = current.spells;
+            page_is = current.page_is;
+            stamp_is = omega (arith, current.stamp_is, joined.versions page real, is.versions page real, earlier.0);
+          },
+        )
+  ]
+
+  count_after : (copier : ℕ) (outs : List OutView) → slice_get after copier ≡ Some outs → frames_sent outs ≤ sent_by_copier copiers (rounds ++ round ∷ []) copier
+  count_after copier outs there =
+      let same : length after ≡ length before = sym (length-map after (λ (row : List OutView). map (λ (out : OutView). out.lane) row)) ∙ ap length posted.lanes
+      ∙ length-map before (λ (row : List OutView). map (λ (out : OutView). out.lane) row) in
+      let low : copier < length before = omega (arith, slice_get_within after copier outs there, same) in
+      let was = pick before copier low in
+      let was_there : slice_get before copier ≡ Some was.0 = slice_get-get_or before copier was.0 low ∙ ap Some (sym was.1) in
+      let one = joined.count copier was.0 was_there in
+      let two = posted.count copier was.0 outs was_there there in
+      omega (arith, one, two, sent_more copiers rounds round copier)
+
+  pub joined_more : AreJoined trace copiers to (planned ++ plan ∷ []) (rounds ++ round ∷ []) new after
+  joined_more = record {
+    versions = is.versions;
+    honest = honest_after;
+    current = current_after;
+    was_sent = λ page real unmarked. elim (sent_or_before page real unmarked) [
+      | inl sent ↦ current_now trace to page rounds round sent
+      | inr before ↦ current_before trace from to page rounds round before.0 (joined.was_sent page real before.1)
+    ];
+    put_off = λ page real put_off.
+        let last = is_last rounds round put_off.0 put_off.1 in
+        elim put_off.2 [
+          | inl skipped ↦ (is.skips page (subst (λ (r : LiveRound). Contains r.skipped page) (sym last) skipped)).2
+          | inr deferred ↦ is.put_off page (subst (λ (r : LiveRound). Contains r.deferred page) (sym last) deferred)
+        ];
+    marked = λ page real marked. elim (is.due page real marked) [
+      | inl written ↦ inr (inr (plan, last_of planned plan, written_now page written))
+      | inr later ↦ inr (inl (round, last_of rounds round, later))
+    ];
+    count = count_after;
+  }
+
+  pub keeps_law : (lane : ℕ) → HaveCapacity lane (lanes_of before) → (1 ≤ length rounds ⊎ (skip ≡ false)) → KeepsLaw trace skip copiers lane planned rounds plan round
+  keeps_law lane capacity later_or_all = record {
     sent_order = is.sent_order;
     skipped_order = is.skipped_order;
+    deferred_order = is.deferred_order;
     apart = is.apart;
-    none_deferred = is.none_deferred;
+    deferred_apart = is.deferred_apart;
+    defers = λ page deferred.
+        let crowded = posted.crowded page deferred in
+        let full = crowded.2 in
+        let holds = capacity_at lane after (page_copier copiers page) crowded.0 full.0 full.1 (subst (HaveCapacity lane) (sym posted.lanes) capacity) crowded.1 full.2 full.3 in
+        let sent = sum_holds (λ (out : OutView). length out.sent) crowded.0 full.0 full.1 full.2 full.3 in
+        let bound = joined_more.count (page_copier copiers page) crowded.0 crowded.1 in
+        let least = full.4 in
+        omega (arith, holds, sent, bound, least);
     due = λ page real due.
         let due_from : IsDue trace from rounds page = subst (λ (a : ℕ). IsDue trace a rounds page) from_is due in
         elim (marked_or_not old.dirty page) [
@@ -230,120 +352,34 @@ module _ (trace : GuestTrace) (skip : Bool) (copiers from to : ℕ) (planned : L
         );
   }
 
-  -- a copy that some part has after the round is no later than the page's version
-  bounded : (received : HaveReceived trace round.sent parts after) → (i page : ℕ) (d : GuestPart) (copy : PageCopy) → i < length parts → page < trace.pages
-      → copy_at (get_or after i d) page ≡ Some copy → copy.stamp ≤ slice_index new.versions page
-  bounded received i page d copy low real there = elim (received.had i page d copy low there) [
-    | inl before ↦
-        let old_bound : copy.stamp ≤ slice_index old.versions page = subst (λ (o : Option PageCopy). IfSome o (λ c. c.stamp ≤ slice_index old.versions page)) before (joined.not_beyond.bound page i d low) in
-        omega (arith, old_bound, joined.versions page real, is.versions page real, version_rises trace page from to le)
-    | inr sent ↦
-        let over = is.over page sent.0 sent.1 in
-        let stamp : copy.stamp ≡ min sent.0 (length trace.writes) = sent.2 in
-        omega (arith, over, stamp, is.versions page real)
-  ]
-
-  -- what a part has after the round is a page at its stamp
-  honest_after : (received : HaveReceived trace round.sent parts after) → All (IsHonest trace) after
-  honest_after received i d low page copy there = elim (received.had i page d copy (omega (arith, low, received.count)) there) [
-    | inl before ↦ joined.not_beyond.honest i d (omega (arith, low, received.count)) page copy before
-    | inr sent ↦ sent.3
-  ]
-
-  current_after : (received : HaveReceived trace round.sent parts after) → (page : ℕ) → page < trace.pages → (IsMarked new.dirty page → ⊥) → HaveCurrent new.versions after page
-  current_after received page real unmarked = elim (sent_or_before page real unmarked) [
-    | inl sent ↦
-        let version : ℕ = version_before trace page to in
-        let came = received.came page version sent in
-        let inside : came.0 < length parts = came.2 in
-        let low : came.0 < length after = omega (arith, inside, received.count) in
-        let p = pick after came.0 low in
-        let up = came.4 in
-        let down = bounded received came.0 page p.0 came.1 inside real (came.3 p.0) in
-        let same : came.1.stamp ≡ slice_index new.versions page = omega (arith, up, down, is.versions page real, version_low trace page to) in
-        (came.0, p.0, low, sym p.1, some_from (λ copy. copy.stamp ≡ slice_index new.versions page) (copy_at p.0 page) came.1 (ap (λ (x : GuestPart). copy_at x page) p.1 ∙ came.3 p.0) same)
-    | inr before ↦
-        let had = joined.current page real before.1 in
-        let inside : had.0 < length parts = had.2 in
-        let low : had.0 < length after = omega (arith, inside, received.count) in
-        let copy = some_and (copy_at had.1 page) had.4 in
-        let there : copy_at (get_or parts had.0 had.1) page ≡ Some copy.0 = ap (λ (x : GuestPart). copy_at x page) had.3 ∙ copy.1 in
-        let kept = received.kept had.0 page had.1 copy.0 inside there in
-        let p = pick after had.0 low in
-        let at : copy_at (get_or after had.0 p.0) page ≡ Some kept.0 = ap (λ (x : GuestPart). copy_at x page) (get_or_default after had.0 p.0 had.1 low) ∙ kept.1 in
-        let up = kept.2 in
-        let stamp = copy.2 in
-        let down = bounded received had.0 page p.0 kept.0 inside real at in
-        let same : kept.0.stamp ≡ slice_index new.versions page =
-        omega (arith, up, stamp, down, joined.versions page real, is.versions page real, before.0) in
-        (had.0, p.0, low, sym p.1, some_from (λ copy. copy.stamp ≡ slice_index new.versions page) (copy_at p.0 page) kept.0 (ap (λ (x : GuestPart). copy_at x page) p.1 ∙ at) same)
-  ]
-
-  pub joined_more : HaveReceived trace round.sent parts after → AreJoined trace to (planned ++ plan ∷ []) (rounds ++ round ∷ []) new after
-  joined_more received = record {
-    versions = is.versions;
-    not_beyond = record {
-      are_parts = received.are_parts;
-      shapes = received.shapes;
-      honest = honest_after received;
-      bound = λ page i d low. if_some (copy_at (get_or after i d) page) (λ copy there.
-          elim (cases_lt page trace.pages) [
-            | inl real ↦ bounded received i page d copy (omega (arith, low, received.count)) real there
-            | inr past ↦
-                let places = (received.are_parts i d low).places in
-                let pages : (get_or after i d).shape.pages ≡ trace.pages = ap (λ (s : GuestShape). s.pages) (received.shapes i d low) in
-                absurd (none-some copy (sym (get_or_past (get_or after i d).copies page None (omega (arith, past, places, pages))) ∙ there))
-          ]);
-    };
-    current = current_after received;
-    was_sent = λ page real unmarked. elim (sent_or_before page real unmarked) [
-      | inl sent ↦ current_now trace to page rounds round sent
-      | inr before ↦ current_before trace from to page rounds round before.0 (joined.was_sent page real before.1)
-    ];
-    put_off = λ page real put_off.
-        let last = is_last rounds round put_off.0 put_off.1 in
-        elim put_off.2 [
-          | inl skipped ↦ (is.skips page (subst (λ (r : LiveRound). Contains r.skipped page) (sym last) skipped)).2
-          | inr deferred ↦ absurd (in_none page (subst (λ (ps : List ℕ). Contains ps page) is.none_deferred (subst (λ (r : LiveRound). Contains r.deferred page) (sym last) deferred)))
-        ];
-    marked = λ page real marked. elim (is.due page real marked) [
-      | inl written ↦ inr (inr (plan, last_of planned plan, written_now page written))
-      | inr skipped ↦ inr (inl (round, last_of rounds round, inl skipped))
-    ];
-  }
-
 -- ---- the beginning
 
--- no part has any page, all pages are marked, and the versions are those before the first round
-pub joined_first : (trace : GuestTrace) (tick : ℕ) (closed : ClosedView) (parts : List GuestPart) → ((page : ℕ) → page < trace.pages → slice_index closed.versions page ≡ version_before trace page tick)
-    → ((page : ℕ) → page < trace.pages → IsMarked closed.dirty page) → All IsPart parts → All (λ (p : GuestPart). p ≡ empty_part (shape_of_trace trace)) parts
-    → AreJoined trace tick [] [] closed parts
-joined_first trace tick closed parts versions all are empty = record {
+-- nothing was sent, all pages are marked, and the versions are those before the first round
+pub joined_first : (trace : GuestTrace) (copiers tick : ℕ) (closed : ClosedView) (rows : List (List OutView)) → ((page : ℕ) → page < trace.pages → slice_index closed.versions page ≡ version_before trace page tick)
+    → ((page : ℕ) → page < trace.pages → IsMarked closed.dirty page) → HaveSentNothing rows → AreJoined trace copiers tick [] [] closed rows
+joined_first trace copiers tick closed rows versions all none = record {
   versions = versions;
-  not_beyond = record {
-    are_parts = are;
-    shapes = λ i d low. ap (λ (p : GuestPart). p.shape) (empty i d low);
-    honest = λ i d low page copy there. absurd (no_copy (shape_of_trace trace) page copy (ap (λ (p : GuestPart). copy_at p page) (sym (empty i d low)) ∙ there));
-    bound = λ page i d low. if_some (copy_at (get_or parts i d) page)
-        (λ copy there. absurd (no_copy (shape_of_trace trace) page copy (ap (λ (p : GuestPart). copy_at p page) (sym (empty i d low)) ∙ there)));
-  };
+  honest = λ text sent. absurd (nothing_sent rows text none sent);
   current = λ page real unmarked. absurd (unmarked (all page real));
   was_sent = λ page real unmarked. absurd (unmarked (all page real));
   put_off = λ page real put_off. absurd (none-some put_off.0 put_off.1);
   marked = λ page real marked. inl refl;
+  count = λ copier outs there. omega (arith, no_frames outs (all_there (All (λ (out : OutView). out.sent ≡ [])) rows copier outs none there));
 }
 
-pub law_first : (trace : GuestTrace) (skip : Bool) (copiers : ℕ) → LiveRounds trace skip copiers [] []
-law_first trace skip copiers = record { count = refl; each = λ i p r p_there r_there. absurd (none-some p p_there) }
+pub law_first : (trace : GuestTrace) (skip : Bool) (copiers lane : ℕ) → LiveRounds trace skip copiers lane [] []
+law_first trace skip copiers lane = record { count = refl; each = λ i p r p_there r_there. absurd (none-some p p_there) }
 
 -- where skipping is on in one round it is on
-law_of_all : (trace : GuestTrace) (now skip : Bool) (copiers : ℕ) (planned : List PlannedRound) (rounds : List LiveRound) (plan : PlannedRound) (round : LiveRound)
-    → (now ≡ true → skip ≡ true) → KeepsLaw trace now copiers planned rounds plan round → KeepsLaw trace skip copiers planned rounds plan round
-law_of_all trace now skip copiers planned rounds plan round on is = record {
+law_of_all : (trace : GuestTrace) (now skip : Bool) (copiers lane : ℕ) (planned : List PlannedRound) (rounds : List LiveRound) (plan : PlannedRound) (round : LiveRound)
+    → (now ≡ true → skip ≡ true) → KeepsLaw trace now copiers lane planned rounds plan round → KeepsLaw trace skip copiers lane planned rounds plan round
+law_of_all trace now skip copiers lane planned rounds plan round on is = record {
   sent_order = is.sent_order;
   skipped_order = is.skipped_order;
+  deferred_order = is.deferred_order;
   apart = is.apart;
-  none_deferred = is.none_deferred;
+  deferred_apart = is.deferred_apart;
+  defers = is.defers;
   due = is.due;
   only = is.only;
   stamps = is.stamps;
@@ -351,30 +387,30 @@ law_of_all trace now skip copiers planned rounds plan round on is = record {
 }
 
 -- the law after a round in which pages may be skipped only where skipping is on and a round came before
-pub law_next : (trace : GuestTrace) (skip now : Bool) (copiers : ℕ) (planned : List PlannedRound) (rounds : List LiveRound) (plan : PlannedRound) (round : LiveRound)
-    (old new : ClosedView) (parts : List GuestPart) → now ≡ (skip && leb 1 (length rounds)) → plan.from ≤ plan.to → AreJoined trace plan.from planned rounds old parts
-    → IsRound trace now copiers old.dirty plan.from plan.to new round → LiveRounds trace skip copiers planned rounds
-    → LiveRounds trace skip copiers (planned ++ plan ∷ []) (rounds ++ round ∷ [])
-law_next trace skip now copiers planned rounds plan round old new parts now_is le joined is law =
+pub law_next : (trace : GuestTrace) (skip now : Bool) (copiers lane : ℕ) (planned : List PlannedRound) (rounds : List LiveRound) (plan : PlannedRound) (round : LiveRound)
+    (old new : ClosedView) (before after : List (List OutView)) → now ≡ (skip && leb 1 (length rounds)) → plan.from ≤ plan.to → AreJoined trace copiers plan.from planned rounds old before
+    → IsRound trace now copiers old.dirty plan.from plan.to new round → HavePosted trace copiers round before after → HaveCapacity lane (lanes_of before)
+    → LiveRounds trace skip copiers lane planned rounds → LiveRounds trace skip copiers lane (planned ++ plan ∷ []) (rounds ++ round ∷ [])
+law_next trace skip now copiers lane planned rounds plan round old new before after now_is le joined is posted capacity law =
     let first_or_later : (1 ≤ length rounds) ⊎ (now ≡ false) = elim (cases_lt 0 (length rounds)) [
       | inl later ↦ inl (omega (arith, later))
       | inr first ↦ inr (now_is ∙ and_none skip (leb 1 (length rounds)) (false_leb 1 (length rounds) (omega (arith, first))))
     ] in
-    law_more trace skip copiers planned rounds plan round law
-    (law_of_all trace now skip copiers planned rounds plan round (λ on. (and_parts skip (leb 1 (length rounds)) (sym now_is ∙ on)).0)
-    (keeps_law trace now copiers plan.from plan.to planned rounds plan round old new parts parts le refl refl joined is first_or_later))
+    law_more trace skip copiers lane planned rounds plan round law
+    (law_of_all trace now skip copiers lane planned rounds plan round (λ on. (and_parts skip (leb 1 (length rounds)) (sym now_is ∙ on)).0)
+    (keeps_law trace now copiers plan.from plan.to planned rounds plan round old new before after le refl refl joined is posted lane capacity first_or_later))
 
 pub joined_next : (trace : GuestTrace) (now : Bool) (copiers : ℕ) (planned : List PlannedRound) (rounds : List LiveRound) (plan : PlannedRound) (round : LiveRound)
-    (old new : ClosedView) (parts after : List GuestPart) → plan.from ≤ plan.to → AreJoined trace plan.from planned rounds old parts
-    → IsRound trace now copiers old.dirty plan.from plan.to new round → HaveReceived trace round.sent parts after
-    → AreJoined trace plan.to (planned ++ plan ∷ []) (rounds ++ round ∷ []) new after
-joined_next trace now copiers planned rounds plan round old new parts after le joined is received =
-    joined_more trace now copiers plan.from plan.to planned rounds plan round old new parts after le refl refl joined is received
+    (old new : ClosedView) (before after : List (List OutView)) → plan.from ≤ plan.to → AreJoined trace copiers plan.from planned rounds old before
+    → IsRound trace now copiers old.dirty plan.from plan.to new round → HavePosted trace copiers round before after
+    → AreJoined trace copiers plan.to (planned ++ plan ∷ []) (rounds ++ round ∷ []) new after
+joined_next trace now copiers planned rounds plan round old new before after le joined is posted =
+    joined_more trace now copiers plan.from plan.to planned rounds plan round old new before after le refl refl joined is posted
 
 -- what the last round closed fits the trace
-pub fits_pages : (trace : GuestTrace) (tick replayers copiers streams : ℕ) (planned : List PlannedRound) (rounds : List LiveRound) (closed : ClosedView) (parts : List GuestPart) (desks : List DeskView)
-    → IsUnderWay trace replayers copiers streams closed parts desks → AreJoined trace tick planned rounds closed parts → FitsPages closed trace.pages (length trace.writes)
-fits_pages trace tick replayers copiers streams planned rounds closed parts desks under_way joined = record {
+pub fits_pages : (trace : GuestTrace) (tick replayers copiers streams : ℕ) (planned : List PlannedRound) (rounds : List LiveRound) (closed : ClosedView) (desks : List DeskView)
+    → IsUnderWay trace replayers copiers streams closed desks → AreJoined trace copiers tick planned rounds closed (rows_of desks) → FitsPages closed trace.pages (length trace.writes)
+fits_pages trace tick replayers copiers streams planned rounds closed desks under_way joined = record {
   versions = under_way.size;
   low = λ page d low.
       let real : page < trace.pages = omega (arith, low, under_way.size) in

@@ -1,15 +1,31 @@
 -- The lists of a round, copier by copier.
-use Rattle.std.proofs.Common.{◌≡◌, ℕ, zero, suc, ◌+◌, ◌-◌, ◌<◌, ◌⊎◌, inl, inr, List, [], ◌∷◌, ◌++◌, length, get_or, refl, sym, ap, subst, ◌∙◌, arith}
+use Rattle.std.proofs.Common.{◌≡◌, ℕ, zero, suc, ◌+◌, ◌-◌, ◌<◌, ◌⊎◌, inl, inr, List, [], ◌∷◌, ◌++◌, length, map, get_or, refl, sym, ap, subst, ◌∙◌, arith}
 use Rattle.std.specs.Prelude.{Some, slice_get}
 use Rattle.std.specs.List.{AllPairs, Contains, flat_map}
 use Rattle.std.specs.List.Sorted.{IsStrictlyIncreasing}
 use Rattle.std.proofs.lemmas.Bool.{cases_lt}
-use Rattle.std.proofs.lemmas.List.{length-append, get_or_append_left, get_or-append-add}
+use Rattle.std.proofs.lemmas.List.{length-append, length-map, get_or-map, get_or_append_left, get_or-append-add}
 use Rattle.std.proofs.lemmas.List.Kept.{AllPairs-from_increasing}
 use Rattle.std.proofs.lemmas.List.Elements.{Contains-append_cases, Contains-append_left, Contains-append_right, Contains-get_or}
 use Rattle.std.proofs.lemmas.Option.{none-some, same_Some}
 use Rattle.migration_model.specs.Live.{IsInScanOrder, page_copier}
 use Rattle.live_seats.proofs.Basics.{in_none}
+
+-- the page of a pair that is listed, and a pair of a page that is
+pub fst_in : (sent : List (ℕ × ℕ)) (page place : ℕ) → Contains sent (page, place) → Contains (map (λ (s : ℕ × ℕ). s.0) sent) page
+fst_in sent page place c =
+    let len : length (map (λ (s : ℕ × ℕ). s.0) sent) ≡ length sent = length-map sent (λ (s : ℕ × ℕ). s.0) in
+    let low = c.1 in
+    (c.0, omega (arith, low, len), get_or-map (λ (s : ℕ × ℕ). s.0) sent c.0 (page, place) page c.1 ∙ ap (λ (s : ℕ × ℕ). s.0) c.2)
+
+pub place_of : (sent : List (ℕ × ℕ)) (page : ℕ) → Contains (map (λ (s : ℕ × ℕ). s.0) sent) page → (place : ℕ) × Contains sent (page, place)
+place_of sent page c =
+    let len : length (map (λ (s : ℕ × ℕ). s.0) sent) ≡ length sent = length-map sent (λ (s : ℕ × ℕ). s.0) in
+    let low = c.1 in
+    let inside : c.0 < length sent = omega (arith, low, len) in
+    let at : ℕ × ℕ = get_or sent c.0 (page, 0) in
+    let first : at.0 ≡ page = sym (get_or-map (λ (s : ℕ × ℕ). s.0) sent c.0 (page, 0) page inside) ∙ c.2 in
+    (at.1, subst (λ (p : ℕ). Contains sent (p, at.1)) first (Contains-get_or sent c.0 (page, 0) inside))
 
 -- an element of lists that stand one after the other is in one of them
 pub in_piece : {X Y : Type 0} (f : X → List Y) (xs : List X) (y : Y) → Contains (flat_map f xs) y → (i : ℕ) × (x : X) × (slice_get xs i ≡ Some x) × Contains (f x) y

@@ -1,16 +1,16 @@
 -- What a round leaves, and how rounds are joined.
-use Rattle.std.specs.Prelude.{◌≡◌, ◌⊎◌, ℕ, ◌<◌, ◌≤◌, min, Bool, true, IsTrue, List, [], length, slice_index, slice_index_or, Some}
-use Rattle.std.specs.List.{All, Contains}
+use Rattle.std.specs.Prelude.{◌≡◌, ◌⊎◌, ℕ, ◌+◌, ◌<◌, ◌≤◌, Bool, true, IsTrue, List, [], ◌∷◌, map, slice_get, slice_index, Some}
+use Rattle.std.specs.List.{All, Any, Contains}
 use Rattle.migration_model.specs.Trace.{GuestTrace}
 use Rattle.migration_model.specs.Versions.{IsWritten, version_before, page_at}
 use Rattle.migration_model.specs.Rounds.{PlannedRound}
-use Rattle.migration_model.specs.Frames.{PageFrame, SpellsStream}
-use Rattle.migration_model.specs.Parts.{GuestPart, IsPart, PageCopy, copy_at}
-use Rattle.migration_model.specs.Images.{AreNotBeyond, HaveCurrent}
+use Rattle.migration_model.specs.Frames.{PageFrame, SpellsFrame, content_of}
 use Rattle.migration_model.specs.Final.{shape_of_trace}
-use Rattle.migration_model.specs.Live.{IsPlaceOf, LiveRound, IsSentWith, IsListed, IsInScanOrder, pages_sent, WasCurrent, IsPutOff, IsWrittenLast}
+use Rattle.migration_model.specs.Live.{IsPlaceOf, LiveRound, IsSentWith, IsListed, IsInScanOrder, pages_sent, page_copier, sent_by_copier, WasCurrent, IsPutOff, IsWrittenLast}
 use Rattle.dirty_core.specs.Pages.{in_words}
 use Rattle.dirty_words.specs.Seats.{ClosedView}
+use Rattle.stream_lanes.specs.Ends.{LaneId, OutView, IsSentOn}
+use Rattle.live_seats.specs.Outboxes.{IsCrowded, SpellsPage, frames_sent}
 
 abbrev pub IsMarked : List ℕ → ℕ → Type 0
 IsMarked dirty page = IsTrue (in_words dirty page)
@@ -24,42 +24,69 @@ pub record IsRound (trace : GuestTrace) (skip : Bool) (copiers : ℕ) (dirty : L
       → (stamp ≡ version_before trace page from) ⊎ IsPlaceOf trace page from to stamp
   pub over : (page stamp : ℕ) → IsSentWith round page stamp → stamp ≤ version_before trace page to
   pub skips : (page : ℕ) → Contains round.skipped page → (skip ≡ true) × IsWritten trace from to page × IsMarked closed.dirty page
-  pub due : (page : ℕ) → page < trace.pages → IsMarked closed.dirty page → IsWritten trace from to page ⊎ Contains round.skipped page
+  pub put_off : (page : ℕ) → Contains round.deferred page → IsMarked closed.dirty page
+  pub due : (page : ℕ) → page < trace.pages → IsMarked closed.dirty page
+      → IsWritten trace from to page ⊎ (Contains round.skipped page ⊎ Contains round.deferred page)
   pub caught_up : (page : ℕ) → page < trace.pages → IsMarked dirty page ⊎ IsWritten trace from to page
       → IsMarked closed.dirty page ⊎ IsSentWith round page (version_before trace page to)
   pub sent_order : IsInScanOrder copiers (pages_sent round)
   pub skipped_order : IsInScanOrder copiers round.skipped
+  pub deferred_order : IsInScanOrder copiers round.deferred
   pub apart : (page : ℕ) → Contains (pages_sent round) page → ¬ Contains round.skipped page
-  pub none_deferred : round.deferred ≡ []
+  pub deferred_apart : (page : ℕ) → Contains round.deferred page → (¬ Contains (pages_sent round) page) × (¬ Contains round.skipped page)
 
--- each stream is the spelling of frames that its part may take
-abbrev pub Spelled : List GuestPart → List (List ℕ) → List (List PageFrame) → Type 0
-Spelled parts texts frames = (i : ℕ) (d : GuestPart) → i < length parts
-    → SpellsStream (slice_index_or parts i d).shape (slice_index_or texts i []) (slice_index_or frames i [])
+-- the frame was sent by one of the copiers, whose lanes these are
+abbrev pub IsSentBy : List (List OutView) → List ℕ → Type 0
+IsSentBy rows text = Any (λ outs. IsSentOn outs text) rows
 
--- what a part has of a page after frames of these pages came: what it had, or a page as it was sent
-abbrev pub IsHadOrSent : GuestTrace → List (ℕ × ℕ) → GuestPart → ℕ → PageCopy → Type 0
-IsHadOrSent trace sent old page copy = (copy_at old page ≡ Some copy)
-    ⊎ ((place : ℕ) × Contains sent (page, place) × (copy.stamp ≡ min place (length trace.writes)) × (copy.content ≡ page_at trace page copy.stamp))
+-- which lanes the copiers have
+abbrev pub lanes_of : List (List OutView) → List (List LaneId)
+lanes_of rows = map (λ outs. map (λ out. out.lane) outs) rows
 
--- Frames of these pages came to the parts, and nothing else.
-pub record HaveReceived (trace : GuestTrace) (sent : List (ℕ × ℕ)) (old new : List GuestPart) : Type 0 where
-  pub count : length new ≡ length old
-  pub are_parts : All IsPart new
-  pub shapes : All (λ part. part.shape ≡ shape_of_trace trace) new
-  pub had : (i page : ℕ) (d : GuestPart) (copy : PageCopy) → i < length old → copy_at (slice_index_or new i d) page ≡ Some copy
-      → IsHadOrSent trace sent (slice_index_or old i d) page copy
-  pub kept : (i page : ℕ) (d : GuestPart) (copy : PageCopy) → i < length old → copy_at (slice_index_or old i d) page ≡ Some copy
-      → (later : PageCopy) × (copy_at (slice_index_or new i d) page ≡ Some later) × (copy.stamp ≤ later.stamp)
-  pub came : (page place : ℕ) → Contains sent (page, place)
-      → (i : ℕ) × (copy : PageCopy) × (i < length old) × ((d : GuestPart) → copy_at (slice_index_or new i d) page ≡ Some copy) × (min place (length trace.writes) ≤ copy.stamp)
+-- each lane holds so many frames
+abbrev pub HaveCapacity : ℕ → List (List LaneId) → Type 0
+HaveCapacity lane rows = All (All (λ id. id.capacity ≡ lane)) rows
 
--- What holds after so many rounds, when the next begins at this tick: the versions are those before it, the parts are
--- honest and nowhere beyond them, and each page that isn't marked is in some part as it is now, as it was sent.
-pub record AreJoined (trace : GuestTrace) (tick : ℕ) (planned : List PlannedRound) (rounds : List LiveRound) (closed : ClosedView) (parts : List GuestPart) : Type 0 where
+-- nothing was sent on any lane
+abbrev pub HaveSentNothing : List (List OutView) → Type 0
+HaveSentNothing rows = All (All (λ out. out.sent ≡ [])) rows
+
+-- In this round the copiers sent the frames of the pages that are listed as sent, and no other; a page was deferred only
+-- where one of its copier's lanes was full.
+pub record HavePosted (trace : GuestTrace) (copiers : ℕ) (round : LiveRound) (before after : List (List OutView)) : Type 0 where
+  pub lanes : lanes_of after ≡ lanes_of before
+  pub kept : (text : List ℕ) → IsSentBy before text → IsSentBy after text
+  pub new : (text : List ℕ) → IsSentBy after text
+      → IsSentBy before text ⊎ ((page : ℕ) × (place : ℕ) × Contains round.sent (page, place) × SpellsPage trace page place text)
+  pub all : (page place : ℕ) → Contains round.sent (page, place) → (text : List ℕ) × IsSentBy after text × SpellsPage trace page place text
+  pub count : (copier : ℕ) (old new : List OutView) → slice_get before copier ≡ Some old → slice_get after copier ≡ Some new
+      → frames_sent new ≤ frames_sent old + sent_by_copier copiers (round ∷ []) copier
+  pub crowded : (page : ℕ) → Contains round.deferred page
+      → (outs : List OutView) × (slice_get after (page_copier copiers page) ≡ Some outs) × IsCrowded outs
+
+-- this text is the frame of a page at a version no later than this one of its page
+pub record IsHonestText (trace : GuestTrace) (versions : List ℕ) (text : List ℕ) : Type 0 where
+  pub frame : PageFrame
+  pub spells : SpellsFrame (shape_of_trace trace) text frame
+  pub content : content_of (shape_of_trace trace) frame ≡ page_at trace frame.page frame.stamp
+  pub bound : frame.stamp ≤ slice_index versions frame.page
+
+-- this text is the frame of the page at this version
+pub record IsCurrentText (trace : GuestTrace) (versions : List ℕ) (page : ℕ) (text : List ℕ) : Type 0 where
+  pub frame : PageFrame
+  pub spells : SpellsFrame (shape_of_trace trace) text frame
+  pub page_is : frame.page ≡ page
+  pub stamp_is : frame.stamp ≡ slice_index versions page
+
+-- What holds after so many rounds, when the next begins at this tick: the versions are those before it; each frame that
+-- was sent is honest and nowhere beyond them; each page that isn't marked was sent as it is now.
+pub record AreJoined (trace : GuestTrace) (copiers tick : ℕ) (planned : List PlannedRound) (rounds : List LiveRound) (closed : ClosedView) (rows : List (List OutView)) : Type 0 where
   pub versions : (page : ℕ) → page < trace.pages → slice_index closed.versions page ≡ version_before trace page tick
-  pub not_beyond : AreNotBeyond trace (shape_of_trace trace) closed.versions parts
-  pub current : (page : ℕ) → page < trace.pages → ¬ IsMarked closed.dirty page → HaveCurrent closed.versions parts page
+  pub honest : (text : List ℕ) → IsSentBy rows text → IsHonestText trace closed.versions text
+  pub current : (page : ℕ) → page < trace.pages → ¬ IsMarked closed.dirty page
+      → (text : List ℕ) × IsSentBy rows text × IsCurrentText trace closed.versions page text
   pub was_sent : (page : ℕ) → page < trace.pages → ¬ IsMarked closed.dirty page → WasCurrent trace tick rounds page
   pub put_off : (page : ℕ) → page < trace.pages → IsPutOff rounds page → IsMarked closed.dirty page
   pub marked : (page : ℕ) → page < trace.pages → IsMarked closed.dirty page → (rounds ≡ []) ⊎ (IsPutOff rounds page ⊎ IsWrittenLast trace planned page)
+  -- no copier sent more frames than are listed of its pages
+  pub count : (copier : ℕ) (outs : List OutView) → slice_get rows copier ≡ Some outs → frames_sent outs ≤ sent_by_copier copiers rounds copier

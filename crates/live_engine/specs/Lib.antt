@@ -2,4 +2,4 @@ pub mod Seated
 pub mod Joining
 pub mod Lists
 pub mod Runs
-pub mod Taking
+pub mod Receiving

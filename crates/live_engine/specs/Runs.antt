@@ -1,5 +1,5 @@
 -- A live run between two rounds, and when it has ended.
-use Rattle.std.specs.Prelude.{◌≡◌, ℕ, ◌*◌, ◌^◌, ◌<◌, ◌≤◌, List, length, slice_index_or}
+use Rattle.std.specs.Prelude.{◌≡◌, ℕ, ◌*◌, ◌^◌, ◌<◌, ◌≤◌, List, length, slice_index, slice_index_or}
 use Rattle.std.specs.List.{All}
 use Rattle.migration_model.specs.Trace.{GuestTrace, IsTrace}
 use Rattle.migration_model.specs.Memory.{GuestMemory, image_before, image_of}
@@ -7,20 +7,50 @@ use Rattle.migration_model.specs.Rates.{MigrationSettings}
 use Rattle.migration_model.specs.Rounds.{MigrationPlan, IsPlan}
 use Rattle.migration_model.specs.Touches.{touches_of}
 use Rattle.migration_model.specs.Live.{LiveRound, LiveRounds}
+use Rattle.migration_model.specs.Final.{shape_of_trace}
+use Rattle.migration_model.specs.Images.{AreNotBeyond, HaveCurrent}
 use Rattle.migration_model.specs.Parts.{GuestPart}
 use Rattle.migration_model.specs.Resumed.{AtVersions}
+use Rattle.migration_model.specs.Versions.{version_before}
 use Rattle.page_versions.specs.Index.{GuestIndex, IsIndexOf}
 use Rattle.dirty_core.specs.Start.{IsStart, start_with}
+use Rattle.dirty_words.specs.Closing.{FitsPages}
 use Rattle.dirty_words.specs.Seats.{ClosedView}
 use Rattle.live_seats.specs.Desks.{DeskView, IsDesk}
+use Rattle.live_engine.specs.Joining.{AreJoined, HaveCapacity, HaveSentNothing, IsMarked, lanes_of}
+use Rattle.live_engine.specs.Lists.{rows_of}
 
--- the next table may open, and there is a part for each stream and a desk for each copier
-pub record IsUnderWay (trace : GuestTrace) (replayers copiers streams : ℕ) (closed : ClosedView) (parts : List GuestPart) (desks : List DeskView) : Type 0 where
+-- the next table may open, and there is a desk for each copier
+pub record IsUnderWay (trace : GuestTrace) (replayers copiers streams : ℕ) (closed : ClosedView) (desks : List DeskView) : Type 0 where
   pub next : IsStart (start_with closed.versions closed.dirty replayers copiers)
   pub size : length closed.versions ≡ trace.pages
-  pub parts_are : length parts ≡ streams
   pub desks_are : length desks ≡ copiers
   pub each : All (IsDesk trace streams) desks
+
+-- a migration may begin: its numbers are those asked for, and each copier has a desk from which nothing was sent
+pub record MayBegin (trace : GuestTrace) (s : MigrationSettings) (replayers copiers streams : ℕ) (desks : List DeskView) : Type 0 where
+  pub replayers_are : replayers ≡ s.replayers
+  pub copiers_are : copiers ≡ s.workers
+  pub count : length desks ≡ copiers
+  pub each : All (IsDesk trace streams) desks
+  pub new : HaveSentNothing (rows_of desks)
+
+-- all planned rounds are done, by copiers that had these desks before
+pub record AreDone (trace : GuestTrace) (s : MigrationSettings) (plan : MigrationPlan) (replayers copiers streams : ℕ) (before : List DeskView)
+    (closed : ClosedView) (rounds : List LiveRound) (desks : List DeskView) : Type 0 where
+  pub under_way : IsUnderWay trace replayers copiers streams closed desks
+  pub lanes : lanes_of (rows_of desks) ≡ lanes_of (rows_of before)
+  pub joined : AreJoined trace copiers plan.stop plan.rounds rounds closed (rows_of desks)
+  pub law : (lane : ℕ) → HaveCapacity lane (lanes_of (rows_of before)) → LiveRounds trace s.skip copiers lane plan.rounds rounds
+
+-- all that was sent has arrived in the parts, and no page that isn't marked is older there than at the stop
+pub record AllArrived (trace : GuestTrace) (s : MigrationSettings) (plan : MigrationPlan) (streams : ℕ) (closed : ClosedView) (rounds : List LiveRound) (parts : List GuestPart) : Type 0 where
+  pub fits : FitsPages closed trace.pages (length trace.writes)
+  pub versions : (page : ℕ) → page < trace.pages → slice_index closed.versions page ≡ version_before trace page plan.stop
+  pub count : length parts ≡ streams
+  pub not_beyond : AreNotBeyond trace (shape_of_trace trace) closed.versions parts
+  pub current : (page : ℕ) → page < trace.pages → ¬ IsMarked closed.dirty page → HaveCurrent closed.versions parts page
+  pub law : LiveRounds trace s.skip s.workers s.lane plan.rounds rounds
 
 -- memory of a trace's guest in which each page is at its version, and an index of the trace
 pub record IsStoppedAt (trace : GuestTrace) (versions : List ℕ) (index : GuestIndex) (memory : GuestMemory) : Type 0 where
@@ -41,7 +71,7 @@ pub record IsStopped (trace : GuestTrace) (s : MigrationSettings) (stop : ℕ) (
   pub stop_is : stop ≡ plan.stop
   pub at_stop_is : at_stop ≡ image_before trace plan.stop
   pub stopped : IsStoppedAt trace versions index at_stop
-  pub law : LiveRounds trace s.skip s.workers plan.rounds rounds
+  pub law : LiveRounds trace s.skip s.workers s.lane plan.rounds rounds
 
 -- A live run that answers: by the plan, it has the memory at the plan's stop tick and after all writes, and its rounds keep
 -- the law.
@@ -51,4 +81,4 @@ pub record IsLiveRun (trace : GuestTrace) (s : MigrationSettings) (stop : ℕ) (
   pub stop_is : stop ≡ plan.stop
   pub at_stop_is : at_stop ≡ image_before trace plan.stop
   pub at_end_is : at_end ≡ image_of trace
-  pub law : LiveRounds trace s.skip s.workers plan.rounds rounds
+  pub law : LiveRounds trace s.skip s.workers s.lane plan.rounds rounds

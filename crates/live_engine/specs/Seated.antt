@@ -1,7 +1,8 @@
 -- What the threads of a round give back.
-use Rattle.std.specs.Prelude.{◌≡◌, ℕ, ◌<◌, slice_index_or, Bool, List, length}
+use Rattle.std.specs.Prelude.{◌≡◌, ℕ, ◌<◌, slice_index_or, Bool, List, [], length}
 use Rattle.migration_model.specs.Trace.{GuestTrace}
 use Rattle.dirty_words.specs.Seats.{TableView, GuestView, guest_table}
+use Rattle.stream_lanes.specs.Ends.{OutView}
 use Rattle.live_seats.specs.Replays.{HasReplayed}
 use Rattle.live_seats.specs.Copies.{HasCopied}
 use Rattle.live_seats.specs.declared.copier.Copier.{Copier}
@@ -21,11 +22,12 @@ pub record AreReplayed (trace : GuestTrace) (table : TableView) (from to : ℕ) 
   pub count : length guests ≡ table.start.guests
   pub each : EachAt (λ guest number. IsReplayed trace table from to number guest) guests
 
--- the copier with this number did its part
-abbrev pub IsCopied : GuestTrace → Bool → TableView → ℕ → Copier → ℕ → Type 0
-IsCopied trace skip table streams copier number = HasCopied trace skip table number streams copier.seat copier.desk
+-- the copier with this number did its part, and had these lanes first
+abbrev pub IsCopied : GuestTrace → Bool → TableView → ℕ → List (List OutView) → Copier → ℕ → Type 0
+IsCopied trace skip table streams rows copier number =
+    HasCopied trace skip table number streams (slice_index_or rows number []) copier.seat copier.desk
 
 -- all copiers of the table did their parts
-pub record AreCopied (trace : GuestTrace) (skip : Bool) (table : TableView) (streams : ℕ) (copiers : List Copier) : Type 0 where
+pub record AreCopied (trace : GuestTrace) (skip : Bool) (table : TableView) (streams : ℕ) (rows : List (List OutView)) (copiers : List Copier) : Type 0 where
   pub count : length copiers ≡ table.start.copiers
-  pub each : EachAt (IsCopied trace skip table streams) copiers
+  pub each : EachAt (IsCopied trace skip table streams rows) copiers

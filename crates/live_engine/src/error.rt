@@ -10,6 +10,8 @@ use page_versions::IndexError;
 use round_planner::PlanError;
 use std::alloc::{AllocError, AllocFailed};
 use stop_copy::CopyError;
+use stream_lanes::LaneError;
+use stream_receivers::ReceiverError;
 use thiserror::Error;
 
 /// A refusal. Its text is its name.
@@ -58,6 +60,19 @@ impl From<TableError> for LiveError {
 /// After the final copy no page is missing in the parts, so only memory can have been refused.
 impl From<ImageError> for LiveError {
     fn from(_error: ImageError) -> LiveError {
+        LiveError::Memory
+    }
+}
+
+impl From<LaneError> for LiveError {
+    fn from(_error: LaneError) -> LiveError {
+        LiveError::Memory
+    }
+}
+
+/// All that is sent are frames, so only memory can have been refused.
+impl From<ReceiverError> for LiveError {
+    fn from(_error: ReceiverError) -> LiveError {
         LiveError::Memory
     }
 }

@@ -1,22 +1,24 @@
 //! What a migration begins with.
 
-ghost use Rattle.std.specs.Prelude.{◌≡◌, ◌<◌, ◌≤◌, ◌+◌, ◌/◌, ℕ, nat_lt, IfOk, length, slice_index};
+ghost use Rattle.std.specs.Prelude.{◌≡◌, ◌<◌, ◌≤◌, ◌+◌, ◌/◌, ℕ, nat_lt, IfOk, [], length, map, slice_index};
 ghost use Rattle.std.specs.List.{All};
 ghost use Rattle.dirty_core.specs.Pages.{in_words};
-ghost use Rattle.migration_model.specs.Parts.{empty_part};
 ghost use Rattle.migration_model.specs.Versions.{version_before};
 ghost use Rattle.live_seats.specs.Desks.{IsDesk};
 ghost use Rattle.migration_model.specs.Trace.{GuestTrace};
 ghost use Rattle.page_message.specs.Shapes.{shape_of};
+ghost use Rattle.live_engine.specs.Lists.{rows_of};
+ghost use Rattle.live_engine.specs.Receiving.{lanes_in};
 ghost use Rattle.page_versions.specs.Index.{IsIndexOf};
 
 use crate::error::LiveError;
-use collector::Part;
 use dirty_core::add_page;
 use live_seats::Desk;
 use page_versions::PageIndex;
 use std::alloc::Global;
 use std::collections::VecDeque;
+use stream_lanes::{LaneIn, LaneOut};
+use stream_receivers::Receiver;
 use trace_codec::{Shape, WriteLog};
 
 /// The version of each page before a tick.
@@ -51,50 +53,33 @@ pub(crate) fn all_pages(alloc: Global, pages: u32) -> Result<Vec<u64>, LiveError
     Ok(words)
 }
 
-/// A part without pages for each stream.
-pub(crate) fn empty_parts(
-    alloc: Global,
-    shape: Shape,
-    streams: usize,
-) -> Result<Vec<Part>, LiveError>
-    ensures count { IfOk result (λ v. length v.items ≡ streams) }
-    ensures empty { IfOk result (λ v. All (λ part. part ≡ empty_part (shape_of shape)) v.items) }
+/// A desk for each copier, before the first round, with its lanes.
+pub(crate) fn new_desks(alloc: Global, rows: Vec<Vec<LaneOut>>) -> Result<VecDeque<Desk>, LiveError>
+    requires some { All (λ row. 1 ≤ length row.items) rows.items }
+    requires few { All (λ row. length row.items ≤ 16) rows.items }
+    ensures rows { IfOk result (λ v. rows_of v.items ≡ map (λ row. row.items) rows.items) }
+    ensures each { (trace : GuestTrace) (streams : ℕ) → All (λ row. length row.items ≡ streams) rows.items → IfOk result (λ v. All (IsDesk trace streams) v.items) }
 {
-    let mut parts = Vec::with_capacity(alloc, streams)?;
-    for _ in 0..streams {
-        parts.push(Part::new(alloc, shape))?;
-    }
-    Ok(parts)
-}
-
-/// The bytes that a frame has in front of its page.
-const HEAD: usize = 9;
-
-/// The bytes of the frames of all pages for each of so many streams, and a thirtieth and two pages more: they seldom are more
-/// in a round.
-pub(crate) fn stream_room(shape: Shape, streams: usize) -> usize
-    requires { 1 ≤ streams }
-{
-    let frame = shape.page_size() + HEAD;
-    let share = shape.pages as usize * frame / streams;
-    share + share / 30 + 2 * frame
-}
-
-/// A desk for each copier, before the first round, whose streams have room for so many bytes each.
-pub(crate) fn new_desks(
-    alloc: Global,
-    copiers: usize,
-    streams: usize,
-    room: usize,
-) -> Result<VecDeque<Desk>, LiveError>
-    requires some { 1 ≤ streams }
-    requires few { streams ≤ 16 }
-    ensures count { IfOk result (λ v. length v.items ≡ copiers) }
-    ensures each { (trace : GuestTrace) → IfOk result (λ v. All (IsDesk trace streams) v.items) }
-{
-    let mut desks = VecDeque::with_capacity(alloc, copiers)?;
-    for _ in 0..copiers {
-        desks.push_back(Desk::new(alloc, streams, room)?)?;
+    let mut desks = VecDeque::with_capacity(alloc, rows.len())?;
+    for row in rows {
+        desks.push_back(Desk::new(alloc, row)?)?;
     }
     Ok(desks)
+}
+
+/// A receiver for each stream, with its lanes. No part has any page.
+pub(crate) fn new_receivers(
+    alloc: Global,
+    shape: Shape,
+    columns: Vec<Vec<LaneIn>>,
+) -> Result<Vec<Receiver>, LiveError>
+    requires { All (λ column. All (λ end. end.taken ≡ []) column.items) columns.items }
+    ensures lanes { IfOk result (λ v. map lanes_in v.items ≡ map (λ column. map (λ end. end.lane) column.items) columns.items) }
+    ensures shapes { IfOk result (λ v. All (λ receiver. receiver.part.shape ≡ shape_of shape) v.items) }
+{
+    let mut receivers = Vec::with_capacity(alloc, columns.len())?;
+    for column in columns {
+        receivers.push(Receiver::new(alloc, shape, column))?;
+    }
+    Ok(receivers)
 }

@@ -3,14 +3,14 @@
 ghost use Rattle.std.specs.Prelude.{◌≡◌, ◌<◌, ◌≤◌, ℕ, IfOk, length, map, slice_index};
 ghost use Rattle.std.specs.List.{All};
 ghost use Rattle.dirty_core.specs.Start.{IsStart, start_with};
-ghost use Rattle.live_engine.specs.Joining.{IsRound};
-ghost use Rattle.live_engine.specs.Lists.{lists_of};
+ghost use Rattle.live_engine.specs.Joining.{HavePosted, IsRound};
+ghost use Rattle.live_engine.specs.Lists.{lists_of, rows_of};
 ghost use Rattle.live_seats.specs.Desks.{IsDesk};
-ghost use Rattle.live_seats.specs.Outboxes.{IsPosted};
 ghost use Rattle.migration_model.specs.Versions.{version_before};
 ghost use Rattle.page_versions.specs.Index.{IsIndexOf};
 
 use crate::error::LiveError;
+use crate::receivers::Signals;
 use crate::threads::{Finished, Seats, run_threads};
 use dirty_core::Opening;
 use dirty_words::{Closed, CopySeat, Opened, RoundTable};
@@ -28,9 +28,12 @@ pub(crate) struct Crew<'a, W, G> {
     pub(crate) trace: &'a W,
     pub(crate) index: &'a PageIndex,
     pub(crate) gate: &'a G,
+    pub(crate) signals: &'a Signals,
     pub(crate) replayers: usize,
     pub(crate) copiers: usize,
     pub(crate) streams: usize,
+    /// How many frames a lane holds.
+    pub(crate) lane: usize,
 }
 
 /// The copiers' seats and their desks, in order of the copiers' numbers.
@@ -84,7 +87,7 @@ impl<'a, W: WriteLog + Sync, G: Gate> Crew<'a, W, G> {
         ensures round { IfOk result (λ left. IsRound (W.trace self.now.trace.now) skip self.now.copiers closed.dirty ticks.from ticks.to left.closed (lists_of left.desks.items)) }
         ensures next { IfOk result (λ left. IsStart (start_with left.closed.versions left.closed.dirty self.now.replayers self.now.copiers)) }
         ensures size { IfOk result (λ left. length left.closed.versions ≡ (W.trace self.now.trace.now).pages) }
-        ensures posted { IfOk result (λ left. All (λ desk. IsPosted (W.trace self.now.trace.now) desk.outbox) left.desks.items) }
+        ensures posted { IfOk result (λ left. HavePosted (W.trace self.now.trace.now) self.now.copiers (lists_of left.desks.items) (rows_of desks.items) (rows_of left.desks.items)) }
         ensures count { IfOk result (λ left. length left.desks.items ≡ self.now.copiers) }
         ensures desks { IfOk result (λ left. All (IsDesk (W.trace self.now.trace.now) self.now.streams) left.desks.items) }
     {

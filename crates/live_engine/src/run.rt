@@ -1,21 +1,24 @@
 //! A live run: its rounds, one after the other, and its end.
 
-ghost use Rattle.std.specs.Prelude.{◌≡◌, ◌&&◌, nat_le, ◌<◌, ◌≤◌, ◌++◌, ◌∷◌, [], List, IfOk};
+ghost use Rattle.std.specs.Prelude.{◌≡◌, ◌&&◌, nat_le, ◌<◌, ◌≤◌, ◌++◌, ◌∷◌, ℕ, [], List, IfOk, length};
 ghost use Rattle.std.specs.List.{All};
-ghost use Rattle.live_engine.specs.Joining.{AreJoined};
-ghost use Rattle.live_engine.specs.Runs.{IsLiveRun, IsStopped, IsUnderWay};
+ghost use Rattle.live_engine.specs.Joining.{AreJoined, HaveCapacity, HaveSentNothing, lanes_of};
+ghost use Rattle.live_engine.specs.Lists.{rows_of};
+ghost use Rattle.live_seats.specs.Desks.{IsDesk};
+ghost use Rattle.live_engine.specs.Runs.{AreDone, IsLiveRun, IsStopped, IsUnderWay, MayBegin};
 ghost use Rattle.migration_model.specs.Live.{LiveRounds};
 ghost use Rattle.migration_model.specs.Rounds.{IsPlan, PlannedRound};
 ghost use Rattle.migration_model.specs.Touches.{touches_of};
 ghost use Rattle.page_versions.specs.Index.{IsIndexOf};
 ghost use Rattle.image_build.specs.Joins.{memory_by};
 
+use crate::beside::Arrived;
 use crate::error::LiveError;
-use crate::opening::{all_pages, empty_parts, new_desks, stream_room, versions_before};
-use crate::receiving::{LiveRound, receive};
+use crate::listing::{LiveRound, list};
+use crate::opening::{all_pages, versions_before};
+use crate::receivers::Signals;
 use crate::round::{Crew, Left};
 use crate::stopped::Stopped;
-use collector::Part;
 use dirty_words::Closed;
 use image_build::{Image, resume};
 use live_seats::{Desk, Gate, Point, Ticks};
@@ -25,6 +28,7 @@ use round_planner::{Plan, PlanError, Round, plan};
 use std::alloc::Global;
 use std::collections::VecDeque;
 use std::sync::Wait;
+use std::sync::atomic::Ordering;
 use std::thread;
 use std::thread::Threads;
 use trace_codec::WriteLog;
@@ -33,7 +37,6 @@ use trace_codec::WriteLog;
 #[derive(Drop)]
 pub(crate) struct Progress {
     pub(crate) closed: Closed,
-    pub(crate) parts: Vec<Part>,
     pub(crate) desks: VecDeque<Desk>,
     pub(crate) rounds: Vec<LiveRound>,
 }
@@ -46,29 +49,33 @@ fn may_skip(skip: bool, number: usize) -> bool
 }
 
 impl<'a, W: WriteLog + Sync, G: Gate> Crew<'a, W, G> {
-    /// Before the first round all pages are marked, and no part has any.
-    pub(crate) fn begin(&self, alloc: Global, start: u64) -> Result<Progress, LiveError>
+    /// Before the first round all pages are marked, and nothing was sent.
+    pub(crate) fn begin(
+        &self,
+        alloc: Global,
+        start: u64,
+        desks: VecDeque<Desk>,
+    ) -> Result<Progress, LiveError>
         requires of { IsIndexOf self.now.index.now (W.trace self.now.trace.now) }
         requires some_replayers { 1 ≤ self.now.replayers }
         requires few_replayers { self.now.replayers ≤ 16 }
         requires some_copiers { 1 ≤ self.now.copiers }
         requires few_copiers { self.now.copiers ≤ 16 }
-        requires some_streams { 1 ≤ self.now.streams }
-        requires few_streams { self.now.streams ≤ 16 }
+        requires count { length desks.items ≡ self.now.copiers }
+        requires desks { All (IsDesk (W.trace self.now.trace.now) self.now.streams) desks.items }
+        requires new { HaveSentNothing (rows_of desks.items) }
         ensures none { IfOk result (λ p. p.rounds.items ≡ []) }
-        ensures under_way { IfOk result (λ p. IsUnderWay (W.trace self.now.trace.now) self.now.replayers self.now.copiers self.now.streams p.closed p.parts.items p.desks.items) }
-        ensures joined { IfOk result (λ p. AreJoined (W.trace self.now.trace.now) start [] [] p.closed p.parts.items) }
+        ensures desks { IfOk result (λ p. p.desks.items ≡ desks.items) }
+        ensures under_way { IfOk result (λ p. IsUnderWay (W.trace self.now.trace.now) self.now.replayers self.now.copiers self.now.streams p.closed p.desks.items) }
+        ensures joined { IfOk result (λ p. AreJoined (W.trace self.now.trace.now) self.now.copiers start [] [] p.closed (rows_of p.desks.items)) }
     {
-        let shape = self.trace.shape();
-        let room = stream_room(shape, self.copiers * self.streams);
         let closed = Closed {
             versions: versions_before(alloc, self.trace, self.index, start)?,
-            dirty: all_pages(alloc, shape.pages)?,
+            dirty: all_pages(alloc, self.trace.shape().pages)?,
         };
         Ok(Progress {
             closed,
-            parts: empty_parts(alloc, shape, self.streams)?,
-            desks: new_desks(alloc, self.copiers, self.streams, room)?,
+            desks,
             rounds: Vec::new(alloc),
         })
     }
@@ -84,38 +91,40 @@ impl<'a, W: WriteLog + Sync, G: Gate> Crew<'a, W, G> {
     ) -> Result<Progress, LiveError>
         requires of { IsIndexOf self.now.index.now (W.trace self.now.trace.now) }
         requires span { planned.now.from ≤ planned.now.to }
-        requires under_way { IsUnderWay (W.trace self.now.trace.now) self.now.replayers self.now.copiers self.now.streams progress.closed progress.parts.items progress.desks.items }
-        requires joined { (before : List PlannedRound) × AreJoined (W.trace self.now.trace.now) planned.now.from before progress.rounds.items progress.closed progress.parts.items }
-        ensures under_way { IfOk result (λ p. IsUnderWay (W.trace self.now.trace.now) self.now.replayers self.now.copiers self.now.streams p.closed p.parts.items p.desks.items) }
-        ensures joined { (before : List PlannedRound) → AreJoined (W.trace self.now.trace.now) planned.now.from before progress.rounds.items progress.closed progress.parts.items
-            → IfOk result (λ p. AreJoined (W.trace self.now.trace.now) planned.now.to (before ++ planned.now ∷ []) p.rounds.items p.closed p.parts.items) }
-        ensures law { (before : List PlannedRound) → AreJoined (W.trace self.now.trace.now) planned.now.from before progress.rounds.items progress.closed progress.parts.items
-            → LiveRounds (W.trace self.now.trace.now) skip self.now.copiers before progress.rounds.items
-            → IfOk result (λ p. LiveRounds (W.trace self.now.trace.now) skip self.now.copiers (before ++ planned.now ∷ []) p.rounds.items) }
+        requires under_way { IsUnderWay (W.trace self.now.trace.now) self.now.replayers self.now.copiers self.now.streams progress.closed progress.desks.items }
+        requires joined { (before : List PlannedRound) × AreJoined (W.trace self.now.trace.now) self.now.copiers planned.now.from before progress.rounds.items progress.closed (rows_of progress.desks.items) }
+        ensures under_way { IfOk result (λ p. IsUnderWay (W.trace self.now.trace.now) self.now.replayers self.now.copiers self.now.streams p.closed p.desks.items) }
+        ensures lanes { IfOk result (λ p. lanes_of (rows_of p.desks.items) ≡ lanes_of (rows_of progress.desks.items)) }
+        ensures joined { (before : List PlannedRound) → AreJoined (W.trace self.now.trace.now) self.now.copiers planned.now.from before progress.rounds.items progress.closed (rows_of progress.desks.items)
+            → IfOk result (λ p. AreJoined (W.trace self.now.trace.now) self.now.copiers planned.now.to (before ++ planned.now ∷ []) p.rounds.items p.closed (rows_of p.desks.items)) }
+        ensures law { (lane : ℕ) (before : List PlannedRound) → HaveCapacity lane (lanes_of (rows_of progress.desks.items))
+            → AreJoined (W.trace self.now.trace.now) self.now.copiers planned.now.from before progress.rounds.items progress.closed (rows_of progress.desks.items)
+            → LiveRounds (W.trace self.now.trace.now) skip self.now.copiers lane before progress.rounds.items
+            → IfOk result (λ p. LiveRounds (W.trace self.now.trace.now) skip self.now.copiers lane (before ++ planned.now ∷ []) p.rounds.items) }
     {
         let Progress {
             closed,
-            parts,
             desks,
             rounds,
         } = progress;
-        let mut parts = parts;
         let mut rounds = rounds;
         let number = rounds.len();
         let ticks = Ticks {
             from: planned.from,
             to: planned.to,
         };
+        if self.signals.refused.load(Ordering::SeqCst) {
+            return Err(LiveError::Memory);
+        }
         let skip = may_skip(skip, number);
         let left = self.run_round(rt, alloc, skip, ticks, closed, desks)?;
         let Left { closed, desks } = left;
         self.gate.at(Point::RoundClosed { round: number });
-        let received = receive(rt, alloc, &mut parts, desks)?;
-        rounds.push(received.round)?;
+        let listed = list(alloc, desks)?;
+        rounds.push(listed.round)?;
         Ok(Progress {
             closed,
-            parts,
-            desks: received.desks,
+            desks: listed.desks,
             rounds,
         })
     }
@@ -127,18 +136,15 @@ impl<'a, W: WriteLog + Sync, G: Gate> Crew<'a, W, G> {
         alloc: Global,
         settings: &Settings,
         plan: &Plan,
+        desks: VecDeque<Desk>,
     ) -> Result<Progress, LiveError>
         requires of { IsIndexOf self.now.index.now (W.trace self.now.trace.now) }
         requires plan { IsPlan (W.trace self.now.trace.now).pages (touches_of (W.trace self.now.trace.now)) settings.now plan.now }
-        requires replayers { self.now.replayers ≡ settings.now.replayers }
-        requires copiers { self.now.copiers ≡ settings.now.workers }
-        requires streams { self.now.streams ≡ settings.now.streams }
-        ensures under_way { IfOk result (λ p. IsUnderWay (W.trace self.now.trace.now) self.now.replayers self.now.copiers self.now.streams p.closed p.parts.items p.desks.items) }
-        ensures joined { IfOk result (λ p. AreJoined (W.trace self.now.trace.now) plan.now.stop plan.now.rounds p.rounds.items p.closed p.parts.items) }
-        ensures law { IfOk result (λ p. LiveRounds (W.trace self.now.trace.now) settings.now.skip self.now.copiers plan.now.rounds p.rounds.items) }
+        requires may { MayBegin (W.trace self.now.trace.now) settings.now self.now.replayers self.now.copiers self.now.streams desks.items }
+        ensures { IfOk result (λ p. AreDone (W.trace self.now.trace.now) settings.now plan.now self.now.replayers self.now.copiers self.now.streams desks.items p.closed p.rounds.items p.desks.items) }
     {
         let asked = settings.asked();
-        let mut progress = self.begin(alloc, asked.start)?;
+        let mut progress = self.begin(alloc, asked.start, desks)?;
         for number in 0..plan.rounds.len() {
             progress = self.next_round(rt, alloc, asked.skip, &plan.rounds[number], progress)?;
         }
@@ -186,9 +192,9 @@ fn plan_and_index<W: WriteLog + Sync, R: Threads + Sync>(
 }
 
 /// Performs a migration over the trace until the guest has stopped and all of its memory has come: in each of the planned
-/// rounds' ticks replayers change the guest's pages while copiers send them, all at once and each in a thread of its own;
-/// then the guest stops, and what is dirty still is sent. A refused migration answers no image: `L2` where a thread was not
-/// started, and else `L1`. All threads have ended when it returns.
+/// rounds' ticks replayers change the guest's pages while copiers send them over lanes, from which receivers take them, all
+/// at once and each in a thread of its own; then the guest stops, and what is dirty still is sent. A refused migration answers
+/// no image: `L2` where a thread was not started, and else `L1`. All threads have ended when it returns.
 pub fn migrate<W: WriteLog + Sync, G: Gate, R: Threads + Wait + Sync>(
     rt: &R,
     alloc: Global,
@@ -202,23 +208,23 @@ pub fn migrate<W: WriteLog + Sync, G: Gate, R: Threads + Wait + Sync>(
     let plan = plan?;
     let index = index?;
     let asked = settings.asked();
+    let signals = Signals::new();
     let crew = Crew {
         trace,
         index: &index,
         gate,
+        signals: &signals,
         replayers: asked.replayers as usize,
         copiers: asked.workers as usize,
         streams: asked.streams as usize,
+        lane: asked.lane as usize,
     };
-    let progress = crew.run_rounds(rt, alloc, settings, &plan)?;
-    let Progress {
+    let arrived = crew.carry(rt, alloc, settings, &plan)?;
+    let Arrived {
         closed,
         parts,
-        desks,
         rounds,
-    } = progress;
-    // The streams have nothing more to bring: their room is given back.
-    drop(desks);
+    } = arrived;
     let memory = crew.finish(rt, alloc, &closed, parts)?;
     Ok(Stopped {
         memory,

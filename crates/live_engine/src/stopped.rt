@@ -5,7 +5,7 @@ ghost use Rattle.migration_model.specs.Memory.{image_of, page_of};
 ghost use Rattle.image_build.specs.Joins.{memory_by};
 ghost use Rattle.live_engine.specs.Runs.{IsStoppedAt};
 
-use crate::receiving::LiveRound;
+use crate::listing::LiveRound;
 use image_build::JoinedParts;
 use page_versions::PageIndex;
 use trace_codec::WriteLog;

@@ -1,10 +1,11 @@
 //! The threads of a round: one for each replayer and one for each copier.
 
-ghost use Rattle.std.specs.Prelude.{Ok, ◌≡◌, ◌<◌, IfOk, OnOk, length, map, Some, slice_index_or};
+ghost use Rattle.std.specs.Prelude.{Ok, ◌≡◌, ◌<◌, IfOk, OnOk, [], length, map, Some, slice_index_or};
 ghost use Rattle.dirty_words.specs.Facts.{first_guest, first_copier};
 ghost use Rattle.dirty_words.specs.Seats.{guest_table};
 ghost use Rattle.dirty_words.specs.Closing.{first_guests, first_copiers};
 ghost use Rattle.dirty_words.specs.Seats.{copy_table};
+ghost use Rattle.live_engine.specs.Lists.{rows_of};
 ghost use Rattle.live_engine.specs.Seated.{AreCopied, AreReplayed, EachAt, IsReplayed};
 ghost use Rattle.live_seats.specs.Copies.{HasCopied};
 ghost use Rattle.std.specs.List.{All};
@@ -17,9 +18,11 @@ use dirty_words::{CopySeat, GuestSeat, RoundTable};
 use live_seats::{Copier, Desk, Gate, Round, SeatError, Ticks, replay};
 use std::alloc::Global;
 use std::collections::VecDeque;
+use std::snapshot::Snapshot;
 use std::sync::Wait;
 use std::thread;
 use std::thread::{Promise, PromisedHandle, Scope, Threads, join_promised, scope_env};
+use stream_lanes::LaneOut;
 use trace_codec::WriteLog;
 
 /// What a replayer's thread owes: its part of the round.
@@ -116,10 +119,11 @@ struct Copies<'a, W> {
     skip: bool,
     number: usize,
     streams: usize,
+    outs: Snapshot<Vec<LaneOut>>,
 }
 
 impl<'a, W: WriteLog> Promise<Result<Copier, SeatError>> for Copies<'a, W> {
-    ghost kept_by = { λ p result. IfOk result (λ copier. HasCopied (W.trace p.trace.now) p.skip p.table.now p.number p.streams copier.seat copier.desk) };
+    ghost kept_by = { λ p result. IfOk result (λ copier. HasCopied (W.trace p.trace.now) p.skip p.table.now p.number p.streams p.outs.value.items copier.seat copier.desk) };
 }
 
 /// Starts a copier.
@@ -135,7 +139,7 @@ fn start_copier<'s, E, W: WriteLog + Sync, G: Gate>(
     requires table { copy_table seat ≡ round.now.table.now }
     requires idle { seat.facts ≡ first_copier round.now.table.now.start seat.facts.number }
     requires desk { IsDesk (W.trace round.now.trace.now) round.now.streams desk }
-    ensures { IfOk result (λ h. (W.trace h.promise.trace.now ≡ (W.trace round.now.trace.now)) × (h.promise.table.now ≡ round.now.table.now) × (h.promise.skip ≡ round.now.skip) × (h.promise.number ≡ seat.facts.number) × (h.promise.streams ≡ round.now.streams)) }
+    ensures { IfOk result (λ h. (W.trace h.promise.trace.now ≡ (W.trace round.now.trace.now)) × (h.promise.table.now ≡ round.now.table.now) × (h.promise.skip ≡ round.now.skip) × (h.promise.number ≡ seat.facts.number) × (h.promise.streams ≡ round.now.streams) × (h.promise.outs.value.items ≡ desk.outs)) }
 {
     let Round {
         trace,
@@ -151,6 +155,7 @@ fn start_copier<'s, E, W: WriteLog + Sync, G: Gate>(
         skip,
         number: seat.number(),
         streams,
+        outs: Snapshot::of(&desk.outs),
     };
     let run = move || -> Result<Copier, SeatError>
         requires of { IsIndexOf index.now (W.trace trace.now) }
@@ -158,7 +163,7 @@ fn start_copier<'s, E, W: WriteLog + Sync, G: Gate>(
         requires table { copy_table seat ≡ table.now }
         requires idle { seat.facts ≡ first_copier table.now.start seat.facts.number }
         requires desk { IsDesk (W.trace trace.now) streams desk }
-        ensures { IfOk result (λ copier. HasCopied (W.trace trace.entry.now) skip table.entry.now seat.facts.number streams copier.seat copier.desk) }
+        ensures { IfOk result (λ copier. HasCopied (W.trace trace.entry.now) skip table.entry.now seat.facts.number streams desk.outs copier.seat copier.desk) }
     {
         let round = Round {
             trace,
@@ -189,7 +194,7 @@ fn start_copiers<'s, E, W: WriteLog + Sync, G: Gate>(
     requires desks { All (IsDesk (W.trace round.now.trace.now) round.now.streams) desks.items }
     requires none { length handles.old.items ≡ 0 }
     ensures count { OnOk result (length handles.new.items ≡ length seats.items) }
-    ensures started { OnOk result (EachAt (λ h i. (W.trace h.promise.trace.now ≡ (W.trace round.now.trace.now)) × (h.promise.table.now ≡ round.now.table.now) × (h.promise.skip ≡ round.now.skip) × (h.promise.number ≡ i) × (h.promise.streams ≡ round.now.streams)) handles.new.items) }
+    ensures started { OnOk result (EachAt (λ h i. (W.trace h.promise.trace.now ≡ (W.trace round.now.trace.now)) × (h.promise.table.now ≡ round.now.table.now) × (h.promise.skip ≡ round.now.skip) × (h.promise.number ≡ i) × (h.promise.streams ≡ round.now.streams) × (h.promise.outs.value.items ≡ slice_index_or (rows_of desks.items) i [])) handles.new.items) }
 {
     let mut desks = desks;
     for seat in seats {
@@ -210,7 +215,7 @@ fn join_copiers<'s, W: WriteLog, R: Threads>(
 ) -> Result<Vec<Result<Copier, SeatError>>, LiveError>
     ensures count { IfOk result (λ copied. length copied.items ≡ length handles.entry.items) }
     ensures kept { IfOk result (λ copied. EachAt (λ r i. (h : _) × (h ≡ slice_index_or handles.entry.items i h)
-        × IfOk r (λ copier. HasCopied (W.trace h.promise.trace.now) h.promise.skip h.promise.table.now h.promise.number h.promise.streams copier.seat copier.desk)) copied.items) }
+        × IfOk r (λ copier. HasCopied (W.trace h.promise.trace.now) h.promise.skip h.promise.table.now h.promise.number h.promise.streams h.promise.outs.value.items copier.seat copier.desk)) copied.items) }
 {
     match join_promised(rt, handles) {
         Ok(copied) => Ok(copied),
@@ -259,7 +264,7 @@ fn start_all<'s, E, W: WriteLog + Sync, G: Gate>(
     ensures guest_count { OnOk result (length guests.new.items ≡ length seats.guests.items) }
     ensures guests { OnOk result (EachAt (λ h i. (W.trace h.promise.trace.now ≡ (W.trace round.now.trace.now)) × (h.promise.table.now ≡ round.now.table.now) × (h.promise.ticks ≡ ticks) × (h.promise.number ≡ i)) guests.new.items) }
     ensures copier_count { OnOk result (length copiers.new.items ≡ length seats.copiers.items) }
-    ensures copiers { OnOk result (EachAt (λ h i. (W.trace h.promise.trace.now ≡ (W.trace round.now.trace.now)) × (h.promise.table.now ≡ round.now.table.now) × (h.promise.skip ≡ round.now.skip) × (h.promise.number ≡ i) × (h.promise.streams ≡ round.now.streams)) copiers.new.items) }
+    ensures copiers { OnOk result (EachAt (λ h i. (W.trace h.promise.trace.now ≡ (W.trace round.now.trace.now)) × (h.promise.table.now ≡ round.now.table.now) × (h.promise.skip ≡ round.now.skip) × (h.promise.number ≡ i) × (h.promise.streams ≡ round.now.streams) × (h.promise.outs.value.items ≡ slice_index_or (rows_of seats.desks.items) i [])) copiers.new.items) }
 {
     let Seats {
         guests: guest_seats,
@@ -309,7 +314,7 @@ fn in_round<'s, E, W: WriteLog + Sync, G: Gate, R: Threads>(
     requires count { length seats.desks.items ≡ length seats.copiers.items }
     requires desks { All (IsDesk (W.trace round.now.trace.now) round.now.streams) seats.desks.items }
     ensures guests { IfOk result (λ finished. AreReplayed (W.trace round.now.trace.now) round.now.table.now ticks.from ticks.to finished.guests.items) }
-    ensures copiers { IfOk result (λ finished. AreCopied (W.trace round.now.trace.now) round.now.skip round.now.table.now round.now.streams finished.copiers.items) }
+    ensures copiers { IfOk result (λ finished. AreCopied (W.trace round.now.trace.now) round.now.skip round.now.table.now round.now.streams (rows_of seats.desks.items) finished.copiers.items) }
 {
     let mut guests = Vec::new(alloc);
     let mut copiers = Vec::new(alloc);
@@ -337,7 +342,7 @@ pub(crate) fn run_threads<W: WriteLog + Sync, G: Gate, R: Threads + Wait + Sync>
     requires count { length seats.desks.items ≡ length seats.copiers.items }
     requires desks { All (IsDesk (W.trace round.now.trace.now) round.now.streams) seats.desks.items }
     ensures guests { IfOk result (λ finished. AreReplayed (W.trace round.now.trace.now) round.now.table.now ticks.from ticks.to finished.guests.items) }
-    ensures copiers { IfOk result (λ finished. AreCopied (W.trace round.now.trace.now) round.now.skip round.now.table.now round.now.streams finished.copiers.items) }
+    ensures copiers { IfOk result (λ finished. AreCopied (W.trace round.now.trace.now) round.now.skip round.now.table.now round.now.streams (rows_of seats.desks.items) finished.copiers.items) }
 {
     let Round {
         trace,
@@ -358,7 +363,7 @@ pub(crate) fn run_threads<W: WriteLog + Sync, G: Gate, R: Threads + Wait + Sync>
             requires count { length seats.desks.items ≡ length seats.copiers.items }
             requires desks { All (IsDesk (W.trace trace.now) streams) seats.desks.items }
             ensures guests { IfOk result (λ finished. AreReplayed (W.trace trace.entry.now) table.entry.now ticks.from ticks.to finished.guests.items) }
-            ensures copiers { IfOk result (λ finished. AreCopied (W.trace trace.entry.now) skip table.entry.now streams finished.copiers.items) }
+            ensures copiers { IfOk result (λ finished. AreCopied (W.trace trace.entry.now) skip table.entry.now streams (rows_of seats.desks.items) finished.copiers.items) }
         {
             let round = Round {
                 trace,

@@ -17,6 +17,7 @@ pub struct Counts {
     /// How often the place of page 3 was read.
     pub third: AtomicU64,
     pub closed: AtomicU64,
+    pub taken: AtomicU64,
     /// How many waits gave up.
     pub late: AtomicU64,
 }
@@ -30,6 +31,7 @@ impl Counts {
             read: AtomicU64::new(0),
             third: AtomicU64::new(0),
             closed: AtomicU64::new(0),
+            taken: AtomicU64::new(0),
             late: AtomicU64::new(0),
         }
     }
@@ -46,7 +48,8 @@ impl Counts {
                 }
             }
             Point::RoundClosed { .. } => add_one(&self.closed),
-            Point::Taking { .. } | Point::Taken { .. } => {}
+            Point::Taken { .. } => add_one(&self.taken),
+            Point::Taking { .. } => {}
         }
     }
 
@@ -59,6 +62,15 @@ impl Counts {
             thread::yield_now();
         }
         add_one(&self.late);
+    }
+
+    /// Replayers wait for the first harvest, and copiers for the first store.
+    fn meet(&self, point: Point) {
+        match point {
+            Point::Stored { .. } => self.wait_for(&self.harvested, 1),
+            Point::Harvested { .. } => self.wait_for(&self.stored, 1),
+            _ => {}
+        }
     }
 }
 
@@ -73,11 +85,7 @@ pub struct Meeting(pub Counts);
 impl Gate for Meeting {
     fn at(&self, point: Point) {
         self.0.count(point);
-        match point {
-            Point::Stored { .. } => self.0.wait_for(&self.0.harvested, 1),
-            Point::Harvested { .. } => self.0.wait_for(&self.0.stored, 1),
-            _ => {}
-        }
+        self.0.meet(point);
     }
 }
 
@@ -134,6 +142,70 @@ impl Gate for MarkedInTurn {
                     _ => 0,
                 };
                 self.0.wait_for(&self.0.marked, marks);
+            }
+            _ => {}
+        }
+    }
+}
+
+/// How many rounds the worked example has.
+const ROUNDS: u64 = 3;
+
+/// Receivers look at no lane before all rounds were closed.
+#[derive(Drop)]
+pub struct SlowReceivers(pub Counts);
+
+impl Gate for SlowReceivers {
+    fn at(&self, point: Point) {
+        self.0.count(point);
+        match point {
+            Point::Taking { .. } => self.0.wait_for(&self.0.closed, ROUNDS),
+            _ => {}
+        }
+    }
+}
+
+/// Each side waits for the other's first step, and the receiver of stream 0 looks at no lane before all rounds were closed.
+#[derive(Drop)]
+pub struct SlowFirstReceiver(pub Counts);
+
+impl Gate for SlowFirstReceiver {
+    fn at(&self, point: Point) {
+        self.0.count(point);
+        self.0.meet(point);
+        match point {
+            Point::Taking { stream: 0 } => self.0.wait_for(&self.0.closed, ROUNDS),
+            _ => {}
+        }
+    }
+}
+
+/// The first round is closed only when a frame was taken.
+#[derive(Drop)]
+pub struct TakenBeside(pub Counts);
+
+impl Gate for TakenBeside {
+    fn at(&self, point: Point) {
+        self.0.count(point);
+        match point {
+            Point::RoundClosed { round: 0 } => self.0.wait_for(&self.0.taken, 1),
+            _ => {}
+        }
+    }
+}
+
+/// Each side waits for the other's first step, and after each round all frames that were sent are taken.
+#[derive(Drop)]
+pub struct TakenInTurn(pub Counts);
+
+impl Gate for TakenInTurn {
+    fn at(&self, point: Point) {
+        self.0.count(point);
+        self.0.meet(point);
+        match point {
+            Point::RoundClosed { .. } => {
+                let sent = self.0.read.load(Ordering::SeqCst);
+                self.0.wait_for(&self.0.taken, sent);
             }
             _ => {}
         }

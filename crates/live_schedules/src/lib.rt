@@ -4,4 +4,6 @@
 #[cfg(test)]
 mod gates;
 #[cfg(test)]
+mod lane_tests;
+#[cfg(test)]
 mod tests;

@@ -24,7 +24,7 @@ static AT_2000: [u8; 64] = [
 ];
 
 /// The memory after all writes.
-static AT_END: [u8; 64] = [
+pub(crate) static AT_END: [u8; 64] = [
     1, 0, 0, 0, 0, 0, 0, 0, 0, 0, 0, 0, 0, 0, 0, 0, //
     0, 0, 0, 0, 0, 0, 0, 0, 0, 0, 0, 0, 0, 0, 0, 2, //
     0, 0, 0, 0, 0, 0, 0, 0, 0, 0, 0, 0, 0, 0, 0, 0, //
@@ -51,7 +51,7 @@ fn guest(alloc: Global) -> Result<Trace, Fail> {
     Ok(Trace::new(4, 4, writes)?)
 }
 
-fn asked() -> Asked {
+pub(crate) fn asked() -> Asked {
     Asked {
         min: 2,
         max: 4,
@@ -69,7 +69,7 @@ fn asked() -> Asked {
     }
 }
 
-fn run(
+pub(crate) fn run(
     rt: &(impl Threads + Wait + Sync),
     alloc: Global,
     asked: Asked,
@@ -80,11 +80,11 @@ fn run(
     Ok(live_run(rt, alloc, &trace, &settings, gate)?)
 }
 
-fn is_image(image: &Image, bytes: &[u8]) -> bool {
+pub(crate) fn is_image(image: &Image, bytes: &[u8]) -> bool {
     image.bytes() == bytes
 }
 
-fn round(live: &Live, number: usize) -> Result<&LiveRound, Fail> {
+pub(crate) fn round(live: &Live, number: usize) -> Result<&LiveRound, Fail> {
     Ok(live.rounds.get(number).ok_or("a round")?)
 }
 
@@ -97,7 +97,7 @@ fn begins_with_page_0(round: &LiveRound) -> bool {
     round.sent.first() == Some(&(0, 1))
 }
 
-fn times(count: &AtomicU64) -> u64 {
+pub(crate) fn times(count: &AtomicU64) -> u64 {
     count.load(Ordering::SeqCst)
 }
 
@@ -287,28 +287,40 @@ fn busy_guest(alloc: Global, count: u32) -> Result<Trace, Fail> {
     Ok(Trace::new(6, 300, writes)?)
 }
 
+/// Sixteen of each, with lanes of so many frames: both memories come out right.
+pub(crate) fn run_sixteen(
+    rt: &(impl Threads + Wait + Sync),
+    alloc: Global,
+    lane: u64,
+    skip: bool,
+) -> Result<(), Fail> {
+    let trace = busy_guest(alloc, 3000)?;
+    let settings = Settings::new(Asked {
+        min: 100,
+        max: 100_000,
+        increment: 50,
+        threshold: 10,
+        rounds: 5,
+        workers: 16,
+        streams: 16,
+        replayers: 16,
+        lane,
+        skip,
+        ..asked()
+    })?;
+    let live = live_run(rt, alloc, &trace, &settings, &OpenGate)?;
+    let at_stop = replay_before(alloc, &trace, live.stop)?;
+    let at_end = replay(alloc, &trace)?;
+    if !is_image(&live.at_stop, at_stop.bytes()) || !is_image(&live.at_end, at_end.bytes()) {
+        return Err(Fail::from("another memory"));
+    }
+    Ok(())
+}
+
 #[test]
 fn sixteen_of_each_make_the_same_memory(rt: HostRuntime) -> Result<(), Fail> {
-    let alloc = rt.alloc();
-    let trace = busy_guest(alloc, 3000)?;
     for skip in [false, true] {
-        let settings = Settings::new(Asked {
-            min: 100,
-            max: 100_000,
-            increment: 50,
-            threshold: 10,
-            rounds: 5,
-            workers: 16,
-            streams: 16,
-            replayers: 16,
-            skip,
-            ..asked()
-        })?;
-        let live = live_run(&rt, alloc, &trace, &settings, &OpenGate)?;
-        let at_stop = replay_before(alloc, &trace, live.stop)?;
-        let at_end = replay(alloc, &trace)?;
-        assert!(rt; is_image(&live.at_stop, at_stop.bytes()));
-        assert!(rt; is_image(&live.at_end, at_end.bytes()));
+        run_sixteen(&rt, rt.alloc(), 1024, skip)?;
     }
     Ok(())
 }
@@ -328,7 +340,7 @@ fn wide_guest(alloc: Global) -> Result<Trace, Fail> {
 }
 
 #[test]
-fn parts_take_long_streams_side_by_side(rt: HostRuntime) -> Result<(), Fail> {
+fn three_streams_of_many_pages_make_the_same_memory(rt: HostRuntime) -> Result<(), Fail> {
     let alloc = rt.alloc();
     let trace = wide_guest(alloc)?;
     let settings = Settings::new(Asked {

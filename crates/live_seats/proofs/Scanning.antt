@@ -11,7 +11,7 @@ use Rattle.dirty_core.specs.Pages.{PageSet, in_words, word_pages, bit_pages, one
 use Rattle.dirty_core.specs.Start.{Start}
 use Rattle.dirty_words.specs.Facts.{CopyFacts, first_copier, after_harvest, after_peek, after_restore, after_read, OwnsWord, HoldsNone}
 use Rattle.dirty_words.specs.Plays.{IsAnswer, IsShown}
-use Rattle.live_seats.specs.Outboxes.{OutboxView, empty_outbox, with_sent, with_skipped, IsListed}
+use Rattle.live_seats.specs.Outboxes.{OutboxView, empty_outbox, with_deferred, with_sent, with_skipped, IsListed}
 use Rattle.live_seats.specs.Scans.{IsScanned, IsOwn, WasMarked, IsHeldNow, IsReturned, IsFresh, IsLeast}
 use Rattle.live_seats.proofs.Basics.{false_true, in_none, or_false}
 
@@ -61,12 +61,27 @@ sent_cases page place q o (inr there) = inr (inr there)
 
 skipped_before : (page q : ℕ) (o : OutboxView) → IsListed o q → IsListed (with_skipped page o) q
 skipped_before page q o (inl there) = inl there
-skipped_before page q o (inr there) = inr (Contains-append_left o.skipped (page ∷ []) q there)
+skipped_before page q o (inr (inl there)) = inr (inl (Contains-append_left o.skipped (page ∷ []) q there))
+skipped_before page q o (inr (inr there)) = inr (inr there)
 
 skipped_cases : (page q : ℕ) (o : OutboxView) → IsListed (with_skipped page o) q → (page ≡ q) ⊎ IsListed o q
 skipped_cases page q o (inl there) = inr (inl there)
-skipped_cases page q o (inr there) = elim (Contains-push_cases o.skipped page q there) [
-  | inl before ↦ inr (inr before)
+skipped_cases page q o (inr (inl there)) = elim (Contains-push_cases o.skipped page q there) [
+  | inl before ↦ inr (inr (inl before))
+  | inr e ↦ inl e
+]
+skipped_cases page q o (inr (inr there)) = inr (inr (inr there))
+
+deferred_before : (page q : ℕ) (o : OutboxView) → IsListed o q → IsListed (with_deferred page o) q
+deferred_before page q o (inl there) = inl there
+deferred_before page q o (inr (inl there)) = inr (inl there)
+deferred_before page q o (inr (inr there)) = inr (inr (Contains-append_left o.deferred (page ∷ []) q there))
+
+deferred_cases : (page q : ℕ) (o : OutboxView) → IsListed (with_deferred page o) q → (page ≡ q) ⊎ IsListed o q
+deferred_cases page q o (inl there) = inr (inl there)
+deferred_cases page q o (inr (inl there)) = inr (inr (inl there))
+deferred_cases page q o (inr (inr there)) = elim (Contains-push_cases o.deferred page q there) [
+  | inl before ↦ inr (inr (inr before))
   | inr e ↦ inl e
 ]
 
@@ -98,23 +113,29 @@ left_is new old page q same in_old apart = same q ∙ and_from (old q) (not (eqb
 
 -- ---- the steps
 
-pub scan_begins : (skip : Bool) (start : Start) (number streams : ℕ) → IsScanned skip 0 (first_copier start number) (empty_outbox streams)
-scan_begins skip start number streams = record {
+pub scan_begins : (skip : Bool) (start : Start) (number : ℕ) → IsScanned skip 0 (first_copier start number) empty_outbox
+scan_begins skip start number = record {
   untouched = λ page low. refl;
   found = λ page own low. absurd (omega (arith, low));
   listed = λ page is. elim is [
     | inl there ↦ absurd (in_none page there)
-    | inr there ↦ absurd (in_none page there)
+    | inr either ↦ elim either [
+      | inl there ↦ absurd (in_none page there)
+      | inr there ↦ absurd (in_none page there)
+    ]
   ];
   held = λ page is. absurd (false_true (sym (no_words (length start.dirty) page) ∙ is));
   rising = λ page other is held. absurd (false_true (sym (no_words (length start.dirty) other) ∙ held));
   returned = λ page own low. absurd (omega (arith, low));
   skipped = λ page there. absurd (in_none page there);
+  deferred = λ page there. absurd (in_none page there);
   reads = λ page place visited. absurd visited;
   sent = λ page place there. absurd (in_none (page, place) there);
   sent_rise = λ k low. absurd (omega (arith, low));
   skipped_rise = λ k low. absurd (omega (arith, low));
+  deferred_rise = λ k low. absurd (omega (arith, low));
   apart = λ page there. absurd (in_none page there);
+  deferred_apart = λ page there. absurd (in_none page there);
 }
 
 -- a word of another copier
@@ -133,11 +154,14 @@ scan_passes skip word f o is other =
       rising = is.rising;
       returned = λ page own low. is.returned page own (before page own low);
       skipped = is.skipped;
+      deferred = is.deferred;
       reads = is.reads;
       sent = is.sent;
       sent_rise = is.sent_rise;
       skipped_rise = is.skipped_rise;
+      deferred_rise = is.deferred_rise;
       apart = is.apart;
+      deferred_apart = is.deferred_apart;
     }
 
 -- a page that is held, and none in front of it, is sent
@@ -169,6 +193,7 @@ scan_sends skip ahead page place f o is least same =
           ];
       returned = is.returned;
       skipped = is.skipped;
+      deferred = is.deferred;
       reads = λ q at visited. elim visited [
         | inl same_one ↦ subst (λ (x : ℕ × ℕ). Contains (o.sent ++ (page, place) ∷ []) x) (λ i. (same_one.0 i, same_one.1 i)) (Contains-push o.sent (page, place))
         | inr before ↦ Contains-append_left o.sent ((page, place) ∷ []) (q, at) (is.reads q at before)
@@ -179,10 +204,18 @@ scan_sends skip ahead page place f o is least same =
       ];
       sent_rise = subst (λ (xs : List ℕ). IsStrictlyIncreasing xs) (sym (sent_pages page place o)) (rise_push (pages_of o.sent) page is.sent_rise (λ q there. below q (inl there)));
       skipped_rise = is.skipped_rise;
+      deferred_rise = is.deferred_rise;
       apart = λ q there skipped. elim (in_sent page place q o there) [
-        | inl e ↦ omega (arith, e, below q (inr skipped))
+        | inl e ↦ omega (arith, e, below q (inr (inl skipped)))
         | inr before ↦ is.apart q before skipped
       ];
+      deferred_apart = λ q deferred. (
+        λ there. elim (in_sent page place q o there) [
+          | inl e ↦ omega (arith, e, below q (inr (inr deferred)))
+          | inr before ↦ (is.deferred_apart q deferred).0 before
+        ],
+        (is.deferred_apart q deferred).1,
+      );
     }
 
 -- the word is looked at once more
@@ -202,11 +235,14 @@ scan_peeks skip ahead word answer f o is kept =
       rising = is.rising;
       returned = is.returned;
       skipped = λ q there. let l = is.skipped q there in (l.0, kept q l.1, l.2);
+      deferred = is.deferred;
       reads = is.reads;
       sent = is.sent;
       sent_rise = is.sent_rise;
       skipped_rise = is.skipped_rise;
+      deferred_rise = is.deferred_rise;
       apart = is.apart;
+      deferred_apart = is.deferred_apart;
     }
 
 -- a held page that the word shows again was stored since
@@ -215,8 +251,8 @@ pub shown_is_fresh : (skip : Bool) (ahead page answer : ℕ) (f : CopyFacts) (o 
 shown_is_fresh skip ahead page answer f o is held in_answer shown = elim (shown.shown page in_answer) [
   | inl returned ↦
       let here = is.held page held in
-      let skipped = is.returned page here.0 here.1 returned in
-      let below : page < page = is.rising page page (inr skipped) held in
+      let given_back = is.returned page here.0 here.1 returned in
+      let below : page < page = is.rising page page (inr given_back) held in
       absurd (omega (arith, below))
   | inr fresh ↦ fresh
 ]
@@ -241,7 +277,7 @@ scan_skips ahead page word bits f o is least fresh same back =
       found = λ q own low marked. elim (is.found q own low marked) [
         | inl there ↦ inl (skipped_before page q o there)
         | inr held ↦ elim (cases_eq q page) [
-          | inl e ↦ inl (subst (λ (p : ℕ). IsListed (with_skipped page o) p) (sym e) (inr (Contains-push o.skipped page)))
+          | inl e ↦ inl (subst (λ (p : ℕ). IsListed (with_skipped page o) p) (sym e) (inr (inl (Contains-push o.skipped page))))
           | inr apart ↦ inr (left_is (in_words new.held) (in_words f.held) page q same held apart)
         ]
       ];
@@ -257,8 +293,11 @@ scan_skips ahead page word bits f o is least fresh same back =
             | inr before ↦ is.rising q other before was.0
           ];
       returned = λ q own low is_back. elim (or_cases (in_words f.returned q) (eqb q page) (sym (back q) ∙ is_back)) [
-        | inl before ↦ Contains-append_left o.skipped (page ∷ []) q (is.returned q own low before)
-        | inr e ↦ subst (λ (p : ℕ). Contains (o.skipped ++ page ∷ []) p) (sym (eqb-true q page e)) (Contains-push o.skipped page)
+        | inl before ↦ elim (is.returned q own low before) [
+          | inl skipped ↦ inl (Contains-append_left o.skipped (page ∷ []) q skipped)
+          | inr deferred ↦ inr deferred
+        ]
+        | inr e ↦ inl (subst (λ (p : ℕ). Contains (o.skipped ++ page ∷ []) p) (sym (eqb-true q page e)) (Contains-push o.skipped page))
       ];
       skipped = λ q there. elim (Contains-push_cases o.skipped page q there) [
         | inl before ↦ let s = is.skipped q before in (s.0, s.1, still q s.2)
@@ -268,13 +307,81 @@ scan_skips ahead page word bits f o is least fresh same back =
           back q ∙ or_right (in_words f.returned q) (eqb q page) (eq-eqb q page (sym e)),
         )
       ];
+      deferred = λ q there. still q (is.deferred q there);
       reads = is.reads;
       sent = is.sent;
       sent_rise = is.sent_rise;
-      skipped_rise = rise_push o.skipped page is.skipped_rise (λ q there. below q (inr there));
+      skipped_rise = rise_push o.skipped page is.skipped_rise (λ q there. below q (inr (inl there)));
+      deferred_rise = is.deferred_rise;
       apart = λ q there skipped. elim (Contains-push_cases o.skipped page q skipped) [
         | inl before ↦ is.apart q there before
         | inr e ↦ omega (arith, e, below q (inl there))
+      ];
+      deferred_apart = λ q deferred. (
+        (is.deferred_apart q deferred).0,
+        λ skipped. elim (Contains-push_cases o.skipped page q skipped) [
+          | inl before ↦ (is.deferred_apart q deferred).1 before
+          | inr e ↦ omega (arith, e, below q (inr (inr deferred)))
+        ],
+      );
+    }
+
+-- a page that is held, and none in front of it, is deferred
+pub scan_defers : (skip : Bool) (ahead page word bits : ℕ) (f : CopyFacts) (o : OutboxView) → IsScanned skip ahead f o → IsLeast f page
+    → SamePages (in_words (after_restore word bits f).held) (minus (in_words f.held) (one_page page))
+    → SamePages (in_words (after_restore word bits f).returned) (union (in_words f.returned) (one_page page))
+    → IsScanned skip ahead (after_restore word bits f) (with_deferred page o)
+scan_defers skip ahead page word bits f o is least same back =
+    let below : (q : ℕ) → IsListed o q → q < page = λ q there. is.rising q page there least.0 in
+    let here = is.held page least.0 in
+    let new : CopyFacts = after_restore word bits f in
+    let still : (q : ℕ) → IsReturned f q → IsReturned new q = λ q e. back q ∙ or_left (in_words f.returned q) (eqb q page) e in
+    record {
+      untouched = λ q low.
+          let apart : q ≡ page → ⊥ = λ e. omega (arith, low, here.1, e) in
+          back q ∙ ap (λ (b : Bool). in_words f.returned q || b) (ne_eqb q page apart) ∙ or_false (in_words f.returned q) ∙ is.untouched q low;
+      found = λ q own low marked. elim (is.found q own low marked) [
+        | inl there ↦ inl (deferred_before page q o there)
+        | inr held ↦ elim (cases_eq q page) [
+          | inl e ↦ inl (subst (λ (p : ℕ). IsListed (with_deferred page o) p) (sym e) (inr (inr (Contains-push o.deferred page))))
+          | inr apart ↦ inr (left_is (in_words new.held) (in_words f.held) page q same held apart)
+        ]
+      ];
+      listed = λ q there. elim (deferred_cases page q o there) [
+        | inl e ↦ subst (λ (p : ℕ). IsOwn f p × (p / 64 < ahead) × (WasMarked f p ⊎ IsFresh f p)) e here
+        | inr before ↦ is.listed q before
+      ];
+      held = λ q held. is.held q (left_was (in_words new.held) (in_words f.held) page q same held).0;
+      rising = λ q other there held.
+          let was = left_was (in_words new.held) (in_words f.held) page other same held in
+          elim (deferred_cases page q o there) [
+            | inl e ↦ omega (arith, e, least.1 other was.0, was.1)
+            | inr before ↦ is.rising q other before was.0
+          ];
+      returned = λ q own low is_back. elim (or_cases (in_words f.returned q) (eqb q page) (sym (back q) ∙ is_back)) [
+        | inl before ↦ elim (is.returned q own low before) [
+          | inl skipped ↦ inl skipped
+          | inr deferred ↦ inr (Contains-append_left o.deferred (page ∷ []) q deferred)
+        ]
+        | inr e ↦ inr (subst (λ (p : ℕ). Contains (o.deferred ++ page ∷ []) p) (sym (eqb-true q page e)) (Contains-push o.deferred page))
+      ];
+      skipped = λ q there. let s = is.skipped q there in (s.0, s.1, still q s.2);
+      deferred = λ q there. elim (Contains-push_cases o.deferred page q there) [
+        | inl before ↦ still q (is.deferred q before)
+        | inr e ↦ back q ∙ or_right (in_words f.returned q) (eqb q page) (eq-eqb q page (sym e))
+      ];
+      reads = is.reads;
+      sent = is.sent;
+      sent_rise = is.sent_rise;
+      skipped_rise = is.skipped_rise;
+      deferred_rise = rise_push o.deferred page is.deferred_rise (λ q there. below q (inr (inr there)));
+      apart = is.apart;
+      deferred_apart = λ q there. elim (Contains-push_cases o.deferred page q there) [
+        | inl before ↦ is.deferred_apart q before
+        | inr e ↦ (
+          λ sent. omega (arith, e, below q (inl sent)),
+          λ skipped. omega (arith, e, below q (inr (inl skipped))),
+        )
       ];
     }
 
@@ -322,11 +429,14 @@ scan_harvests skip word answer f o is none own answers shown held left =
       ];
       skipped = λ q there.
           let s = is.skipped q there in
-          let l = is.listed q (inr there) in
+          let l = is.listed q (inr (inl there)) in
           (s.0, shown.kept q s.1, other q (λ e. omega (arith, l.1, e)) ∙ s.2);
+      deferred = λ q there. let l = is.listed q (inr (inr there)) in other q (λ e. omega (arith, l.1, e)) ∙ is.deferred q there;
       reads = is.reads;
       sent = is.sent;
       sent_rise = is.sent_rise;
       skipped_rise = is.skipped_rise;
+      deferred_rise = is.deferred_rise;
       apart = is.apart;
+      deferred_apart = is.deferred_apart;
     }

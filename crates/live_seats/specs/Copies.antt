@@ -1,11 +1,14 @@
 -- A copier in a round.
-use Rattle.std.specs.Prelude.{◌≡◌, ℕ, ◌<◌, ◌+◌, ◌/◌, Bool, List, length}
+use Rattle.std.specs.Prelude.{◌≡◌, ◌⊎◌, ◌↔◌, ℕ, ◌<◌, ◌+◌, ◌/◌, Bool, List, length, map, slice_index_or}
 use Rattle.migration_model.specs.Trace.{GuestTrace}
+use Rattle.migration_model.specs.Frames.{GuestShape, PageFrame, frame_text}
+use Rattle.page_message.specs.Framing.{IsFrameOf}
 use Rattle.dirty_core.specs.Pages.{in_words, bit_pages, one_page, union, minus, SamePages}
 use Rattle.dirty_words.specs.Facts.{CopyFacts, HoldsNone, after_peek, after_read, after_restore}
 use Rattle.dirty_words.specs.Plays.{IsShown}
 use Rattle.dirty_words.specs.Seats.{TableView, CopyView, copy_table}
-use Rattle.live_seats.specs.Outboxes.{OutboxView, IsPosted, SpellsPage, with_sent, with_skipped, with_text}
+use Rattle.stream_lanes.specs.Ends.{OutView, HasRoom, IsSentOn}
+use Rattle.live_seats.specs.Outboxes.{IsCrowded, IsPosted, SpellsPage, frames_sent, with_deferred, with_sent, with_skipped}
 use Rattle.live_seats.specs.Desks.{DeskView, IsDesk, OpenDeskView}
 use Rattle.live_seats.specs.Scans.{IsScanned}
 
@@ -16,15 +19,38 @@ pub record HasPeeked (page : ℕ) (shows : Bool) (old new : CopyFacts) : Type 0 
   pub shows_is : bit_pages (page / 64) answer page ≡ shows
   pub shown : IsShown old (page / 64) answer new
 
+-- the text is that of the frame of a page with these bytes
+pub record SpellsBytes (shape : GuestShape) (page stamp : ℕ) (bytes text : List ℕ) : Type 0 where
+  pub frame : PageFrame
+  pub is_frame : IsFrameOf shape page stamp bytes frame
+  pub text_is : text ≡ frame_text frame
+
+-- one more frame fits on the lane of this stream
+pub record HasRoomAt (outs : List OutView) (stream : ℕ) : Type 0 where
+  pub there : stream < length outs
+  pub room : (out : OutView) → slice_index_or outs stream out ≡ out → HasRoom out
+
+-- nothing was sent on the lanes: what is known of their room alone may differ
+pub record KeepsSent (before after : List OutView) : Type 0 where
+  pub lanes : map (λ out. out.lane) after ≡ map (λ out. out.lane) before
+  pub same : map (λ out. out.sent) after ≡ map (λ out. out.sent) before
+  pub crowded : IsCrowded before → IsCrowded after
+
+-- one more frame was sent on one of the lanes
+pub record HasSentFrame (text : List ℕ) (before after : List OutView) : Type 0 where
+  pub lanes : map (λ out. out.lane) after ≡ map (λ out. out.lane) before
+  pub is : (other : List ℕ) → IsSentOn after other ↔ (IsSentOn before other ⊎ (text ≡ other))
+  pub count : frames_sent after ≡ frames_sent before + 1
+  pub crowded : IsCrowded before → IsCrowded after
+
 -- the copier read the page's place, and sent the frame of it
-pub record HasSentPage (trace : GuestTrace) (page : ℕ) (old : CopyFacts) (before : OutboxView) (new : CopyFacts) (outbox : OutboxView) : Type 0 where
+pub record HasSentPage (trace : GuestTrace) (page : ℕ) (old : CopyFacts) (before : OpenDeskView) (new : CopyFacts) (desk : OpenDeskView) : Type 0 where
   pub place : ℕ
-  pub stream : ℕ
   pub text : List ℕ
-  pub there : stream < length before.streams
   pub spells : SpellsPage trace page place text
   pub facts : new ≡ after_read page place old
-  pub outbox_is : outbox ≡ with_sent page place (with_text stream text before)
+  pub outbox_is : desk.outbox ≡ with_sent page place before.outbox
+  pub sends : HasSentFrame text before.outs desk.outs
   pub held : SamePages (in_words new.held) (minus (in_words old.held) (one_page page))
 
 -- the copier gave the page back
@@ -35,34 +61,46 @@ pub record HasRestored (page : ℕ) (old new : CopyFacts) : Type 0 where
   pub returned : SamePages (in_words new.returned) (union (in_words old.returned) (one_page page))
 
 -- the copier gave the page back, and listed it as skipped
-abbrev pub HasSkippedPage : ℕ → CopyFacts → OutboxView → CopyFacts → OutboxView → Type 0
-HasSkippedPage page old before new outbox = HasRestored page old new × (outbox ≡ with_skipped page before)
+pub record HasSkippedPage (page : ℕ) (old : CopyFacts) (before : OpenDeskView) (new : CopyFacts) (desk : OpenDeskView) : Type 0 where
+  pub restored : HasRestored page old new
+  pub outbox_is : desk.outbox ≡ with_skipped page before.outbox
+  pub outs_are : desk.outs ≡ before.outs
 
--- the seat is of the table, and the desk of the trace, with a stream for each turn
+-- the copier gave the page back, and listed it as deferred: a lane had no room
+pub record HasDeferredPage (page : ℕ) (old : CopyFacts) (before : OpenDeskView) (new : CopyFacts) (desk : OpenDeskView) : Type 0 where
+  pub restored : HasRestored page old new
+  pub outbox_is : desk.outbox ≡ with_deferred page before.outbox
+  pub lanes : map (λ out. out.lane) desk.outs ≡ map (λ out. out.lane) before.outs
+  pub same : map (λ out. out.sent) desk.outs ≡ map (λ out. out.sent) before.outs
+  pub crowded : IsCrowded desk.outs
+
+-- the copier sent the page, or deferred it
+abbrev pub HasOfferedPage : GuestTrace → ℕ → CopyFacts → OpenDeskView → CopyFacts → OpenDeskView → Type 0
+HasOfferedPage trace page old before new desk = HasSentPage trace page old before new desk ⊎ HasDeferredPage page old before new desk
+
+-- the seat is of the table, and the desk of the trace, with a lane for each turn
 pub record IsReady (trace : GuestTrace) (table : TableView) (seat : CopyView) (desk : OpenDeskView) : Type 0 where
   pub table_is : copy_table seat ≡ table
   pub trace_is : desk.cache.trace ≡ trace
-  pub streams : length desk.outbox.streams ≡ desk.turn.streams
+  pub lanes : length desk.outs ≡ desk.turn.streams
 
 -- the copier went on, and what was scanned and posted stays so
-pub record KeepsScan (trace : GuestTrace) (skip : Bool) (old : CopyFacts) (before : OutboxView) (new : CopyFacts) (outbox : OutboxView) : Type 0 where
+pub record KeepsScan (trace : GuestTrace) (skip : Bool) (old : CopyFacts) (before : OpenDeskView) (new : CopyFacts) (desk : OpenDeskView) : Type 0 where
   pub number_is : new.number ≡ old.number
-  pub streams : length outbox.streams ≡ length before.streams
-  pub scanned : (ahead : ℕ) → IsScanned skip ahead old before → IsScanned skip ahead new outbox
-  pub posted : IsPosted trace before → IsPosted trace outbox
+  pub scanned : (ahead : ℕ) → IsScanned skip ahead old before.outbox → IsScanned skip ahead new desk.outbox
+  pub posted : (first : List OutView) → IsPosted trace first before.outbox before.outs → IsPosted trace first desk.outbox desk.outs
 
 -- the same where one word more was scanned
-pub record AdvancesScan (trace : GuestTrace) (skip : Bool) (word : ℕ) (old : CopyFacts) (before : OutboxView) (new : CopyFacts) (outbox : OutboxView) : Type 0 where
+pub record AdvancesScan (trace : GuestTrace) (skip : Bool) (word : ℕ) (old : CopyFacts) (before : OpenDeskView) (new : CopyFacts) (desk : OpenDeskView) : Type 0 where
   pub number_is : new.number ≡ old.number
-  pub streams : length outbox.streams ≡ length before.streams
-  pub scanned : IsScanned skip word old before → IsScanned skip (word + 1) new outbox
-  pub posted : IsPosted trace before → IsPosted trace outbox
+  pub scanned : IsScanned skip word old before.outbox → IsScanned skip (word + 1) new desk.outbox
+  pub posted : (first : List OutView) → IsPosted trace first before.outbox before.outs → IsPosted trace first desk.outbox desk.outs
 
--- the copier with this number has scanned all words, holds nothing, and posted what it sent
-pub record HasCopied (trace : GuestTrace) (skip : Bool) (table : TableView) (number streams : ℕ) (seat : CopyView) (desk : DeskView) : Type 0 where
+-- the copier with this number has scanned all words, holds nothing, and posted what it sent on the lanes that it had first
+pub record HasCopied (trace : GuestTrace) (skip : Bool) (table : TableView) (number streams : ℕ) (first : List OutView) (seat : CopyView) (desk : DeskView) : Type 0 where
   pub table_is : copy_table seat ≡ table
   pub number_is : seat.facts.number ≡ number
   pub is_desk : IsDesk trace streams desk
   pub held : HoldsNone seat.facts
   pub scanned : IsScanned skip ((trace.pages + 63) / 64) seat.facts desk.outbox
-  pub posted : IsPosted trace desk.outbox
+  pub posted : IsPosted trace first desk.outbox desk.outs

@@ -1,23 +1,24 @@
--- What a copier gives over.
-use Rattle.std.specs.Prelude.{◌≡◌, ◌⊎◌, ℕ, ◌<◌, min, List, [], ◌∷◌, ◌++◌, length, map, replicate, slice_set, slice_index_or}
-use Rattle.std.specs.List.{Contains}
+-- What a copier lists, and what it sends on its lanes.
+use Rattle.std.specs.Prelude.{◌≡◌, ◌⊎◌, ℕ, ◌≤◌, ◌+◌, min, List, [], ◌∷◌, ◌++◌, length, map}
+use Rattle.std.specs.List.{Any, Contains, sum_by}
 use Rattle.migration_model.specs.Trace.{GuestTrace}
 use Rattle.migration_model.specs.Versions.{page_at}
 use Rattle.migration_model.specs.Final.{shape_of_trace}
-use Rattle.migration_model.specs.Frames.{PageFrame, SpellsFrame, SpellsStream, content_of}
+use Rattle.migration_model.specs.Frames.{PageFrame, SpellsFrame, content_of}
+use Rattle.stream_lanes.specs.Ends.{OutView, IsSentOn}
 
--- the pages sent, each with the place that was read, those skipped, and the bytes of each stream
+-- the pages sent, each with the place that was read, those skipped, and those deferred
 pub record OutboxView : Type 0 where
   pub sent : List (ℕ × ℕ)
   pub skipped : List ℕ
-  pub streams : List (List ℕ)
+  pub deferred : List ℕ
 
-abbrev pub outbox_with : List (ℕ × ℕ) → List ℕ → List (List ℕ) → OutboxView
-outbox_with sent skipped streams = record { sent = sent; skipped = skipped; streams = streams }
+abbrev pub outbox_with : List (ℕ × ℕ) → List ℕ → List ℕ → OutboxView
+outbox_with sent skipped deferred = record { sent = sent; skipped = skipped; deferred = deferred }
 
--- nothing is sent, and nothing skipped
-abbrev pub empty_outbox : ℕ → OutboxView
-empty_outbox streams = outbox_with [] [] (replicate streams [])
+-- no page is listed
+abbrev pub empty_outbox : OutboxView
+empty_outbox = outbox_with [] [] []
 
 abbrev pub with_sent : ℕ → ℕ → OutboxView → OutboxView
 with_sent page place outbox = record outbox { sent = outbox.sent ++ (page, place) ∷ [] }
@@ -25,16 +26,15 @@ with_sent page place outbox = record outbox { sent = outbox.sent ++ (page, place
 abbrev pub with_skipped : ℕ → OutboxView → OutboxView
 with_skipped page outbox = record outbox { skipped = outbox.skipped ++ page ∷ [] }
 
--- more bytes at the end of a stream
-abbrev pub with_text : ℕ → List ℕ → OutboxView → OutboxView
-with_text stream text outbox = record outbox { streams = slice_set outbox.streams stream (slice_index_or outbox.streams stream [] ++ text) }
+abbrev pub with_deferred : ℕ → OutboxView → OutboxView
+with_deferred page outbox = record outbox { deferred = outbox.deferred ++ page ∷ [] }
 
 abbrev pub IsSentAt : OutboxView → ℕ → ℕ → Type 0
 IsSentAt outbox page place = Contains outbox.sent (page, place)
 
--- the page was sent or skipped
+-- the page was sent, skipped or deferred
 abbrev pub IsListed : OutboxView → ℕ → Type 0
-IsListed outbox page = Contains (map (λ sent. sent.0) outbox.sent) page ⊎ Contains outbox.skipped page
+IsListed outbox page = Contains (map (λ sent. sent.0) outbox.sent) page ⊎ (Contains outbox.skipped page ⊎ Contains outbox.deferred page)
 
 -- The stamp of a page that was read at this place. A place that is read is that of a write; until the table is closed
 -- nobody knows, so a stamp is bounded by their number.
@@ -53,13 +53,21 @@ pub record SpellsPage (trace : GuestTrace) (page place : ℕ) (text : List ℕ) 
   pub is_frame : IsFrameAt trace page place frame
   pub spells : SpellsFrame (shape_of_trace trace) text frame
 
--- the streams are frames of the pages sent, and each of these has its frame in one
-pub record IsPosted (trace : GuestTrace) (outbox : OutboxView) : Type 0 where
-  pub frames : List (List PageFrame)
-  pub count : length frames ≡ length outbox.streams
-  pub spelled : (stream : ℕ) → stream < length outbox.streams
-      → SpellsStream (shape_of_trace trace) (slice_index_or outbox.streams stream []) (slice_index_or frames stream [])
-  pub sent : (stream : ℕ) (frame : PageFrame) → Contains (slice_index_or frames stream []) frame
-      → (page : ℕ) × (place : ℕ) × IsSentAt outbox page place × IsFrameAt trace page place frame
-  pub all : (page place : ℕ) → IsSentAt outbox page place
-      → (stream : ℕ) × (frame : PageFrame) × (stream < length outbox.streams) × Contains (slice_index_or frames stream []) frame × IsFrameAt trace page place frame
+-- how many frames were sent on these lanes
+abbrev pub frames_sent : List OutView → ℕ
+frames_sent outs = sum_by (λ out. length out.sent) outs
+
+-- on one of these lanes as many frames were sent as it holds
+abbrev pub IsCrowded : List OutView → Type 0
+IsCrowded outs = Any (λ out. out.lane.capacity ≤ length out.sent) outs
+
+-- After a copier sent the pages of its outbox: beyond what was sent on its lanes before, these have the frame of each page
+-- and no other. Pages are deferred only where a lane was full.
+pub record IsPosted (trace : GuestTrace) (before : List OutView) (outbox : OutboxView) (after : List OutView) : Type 0 where
+  pub lanes : map (λ out. out.lane) after ≡ map (λ out. out.lane) before
+  pub kept : (text : List ℕ) → IsSentOn before text → IsSentOn after text
+  pub new : (text : List ℕ) → IsSentOn after text
+      → IsSentOn before text ⊎ ((page : ℕ) × (place : ℕ) × IsSentAt outbox page place × SpellsPage trace page place text)
+  pub all : (page place : ℕ) → IsSentAt outbox page place → (text : List ℕ) × IsSentOn after text × SpellsPage trace page place text
+  pub count : frames_sent after ≡ frames_sent before + length outbox.sent
+  pub crowded : (page : ℕ) → Contains outbox.deferred page → IsCrowded after

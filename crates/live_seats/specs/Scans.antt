@@ -31,13 +31,17 @@ pub record IsScanned (skip : Bool) (ahead : ℕ) (facts : CopyFacts) (outbox : O
   pub listed : (page : ℕ) → IsListed outbox page → IsOwn facts page × (page / 64 < ahead) × (WasMarked facts page ⊎ IsFresh facts page)
   pub held : (page : ℕ) → IsHeldNow facts page → IsOwn facts page × (page / 64 < ahead) × (WasMarked facts page ⊎ IsFresh facts page)
   pub rising : (page other : ℕ) → IsListed outbox page → IsHeldNow facts other → page < other
-  pub returned : (page : ℕ) → IsOwn facts page → page / 64 < ahead → IsReturned facts page → Contains outbox.skipped page
+  pub returned : (page : ℕ) → IsOwn facts page → page / 64 < ahead → IsReturned facts page → Contains outbox.skipped page ⊎ Contains outbox.deferred page
   pub skipped : (page : ℕ) → Contains outbox.skipped page → (skip ≡ true) × IsFresh facts page × IsReturned facts page
+  pub deferred : (page : ℕ) → Contains outbox.deferred page → IsReturned facts page
   pub reads : (page place : ℕ) → IsVisited facts.reads page place → IsSentAt outbox page place
   pub sent : (page place : ℕ) → IsSentAt outbox page place → IsVisited facts.reads page place
   pub sent_rise : IsStrictlyIncreasing (map (λ sent. sent.0) outbox.sent)
   pub skipped_rise : IsStrictlyIncreasing outbox.skipped
+  pub deferred_rise : IsStrictlyIncreasing outbox.deferred
   pub apart : (page : ℕ) → Contains (map (λ sent. sent.0) outbox.sent) page → ¬ Contains outbox.skipped page
+  pub deferred_apart : (page : ℕ) → Contains outbox.deferred page
+      → (¬ Contains (map (λ sent. sent.0) outbox.sent) page) × (¬ Contains outbox.skipped page)
 
 -- of this word the pages of these bits are held, from a bit on, and no other page
 abbrev pub HoldsFrom : ℕ → ℕ → ℕ → CopyFacts → Type 0

@@ -1,20 +1,22 @@
-//! What a copier does: it harvests its dirty words and sends their pages.
+//! What a copier does: it harvests its dirty words and sends their pages on its lanes.
 
-ghost use Rattle.std.specs.Prelude.{◌≡◌, ◌<◌, ◌≤◌, ◌+◌, ◌*◌, ◌^◌, ℕ, List, IsTrue, IfOk, OnOk, length, ◌/◌};
+ghost use Rattle.std.specs.Prelude.{◌≡◌, ◌<◌, ◌≤◌, ◌+◌, ◌*◌, ◌^◌, ℕ, IsTrue, IfOk, OnOk, length, ◌/◌};
 ghost use Rattle.dirty_core.specs.Pages.{in_words, one_page, word_pages, bit_pages, union, minus, SamePages};
 ghost use Rattle.dirty_words.specs.Facts.{after_harvest, after_read, first_copier, OwnsWord, HoldsNone};
 ghost use Rattle.dirty_words.specs.Plays.{IsAnswer, IsShown};
 ghost use Rattle.dirty_words.specs.Seats.{copy_table};
 ghost use Rattle.live_seats.specs.Desks.{IsDesk};
-ghost use Rattle.live_seats.specs.Outboxes.{SpellsPage, with_text};
+ghost use Rattle.live_seats.specs.Outboxes.{IsCrowded, SpellsPage};
 ghost use Rattle.page_versions.specs.Index.{IsIndexOf};
 ghost use Rattle.live_seats.specs.Scans.{HoldsFrom, IsLeast, IsOwn};
-ghost use Rattle.live_seats.specs.Copies.{AdvancesScan, HasCopied, HasPeeked, HasRestored, HasSentPage, HasSkippedPage, IsReady, KeepsScan};
+ghost use Rattle.live_seats.specs.Copies.{AdvancesScan, HasCopied, HasDeferredPage, HasOfferedPage, HasPeeked, HasRestored, HasRoomAt, HasSentPage, HasSkippedPage, IsReady, KeepsScan};
 
 use crate::desk::{Desk, OpenDesk};
 use crate::error::SeatError;
+use crate::frame::frame_of;
 use crate::gate::{Gate, Point};
 use dirty_words::{CopySeat, RoundTable};
+use page_cache::PageCache;
 use page_versions::PageIndex;
 use std::alloc::Global;
 use trace_codec::WriteLog;
@@ -103,78 +105,67 @@ impl<'a, W: WriteLog, G: Gate> Round<'a, W, G> {
         self.index.places(page).len() >= least.max(HOT_WRITES)
     }
 
-    /// Adds a page's frame at the place that was read to a stream. The page is made from zeros.
-    fn post_cold(
-        &self,
-        desk: &mut OpenDesk<'_, W>,
-        stream: usize,
-        page: u32,
-        place: u32,
-    ) -> Result<(), SeatError>
-        requires of { IsIndexOf self.now.index.now (W.trace self.now.trace.now) }
-        requires page { page < (W.trace self.now.trace.now).pages }
-        requires stream { stream < length desk.old.outbox.streams }
-        ensures posted { OnOk result ((text : List ℕ) × SpellsPage (W.trace self.now.trace.now) page place text × (desk.new.outbox ≡ with_text stream text desk.old.outbox)) }
-        ensures turn { desk.new.turn ≡ desk.old.turn }
-        ensures trace { desk.new.cache.trace ≡ desk.old.cache.trace }
-    {
-        let shape = self.trace.shape();
-        let stamp = place.min(shape.writes);
-        self.index
-            .bytes_into(self.trace, page, stamp, &mut desk.room)?;
-        desk.outbox.post(stream, &shape, page, stamp, &desk.room)?;
-        Ok(())
-    }
-
-    /// Adds a page's frame at the place that was read to a stream. The page is kept.
-    fn post_hot(
+    /// The frame of a page at the place that was read. The page is made from zeros.
+    fn cold_frame(
         &self,
         alloc: Global,
-        desk: &mut OpenDesk<'_, W>,
-        stream: usize,
+        room: &mut Vec<u8>,
         page: u32,
         place: u32,
-    ) -> Result<(), SeatError>
-        requires trace { desk.old.cache.trace ≡ (W.trace self.now.trace.now) }
+    ) -> Result<Vec<u8>, SeatError>
+        requires of { IsIndexOf self.now.index.now (W.trace self.now.trace.now) }
         requires page { page < (W.trace self.now.trace.now).pages }
-        requires stream { stream < length desk.old.outbox.streams }
-        ensures posted { OnOk result ((text : List ℕ) × SpellsPage (W.trace self.now.trace.now) page place text × (desk.new.outbox ≡ with_text stream text desk.old.outbox)) }
-        ensures turn { desk.new.turn ≡ desk.old.turn }
-        ensures trace { desk.new.cache.trace ≡ desk.old.cache.trace }
+        ensures { IfOk result (λ text. SpellsPage (W.trace self.now.trace.now) page place text.items) }
     {
         let shape = self.trace.shape();
         let stamp = place.min(shape.writes);
-        desk.cache.keep(alloc, page, stamp)?;
-        let Some(bytes) = desk.cache.bytes(page) else {
+        self.index.bytes_into(self.trace, page, stamp, room)?;
+        frame_of(alloc, &shape, page, stamp, room)
+    }
+
+    /// The frame of a page at the place that was read. The page is kept.
+    fn hot_frame(
+        &self,
+        alloc: Global,
+        cache: &mut PageCache<'_, W>,
+        page: u32,
+        place: u32,
+    ) -> Result<Vec<u8>, SeatError>
+        requires trace { cache.old.trace ≡ (W.trace self.now.trace.now) }
+        requires page { page < (W.trace self.now.trace.now).pages }
+        ensures spells { IfOk result (λ text. SpellsPage (W.trace self.now.trace.now) page place text.items) }
+        ensures trace { cache.new.trace ≡ cache.old.trace }
+    {
+        let shape = self.trace.shape();
+        let stamp = place.min(shape.writes);
+        cache.keep(alloc, page, stamp)?;
+        let Some(bytes) = cache.bytes(page) else {
             unreachable!()
         };
-        desk.outbox.post(stream, &shape, page, stamp, bytes)?;
-        Ok(())
+        frame_of(alloc, &shape, page, stamp, bytes)
     }
 
-    /// Adds a page's frame at the place that was read to a stream.
-    fn post_page(
+    /// The frame of a page at the place that was read.
+    fn frame(
         &self,
         alloc: Global,
         desk: &mut OpenDesk<'_, W>,
-        stream: usize,
         page: u32,
         place: u32,
-    ) -> Result<(), SeatError>
+    ) -> Result<Vec<u8>, SeatError>
         requires of { IsIndexOf self.now.index.now (W.trace self.now.trace.now) }
         requires trace { desk.old.cache.trace ≡ (W.trace self.now.trace.now) }
         requires page { page < (W.trace self.now.trace.now).pages }
-        requires stream { stream < length desk.old.outbox.streams }
-        ensures posted { OnOk result ((text : List ℕ) × SpellsPage (W.trace self.now.trace.now) page place text × (desk.new.outbox ≡ with_text stream text desk.old.outbox)) }
-        ensures turn { desk.new.turn ≡ desk.old.turn }
+        ensures spells { IfOk result (λ text. SpellsPage (W.trace self.now.trace.now) page place text.items) }
         ensures trace { desk.new.cache.trace ≡ desk.old.cache.trace }
+        ensures turn { desk.new.turn ≡ desk.old.turn }
+        ensures outbox { desk.new.outbox ≡ desk.old.outbox }
+        ensures outs { desk.new.outs ≡ desk.old.outs }
     {
         if self.is_hot(page) {
-            self.post_hot(alloc, desk, stream, page, place)?;
-            return Ok(());
+            return self.hot_frame(alloc, &mut desk.cache, page, place);
         }
-        self.post_cold(desk, stream, page, place)?;
-        Ok(())
+        self.cold_frame(alloc, &mut desk.room, page, place)
     }
 
     /// Whether the word of a page shows it now.
@@ -188,10 +179,11 @@ impl<'a, W: WriteLog, G: Gate> Round<'a, W, G> {
         (bits >> (page % 64)) & 1 == 1
     }
 
-    /// Sends a held page in the stream whose turn it is.
+    /// Sends a held page on the lane of a stream.
     fn send_page(
         &self,
         alloc: Global,
+        stream: usize,
         page: u32,
         copier: &mut Copying<'_, W>,
     ) -> Result<(), SeatError>
@@ -200,15 +192,15 @@ impl<'a, W: WriteLog, G: Gate> Round<'a, W, G> {
         requires table { copy_table copier.old.seat ≡ self.now.table.now }
         requires held { IsTrue (in_words copier.old.seat.facts.held page) }
         requires trace { copier.old.desk.cache.trace ≡ (W.trace self.now.trace.now) }
-        requires streams { length copier.old.desk.outbox.streams ≡ copier.old.desk.turn.streams }
+        requires room { HasRoomAt copier.old.desk.outs stream }
         ensures table { copy_table copier.new.seat ≡ copy_table copier.old.seat }
-        ensures sent { OnOk result (HasSentPage (W.trace self.now.trace.now) page copier.old.seat.facts copier.old.desk.outbox copier.new.seat.facts copier.new.desk.outbox) }
+        ensures sent { OnOk result (HasSentPage (W.trace self.now.trace.now) page copier.old.seat.facts copier.old.desk copier.new.seat.facts copier.new.desk) }
         ensures trace { copier.new.desk.cache.trace ≡ copier.old.desk.cache.trace }
-        ensures turn { copier.new.desk.turn.streams ≡ copier.old.desk.turn.streams }
+        ensures turn { copier.new.desk.turn ≡ copier.old.desk.turn }
     {
-        let stream = copier.desk.dealer.deal();
         let place = self.read(&mut copier.seat, page);
-        self.post_page(alloc, &mut copier.desk, stream, page, place)?;
+        let frame = self.frame(alloc, &mut copier.desk, page, place)?;
+        copier.desk.send(stream, frame);
         copier.desk.outbox.list_sent(page, place)?;
         Ok(())
     }
@@ -231,7 +223,7 @@ impl<'a, W: WriteLog, G: Gate> Round<'a, W, G> {
         requires own { OwnsWord copier.old.seat.facts (page / 64) }
         requires held { IsTrue (in_words copier.old.seat.facts.held page) }
         ensures table { copy_table copier.new.seat ≡ copy_table copier.old.seat }
-        ensures skipped { OnOk result (HasSkippedPage page copier.old.seat.facts copier.old.desk.outbox copier.new.seat.facts copier.new.desk.outbox) }
+        ensures skipped { OnOk result (HasSkippedPage page copier.old.seat.facts copier.old.desk copier.new.seat.facts copier.new.desk) }
         ensures trace { copier.new.desk.cache.trace ≡ copier.old.desk.cache.trace }
         ensures turn { copier.new.desk.turn ≡ copier.old.desk.turn }
     {
@@ -240,7 +232,45 @@ impl<'a, W: WriteLog, G: Gate> Round<'a, W, G> {
         Ok(())
     }
 
-    /// Sends a held page in front of which none is held, or skips it where it is marked again and pages may be skipped.
+    /// Gives a held page back, and lists it as deferred, where a lane has no room.
+    fn defer_page(&self, page: u32, copier: &mut Copying<'_, W>) -> Result<(), SeatError>
+        requires table { copy_table copier.old.seat ≡ self.now.table.now }
+        requires own { OwnsWord copier.old.seat.facts (page / 64) }
+        requires held { IsTrue (in_words copier.old.seat.facts.held page) }
+        requires full { IsCrowded copier.old.desk.outs }
+        ensures table { copy_table copier.new.seat ≡ copy_table copier.old.seat }
+        ensures deferred { OnOk result (HasDeferredPage page copier.old.seat.facts copier.old.desk copier.new.seat.facts copier.new.desk) }
+        ensures trace { copier.new.desk.cache.trace ≡ copier.old.desk.cache.trace }
+        ensures turn { copier.new.desk.turn ≡ copier.old.desk.turn }
+    {
+        self.restore(&mut copier.seat, page);
+        copier.desk.outbox.list_deferred(page)?;
+        Ok(())
+    }
+
+    /// Sends a held page in the stream whose turn it is, or defers it where the stream's lane has no room.
+    fn offer_page(
+        &self,
+        alloc: Global,
+        page: u32,
+        copier: &mut Copying<'_, W>,
+    ) -> Result<(), SeatError>
+        requires of { IsIndexOf self.now.index.now (W.trace self.now.trace.now) }
+        requires page { page < (W.trace self.now.trace.now).pages }
+        requires ready { IsReady (W.trace self.now.trace.now) self.now.table.now copier.old.seat copier.old.desk }
+        requires own { OwnsWord copier.old.seat.facts (page / 64) }
+        requires held { IsTrue (in_words copier.old.seat.facts.held page) }
+        ensures offered { OnOk result (HasOfferedPage (W.trace self.now.trace.now) page copier.old.seat.facts copier.old.desk copier.new.seat.facts copier.new.desk) }
+        ensures ready { OnOk result (IsReady (W.trace self.now.trace.now) self.now.table.now copier.new.seat copier.new.desk) }
+    {
+        match copier.desk.next_lane() {
+            Some(stream) => self.send_page(alloc, stream, page, copier),
+            None => self.defer_page(page, copier),
+        }
+    }
+
+    /// Sends or defers a held page in front of which none is held, or skips it where it is marked again and pages may be
+    /// skipped.
     fn copy_page(
         &self,
         alloc: Global,
@@ -253,22 +283,22 @@ impl<'a, W: WriteLog, G: Gate> Round<'a, W, G> {
         requires least { IsLeast copier.old.seat.facts page }
         requires own { IsOwn copier.old.seat.facts page }
         ensures ready { OnOk result (IsReady (W.trace self.now.trace.now) self.now.table.now copier.new.seat copier.new.desk) }
-        ensures scan { OnOk result (KeepsScan (W.trace self.now.trace.now) self.now.skip copier.old.seat.facts copier.old.desk.outbox copier.new.seat.facts copier.new.desk.outbox) }
+        ensures scan { OnOk result (KeepsScan (W.trace self.now.trace.now) self.now.skip copier.old.seat.facts copier.old.desk copier.new.seat.facts copier.new.desk) }
         ensures held { OnOk result (SamePages (in_words copier.new.seat.facts.held) (minus (in_words copier.old.seat.facts.held) (one_page page))) }
     {
         if !self.skip {
-            self.send_page(alloc, page, copier)?;
+            self.offer_page(alloc, page, copier)?;
             return Ok(());
         }
         if self.shows(&mut copier.seat, page) {
             self.skip_page(page, copier)?;
             return Ok(());
         }
-        self.send_page(alloc, page, copier)?;
+        self.offer_page(alloc, page, copier)?;
         Ok(())
     }
 
-    /// Sends or skips one page of a word, if it was among those harvested.
+    /// Sends, defers or skips one page of a word, if it was among those harvested.
     fn copy_bit(
         &self,
         alloc: Global,
@@ -286,7 +316,7 @@ impl<'a, W: WriteLog, G: Gate> Round<'a, W, G> {
         requires bit { bit < 64 }
         requires holds { HoldsFrom word bits bit copier.old.seat.facts }
         ensures ready { OnOk result (IsReady (W.trace self.now.trace.now) self.now.table.now copier.new.seat copier.new.desk) }
-        ensures scan { OnOk result (KeepsScan (W.trace self.now.trace.now) self.now.skip copier.old.seat.facts copier.old.desk.outbox copier.new.seat.facts copier.new.desk.outbox) }
+        ensures scan { OnOk result (KeepsScan (W.trace self.now.trace.now) self.now.skip copier.old.seat.facts copier.old.desk copier.new.seat.facts copier.new.desk) }
         ensures holds { OnOk result (HoldsFrom word bits (bit + 1) copier.new.seat.facts) }
     {
         if (bits >> bit) & 1 != 1 {
@@ -297,7 +327,7 @@ impl<'a, W: WriteLog, G: Gate> Round<'a, W, G> {
         Ok(())
     }
 
-    /// Sends or skips the harvested pages of a word, in rising order.
+    /// Sends, defers or skips the harvested pages of a word, in rising order.
     fn copy_bits(
         &self,
         alloc: Global,
@@ -313,7 +343,7 @@ impl<'a, W: WriteLog, G: Gate> Round<'a, W, G> {
         requires real { (page : ℕ) → IsTrue (bit_pages word bits page) → page < (W.trace self.now.trace.now).pages }
         requires holds { HoldsFrom word bits 0 copier.old.seat.facts }
         ensures ready { OnOk result (IsReady (W.trace self.now.trace.now) self.now.table.now copier.new.seat copier.new.desk) }
-        ensures scan { OnOk result (KeepsScan (W.trace self.now.trace.now) self.now.skip copier.old.seat.facts copier.old.desk.outbox copier.new.seat.facts copier.new.desk.outbox) }
+        ensures scan { OnOk result (KeepsScan (W.trace self.now.trace.now) self.now.skip copier.old.seat.facts copier.old.desk copier.new.seat.facts copier.new.desk) }
         ensures held { OnOk result (HoldsNone copier.new.seat.facts) }
     {
         for bit in 0..64 {
@@ -322,7 +352,7 @@ impl<'a, W: WriteLog, G: Gate> Round<'a, W, G> {
         Ok(())
     }
 
-    /// Harvests a word, where it is the copier's, and sends or skips its pages.
+    /// Harvests a word, where it is the copier's, and sends, defers or skips its pages.
     fn copy_word(
         &self,
         alloc: Global,
@@ -335,7 +365,7 @@ impl<'a, W: WriteLog, G: Gate> Round<'a, W, G> {
         requires ready { IsReady (W.trace self.now.trace.now) self.now.table.now copier.old.seat copier.old.desk }
         requires held { HoldsNone copier.old.seat.facts }
         ensures ready { OnOk result (IsReady (W.trace self.now.trace.now) self.now.table.now copier.new.seat copier.new.desk) }
-        ensures scan { OnOk result (AdvancesScan (W.trace self.now.trace.now) self.now.skip word copier.old.seat.facts copier.old.desk.outbox copier.new.seat.facts copier.new.desk.outbox) }
+        ensures scan { OnOk result (AdvancesScan (W.trace self.now.trace.now) self.now.skip word copier.old.seat.facts copier.old.desk copier.new.seat.facts copier.new.desk) }
         ensures held { OnOk result (HoldsNone copier.new.seat.facts) }
     {
         if !copier.seat.owns(word) {
@@ -346,15 +376,15 @@ impl<'a, W: WriteLog, G: Gate> Round<'a, W, G> {
         Ok(())
     }
 
-    /// What a copier does in a round: it harvests its words once, in rising order, and sends or skips the pages of each. The
-    /// seat has done nothing before; what the desk gave over in the round before goes. Memory alone is refused.
+    /// What a copier does in a round: it harvests its words once, in rising order, and sends, defers or skips the pages of
+    /// each. The seat has done nothing before; what the desk listed in the round before goes. Memory alone is refused.
     pub fn copy(&self, alloc: Global, seat: CopySeat, desk: Desk) -> Result<Copier, SeatError>
         requires of { IsIndexOf self.now.index.now (W.trace self.now.trace.now) }
         requires pages { length self.now.table.now.start.places ≡ (W.trace self.now.trace.now).pages }
         requires table { copy_table seat ≡ self.now.table.now }
         requires idle { seat.facts ≡ first_copier self.now.table.now.start seat.facts.number }
         requires desk { IsDesk (W.trace self.now.trace.now) self.now.streams desk }
-        ensures { IfOk result (λ copier. HasCopied (W.trace self.now.trace.now) self.now.skip self.now.table.now seat.facts.number self.now.streams copier.seat copier.desk) }
+        ensures { IfOk result (λ copier. HasCopied (W.trace self.now.trace.now) self.now.skip self.now.table.now seat.facts.number self.now.streams desk.outs copier.seat copier.desk) }
     {
         let mut copier = Copying {
             seat,

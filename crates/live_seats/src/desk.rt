@@ -1,9 +1,10 @@
 //! What a copier keeps from round to round.
 
-ghost use Rattle.std.specs.Prelude.{◌≡◌, ◌≤◌, IfOk, length};
+ghost use Rattle.std.specs.Prelude.{◌≡◌, ◌≤◌, IfNone, IfOk, IfSome, length};
 ghost use Rattle.migration_model.specs.Trace.{GuestTrace};
+ghost use Rattle.live_seats.specs.Copies.{HasRoomAt, HasSentFrame, KeepsSent};
 ghost use Rattle.live_seats.specs.Desks.{IsDesk, desk_with, open_desk_with};
-ghost use Rattle.live_seats.specs.Outboxes.{empty_outbox};
+ghost use Rattle.live_seats.specs.Outboxes.{IsCrowded, empty_outbox};
 ghost use Rattle.page_cache.specs.Cache.{AreKept, cache_with, pages_with};
 ghost use Rattle.page_versions.specs.Index.{IsIndexOf};
 
@@ -13,19 +14,22 @@ use page_cache::{KeptPages, PageCache};
 use page_versions::PageIndex;
 use std::alloc::Global;
 use std::marker::Model;
+use stream_lanes::LaneOut;
 use stream_split::Dealer;
 use trace_codec::WriteLog;
 
 /// How many pages a copier keeps at most: as many as a trace may have.
 const KEPT_PAGES: usize = 65_536;
 
-/// What a copier keeps from round to round: whose turn it is, pages that it sent, and what it gave over at the end
-/// of the round before, whose room the next round uses again.
+/// What a copier keeps from round to round: whose turn it is, pages that it sent, what it listed in the round before, whose
+/// room the next round uses again, and the sending ends of its lanes.
 #[derive(Drop)]
 pub struct Desk {
     pub dealer: Dealer,
     pub pages: KeptPages,
     pub outbox: Outbox,
+    /// One of each stream, in the order of the streams.
+    pub outs: Vec<LaneOut>,
 }
 
 impl Model for Desk {
@@ -33,7 +37,7 @@ impl Model for Desk {
 
     ghost Value = { DeskView };
 
-    ghost view = { λ d. desk_with d.dealer d.pages d.outbox };
+    ghost view = { λ d. desk_with d.dealer d.pages d.outbox d.outs.items };
 }
 
 /// A desk while a round lasts.
@@ -42,6 +46,7 @@ pub(crate) struct OpenDesk<'a, W: WriteLog> {
     pub(crate) dealer: Dealer,
     pub(crate) cache: PageCache<'a, W>,
     pub(crate) outbox: Outbox,
+    pub(crate) outs: Vec<LaneOut>,
     /// Where a page that is not kept is made.
     pub(crate) room: Vec<u8>,
 }
@@ -51,24 +56,26 @@ impl<'a, W: WriteLog> Model for OpenDesk<'a, W> {
 
     ghost Value = { OpenDeskView };
 
-    ghost view = { λ d. open_desk_with d.dealer d.cache d.outbox };
+    ghost view = { λ d. open_desk_with d.dealer d.cache d.outbox d.outs.items };
 }
 
 impl Desk {
-    /// A desk before the first round, with so many streams, 1 to 16, each with room for so many bytes.
-    pub fn new(alloc: Global, streams: usize, room: usize) -> Result<Desk, SeatError>
-        requires some { 1 ≤ streams }
-        requires few { streams ≤ 16 }
-        ensures { (trace : GuestTrace) → IfOk result (IsDesk trace streams) }
+    /// A desk before the first round, with the sending ends of a copier's lanes, one of each of 1 to 16 streams.
+    pub fn new(alloc: Global, outs: Vec<LaneOut>) -> Result<Desk, SeatError>
+        requires some { 1 ≤ length outs.items }
+        requires few { length outs.items ≤ 16 }
+        ensures desk { (trace : GuestTrace) → IfOk result (IsDesk trace (length outs.items)) }
+        ensures outs { IfOk result (λ desk. desk.outs ≡ outs.items) }
     {
         Ok(Desk {
-            dealer: Dealer::new(streams),
+            dealer: Dealer::new(outs.len()),
             pages: KeptPages::new(alloc, KEPT_PAGES)?,
-            outbox: Outbox::new(alloc, streams, room)?,
+            outbox: Outbox::new(alloc),
+            outs,
         })
     }
 
-    /// The desk at the beginning of a round: what was given over goes, and its room stays.
+    /// The desk at the beginning of a round: what was listed goes, and its room stays.
     pub(crate) fn open<'a, W: WriteLog>(
         self,
         alloc: Global,
@@ -77,12 +84,13 @@ impl Desk {
     ) -> OpenDesk<'a, W>
         requires of { IsIndexOf index.now (W.trace trace.now) }
         requires kept { AreKept (W.trace trace.now) self.pages.entries }
-        ensures { result ≡ open_desk_with self.turn (cache_with (W.trace trace.entry.now) self.pages.entries self.pages.capacity) (empty_outbox (length self.outbox.streams)) }
+        ensures { result ≡ open_desk_with self.turn (cache_with (W.trace trace.entry.now) self.pages.entries self.pages.capacity) empty_outbox self.outs }
     {
         let Desk {
             dealer,
             pages,
             outbox,
+            outs,
         } = self;
         let mut outbox = outbox;
         outbox.clear();
@@ -90,27 +98,58 @@ impl Desk {
             dealer,
             cache: PageCache::with_pages(trace, index, pages),
             outbox,
+            outs,
             room: Vec::new(alloc),
         }
     }
 }
 
 impl<'a, W: WriteLog> OpenDesk<'a, W> {
+    /// The stream whose turn it is, if its lane has room for one more frame. In either case the next stream's turn comes.
+    pub(crate) fn next_lane(&mut self) -> Option<usize>
+        requires lanes { length self.old.outs ≡ self.old.turn.streams }
+        ensures room { IfSome result (HasRoomAt self.new.outs) }
+        ensures full { IfNone result (IsCrowded self.new.outs) }
+        ensures sent { KeepsSent self.old.outs self.new.outs }
+        ensures turn { self.new.turn.streams ≡ self.old.turn.streams }
+        ensures cache { self.new.cache ≡ self.old.cache }
+        ensures outbox { self.new.outbox ≡ self.old.outbox }
+    {
+        let stream = self.dealer.deal();
+        if self.outs[stream].has_room() {
+            return Some(stream);
+        }
+        None
+    }
+
+    /// Sends a frame on the lane of a stream.
+    pub(crate) fn send(&mut self, stream: usize, frame: Vec<u8>)
+        requires { HasRoomAt self.old.outs stream }
+        ensures sent { HasSentFrame frame.items self.old.outs self.new.outs }
+        ensures turn { self.new.turn ≡ self.old.turn }
+        ensures cache { self.new.cache ≡ self.old.cache }
+        ensures outbox { self.new.outbox ≡ self.old.outbox }
+    {
+        self.outs[stream].send(frame);
+    }
+
     /// The desk at the end of a round.
     pub(crate) fn close(self) -> Desk
-        ensures desk { result ≡ desk_with self.entry.turn (pages_with self.entry.cache.entries self.entry.cache.capacity) self.entry.outbox }
+        ensures desk { result ≡ desk_with self.entry.turn (pages_with self.entry.cache.entries self.entry.cache.capacity) self.entry.outbox self.entry.outs }
         ensures kept { AreKept self.entry.cache.trace self.entry.cache.entries }
     {
         let OpenDesk {
             dealer,
             cache,
             outbox,
+            outs,
             room: _,
         } = self;
         Desk {
             dealer,
             pages: cache.into_pages(),
             outbox,
+            outs,
         }
     }
 }

@@ -7,7 +7,6 @@ use page_cache::CacheError;
 use page_message::FrameError;
 use page_versions::IndexError;
 use std::alloc::{AllocError, AllocFailed};
-use stream_split::SplitError;
 use thiserror::Error;
 
 /// A refusal.
@@ -30,14 +29,6 @@ impl<T: Drop> From<AllocFailed<T>> for SeatError {
     ghost from_gives = { λ _ e. e ≡ Memory };
 
     fn from(_error: AllocFailed<T>) -> SeatError {
-        SeatError::Memory
-    }
-}
-
-impl From<SplitError> for SeatError {
-    ghost from_gives = { λ _ e. e ≡ Memory };
-
-    fn from(_error: SplitError) -> SeatError {
         SeatError::Memory
     }
 }

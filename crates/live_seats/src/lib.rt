@@ -1,9 +1,11 @@
-//! What one replayer and one copier do in a round of a live migration. Threads are the business of the caller.
+//! What one replayer and one copier do in a round of a live migration: the replayer changes its pages, and the copier sends
+//! those that changed, each frame on a lane as soon as it is made. Threads are the business of the caller.
 #![tactic(auto)]
 
 mod copier;
 mod desk;
 mod error;
+mod frame;
 mod gate;
 mod outbox;
 mod replayer;

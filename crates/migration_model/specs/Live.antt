@@ -1,8 +1,8 @@
 -- Live rounds of a migration, and the law that they keep. After Clark and others, "Live Migration of Virtual Machines"
 -- (2005), section 4: each round sends the pages that were dirtied during the round before, and may leave out those that
 -- are dirtied again. Versions, copiers and the order of a scan are this project's own.
-use Rattle.std.specs.Prelude.{◌≡◌, ◌⊎◌, ℕ, ◌-◌, ◌/◌, ◌%◌, ◌<◌, ◌≤◌, Bool, true, List, [], length, map, take, Some, slice_get}
-use Rattle.std.specs.List.{Any, AllPairs, Contains}
+use Rattle.std.specs.Prelude.{◌≡◌, ◌⊎◌, ℕ, ◌-◌, ◌/◌, ◌%◌, ◌<◌, ◌≤◌, ◌==◌, Bool, true, List, [], ◌∷◌, ◌++◌, length, map, take, Some, slice_get}
+use Rattle.std.specs.List.{Any, AllPairs, Contains, count_by, flat_map}
 use Rattle.migration_model.specs.Trace.{GuestTrace, GuestWrite}
 use Rattle.migration_model.specs.Versions.{IsWritten, version_before}
 use Rattle.migration_model.specs.Rounds.{PlannedRound}
@@ -45,6 +45,10 @@ abbrev pub IsInScanOrder : ℕ → List ℕ → Type 0
 IsInScanOrder copiers pages = AllPairs (λ page later. (page_copier copiers page < page_copier copiers later)
     ⊎ ((page_copier copiers page ≡ page_copier copiers later) × (page < later))) pages
 
+-- how many pages a copier sent in these rounds
+abbrev pub sent_by_copier : ℕ → List LiveRound → ℕ → ℕ
+sent_by_copier copiers rounds copier = count_by (λ page. page_copier copiers page == copier) (flat_map pages_sent rounds)
+
 -- in some of these rounds the page was sent with a stamp no less than its version before the tick
 abbrev pub WasCurrent : GuestTrace → ℕ → List LiveRound → ℕ → Type 0
 WasCurrent trace tick rounds page = Any (λ round. Any (λ sent. (sent.0 ≡ page) × (version_before trace page tick ≤ sent.1)) round.sent) rounds
@@ -61,13 +65,14 @@ IsDue trace from rounds page = IsPutOff rounds page ⊎ (¬ WasCurrent trace fro
 abbrev pub IsWrittenLast : GuestTrace → List PlannedRound → ℕ → Type 0
 IsWrittenLast trace planned page = (last : PlannedRound) × (slice_get planned (length planned - 1) ≡ Some last) × IsWritten trace last.from last.to page
 
--- One round, after others, by so many copiers, in the ticks that were planned for it. No page is deferred.
-pub record KeepsLaw (trace : GuestTrace) (skip : Bool) (copiers : ℕ) (planned : List PlannedRound) (rounds : List LiveRound) (plan : PlannedRound) (round : LiveRound) : Type 0 where
+-- One round, after others, by so many copiers over lanes of so many frames, in the ticks that were planned for it.
+pub record KeepsLaw (trace : GuestTrace) (skip : Bool) (copiers lane : ℕ) (planned : List PlannedRound) (rounds : List LiveRound) (plan : PlannedRound) (round : LiveRound) : Type 0 where
   -- a page is listed at most once, and each list goes by copier and then by page
   pub sent_order : IsInScanOrder copiers (pages_sent round)
   pub skipped_order : IsInScanOrder copiers round.skipped
+  pub deferred_order : IsInScanOrder copiers round.deferred
   pub apart : (page : ℕ) → Contains (pages_sent round) page → ¬ Contains round.skipped page
-  pub none_deferred : round.deferred ≡ []
+  pub deferred_apart : (page : ℕ) → Contains round.deferred page → (¬ Contains (pages_sent round) page) × (¬ Contains round.skipped page)
   -- each page that is due is listed, and no other but those written in this round or the one before
   pub due : (page : ℕ) → page < trace.pages → IsDue trace plan.from rounds page → IsListed round page
   pub only : (page : ℕ) → IsListed round page
@@ -77,9 +82,11 @@ pub record KeepsLaw (trace : GuestTrace) (skip : Bool) (copiers : ℕ) (planned 
       → (stamp ≡ version_before trace page plan.from) ⊎ IsPlaceOf trace page plan.from plan.to stamp
   -- a page is skipped only where skipping is on, not in the first round, and where the page is written in this round
   pub skips : (page : ℕ) → Contains round.skipped page → (skip ≡ true) × (1 ≤ length rounds) × IsWritten trace plan.from plan.to page
+  -- a page is deferred only where its copier sent as many pages, in this round and those before, as a lane holds
+  pub defers : (page : ℕ) → Contains round.deferred page → lane ≤ sent_by_copier copiers (rounds ++ round ∷ []) (page_copier copiers page)
 
 -- The law of live rounds: there are as many as were planned, and each keeps the law after those before it.
-pub record LiveRounds (trace : GuestTrace) (skip : Bool) (copiers : ℕ) (planned : List PlannedRound) (rounds : List LiveRound) : Type 0 where
+pub record LiveRounds (trace : GuestTrace) (skip : Bool) (copiers lane : ℕ) (planned : List PlannedRound) (rounds : List LiveRound) : Type 0 where
   pub count : length rounds ≡ length planned
   pub each : (i : ℕ) (plan : PlannedRound) (round : LiveRound) → slice_get planned i ≡ Some plan → slice_get rounds i ≡ Some round
-      → KeepsLaw trace skip copiers (take i planned) (take i rounds) plan round
+      → KeepsLaw trace skip copiers lane (take i planned) (take i rounds) plan round

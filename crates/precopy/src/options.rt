@@ -121,7 +121,7 @@ pub(crate) fn with_live<'a>(
         .arg(number(
             alloc,
             "lane",
-            "Frames that a lane has room for; without effect yet [default: 1024]",
+            "Frames that each lane has room for [default: 1024]",
         ))?
         .arg(at_stop)
 }

@@ -1,16 +1,42 @@
-use Rattle.std.proofs.Common.{◌+◌, [], ◌∷◌, length, sym, ap, subst, ◌∙◌}
+use Rattle.std.proofs.Common.{◌≡◌, ◌≤◌, ℕ, Vec, Global, List, [], ◌∷◌, ◌++◌, length, map, sym, ap, subst, ◌∙◌}
 use Rattle.std.specs.List.{All}
-use Rattle.std.proofs.lemmas.List.{length-append}
+use Rattle.std.specs.Vec.Iter.{into_iter_items}
+use Rattle.std.proofs.lemmas.List.{map-append}
 use Rattle.std.proofs.lemmas.List.Elements.{All-push}
-use Rattle.live_seats.specs.Desks.{IsDesk}
+use Rattle.stream_lanes.specs.Ends.{OutView}
+use Rattle.live_seats.specs.Desks.{DeskView, IsDesk}
+use Rattle.live_engine.specs.Lists.{rows_of}
+use Rattle.live_engine.proofs.FirstSeats.{next_holds, rest_of}
 use Rattle.live_engine.proofs.opening.new_desks.Goals as goal
 
-pub loop-preserved : goal.loop-preserved
-loop-preserved c =
+pub new-requires-clause-some : goal.new-requires-clause-some
+new-requires-clause-some c =
+    next_holds (λ (row : Vec OutView Global). 1 ≤ length row.items) c.loop-row.yielded (into_iter_items c.loop-row.row-iterator) (into_iter_items c.next.new.self) c.args.rows.items c.in-Some.row
+    c.in-Some.ensures.steps.0 c.loop-row.invariant.all c.requires.some
+
+pub new-requires-clause-few : goal.new-requires-clause-few
+new-requires-clause-few c =
+    next_holds (λ (row : Vec OutView Global). length row.items ≤ 16) c.loop-row.yielded (into_iter_items c.loop-row.row-iterator) (into_iter_items c.next.new.self) c.args.rows.items c.in-Some.row
+    c.in-Some.ensures.steps.0 c.loop-row.invariant.all c.requires.few
+
+pub loop-row-preserved : goal.loop-row-preserved
+loop-row-preserved c =
     let items = c.in_ok-push_back.ensures.items in
-    let desks = c.loop.desks.items in
+    let desks = c.loop-row.desks.items in
     let desk = c.in_ok-new.field-0 in
+    let front = c.loop-row.yielded in
+    let old = into_iter_items c.loop-row.row-iterator in
+    let rest = into_iter_items c.next.new.self in
+    let row = c.in-Some.row in
     record {
-      count = ap length items ∙ length-append desks (desk ∷ []) ∙ ap (λ n. n + 1) c.loop.invariant.count;
-      each = λ trace. subst (All (IsDesk trace c.args.streams)) (sym items) (All-push (IsDesk trace c.args.streams) desks desk (c.loop.invariant.each trace) (c.in_ok-new.ensures trace));
+      can_next = tt;
+      is_finite = tt;
+      all = rest_of front old rest c.args.rows.items row c.in-Some.ensures.steps.0 c.loop-row.invariant.all;
+      rows = ap rows_of items ∙ map-append (λ (d : DeskView). d.outs) desks (desk ∷ []) ∙ ap (λ (rows : List (List OutView)). rows ++ desk.outs ∷ []) c.loop-row.invariant.rows
+          ∙ ap (λ (outs : List OutView). map (λ (r : Vec OutView Global). r.items) front ++ outs ∷ []) c.in_ok-new.ensures.outs
+          ∙ sym (map-append (λ (r : Vec OutView Global). r.items) front (row ∷ []));
+      each = λ trace streams same.
+          let one : IsDesk trace streams desk = subst (λ (n : ℕ). IsDesk trace n desk) (next_holds (λ (r : Vec OutView Global). length r.items ≡ streams) front old rest c.args.rows.items row
+          c.in-Some.ensures.steps.0 c.loop-row.invariant.all same) (c.in_ok-new.ensures.desk trace) in
+          subst (All (IsDesk trace streams)) (sym items) (All-push (IsDesk trace streams) desks desk (c.loop-row.invariant.each trace streams same) one);
     }

@@ -1,13 +1,15 @@
-use Rattle.std.proofs.Common.{◌≡◌, ◌++◌, ◌∷◌, [], length, sym, ap, subst, ◌∙◌, arith}
+use Rattle.std.proofs.Common.{◌≡◌, ℕ, ◌+◌, List, ◌++◌, ◌∷◌, [], length, slice_index_or, sym, ap, subst, ◌∙◌, arith}
 use Rattle.std.specs.List.{All}
 use Rattle.std.specs.Vec.Iter.{into_iter_items}
+use Rattle.std.proofs.lemmas.List.{length-append}
 use Rattle.std.proofs.lemmas.List.Elements.{All-head, All-rest}
 use Rattle.dirty_words.specs.Facts.{first_copier}
 use Rattle.dirty_words.specs.Seats.{CopyView, copy_table}
-use Rattle.live_seats.specs.Desks.{IsDesk}
+use Rattle.live_seats.specs.Desks.{DeskView, IsDesk}
+use Rattle.live_engine.specs.Lists.{rows_of}
 use Rattle.live_engine.specs.Seated.{EachAt}
 use Rattle.live_engine.proofs.Each.{each_push}
-use Rattle.live_engine.proofs.FirstSeats.{copier_at, rest_of, one_longer}
+use Rattle.live_engine.proofs.FirstSeats.{copier_at, rest_of, row_first, one_longer}
 use Rattle.live_engine.proofs.threads.start_copiers.Goals as goal
 
 pub start_copier-requires-clause-table : goal.start_copier-requires-clause-table
@@ -34,6 +36,11 @@ loop-seat-preserved g c =
     c.requires.seats c.in-Some.ensures.steps.0 c.loop-seat.invariant.rest in
     let items : c.push_reserved.new.self.items ≡ before ++ handle ∷ [] = c.push_reserved.ensures.items ∙ ap (λ hs. hs ++ handle ∷ []) c.reserve.ensures.items in
     let number : handle.promise.number ≡ length before = c.in_ok-handle.ensures.3 ∙ ap (λ (s : CopyView). s.facts.number) first ∙ sym c.loop-seat.invariant.count in
+    let passed = c.loop-seat.invariant.passed in
+    let desk : DeskView = c.in-Some-pop_front.desk in
+    let left : List DeskView = c.pop_front.new.self.items in
+    let outs : desk.outs ≡ slice_index_or (rows_of c.args.desks.items) (length before) [] =
+    row_first passed.0 c.loop-seat.desks.items left c.args.desks.items desk (length before) c.in-Some-pop_front.ensures.items passed.2 (c.loop-seat.invariant.count ∙ sym passed.1) in
     record {
       can_next = tt;
       is_finite = tt;
@@ -41,7 +48,12 @@ loop-seat-preserved g c =
       rest = rest_of c.loop-seat.yielded (into_iter_items c.loop-seat.seat-iterator) (into_iter_items c.next.new.self) c.args.seats.items c.in-Some.seat
           c.in-Some.ensures.steps.0 c.loop-seat.invariant.rest;
       count_left = grind (arith, c.in-Some-pop_front.ensures.len, c.loop-seat.invariant.count_left, ap length c.in-Some.ensures.steps.0);
+      passed = (
+        passed.0 ++ desk ∷ [],
+        length-append passed.0 (desk ∷ []) ∙ ap (λ (n : ℕ). n + 1) passed.1 ∙ sym (length-append c.loop-seat.yielded (c.in-Some.seat ∷ [])),
+        rest_of passed.0 c.loop-seat.desks.items left c.args.desks.items desk c.in-Some-pop_front.ensures.items passed.2,
+      );
       desks = All-rest (IsDesk (g.W.WriteLog.trace c.args.round.now.trace.now) c.args.round.now.streams) c.in-Some-pop_front.desk c.pop_front.new.self.items c.loop-seat.desks.items (c.in-Some-pop_front.ensures.items) c.loop-seat.invariant.desks;
-      started = subst (λ hs. EachAt (λ h i. (g.W.WriteLog.trace h.promise.trace.now ≡ (g.W.WriteLog.trace c.args.round.now.trace.now)) × (h.promise.table.now ≡ c.args.round.now.table.now) × (h.promise.skip ≡ c.args.round.now.skip) × (h.promise.number ≡ i) × (h.promise.streams ≡ c.args.round.now.streams)) hs) (sym items)
-          (each_push (λ h i. (g.W.WriteLog.trace h.promise.trace.now ≡ (g.W.WriteLog.trace c.args.round.now.trace.now)) × (h.promise.table.now ≡ c.args.round.now.table.now) × (h.promise.skip ≡ c.args.round.now.skip) × (h.promise.number ≡ i) × (h.promise.streams ≡ c.args.round.now.streams)) before handle c.loop-seat.invariant.started (c.in_ok-handle.ensures.0, c.in_ok-handle.ensures.1, c.in_ok-handle.ensures.2, number, c.in_ok-handle.ensures.4));
+      started = subst (λ hs. EachAt (λ h i. (g.W.WriteLog.trace h.promise.trace.now ≡ (g.W.WriteLog.trace c.args.round.now.trace.now)) × (h.promise.table.now ≡ c.args.round.now.table.now) × (h.promise.skip ≡ c.args.round.now.skip) × (h.promise.number ≡ i) × (h.promise.streams ≡ c.args.round.now.streams) × (h.promise.outs.value.items ≡ slice_index_or (rows_of c.args.desks.items) i [])) hs) (sym items)
+          (each_push (λ h i. (g.W.WriteLog.trace h.promise.trace.now ≡ (g.W.WriteLog.trace c.args.round.now.trace.now)) × (h.promise.table.now ≡ c.args.round.now.table.now) × (h.promise.skip ≡ c.args.round.now.skip) × (h.promise.number ≡ i) × (h.promise.streams ≡ c.args.round.now.streams) × (h.promise.outs.value.items ≡ slice_index_or (rows_of c.args.desks.items) i [])) before handle c.loop-seat.invariant.started (c.in_ok-handle.ensures.0, c.in_ok-handle.ensures.1, c.in_ok-handle.ensures.2, number, c.in_ok-handle.ensures.4, c.in_ok-handle.ensures.5 ∙ outs));
     }

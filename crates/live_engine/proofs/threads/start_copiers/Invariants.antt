@@ -1,7 +1,8 @@
-use Rattle.std.proofs.Common.{◌≡◌, length, ◌++◌}
+use Rattle.std.proofs.Common.{◌≡◌, List, [], length, ◌++◌, slice_index_or}
 use Rattle.std.specs.List.{All}
 use Rattle.std.specs.Vec.Iter.{into_iter_items}
-use Rattle.live_seats.specs.Desks.{IsDesk}
+use Rattle.live_seats.specs.Desks.{DeskView, IsDesk}
+use Rattle.live_engine.specs.Lists.{rows_of}
 use Rattle.live_engine.specs.Seated.{EachAt}
 use Rattle.live_engine.proofs.threads.start_copiers.Given as goal
 
@@ -12,6 +13,7 @@ invariant-loop-seat g l = record {
   count : length l.handles.items ≡ length l.yielded;
   rest : l.yielded ++ into_iter_items l.seat-iterator ≡ l.fn.seats.items;
   count_left : length l.desks.items ≡ length (into_iter_items l.seat-iterator);
+  passed : (front : List DeskView) × (length front ≡ length l.yielded) × (front ++ l.desks.items ≡ l.fn.desks.items);
   desks : All (IsDesk (g.W.WriteLog.trace l.round.trace.now) l.round.streams) l.desks.items;
-  started : EachAt (λ h i. (g.W.WriteLog.trace h.promise.trace.now ≡ (g.W.WriteLog.trace l.round.trace.now)) × (h.promise.table.now ≡ l.round.table.now) × (h.promise.skip ≡ l.round.skip) × (h.promise.number ≡ i) × (h.promise.streams ≡ l.round.streams)) l.handles.items;
+  started : EachAt (λ h i. (g.W.WriteLog.trace h.promise.trace.now ≡ (g.W.WriteLog.trace l.round.trace.now)) × (h.promise.table.now ≡ l.round.table.now) × (h.promise.skip ≡ l.round.skip) × (h.promise.number ≡ i) × (h.promise.streams ≡ l.round.streams) × (h.promise.outs.value.items ≡ slice_index_or (rows_of l.fn.desks.items) i [])) l.handles.items;
 }

@@ -1,11 +1,10 @@
-use Rattle.std.proofs.Common.{rules}
+use Rattle.std.proofs.Common.{◌∙◌, arith}
+use Rattle.std.proofs.lemmas.Bool.{lt-ltb}
+use Rattle.live_engine.specs.Lists.{rows_of}
+use Rattle.live_engine.proofs.Running.{joined_first}
 use Rattle.live_engine.proofs.round.Crew.begin.Goals as goal
 
-pub returns-clause-under_way : goal.returns-clause-under_way
-returns-clause-under_way g c = record {
-  next = search rules;
-  size = search rules;
-  parts_are = search rules;
-  desks_are = search rules;
-  each = c.in_ok-new_desks.ensures.each (g.W.WriteLog.trace c.args.self.now.trace.now);
-}
+pub returns-clause-joined : goal.returns-clause-joined
+returns-clause-joined g c =
+    joined_first (g.W.WriteLog.trace c.args.self.now.trace.now) c.args.self.now.copiers c.args.start _ (rows_of c.args.desks.items) c.in_ok-versions_before.ensures.each
+    (λ page real. c.in_ok-all_pages.ensures.pages page ∙ lt-ltb page c.shape.result.pages (omega (arith, real, c.shape.ensures.pages))) c.requires.new

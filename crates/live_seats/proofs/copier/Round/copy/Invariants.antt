@@ -9,8 +9,7 @@ abbrev pub invariant-loop-word : goal.invariant-loop-word
 invariant-loop-word g l = record {
   ready : IsReady (g.W.WriteLog.trace l.self.trace.now) l.self.table.now l.copier.seat l.copier.desk;
   number : l.copier.seat.facts.number ≡ l.fn.seat.facts.number;
-  turns : l.copier.desk.turn.streams ≡ l.self.streams;
   held : HoldsNone l.copier.seat.facts;
   scanned : IsScanned l.self.skip l.word l.copier.seat.facts l.copier.desk.outbox;
-  posted : IsPosted (g.W.WriteLog.trace l.self.trace.now) l.copier.desk.outbox;
+  posted : IsPosted (g.W.WriteLog.trace l.self.trace.now) l.fn.desk.outs l.copier.desk.outbox l.copier.desk.outs;
 }

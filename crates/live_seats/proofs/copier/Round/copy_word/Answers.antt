@@ -6,7 +6,7 @@ use Rattle.live_seats.proofs.copier.Round.copy_word.Goals as goal
 
 pub returns-then-not-owns-clause-scan : goal.returns-then-not-owns-clause-scan
 returns-then-not-owns-clause-scan g c =
-    advances_past (g.W.WriteLog.trace c.args.self.now.trace.now) c.args.self.now.skip c.args.word c.args.copier.now.seat.facts c.args.copier.now.desk.outbox
+    advances_past (g.W.WriteLog.trace c.args.self.now.trace.now) c.args.self.now.skip c.args.word c.args.copier.now.seat.facts c.args.copier.now.desk
     (λ own. false_true (sym c.if-not-owns.true ∙ c.owns.ensures.1 own))
 
 pub copy_bits-requires-clause-holds : goal.copy_bits-requires-clause-holds
@@ -20,6 +20,6 @@ returns-clause-scan g c =
     let facts = c.args.copier.now.seat.facts in
     let harvested = c.harvest-bits in
     advances_own (g.W.WriteLog.trace c.args.self.now.trace.now) c.args.self.now.skip c.args.word harvested.result facts harvested.new.seat.facts c.copy_bits.new.copier.seat.facts
-    c.args.copier.now.desk.outbox c.copy_bits.new.copier.desk.outbox c.requires.held (c.owns.ensures.0 c.if-not-owns.false) harvested.ensures.facts harvested.ensures.answer harvested.ensures.fresh
+    c.args.copier.now.desk c.copy_bits.new.copier.desk c.requires.held (c.owns.ensures.0 c.if-not-owns.false) harvested.ensures.facts harvested.ensures.answer harvested.ensures.fresh
     (holds_all c.args.word harvested.result facts harvested.new.seat.facts c.requires.held harvested.ensures.held) harvested.ensures.returned
     c.in_ok-copy_bits.ensures.scan
