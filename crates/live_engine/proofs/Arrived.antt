@@ -19,6 +19,7 @@ use Rattle.stream_lanes.specs.Grids.{AreColumns}
 use Rattle.live_seats.specs.Desks.{DeskView, IsDesk}
 use Rattle.live_engine.specs.Lists.{rows_of}
 use Rattle.stream_receivers.specs.Receivers.{AreEnds, AreFrames, HasFrames, ReceiverView}
+use Rattle.stream_receivers.proofs.Had.{has_same}
 use Rattle.live_engine.specs.Joining.{AreJoined, IsMarked, IsSentBy, lanes_of}
 use Rattle.live_engine.specs.Receiving.{AreCrossed, HaveArrived, IsSentTo, lanes_in}
 use Rattle.live_engine.proofs.Each.{all_at, all_there, any_at, any_there, made_of, makes_at, pick, within}
@@ -110,14 +111,8 @@ module _ (copiers streams : ℕ) (rows columns : List (Vec OutView Global)) (rec
             let all : AreFrames shape (IsSentOn o.0.items) = λ text sent. frames text (by_some stream (map items_of rows) text (sent_to stream o.0 text column_there sent)) in
             let has : HasFrames shape (IsSentOn o.0.items) part = subst (λ (s : GuestShape). HasFrames s (IsSentOn o.0.items) part) shape_is
             (each stream o.0 r.0 part column_there receiver_there part_there (subst (λ (s : GuestShape). AreFrames s (IsSentOn o.0.items)) (sym shape_is) all)) in
-            record {
-              is_part = has.is_part;
-              shape_is = has.shape_is;
-              had = λ page copy there.
-                  let h = has.had page copy there in
-                  (h.0, h.1, sent_to stream o.0 h.0 column_there h.2, h.3, h.4, h.5);
-              came = λ text frame sent spells. has.came text frame (sent_on stream o.0 text column_there sent) spells;
-            };
+            has_same shape (IsSentOn o.0.items) (IsSentTo stream (map items_of rows)) part (λ text sent. sent_to stream o.0 text column_there sent)
+            (λ text sent. sent_on stream o.0 text column_there sent) has;
       }
 
 -- ---- what all rounds left

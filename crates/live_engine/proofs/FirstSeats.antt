@@ -1,6 +1,6 @@
 -- The seats of a table that has just opened, one after the other.
-use Rattle.std.proofs.Common.{◌≡◌, ℕ, ◌+◌, List, [], ◌∷◌, ◌++◌, length, map, get_or, sym, ap, subst, ◌∙◌, arith}
-use Rattle.std.proofs.lemmas.List.{append_assoc, append-nil, get_or-append-add, get_or-map, length-append, map-append}
+use Rattle.std.proofs.Common.{◌≡◌, ℕ, ◌+◌, List, [], ◌∷◌, ◌++◌, length, get_or, sym, ap, subst, ◌∙◌, arith}
+use Rattle.std.proofs.lemmas.List.{append_assoc, append-nil, get_or-append-add, get_or-map, length-append}
 use Rattle.std.proofs.lemmas.Grind.{flat_map-append}
 use Rattle.std.specs.Prelude.{Some, slice_get}
 use Rattle.std.specs.List.{All, flat_map}
@@ -44,9 +44,6 @@ row_first front old rest all desk number steps is at =
 
 pub lists_more : {X Y : Type 0} (f : X → List Y) (front : List X) (x : X) (before : List Y) → before ≡ flat_map f front → before ++ f x ≡ flat_map f (front ++ x ∷ [])
 lists_more f front x before is = ap (λ l. l ++ f x) is ∙ ap (λ l. flat_map f front ++ l) (sym (append-nil (f x))) ∙ sym (flat_map-append f front (x ∷ []))
-
-pub maps_more : {X Y : Type 0} (f : X → Y) (front : List X) (x : X) (before : List Y) → before ≡ map f front → before ++ f x ∷ [] ≡ map f (front ++ x ∷ [])
-maps_more f front x before is = ap (λ l. l ++ f x ∷ []) is ∙ sym (map-append f front (x ∷ []))
 
 -- what all have, the next has
 pub next_holds : {X : Type 0} (P : X → Type 0) (front old rest all : List X) (x : X) → old ≡ x ∷ rest → front ++ old ≡ all → All P all → P x
