@@ -46,7 +46,7 @@ pub(crate) struct Arrived {
 
 /// Starts the receivers, and runs all rounds.
 fn rounds_beside<'s, E, W: WriteLog + Sync, G: Gate, R: Threads + Wait + Sync>(
-    rt: &R,
+    rt: &'s R,
     scope: &'s Scope<'s, E>,
     alloc: Global,
     crew: &Crew<'s, W, G>,
@@ -63,14 +63,14 @@ fn rounds_beside<'s, E, W: WriteLog + Sync, G: Gate, R: Threads + Wait + Sync>(
     ensures receivers { OnOk result (map (λ h. identity_of h.promise.receiver.value) handles.new.items ≡ map identity_of receivers.items) }
     ensures done { IfOk result (λ p. AreDone (W.trace crew.now.trace.now) settings.now plan.now crew.now.replayers crew.now.copiers crew.now.streams desks.items p.closed p.rounds.items p.desks.items) }
 {
-    start_receivers(scope, crew.gate, crew.signals, receivers, handles)?;
+    start_receivers(rt, scope, crew.gate, crew.signals, receivers, handles)?;
     crew.run_rounds(rt, alloc, settings, plan, desks)
 }
 
 /// Runs all rounds beside the receivers. The flag is set on every path, and all receivers are waited for before any refusal is
 /// answered.
 fn in_run<'s, E, W: WriteLog + Sync, G: Gate, R: Threads + Wait + Sync>(
-    rt: &R,
+    rt: &'s R,
     scope: &'s Scope<'s, E>,
     alloc: Global,
     crew: &Crew<'s, W, G>,

@@ -6,11 +6,19 @@ ghost use Rattle.live_engine.specs.Receiving.{identity_of};
 use crate::error::LiveError;
 use live_seats::{Gate, Point};
 use std::alloc::Global;
+use std::hint::spin_loop;
 use std::snapshot::Snapshot;
+use std::sync::Wait;
 use std::sync::atomic::{AtomicBool, Ordering};
-use std::thread;
-use std::thread::{Promise, PromisedHandle, Scope, Threads, join_promised};
+use std::thread::{Parker, Promise, PromisedHandle, Scope, Threads, join_promised};
+use std::time::Duration;
 use stream_receivers::Receiver;
+
+/// How often a receiver to which nothing came looks again at once.
+const LOOKS: u32 = 100;
+
+/// How many microseconds it then sleeps before each look: who goes on looking takes time from those who send.
+const SLEEP: u64 = 20;
 
 /// What a run and its receivers tell each other. No claim rests on it.
 #[derive(Drop)]
@@ -55,18 +63,36 @@ fn sweep<G: Gate>(gate: &G, stream: usize, receiver: &mut Receiver) -> bool
     came
 }
 
+/// Waits before the next look, where nothing came in so many.
+fn pause<R: Wait>(rt: &R, looks: u32) {
+    if looks < LOOKS {
+        spin_loop();
+    } else {
+        Parker::new().park_timeout(rt, Duration::from_micros(SLEEP));
+    }
+}
+
 /// Takes what comes on the lanes of a stream, until the run has ended and nothing is left.
-fn receive<G: Gate>(gate: &G, stream: usize, signals: &Signals, receiver: Receiver) -> Receiver
+fn receive<R: Wait, G: Gate>(
+    rt: &R,
+    gate: &G,
+    stream: usize,
+    signals: &Signals,
+    receiver: Receiver,
+) -> Receiver
     ensures { identity_of result ≡ identity_of receiver }
 {
     let mut receiver = receiver;
+    let mut looks = 0u32;
     for _ in 0..u64::MAX {
         let ended = signals.ended.load(Ordering::SeqCst);
-        if !sweep(gate, stream, &mut receiver) {
-            if ended {
-                break;
-            }
-            thread::yield_now();
+        if sweep(gate, stream, &mut receiver) {
+            looks = 0;
+        } else if ended {
+            break;
+        } else {
+            pause(rt, looks);
+            looks = looks.saturating_add(1);
         }
         if receiver.is_refused() {
             signals.refused.store(true, Ordering::SeqCst);
@@ -76,7 +102,8 @@ fn receive<G: Gate>(gate: &G, stream: usize, signals: &Signals, receiver: Receiv
 }
 
 /// Starts a receiver.
-fn start_receiver<'s, E, G: Gate>(
+fn start_receiver<'s, E, R: Wait + Sync, G: Gate>(
+    rt: &'s R,
     scope: &'s Scope<'s, E>,
     gate: &'s G,
     stream: usize,
@@ -90,12 +117,13 @@ fn start_receiver<'s, E, G: Gate>(
     };
     let run = move || -> Receiver
         ensures { identity_of result ≡ identity_of receiver }
-    { receive(gate, stream, signals, receiver) };
+    { receive(rt, gate, stream, signals, receiver) };
     scope.spawn_with(promise, run).or(Err(LiveError::Thread))
 }
 
 /// Starts the receivers, in order of their streams.
-pub(crate) fn start_receivers<'s, E, G: Gate>(
+pub(crate) fn start_receivers<'s, E, R: Wait + Sync, G: Gate>(
+    rt: &'s R,
     scope: &'s Scope<'s, E>,
     gate: &'s G,
     signals: &'s Signals,
@@ -108,7 +136,7 @@ pub(crate) fn start_receivers<'s, E, G: Gate>(
     for receiver in receivers {
         let stream = handles.len();
         handles.reserve(1).or(Err(LiveError::Memory))?;
-        let handle = start_receiver(scope, gate, stream, signals, receiver)?;
+        let handle = start_receiver(rt, scope, gate, stream, signals, receiver)?;
         handles.push_reserved(handle);
     }
     Ok(())
