@@ -9,10 +9,7 @@ use page_message::append_frame;
 use std::alloc::Global;
 use trace_codec::Shape;
 
-/// The bytes of a frame in front of the page.
-const HEAD: usize = 9;
-
-/// The frame of a page with these bytes, in new memory.
+/// The frame of a page with these bytes, in new memory: no more than the head, where each of them is 0.
 pub(crate) fn frame_of(
     alloc: Global,
     shape: &Shape,
@@ -25,7 +22,7 @@ pub(crate) fn frame_of(
     requires whole { length bytes.now ≡ 2 ^ shape.now.shift }
     ensures { IfOk result (λ text. SpellsBytes (shape_of shape.now) page stamp bytes.now text.items) }
 {
-    let mut text = Vec::with_capacity(alloc, HEAD + shape.page_size())?;
+    let mut text = Vec::new(alloc);
     append_frame(&mut text, shape, page, stamp, bytes)?;
     Ok(text)
 }

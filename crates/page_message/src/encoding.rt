@@ -52,7 +52,7 @@ pub fn encode_frame(alloc: Global, shape: &Shape, frame: &Frame) -> Result<Vec<u
 }
 
 /// Adds the spelling of the frame of these bytes of a page to the end of a stream. They are copied once, or not at all where
-/// each is 0. `F6` alone is answered, and the stream is of no use then.
+/// each is 0; no room is taken for them then. `F6` alone is answered, and the stream is of no use then.
 pub fn append_frame(
     stream: &mut Vec<u8>,
     shape: &Shape,
@@ -70,6 +70,7 @@ pub fn append_frame(
         stream.extend_from_slice(&head_of(page, stamp, 0))?;
         return Ok(());
     }
+    stream.reserve(HEAD + bytes.len())?;
     stream.extend_from_slice(&head_of(page, stamp, 1))?;
     stream.extend_from_slice(bytes)?;
     Ok(())

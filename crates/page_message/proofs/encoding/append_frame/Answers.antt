@@ -33,7 +33,7 @@ returns-clause-appended c =
         stamp_is = refl;
         content = refl;
       },
-      rw (c.in_ok-extend_from_slice-3.ensures.items, c.in_ok-extend_from_slice-2.ensures.items, c.head_of-2.ensures)
+      rw (c.in_ok-extend_from_slice-3.ensures.items, c.in_ok-extend_from_slice-2.ensures.items, c.reserve.ensures.items, c.head_of-2.ensures)
           (append_assoc old (page ++ (stamp ++ 1 ∷ [])) bytes
           ∙ ap (λ (text : List ℕ). old ++ text) (append_assoc page (stamp ++ 1 ∷ []) bytes ∙ ap (λ (text : List ℕ). page ++ text) (append_assoc stamp (1 ∷ []) bytes))),
     )
