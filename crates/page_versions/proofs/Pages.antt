@@ -1,14 +1,15 @@
 -- A page of memory, as its own writes make it.
-use Rattle.std.proofs.Common.{◌≡◌, ℕ, ◌+◌, ◌-◌, ◌^◌, ◌<◌, ◌≤◌, Bool, true, false, cond, leb, ltb, eqb, List, [], ◌∷◌, length, take, drop, get_or, replicate, refl, sym, ap, ◌∙◌, arith}
+use Rattle.std.proofs.Common.{◌≡◌, ℕ, ◌+◌, ◌-◌, ◌^◌, ◌<◌, ◌≤◌, Bool, true, false, cond, leb, ltb, eqb, List, [], ◌∷◌, length, map, take, drop, get_or, replicate, refl, sym, ap, subst, ◌∙◌, arith}
 use Rattle.std.specs.List.{All, filter, fold}
-use Rattle.std.proofs.lemmas.List.{length-take, length-drop, get_or-take, get_or-drop, get_or_default}
-use Rattle.std.proofs.lemmas.List.Elements.{All-take, All-weaker}
+use Rattle.std.proofs.lemmas.List.{length-take, length-drop, get_or-take, get_or-drop, get_or_default, take-append-drop}
+use Rattle.std.proofs.lemmas.List.Elements.{All-map, All-take, All-weaker}
+use Rattle.std.proofs.lemmas.List.Sums.{fold-append}
 use Rattle.migration_model.specs.Trace.{GuestWrite, GuestTrace, IsGuestWrite, IsTrace, write_with}
 use Rattle.migration_model.specs.Memory.{GuestMemory, apply}
 use Rattle.migration_model.specs.Resumed.{writes_after}
 use Rattle.migration_model.specs.Versions.{page_at}
 use Rattle.page_versions.specs.Index.{GuestIndex, IsIndexOf, places_in}
-use Rattle.page_versions.specs.Pages.{bytes_by, overwrite, write_at}
+use Rattle.page_versions.specs.Pages.{bytes_by, overwrite, put_all, write_at}
 use Rattle.migration_model.proofs.Pages.{page_replayed}
 use Rattle.migration_model.proofs.Places.{from}
 use Rattle.page_versions.proofs.Places.{places_upto, places_past, fold_places, places_of_index, places_of_is, bounds}
@@ -68,3 +69,24 @@ writes_at_places trace index page version memory of =
     let within : version + i < length trace.writes = omega (arith, low, length-drop version trace.writes) in
     ap (write_at trace.writes) place ∙ look_up trace.writes (version + i) d within ∙ sym (get_or-drop version trace.writes i d))
     ∙ fold-filter apply q memory last
+
+-- the writes at places of a trace stay within their page
+pub writes_fit : (trace : GuestTrace) (places : List ℕ) → IsTrace trace → All (λ place. (1 ≤ place) × (place ≤ length trace.writes)) places
+    → All (λ write. write.offset + length write.bytes ≤ 2 ^ trace.shift) (map (write_at trace.writes) places)
+writes_fit trace places is at =
+    let Fits : GuestWrite → Type 0 = λ write. write.offset + length write.bytes ≤ 2 ^ trace.shift in
+    All-map Fits (write_at trace.writes) places
+    (All-weaker (λ place. (1 ≤ place) × (place ≤ length trace.writes)) (λ place. Fits (write_at trace.writes place))
+    (λ place b. (is.writes.each (place - 1) (write_with 0 0 0 []) (omega (arith, b.0, b.1))).within) places at)
+
+-- what each of the first elements of a list has, one of them has
+pub taken_has : {X : Type 0} (P : X → Type 0) (count k : ℕ) (xs : List X) (d : X) → All P (take count xs) → k < count → k < length xs → P (get_or xs k d)
+taken_has P count k xs d all low inside =
+    subst P (get_or-take count xs k d low) (all k d (omega (arith, low, inside, length-take count xs)))
+
+-- writes put one after the other, some of them first
+pub put_in_two : (trace : GuestTrace) (bytes : List ℕ) (count : ℕ) (places : List ℕ)
+    → put_all trace (put_all trace bytes (take count places)) (drop count places) ≡ put_all trace bytes places
+put_in_two trace bytes count places =
+    let step : List ℕ → ℕ → List ℕ = λ bytes place. overwrite bytes (write_at trace.writes place) in
+    sym (fold-append step bytes (take count places) (drop count places)) ∙ ap (fold step bytes) (take-append-drop count places)

@@ -1,56 +1,116 @@
 //! A page's bytes from its own writes.
 
-ghost use Rattle.std.specs.Prelude.{◌≡◌, ◌+◌, ◌^◌, ◌≤◌, OnOk, length, vec_len};
+ghost use Rattle.std.specs.Prelude.{◌≡◌, ◌+◌, ◌^◌, ◌≤◌, ◌∷◌, [], List, OnOk, fold, length, map, take, vec_len};
 ghost use Rattle.std.specs.List.{All};
 ghost use Rattle.migration_model.specs.Memory.{put};
-ghost use Rattle.migration_model.specs.Trace.{IsTrace};
-ghost use Rattle.page_versions.specs.Pages.{bytes_by, put_all};
+ghost use Rattle.migration_model.specs.Trace.{GuestWrite, IsTrace};
+ghost use Rattle.page_versions.specs.Pages.{bytes_by, overwrite, put_all, write_at};
+ghost use Rattle.trace_codec.specs.Writes.{shown};
 
 use crate::error::IndexError;
+use std::marker::Model;
 use trace_codec::{WriteLog, WriteView};
 
 /// Puts a write's bytes over those of its page.
 fn write_over(bytes: &mut Vec<u8>, write: &WriteView<'_>)
     requires { write.now.offset + length write.now.bytes.now ≤ vec_len bytes.old }
-    ensures { bytes.new.items ≡ put bytes.old.items write.now.offset write.now.bytes.now }
+    ensures room { vec_len bytes.new ≡ vec_len bytes.old }
+    ensures put { bytes.new.items ≡ put bytes.old.items write.now.offset write.now.bytes.now }
 {
     let start = write.offset as usize;
     bytes[start..start + write.bytes.len()].copy_from_slice(write.bytes);
 }
 
-/// Puts the writes at four places. All four are looked up before the first is put: so none waits for the one before where
+/// One to four writes that were looked up, in the order in which they are put.
+#[derive(Drop)]
+struct UpToFour<'a> {
+    count: usize,
+    first: WriteView<'a>,
+    second: WriteView<'a>,
+    third: WriteView<'a>,
+    fourth: WriteView<'a>,
+}
+
+impl<'a> Model for UpToFour<'a> {
+    ghost Value = { List GuestWrite };
+
+    ghost view = { λ f. take f.count (shown f.first ∷ shown f.second ∷ shown f.third ∷ shown f.fourth ∷ []) };
+
+    ghost invariant = { λ f. (1 ≤ f.count) × (f.count ≤ 4) };
+}
+
+impl<'a> UpToFour<'a> {
+    /// Puts them, one after the other.
+    fn put_over(&self, bytes: &mut Vec<u8>)
+        requires { All (λ write. write.offset + length write.bytes ≤ vec_len bytes.old) self.now }
+        ensures room { vec_len bytes.new ≡ vec_len bytes.old }
+        ensures put { bytes.new.items ≡ fold overwrite bytes.old.items self.now }
+    {
+        write_over(bytes, &self.first);
+        if self.count == 1 {
+            return;
+        }
+        write_over(bytes, &self.second);
+        if self.count == 2 {
+            return;
+        }
+        write_over(bytes, &self.third);
+        if self.count == 3 {
+            return;
+        }
+        write_over(bytes, &self.fourth);
+    }
+}
+
+/// The writes at one to four places. Where there are fewer than four, the last is looked up again in place of those that lack.
+fn look_up<'a, W: WriteLog>(trace: &'a W, places: &[u32]) -> UpToFour<'a>
+    requires some { 1 ≤ length places.now }
+    requires few { length places.now ≤ 4 }
+    requires places { All (λ place. (1 ≤ place) × (place ≤ length (W.trace trace.now).writes)) places.now }
+    ensures { result ≡ map (write_at (W.trace trace.now).writes) places.now }
+{
+    let last = places.len() - 1;
+    UpToFour {
+        count: places.len(),
+        first: trace.write(places[0] as usize - 1),
+        second: trace.write(places[last.min(1)] as usize - 1),
+        third: trace.write(places[last.min(2)] as usize - 1),
+        fourth: trace.write(places[last.min(3)] as usize - 1),
+    }
+}
+
+/// Puts the writes at one to four places. All are looked up before the first is put: so none waits for the one before where
 /// they have to come from memory.
 fn put_four<W: WriteLog>(bytes: &mut Vec<u8>, trace: &W, places: &[u32])
-    requires four { length places.now ≡ 4 }
+    requires some { 1 ≤ length places.now }
+    requires few { length places.now ≤ 4 }
     requires room { length bytes.old.items ≡ 2 ^ (W.trace trace.now).shift }
     requires places { All (λ place. (1 ≤ place) × (place ≤ length (W.trace trace.now).writes)) places.now }
     requires is_trace { IsTrace (W.trace trace.now) }
     ensures room { length bytes.new.items ≡ 2 ^ (W.trace trace.now).shift }
     ensures put { bytes.new.items ≡ put_all (W.trace trace.now) bytes.old.items places.now }
 {
-    let first = trace.write(places[0] as usize - 1);
-    let second = trace.write(places[1] as usize - 1);
-    let third = trace.write(places[2] as usize - 1);
-    let fourth = trace.write(places[3] as usize - 1);
-    write_over(bytes, &first);
-    write_over(bytes, &second);
-    write_over(bytes, &third);
-    write_over(bytes, &fourth);
+    look_up(trace, places).put_over(bytes);
 }
 
-/// Puts the writes at these places, one after the other.
-fn put_in_turn<W: WriteLog>(bytes: &mut Vec<u8>, trace: &W, places: &[u32])
+/// Puts the writes at five to eight places, all of which are looked up before the first is put, for the same reason.
+fn put_eight<W: WriteLog>(bytes: &mut Vec<u8>, trace: &W, places: &[u32])
+    requires many { 5 ≤ length places.now }
+    requires few { length places.now ≤ 8 }
     requires room { length bytes.old.items ≡ 2 ^ (W.trace trace.now).shift }
     requires places { All (λ place. (1 ≤ place) × (place ≤ length (W.trace trace.now).writes)) places.now }
     requires is_trace { IsTrace (W.trace trace.now) }
-    ensures { bytes.new.items ≡ put_all (W.trace trace.now) bytes.old.items places.now }
+    ensures room { length bytes.new.items ≡ 2 ^ (W.trace trace.now).shift }
+    ensures put { bytes.new.items ≡ put_all (W.trace trace.now) bytes.old.items places.now }
 {
-    for place in places {
-        write_over(bytes, &trace.write(*place as usize - 1));
-    }
+    let (front, back) = places.split_at(4);
+    let earlier = look_up(trace, front);
+    let later = look_up(trace, back);
+    earlier.put_over(bytes);
+    later.put_over(bytes);
 }
 
-/// Puts the writes at these places over the bytes of their page.
+/// Puts the writes at these places over the bytes of their page, up to eight at a time.
 pub(crate) fn put_writes<W: WriteLog>(bytes: &mut Vec<u8>, trace: &W, places: &[u32])
     requires room { length bytes.old.items ≡ 2 ^ (W.trace trace.now).shift }
     requires places { All (λ place. (1 ≤ place) × (place ≤ length (W.trace trace.now).writes)) places.now }
@@ -58,12 +118,14 @@ pub(crate) fn put_writes<W: WriteLog>(bytes: &mut Vec<u8>, trace: &W, places: &[
     ensures { bytes.new.items ≡ put_all (W.trace trace.now) bytes.old.items places.now }
 {
     let mut rest = places;
-    while rest.len() >= 4 {
-        let (four, behind) = rest.split_at(4);
-        put_four(bytes, trace, four);
+    while rest.len() > 4 {
+        let (front, behind) = rest.split_at(rest.len().min(8));
+        put_eight(bytes, trace, front);
         rest = behind;
     }
-    put_in_turn(bytes, trace, rest);
+    if !rest.is_empty() {
+        put_four(bytes, trace, rest);
+    }
 }
 
 /// Puts zeros into a room, and then the writes at these places. What stood there goes.

@@ -12,8 +12,9 @@ use crate::error::IndexError;
 use crate::laying::Parts;
 use crate::making::{are_touches, parts_of, touches_in};
 use crate::searching::{greatest_before, places_after, places_to};
-use std::alloc::Global;
+use std::alloc::{AllocError, Global};
 use std::marker::Model;
+use std::thread;
 use std::thread::Threads;
 use trace_codec::{Touch, WriteLog};
 
@@ -36,8 +37,8 @@ impl Model for PageIndex {
 }
 
 impl PageIndex {
-    /// The index of a trace. Pairs of page and place are sorted, in several threads.
-    pub fn build<W: WriteLog>(
+    /// The index of a trace. Its touches, and pairs of page and place that are sorted in several threads, are made at once.
+    pub fn build<W: WriteLog + Sync>(
         rt: &(impl Threads + Sync),
         alloc: Global,
         trace: &W,
@@ -45,8 +46,16 @@ impl PageIndex {
         ensures { IfOk result (λ index. IsIndexOf index (W.trace trace.now)) }
     {
         let pages = trace.page_count();
-        let touches = touches_in(alloc, trace)?;
-        let Parts { starts, places } = parts_of(rt, alloc, pages, &touches)?;
+        let touches = || -> Result<Vec<Touch>, AllocError>
+            ensures { IfOk result (λ v. v.items ≡ W.touches trace.entry.now) }
+        { touches_in(alloc, trace) };
+        let parts = || -> Result<Parts, IndexError>
+            requires { pages ≡ W.pages trace.now }
+            ensures { IfOk result (λ parts. IsLaidOut pages (W.touches trace.entry.now) parts.starts.items parts.places.items) }
+        { parts_of(rt, alloc, pages, trace) };
+        let (touches, parts) = thread::join(rt, touches, parts);
+        let touches = touches?;
+        let Parts { starts, places } = parts?;
         Ok(PageIndex {
             pages,
             touches,

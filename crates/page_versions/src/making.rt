@@ -1,7 +1,6 @@
 //! What an index is made of.
 
-ghost use Rattle.std.specs.Prelude.{◌≡◌, ◌↔◌, ◌≤◌, IfOk, IsTrue};
-ghost use Rattle.migration_model.specs.Touches.{AreTouches};
+ghost use Rattle.std.specs.Prelude.{◌≡◌, ◌↔◌, IfOk, IsTrue};
 ghost use Rattle.page_versions.specs.Layout.{IsLaidOut};
 
 use crate::error::IndexError;
@@ -13,8 +12,7 @@ use trace_codec::{Timeline, Touch};
 
 /// All touches in order.
 pub(crate) fn touches_in<T: Timeline>(alloc: Global, timeline: &T) -> Result<Vec<Touch>, AllocError>
-    ensures all { IfOk result (λ v. v.items ≡ T.touches timeline.now) }
-    ensures fits { IfOk result (λ v. AreTouches (T.pages timeline.now) v.items) }
+    ensures { IfOk result (λ v. v.items ≡ T.touches timeline.now) }
 {
     let count = timeline.touch_count();
     let mut touches = Vec::with_capacity(alloc, count)?;
@@ -24,18 +22,17 @@ pub(crate) fn touches_in<T: Timeline>(alloc: Global, timeline: &T) -> Result<Vec
     Ok(touches)
 }
 
-/// The places of the touches, page by page.
-pub(crate) fn parts_of(
+/// The places of all touches, page by page.
+pub(crate) fn parts_of<T: Timeline>(
     rt: &(impl Threads + Sync),
     alloc: Global,
     pages: u32,
-    touches: &[Touch],
+    timeline: &T,
 ) -> Result<Parts, IndexError>
-    requires pages { pages ≤ 65_536 }
-    requires fits { AreTouches pages touches.now }
-    ensures { IfOk result (λ parts. IsLaidOut pages touches.now parts.starts.items parts.places.items) }
+    requires { pages ≡ T.pages timeline.now }
+    ensures { IfOk result (λ parts. IsLaidOut pages (T.touches timeline.now) parts.starts.items parts.places.items) }
 {
-    let mut keys = keys_of(alloc, touches)?;
+    let mut keys = keys_of(alloc, timeline)?;
     sort_keys(rt, &mut keys);
     Ok(lay_out(alloc, pages, &keys)?)
 }

@@ -148,6 +148,39 @@ fn put_into(
     Ok(index.bytes_into(trace, page, version, room)?)
 }
 
+/// A guest of 1 page of 16 bytes with 11 writes of 2 bytes, each 1 byte behind the one before.
+fn guest_of_one_page(alloc: Global) -> Result<Trace, Fail> {
+    let mut writes = Vec::new(alloc);
+    for offset in 0..11u16 {
+        writes.push(Write {
+            tick: 7,
+            page: 0,
+            offset,
+            bytes: Vec::from_slice(alloc, &[offset as u8 + 1, 255])?,
+        })?;
+    }
+    Ok(Trace::new(4, 1, writes)?)
+}
+
+#[test]
+fn page_with_many_writes(rt: HostRuntime) -> Result<(), Fail> {
+    let alloc = rt.alloc();
+    let trace = guest_of_one_page(alloc)?;
+    let index = PageIndex::build(&rt, alloc, &trace)?;
+    let mut expected = [0u8; 16];
+    for version in 0..12u32 {
+        if version > 0 {
+            *expected
+                .get_mut(version as usize - 1)
+                .ok_or("within the page")? = version as u8;
+            *expected.get_mut(version as usize).ok_or("within the page")? = 255;
+        }
+        let bytes = bytes_of(alloc, &index, &trace, 0, version)?;
+        assert_eq!(rt; bytes.as_slice(), expected.as_slice());
+    }
+    Ok(())
+}
+
 #[test]
 fn pages_in_one_room(rt: HostRuntime) -> Result<(), Fail> {
     let alloc = rt.alloc();
