@@ -1,11 +1,14 @@
 -- What is kept stays right where entries come and go.
-use Rattle.std.proofs.Common.{◌≡◌, ℕ, ◌<◌, ◌≤◌, List, length, Some, nat_eq, Contains, refl, sym, subst, inl, inr}
+use Rattle.std.proofs.Common.{◌≡◌, ℕ, ◌<◌, ◌≤◌, true, false, cond, List, [], ◌∷◌, length, Some, is_some, nat_eq, Contains, refl, sym, ap, ◌∙◌, subst, inl, inr}
+use Rattle.std.specs.Cmp.{nat_eq_equiv}
 use Rattle.std.specs.List.{All}
-use Rattle.std.specs.Map.{lookup, remove_entry}
+use Rattle.std.specs.Map.{lookup, set_value}
 use Rattle.std.proofs.lemmas.Bool.{eqb-true}
-use Rattle.std.proofs.lemmas.List.Elements.{All-contains, All-contains_itself, All-weaker}
-use Rattle.lru.specs.LruCache.{LruCache, put_entries}
-use Rattle.lru.proofs.CallerLemmas.{Contains-lookup, Contains-put_entries, Contains-remove_entry}
+use Rattle.std.proofs.lemmas.Map.{lookup-set_value}
+use Rattle.std.proofs.lemmas.List.Elements.{All-cons, All-contains, All-contains_itself, All-head, All-tail, All-weaker}
+use Rattle.lru.specs.LruCache.{LruCache, promoted, put_entries}
+use Rattle.lru.proofs.CallerLemmas.{Contains-lookup, Contains-promoted, Contains-put_entries, lookup-put_entries}
+use Rattle.lru.proofs.Pairs.{promoted_put}
 use Rattle.migration_model.specs.Trace.{GuestTrace}
 use Rattle.migration_model.specs.Versions.{page_at}
 use Rattle.page_cache.specs.Cache.{AreKept, IsKept, KeptPage, page_with}
@@ -21,11 +24,43 @@ kept_found trace entries page kept are found =
     subst (λ (p : ℕ). IsKept trace p kept) (sym (eqb-true page entry.0 entry.2))
     (All-contains (λ (e : ℕ × KeptPage). IsKept trace e.0 e.1) entries (entry.0, kept) are entry.1)
 
-pub kept_removed : (trace : GuestTrace) (entries : List (ℕ × KeptPage)) (page : ℕ) → AreKept trace entries
-    → AreKept trace (remove_entry (nat_eq page) entries)
-kept_removed trace entries page are =
-    all_of_contained (λ (e : ℕ × KeptPage). IsKept trace e.0 e.1) (remove_entry (nat_eq page) entries)
-    (λ e inside. All-contains (λ (e : ℕ × KeptPage). IsKept trace e.0 e.1) entries e are (Contains-remove_entry (nat_eq page) entries e inside))
+-- one value is changed where it stands
+kept_set : (trace : GuestTrace) (page : ℕ) (kept : KeptPage) → IsKept trace page kept → (entries : List (ℕ × KeptPage)) → AreKept trace entries
+    → AreKept trace (set_value (nat_eq page) entries kept)
+kept_set trace page kept is [] are = are
+kept_set trace page kept is (e ∷ es) are =
+    let P = λ (e : ℕ × KeptPage). IsKept trace e.0 e.1 in
+    let rest = All-tail P e es are in (elim (nat_eq page e.0) as (λ b. nat_eq page e.0 ≡ b → All P (cond b ((e.0, kept) ∷ es) (e ∷ set_value (nat_eq page) es kept))) [
+      | true ↦ λ same. All-cons P (e.0, kept) es (subst (λ (p : ℕ). IsKept trace p kept) (eqb-true page e.0 same) is) rest
+      | false ↦ λ other. All-cons P e (set_value (nat_eq page) es kept) (All-head P e es are) (kept_set trace page kept is es rest)
+    ]) refl
+
+-- the entry of a page goes to the front, and its value is changed there
+pub kept_used : (trace : GuestTrace) (entries : List (ℕ × KeptPage)) (page : ℕ) (kept : KeptPage) → AreKept trace entries → IsKept trace page kept
+    → AreKept trace (set_value (nat_eq page) (promoted (nat_eq page) entries) kept)
+kept_used trace entries page kept are is =
+    kept_set trace page kept is (promoted (nat_eq page) entries)
+    (all_of_contained (λ (e : ℕ × KeptPage). IsKept trace e.0 e.1) (promoted (nat_eq page) entries)
+    (λ e inside. All-contains (λ (e : ℕ × KeptPage). IsKept trace e.0 e.1) entries e are (Contains-promoted (nat_eq page) entries e inside)))
+
+-- the same of a page that is brought on to a later version
+pub kept_brought_on : (trace old : GuestTrace) (entries : List (ℕ × KeptPage)) (page version : ℕ) (was kept : KeptPage) → AreKept trace entries → trace ≡ old
+    → lookup (nat_eq page) entries ≡ Some was → version ≤ length old.writes → kept ≡ page_with version (page_at trace page version)
+    → AreKept trace (set_value (nat_eq page) (promoted (nat_eq page) entries) kept)
+kept_brought_on trace old entries page version was kept are same found within made =
+    let low = (kept_found trace entries page was are found).0 in
+    let still = subst (λ (t : GuestTrace). version ≤ length t.writes) (sym same) within in
+    let is : IsKept trace page (page_with version (page_at trace page version)) = (low, still, refl) in
+    kept_used trace entries page kept are (subst (IsKept trace page) (sym made) is)
+
+-- a look-up finds the changed value
+pub used_found : (cache : LruCache ℕ KeptPage) (page : ℕ) (was kept : KeptPage) → lookup (nat_eq page) cache.entries ≡ Some was
+    → lookup (nat_eq page) (set_value (nat_eq page) (promoted (nat_eq page) cache.entries) kept) ≡ Some kept
+used_found cache page was kept found =
+    let put = promoted_put nat_eq cache page (ap is_some found) in
+    let first : lookup (nat_eq page) (promoted (nat_eq page) cache.entries) ≡ Some put.0 = rw put.2 (lookup-put_entries nat_eq cache page put.0 nat_eq_equiv) in
+    lookup-set_value nat_eq_equiv (nat_eq page) (λ x y same. ap (λ p. nat_eq p y) (eqb-true page x same)) page kept (promoted (nat_eq page) cache.entries)
+    (ap is_some first) ∙ ap (λ b. cond b (Some kept) (lookup (nat_eq page) (promoted (nat_eq page) cache.entries))) (nat_eq_equiv.refl page)
 
 pub kept_put : (trace : GuestTrace) (cache : LruCache ℕ KeptPage) (page : ℕ) (kept : KeptPage) → AreKept trace cache.entries → IsKept trace page kept
     → AreKept trace (put_entries nat_eq cache page kept)

@@ -1,10 +1,10 @@
 //! The cache.
 
-ghost use Rattle.std.specs.Prelude.{◌≡◌, ◌<◌, ◌≤◌, [], IfOk, IfSome, OnOk, Some, length, nat_eq, option_map};
+ghost use Rattle.std.specs.Prelude.{◌≡◌, ◌<◌, ◌≤◌, [], IfOk, IsTrue, OnOk, Some, length, nat_eq, option_map};
 ghost use Rattle.std.specs.Map.{lookup};
 ghost use Rattle.migration_model.specs.Versions.{page_at};
 ghost use Rattle.page_versions.specs.Index.{IsIndexOf};
-ghost use Rattle.page_cache.specs.Cache.{AreKept, GuestCache, IsKept, cache_with, page_with, pages_with};
+ghost use Rattle.page_cache.specs.Cache.{AreKept, GuestCache, cache_with, page_with, pages_with};
 
 use crate::error::CacheError;
 use crate::kept::Kept;
@@ -71,40 +71,23 @@ impl<'a, W: WriteLog> PageCache<'a, W> {
         KeptPages { kept }
     }
 
-    /// What is kept of a page, where that is not past a version. It no longer stands in the cache.
-    fn take_earlier(&mut self, page: u32, version: u32) -> Option<Kept>
-        ensures kept { IfSome result (IsKept self.old.trace page) }
-        ensures earlier { IfSome result (λ kept. kept.version ≤ version) }
-        ensures trace { self.new.trace ≡ self.old.trace }
-        ensures capacity { self.new.capacity ≡ self.old.capacity }
-    {
-        let kept = self.kept.pop(&page)?;
-        if kept.version <= version {
-            Some(kept)
-        } else {
-            None
-        }
-    }
-
-    /// The page at a version, to be put into the cache.
-    fn page_to_keep(&mut self, alloc: Global, page: u32, version: u32) -> Result<Kept, CacheError>
-        requires page { page < self.old.trace.pages }
+    /// Brings what is kept of a page on to a version, where it stands: only the writes in between are put there. Returns
+    /// whether that was done; it is not where nothing is kept of the page, or a later version, which stays then.
+    fn bring_kept_on(&mut self, page: u32, version: u32) -> bool
         requires version { version ≤ length self.old.trace.writes }
-        ensures made { IfOk result (λ kept. kept ≡ page_with version (page_at self.old.trace page version)) }
         ensures kept { AreKept self.new.trace self.new.entries }
+        ensures last { IsTrue result → lookup (nat_eq page) self.new.entries ≡ Some (page_with version (page_at self.old.trace page version)) }
         ensures trace { self.new.trace ≡ self.old.trace }
         ensures capacity { self.new.capacity ≡ self.old.capacity }
     {
-        match self.take_earlier(page, version) {
-            Some(mut kept) => {
-                kept.bring_to(self.trace, self.index, page, version);
-                Ok(kept)
-            }
-            None => {
-                let bytes = self.index.bytes_at(alloc, self.trace, page, version)?;
-                Ok(Kept { version, bytes })
-            }
+        let Some(kept) = self.kept.get_mut(&page) else {
+            return false;
+        };
+        if kept.version > version {
+            return false;
         }
+        kept.bring_to(self.trace, self.index, page, version);
+        true
     }
 
     /// Keeps the page after the first `version` writes of the trace. Where an earlier version of the page is kept, only the
@@ -117,8 +100,11 @@ impl<'a, W: WriteLog> PageCache<'a, W> {
         ensures trace { self.new.trace ≡ self.old.trace }
         ensures capacity { self.new.capacity ≡ self.old.capacity }
     {
-        let kept = self.page_to_keep(alloc, page, version)?;
-        self.kept.put(page, kept)?;
+        if self.bring_kept_on(page, version) {
+            return Ok(());
+        }
+        let bytes = self.index.bytes_at(alloc, self.trace, page, version)?;
+        self.kept.put(page, Kept { version, bytes })?;
         Ok(())
     }
 

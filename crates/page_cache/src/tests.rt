@@ -147,6 +147,21 @@ fn two_pages_are_kept(rt: HostRuntime) -> Result<(), Fail> {
 }
 
 #[test]
+fn page_brought_on_was_used_last(rt: HostRuntime) -> Result<(), Fail> {
+    let alloc = rt.alloc();
+    let trace = guest(alloc)?;
+    let index = PageIndex::build(&rt, alloc, &trace)?;
+    let mut cache = new_cache(alloc, &trace, &index, 2)?;
+    drop(bytes_of(alloc, &mut cache, &trace, 1, 2)?);
+    drop(bytes_of(alloc, &mut cache, &trace, 0, 2)?);
+    drop(bytes_of(alloc, &mut cache, &trace, 1, 3)?);
+    drop(bytes_of(alloc, &mut cache, &trace, 3, 4)?);
+    assert!(rt; cache.bytes(1).is_some());
+    assert!(rt; cache.bytes(0).is_none());
+    Ok(())
+}
+
+#[test]
 fn kept_pages_go_to_another_cache(rt: HostRuntime) -> Result<(), Fail> {
     let alloc = rt.alloc();
     let trace = guest(alloc)?;
