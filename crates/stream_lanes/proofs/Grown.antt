@@ -1,7 +1,7 @@
 -- The grid of lanes, worker by worker.
-use Rattle.std.proofs.Common.{Vec, Global, ◌≡◌, ◌⊎◌, inl, inr, ℕ, zero, suc, ◌+◌, ◌<◌, List, [], ◌∷◌, ◌++◌, length, get_or, map, replicate, Some, refl, sym, ap, subst, ◌∙◌, arith}
+use Rattle.std.proofs.Common.{Vec, Global, ◌≡◌, ◌⊎◌, inl, inr, ℕ, zero, suc, ◌+◌, ◌<◌, List, [], ◌∷◌, ◌++◌, length, get_or, set, map, replicate, Some, refl, sym, ap, subst, ◌∙◌, arith}
 use Rattle.std.specs.List.{slice_get}
-use Rattle.std.proofs.lemmas.List.{length-map, length-replicate, get_or-map, get_or-replicate, length_push}
+use Rattle.std.proofs.lemmas.List.{length-map, length-replicate, length-set, get_or-map, get_or-replicate, length_push}
 use Rattle.std.proofs.lemmas.List.Elements.{All-push}
 use Rattle.std.proofs.lemmas.Option.{none-some, same_Some, slice_get_within, get_or_from_slice_get, slice_get-get_or}
 use Rattle.stream_lanes.specs.Ends.{OutView, InView}
@@ -39,6 +39,45 @@ same_out : (row other : Vec OutView Global) (stream : ℕ) (a b : OutView) → r
     → slice_get other.items stream ≡ Some b → a ≡ b
 same_out row other stream a b same a_is b_is =
     same_Some a b (sym a_is ∙ ap (λ (r : Vec OutView Global). slice_get r.items stream) same ∙ b_is)
+
+pub set_other : {X : Type 0} (xs : List X) (n k : ℕ) (y : X) → (k ≡ n → ⊥) → slice_get (set xs n y) k ≡ slice_get xs k
+set_other [] n k y apart = refl
+set_other (x ∷ xs) zero zero y apart = absurd (apart refl)
+set_other (x ∷ xs) zero (suc k) y apart = refl
+set_other (x ∷ xs) (suc n) zero y apart = refl
+set_other (x ∷ xs) (suc n) (suc k) y apart = set_other xs n k y (λ e. apart (ap suc e))
+
+pub set_same : {X : Type 0} (xs : List X) (n k : ℕ) (y : X) → k ≡ n → n < length xs → slice_get (set xs n y) k ≡ Some y
+set_same [] n k y is low = absurd (omega (arith, low))
+set_same (x ∷ xs) zero zero y is low = refl
+set_same (x ∷ xs) zero (suc k) y is low = absurd (omega (arith, is))
+set_same (x ∷ xs) (suc n) zero y is low = absurd (omega (arith, is))
+set_same (x ∷ xs) (suc n) (suc k) y is low = set_same xs n k y (omega (arith, is)) (omega (arith, low))
+
+-- one more lane of a worker
+pub worker-more : (capacity : ℕ) (front : List OutView) (out : OutView) (first before : List (Vec InView Global)) (n : ℕ) (old new : Vec InView Global)
+    → n ≡ length front → n < length before → old ≡ get_or before n old → AddsLane capacity out old.items new.items → AddsWorker capacity front first before
+    → AddsWorker capacity (front ++ out ∷ []) first (set before n new)
+worker-more capacity front out first before n old new here low there lane adds = record {
+  count = length-set before n new ∙ adds.count;
+  added = λ stream o a b o_is a_is b_is. elim (at_push front out o stream o_is) [
+    | inl earlier ↦
+        let high = slice_get_within front stream o earlier in
+        adds.added stream o a b earlier a_is (sym (set_other before n stream new (λ e. omega (arith, high, here, e))) ∙ b_is)
+    | inr last ↦
+        let same : stream ≡ n = last.0 ∙ sym here in
+        let b_new : new ≡ b = same_Some new b (sym (set_same before n stream new same low) ∙ b_is) in
+        let old_there : slice_get before n ≡ Some old = slice_get-get_or before n old low ∙ ap (λ (v : Vec InView Global). Some v) (sym there) in
+        let a_old : old ≡ a =
+        same_Some old a (sym old_there ∙ ap (λ k. slice_get before k) (sym same) ∙ adds.rest stream (omega (arith, last.0)) ∙ a_is) in
+        subst (λ (e : OutView). AddsLane capacity e a.items b.items) last.1
+        (subst (λ (v : Vec InView Global). AddsLane capacity out v.items b.items) a_old
+        (subst (λ (v : Vec InView Global). AddsLane capacity out old.items v.items) b_new lane))
+  ];
+  rest = λ stream past.
+      let long = length_push front out in
+      set_other before n stream new (λ e. omega (arith, past, long, here, e)) ∙ adds.rest stream (omega (arith, past, long));
+}
 
 abbrev no_end : List InView
 no_end = []

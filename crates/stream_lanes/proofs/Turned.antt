@@ -5,7 +5,7 @@ use Rattle.std.proofs.lemmas.List.{length-append, length-set, length-map, length
 use Rattle.std.proofs.lemmas.Option.{none-some, same_Some, slice_get_within, get_or_from_slice_get, slice_get-get_or}
 use Rattle.stream_lanes.specs.Ends.{OutView}
 use Rattle.stream_lanes.specs.Grids.{AreColumns, AddsRow}
-use Rattle.stream_lanes.proofs.Grown.{at_push, within}
+use Rattle.stream_lanes.proofs.Grown.{at_push, within, set_other, set_same}
 
 -- what stood in a list stands there after one more
 before_push : {X : Type 0} (xs : List X) (y : X) (k : ℕ) → k < length xs → slice_get (xs ++ y ∷ []) k ≡ slice_get xs k
@@ -66,20 +66,6 @@ columns-more streams rows row before after columns count adds =
     }
 
 -- ---- the ends of one worker, one after the other
-
-set_other : {X : Type 0} (xs : List X) (n k : ℕ) (y : X) → (k ≡ n → ⊥) → slice_get (set xs n y) k ≡ slice_get xs k
-set_other [] n k y apart = refl
-set_other (x ∷ xs) zero zero y apart = absurd (apart refl)
-set_other (x ∷ xs) zero (suc k) y apart = refl
-set_other (x ∷ xs) (suc n) zero y apart = refl
-set_other (x ∷ xs) (suc n) (suc k) y apart = set_other xs n k y (λ e. apart (ap suc e))
-
-set_same : {X : Type 0} (xs : List X) (n k : ℕ) (y : X) → k ≡ n → n < length xs → slice_get (set xs n y) k ≡ Some y
-set_same [] n k y is low = absurd (omega (arith, low))
-set_same (x ∷ xs) zero zero y is low = refl
-set_same (x ∷ xs) zero (suc k) y is low = absurd (omega (arith, is))
-set_same (x ∷ xs) (suc n) zero y is low = absurd (omega (arith, is))
-set_same (x ∷ xs) (suc n) (suc k) y is low = set_same xs n k y (omega (arith, is)) (omega (arith, low))
 
 pub adds-more : (front : List OutView) (out : OutView) (first before : List (Vec OutView Global)) (n : ℕ) (old new : Vec OutView Global) → n ≡ length front
     → n < length before → old ≡ get_or before n old → new.items ≡ old.items ++ out ∷ [] → AddsRow front first before

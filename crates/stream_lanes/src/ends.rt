@@ -8,10 +8,15 @@ use rtrb::{Consumer, Producer, RingBuffer};
 use std::alloc::{AllocError, Global};
 use std::marker::Model;
 
+/// The most texts that wait at once to be used again. More than so many wait for nobody, and what holds so many takes 24 KB, which
+/// stay in the processor's cache.
+const SPARE: usize = 1024;
+
 /// The end of a lane that sends. To a contract it is which lane it is of, the room that it knows of, and what it sent.
 #[derive(Drop)]
 pub struct LaneOut {
     pub(crate) producer: Producer<Vec<u8>>,
+    pub(crate) back: Consumer<Vec<u8>>,
 }
 
 impl Model for LaneOut {
@@ -27,6 +32,7 @@ impl Model for LaneOut {
 #[derive(Drop)]
 pub struct LaneIn {
     pub(crate) consumer: Consumer<Vec<u8>>,
+    pub(crate) back: Producer<Vec<u8>>,
 }
 
 impl Model for LaneIn {
@@ -38,12 +44,21 @@ impl Model for LaneIn {
     ghost view = { λ i. in_view i.consumer };
 }
 
-/// A lane with room for so many frames.
+/// A lane with room for so many frames. The texts that go back have a ring of their own.
 pub(crate) fn lane(alloc: Global, capacity: usize) -> Result<(LaneOut, LaneIn), AllocError>
     ensures { IfOk result (λ ends. IsNewLane capacity ends.0 ends.1) }
 {
     let (producer, consumer) = RingBuffer::new(alloc, capacity)?;
-    Ok((LaneOut { producer }, LaneIn { consumer }))
+    let (giving, given) = RingBuffer::new(alloc, capacity.min(SPARE))?;
+    let out = LaneOut {
+        producer,
+        back: given,
+    };
+    let end = LaneIn {
+        consumer,
+        back: giving,
+    };
+    Ok((out, end))
 }
 
 impl LaneOut {
@@ -67,6 +82,16 @@ impl LaneOut {
     {
         self.producer.push_reserved(frame);
     }
+
+    /// A text that the other end gave back, if one has come: its room may be used again. It takes no memory.
+    pub fn spare(&mut self) -> Option<Vec<u8>>
+        ensures { self.new ≡ self.old }
+    {
+        if self.back.is_empty() {
+            return None;
+        }
+        Some(self.back.pop_known())
+    }
 }
 
 impl LaneIn {
@@ -82,5 +107,15 @@ impl LaneIn {
             return None;
         }
         Some(self.consumer.pop_known())
+    }
+
+    /// Gives a text back to the other end, which may use its room again. Where more wait there than it uses, the text is dropped. It
+    /// takes no memory.
+    pub fn give_back(&mut self, text: Vec<u8>)
+        ensures { self.new ≡ self.old }
+    {
+        if !self.back.is_full() {
+            self.back.push_reserved(text);
+        }
     }
 }

@@ -27,8 +27,14 @@ pub fn drain(out: LaneOut, end: LaneIn) -> Rest
     requires { IsLane out end }
     ensures { end.taken ++ result ≡ out.sent }
 {
-    let LaneOut { mut producer } = out;
-    let LaneIn { mut consumer } = end;
+    let LaneOut {
+        mut producer,
+        back: _,
+    } = out;
+    let LaneIn {
+        mut consumer,
+        back: _,
+    } = end;
     consumer.slots_beside(&mut producer);
     Rest { consumer }
 }

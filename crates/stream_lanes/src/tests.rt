@@ -81,6 +81,40 @@ fn room_comes_back_as_frames_are_taken(rt: HostRuntime) -> Result<(), Fail> {
     Ok(())
 }
 
+#[test]
+fn texts_go_back_in_order(rt: HostRuntime) -> Result<(), Fail> {
+    let (mut out, mut end) = one_lane(rt.alloc(), 2)?;
+    assert!(rt; out.spare().is_none());
+    send_byte(rt.alloc(), &mut out, 0x61)?;
+    send_byte(rt.alloc(), &mut out, 0x62)?;
+    let first = end.take().ok_or("a frame")?;
+    end.give_back(first);
+    assert!(rt; end.take().is_some());
+    end.give_back(vec![in rt.alloc(); 0x63]?);
+    assert_eq!(rt; first_byte(out.spare()), 0x61);
+    assert_eq!(rt; first_byte(out.spare()), 0x63);
+    assert!(rt; out.spare().is_none());
+    Ok(())
+}
+
+#[test]
+fn no_more_than_1024_texts_wait(rt: HostRuntime) -> Result<(), Fail> {
+    let (mut out, mut end) = one_lane(rt.alloc(), 2_000)?;
+    send_byte(rt.alloc(), &mut out, 0x61)?;
+    for _ in 0..1_030 {
+        end.give_back(Vec::new(rt.alloc()));
+    }
+    send_byte(rt.alloc(), &mut out, 0x62)?;
+    for _ in 0..1_024 {
+        assert!(rt; out.spare().is_some());
+    }
+    assert!(rt; out.spare().is_none());
+    assert_eq!(rt; first_byte(end.take()), 0x61);
+    assert_eq!(rt; first_byte(end.take()), 0x62);
+    assert!(rt; end.take().is_none());
+    Ok(())
+}
+
 /// Sends 1, 2, 3 and so on, one to each lane, worker by worker.
 fn send_each(alloc: Global, outs: Vec<Vec<LaneOut>>) -> Result<(), Fail> {
     let mut byte = 0u8;
