@@ -1,6 +1,6 @@
 -- What becomes of a frame that comes to a part. This project's own.
-use Rattle.std.specs.Prelude.{◌≡◌, ℕ, ◌<◌, ◌≤◌, Option, None, IsSomeAnd, option_map}
-use Rattle.migration_model.specs.Parts.{GuestPart, copy_at}
+use Rattle.std.specs.Prelude.{◌≡◌, ℕ, ◌<◌, ◌≤◌, nat_lt, if◌then◌else◌, Option, Some, None, IsSomeAnd, option_map}
+use Rattle.migration_model.specs.Parts.{PageCopy, GuestPart, copy_at}
 use Rattle.collector.specs.declared.fate.Fate.{Fate}
 use Rattle.collector.specs.declared.fate.Fate.TheVariants.{New, Newer, Old}
 
@@ -13,3 +13,9 @@ abbrev pub IsFate : Option ℕ → ℕ → Fate → Type 0
 IsFate kept stamp New = kept ≡ None
 IsFate kept stamp Newer = IsSomeAnd kept (λ s. s < stamp)
 IsFate kept stamp Old = IsSomeAnd kept (λ s. stamp ≤ s)
+
+-- of the copy that is kept of a page and one that comes, the one that goes: the first where the other is newer, and that one where it
+-- is not; none where none was kept
+abbrev pub goes : Option PageCopy → PageCopy → Option PageCopy
+goes None new = None
+goes (Some kept) new = if nat_lt kept.stamp new.stamp then Some kept else Some new

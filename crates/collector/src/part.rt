@@ -3,15 +3,15 @@
 ghost use Rattle.std.specs.Prelude.{◌≡◌, ◌≤◌, List, [], IfErr, IfOk, IfSome, MatchResult, None, OnErr, OnOk, drop, length, option_map};
 ghost use Rattle.migration_model.specs.Frames.{IsFrame, IsZeros, PageFrame, SpellsStream};
 ghost use Rattle.migration_model.specs.Parts.{GuestPart, IsPart, copy_at, copy_in, empty_part, join, part_with, with_frame, with_frames};
-ghost use Rattle.collector.specs.Fates.{IsFate, stamp_at};
+ghost use Rattle.collector.specs.Fates.{IsFate, goes, stamp_at};
 ghost use Rattle.collector.specs.Streams.{RefusesStream, TakesFrames};
 ghost use Rattle.collector.specs.Tables.{IsTable, copies_of, with_slot};
 ghost use Rattle.page_message.specs.Refusals.{RefusesFrame};
 ghost use Rattle.page_message.specs.Shapes.{shape_of};
 
 use crate::error::PartError;
-use crate::fate::Fate;
-use crate::table::{make_place, put_frame, put_view, stamp_in};
+use crate::fate::{Fate, fate_of};
+use crate::table::{make_place, put_frame, put_view, stamp_in, swap_frame};
 use page_message::{Frame, FrameError, FrameView, view_frame};
 use std::alloc::Global;
 use std::marker::Model;
@@ -88,11 +88,13 @@ impl Part {
         frames
     }
 
-    /// Takes a frame. Memory is refused only for a page that the part does not have, and the part is then as before.
-    pub fn accept(&mut self, frame: Frame) -> Result<Fate, PartError>
+    /// Takes a frame, and answers the one that goes: that which the part had of the page, or this one where it is not newer, or none
+    /// where the page came for the first time. Memory is refused only for a page that the part does not have, and the part is then
+    /// as before.
+    pub fn exchange(&mut self, frame: Frame) -> Result<Option<Frame>, PartError>
         requires { IsFrame self.old.shape frame }
         ensures kept { OnOk result (self.new ≡ with_frame self.old frame) }
-        ensures fate { IfOk result (IsFate (stamp_at self.old frame.page) frame.stamp) }
+        ensures gone { IfOk result (λ gone. option_map (λ f. copy_in self.old.shape f) gone ≡ goes (copy_at self.old frame.page) (copy_in self.old.shape frame)) }
         ensures unchanged { OnErr result (self.new ≡ self.old) }
         ensures refused { OnErr result (copy_at self.old frame.page ≡ None) }
     {
@@ -101,14 +103,24 @@ impl Part {
             None => {
                 make_place(&mut self.frames, page)?;
                 put_frame(&mut self.frames, page, frame);
-                Ok(Fate::New)
+                Ok(None)
             }
-            Some(stamp) if stamp < frame.stamp => {
-                put_frame(&mut self.frames, page, frame);
-                Ok(Fate::Newer)
-            }
-            Some(_) => Ok(Fate::Old),
+            Some(stamp) if stamp < frame.stamp => Ok(swap_frame(&mut self.frames, page, frame)),
+            Some(_) => Ok(Some(frame)),
         }
+    }
+
+    /// Takes a frame. Memory is refused only for a page that the part does not have, and the part is then as before.
+    pub fn accept(&mut self, frame: Frame) -> Result<Fate, PartError>
+        requires { IsFrame self.old.shape frame }
+        ensures kept { OnOk result (self.new ≡ with_frame self.old frame) }
+        ensures fate { IfOk result (IsFate (stamp_at self.old frame.page) frame.stamp) }
+        ensures unchanged { OnErr result (self.new ≡ self.old) }
+        ensures refused { OnErr result (copy_at self.old frame.page ≡ None) }
+    {
+        let fate = fate_of(self.stamp(frame.page), frame.stamp);
+        self.exchange(frame)?;
+        Ok(fate)
     }
 
     /// Takes a frame that stands in a stream. The bytes of a page are copied into the room of those that the part has of it, and

@@ -5,6 +5,7 @@ ghost use Rattle.collector.specs.Tables.{Grows};
 
 use page_message::{Frame, FrameView};
 use std::alloc::{AllocError, Global};
+use std::mem;
 
 /// The stamp of the frame that a table has of a page.
 pub(crate) fn stamp_in(table: &[Option<Frame>], page: usize) -> Option<u32>
@@ -35,6 +36,15 @@ pub(crate) fn put_frame(table: &mut Vec<Option<Frame>>, page: usize, frame: Fram
     ensures { table.new.items ≡ slice_set table.old.items page (Some frame) }
 {
     table[page] = Some(frame);
+}
+
+/// Puts a frame in its place, and answers what was there.
+pub(crate) fn swap_frame(table: &mut Vec<Option<Frame>>, page: usize, frame: Frame) -> Option<Frame>
+    requires { page < vec_len table.old }
+    ensures put { table.new.items ≡ slice_set table.old.items page (Some frame) }
+    ensures was { result ≡ slice_index_or table.old.items page None }
+{
+    mem::replace(&mut table[page], Some(frame))
 }
 
 /// Puts the frame that is viewed in its place, over the frame that stands there, if there is one.

@@ -64,6 +64,43 @@ fn greatest_stamp_is_kept(rt: HostRuntime) -> Result<(), Fail> {
     Ok(())
 }
 
+/// What goes for a page whose bytes are all this one: its stamp and its first byte.
+fn swap(
+    alloc: Global,
+    part: &mut Part,
+    shape: &Shape,
+    stamp: u32,
+    byte: u8,
+) -> Result<Option<(u32, u8)>, Fail>
+    requires part { part.old.shape ≡ shape_of shape.now }
+    requires pages { 1 < shape.now.pages }
+    requires stamp { stamp ≤ shape.now.writes }
+    ensures { part.new.shape ≡ part.old.shape }
+{
+    let bytes = vec![in alloc; byte; shape.page_size()]?;
+    let Some(gone) = part.exchange(frame_of(shape, 1, stamp, bytes))? else {
+        return Ok(None);
+    };
+    let first = match &gone.body {
+        Body::Zero => 0,
+        Body::Data(bytes) => bytes.first().copied().unwrap_or(0),
+    };
+    Ok(Some((gone.stamp, first)))
+}
+
+#[test]
+fn older_frame_goes(rt: HostRuntime) -> Result<(), Fail> {
+    let shape = shape();
+    let mut part = Part::new(rt.alloc(), shape);
+    assert_eq!(rt; swap(rt.alloc(), &mut part, &shape, 2, 7)?, None);
+    assert_eq!(rt; swap(rt.alloc(), &mut part, &shape, 4, 8)?, Some((2, 7)));
+    assert_eq!(rt; swap(rt.alloc(), &mut part, &shape, 3, 9)?, Some((3, 9)));
+    assert_eq!(rt; swap(rt.alloc(), &mut part, &shape, 4, 6)?, Some((4, 6)));
+    assert_eq!(rt; swap(rt.alloc(), &mut part, &shape, 5, 0)?, Some((4, 8)));
+    assert_eq!(rt; part.stamp(1), Some(5));
+    Ok(())
+}
+
 #[test]
 fn frames_in_front_of_a_refused_one_are_taken(rt: HostRuntime) -> Result<(), Fail> {
     let mut bytes = Vec::from_slice(rt.alloc(), &ZEROS_FRAME)?;

@@ -4,7 +4,7 @@ use Rattle.migration_model.specs.Frames.{PageFrame}
 use Rattle.migration_model.specs.Parts.{part_with, GuestPart}
 use Rattle.page_message.specs.Shapes.{shape_of}
 use Rattle.collector.proofs.Tabled.{taken_new, taken_newer, same_part-grown}
-use Rattle.collector.proofs.part.Part.accept.Goals as goal
+use Rattle.collector.proofs.part.Part.exchange.Goals as goal
 
 pub returns-in_err-make_place-in-None-clause-unchanged :
     goal.returns-in_err-make_place-in-None-clause-unchanged
@@ -31,6 +31,6 @@ pub returns-in-Some-clause-kept : goal.returns-in-Some-clause-kept
 returns-in-Some-clause-kept c =
     let own : c.frame.inside.page ≡ c.args.frame.page = ap (λ (f : PageFrame). f.page) c.frame.view_is in
     let stamp : c.frame.inside.stamp ≡ c.args.frame.stamp = ap (λ (f : PageFrame). f.stamp) c.frame.view_is in
-    taken_newer (shape_of c.self.inside.shape) c.self.inside.frames.items c.put_frame-in-Some.new.table.items c.args.frame c.frame.inside.page c.in-Some.stamp c.args.self.now
+    taken_newer (shape_of c.self.inside.shape) c.self.inside.frames.items c.swap_frame.new.table.items c.args.frame c.frame.inside.page c.in-Some.stamp c.args.self.now
     c.self.view_is (omega (arith, c.in-Some.ensures.within, c.deref.ensures.len, c.self.inside.frames.ok.0)) own
-    (rw c.deref.ensures.value at (sym c.in-Some.ensures.stamp)) (omega arith) c.put_frame-in-Some.ensures
+    (rw c.deref.ensures.value at (sym c.in-Some.ensures.stamp)) (omega arith) c.swap_frame.ensures.put
