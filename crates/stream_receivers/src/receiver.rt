@@ -8,7 +8,7 @@ ghost use Rattle.stream_lanes.specs.Ends.{InView, IsSentOn};
 ghost use Rattle.stream_receivers.specs.Receivers.{AreEnds, AreFrames, HasFrames, IsReceiver, TakesOne, receiver_with};
 
 use crate::error::ReceiverError;
-use crate::taking::{accept_next, accept_rests};
+use crate::taking::{accept_live, accept_rests};
 use collector::Part;
 use std::alloc::Global;
 use std::marker::Model;
@@ -69,7 +69,7 @@ impl Receiver {
     }
 
     /// Takes the next frame from a worker's lane, if one has come, and answers whether. The part has it then, unless a frame is
-    /// refused or was before.
+    /// refused or was before. The text of the frame that goes for it goes back on the lane.
     pub fn take(&mut self, worker: usize) -> bool
         requires { worker < length self.old.ends }
         ensures lanes { map (λ end. end.lane) self.new.ends ≡ map (λ end. end.lane) self.old.ends }
@@ -79,10 +79,11 @@ impl Receiver {
         ensures seen { result ≡ false → (end : InView) → slice_get self.old.ends worker ≡ Some end → end.seen ≡ [] }
         ensures some { IsTrue result → TakesOne worker self.old.ends self.new.ends }
     {
-        let Some(text) = self.ends[worker].take() else {
+        let end = &mut self.ends[worker];
+        let Some(text) = end.take() else {
             return false;
         };
-        self.refusal = accept_next(&mut self.part, self.refusal, text);
+        self.refusal = accept_live(&mut self.part, self.refusal, text, end);
         true
     }
 

@@ -10,19 +10,52 @@ ghost use Rattle.stream_receivers.specs.Texts.{TakesText};
 use crate::error::ReceiverError;
 use crate::owning::own_frame;
 use collector::Part;
+use page_message::{Body, Frame};
 use stream_lanes::{LaneIn, LaneOut, Rest, drain};
 
-/// Takes a text, which is to spell one frame. The page's bytes keep the room of the text.
-pub(crate) fn accept(part: &mut Part, text: Vec<u8>) -> Result<(), ReceiverError>
+/// The bytes of a frame, if there is one and not all of them are 0.
+fn bytes_of(frame: Option<Frame>) -> Option<Vec<u8>> {
+    match frame?.body {
+        Body::Zero => None,
+        Body::Data(bytes) => Some(bytes),
+    }
+}
+
+/// Takes a text, which is to spell one frame. The page's bytes keep the room of the text. It answers the text of the frame that
+/// goes for this one, if that has one.
+fn exchange(part: &mut Part, text: Vec<u8>) -> Result<Option<Vec<u8>>, ReceiverError>
     ensures shape { part.new.shape ≡ part.old.shape }
     ensures taken { OnOk result (TakesText part.old part.new text.items) }
     ensures only { (frame : PageFrame) → SpellsFrame part.old.shape text.items frame → IfErr result (λ e. e ≡ ReceiverError.Memory) }
 {
     let frame = own_frame(&part.shape(), text)?;
-    match part.accept(frame) {
-        Ok(_) => Ok(()),
+    match part.exchange(frame) {
+        Ok(gone) => Ok(bytes_of(gone)),
         Err(_) => Err(ReceiverError::Memory),
     }
+}
+
+/// Takes a text, which is to spell one frame.
+pub(crate) fn accept(part: &mut Part, text: Vec<u8>) -> Result<(), ReceiverError>
+    ensures shape { part.new.shape ≡ part.old.shape }
+    ensures taken { OnOk result (TakesText part.old part.new text.items) }
+    ensures only { (frame : PageFrame) → SpellsFrame part.old.shape text.items frame → IfErr result (λ e. e ≡ ReceiverError.Memory) }
+{
+    exchange(part, text)?;
+    Ok(())
+}
+
+/// Takes a text that came on a lane, where the text of the frame that goes for it goes back.
+fn accept_giving(part: &mut Part, text: Vec<u8>, end: &mut LaneIn) -> Result<(), ReceiverError>
+    ensures shape { part.new.shape ≡ part.old.shape }
+    ensures taken { OnOk result (TakesText part.old part.new text.items) }
+    ensures only { (frame : PageFrame) → SpellsFrame part.old.shape text.items frame → IfErr result (λ e. e ≡ ReceiverError.Memory) }
+    ensures end { end.new ≡ end.old }
+{
+    if let Some(bytes) = exchange(part, text)? {
+        end.give_back(bytes);
+    }
+    Ok(())
 }
 
 /// Takes a text, unless something was refused before, and answers the first refusal.
@@ -36,6 +69,23 @@ pub(crate) fn accept_next(
     match refusal {
         Some(error) => Some(error),
         None => accept(part, text).err(),
+    }
+}
+
+/// Takes a text that came on a lane, unless something was refused before, and answers the first refusal. After a refusal no text
+/// goes back.
+pub(crate) fn accept_live(
+    part: &mut Part,
+    refusal: Option<ReceiverError>,
+    text: Vec<u8>,
+    end: &mut LaneIn,
+) -> Option<ReceiverError>
+    ensures accepts { Accepts part.old part.new refusal result (text.items ∷ []) }
+    ensures end { end.new ≡ end.old }
+{
+    match refusal {
+        Some(error) => Some(error),
+        None => accept_giving(part, text, end).err(),
     }
 }
 

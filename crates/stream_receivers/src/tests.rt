@@ -166,3 +166,53 @@ fn a_text_is_of_one_frame(rt: HostRuntime) -> Result<(), Fail> {
     }
     Ok(())
 }
+
+/// Sends page 1 and takes it, and answers the room of the text that came back, if one did.
+fn pass(
+    alloc: Global,
+    out: &mut LaneOut,
+    receiver: &mut Receiver,
+    stamp: u32,
+    byte: u8,
+) -> Result<Option<usize>, Fail>
+    requires { stamp ≤ 5 }
+{
+    let text = spelled(alloc, 1, stamp, byte)?;
+    if receiver.lanes() == 0 || !out.has_room() {
+        return Err(Fail::from("no room"));
+    }
+    out.send(text);
+    if !receiver.take(0) {
+        return Err(Fail::from("nothing came"));
+    }
+    Ok(out.spare().map(|text| text.capacity()))
+}
+
+#[test]
+fn texts_of_older_frames_go_back(rt: HostRuntime) -> Result<(), Fail> {
+    let (outs, ends) = new_ends(rt.alloc())?;
+    let mut receiver = Receiver::new(rt.alloc(), shape(), ends);
+    let mut out = first_of(outs).ok_or("an end that sends")?;
+    assert_eq!(rt; pass(rt.alloc(), &mut out, &mut receiver, 2, 7)?, None);
+    assert!(rt; pass(rt.alloc(), &mut out, &mut receiver, 4, 8)? >= Some(25));
+    assert!(rt; pass(rt.alloc(), &mut out, &mut receiver, 3, 9)? >= Some(25));
+    assert!(rt; pass(rt.alloc(), &mut out, &mut receiver, 5, 0)? >= Some(25));
+    assert_eq!(rt; pass(rt.alloc(), &mut out, &mut receiver, 5, 0)?, None);
+    Ok(())
+}
+
+#[test]
+fn no_text_goes_back_after_a_refusal(rt: HostRuntime) -> Result<(), Fail> {
+    let (outs, ends) = new_ends(rt.alloc())?;
+    let mut receiver = Receiver::new(rt.alloc(), shape(), ends);
+    let mut out = first_of(outs).ok_or("an end that sends")?;
+    assert_eq!(rt; pass(rt.alloc(), &mut out, &mut receiver, 2, 7)?, None);
+    if !out.has_room() || receiver.lanes() == 0 {
+        return Err(Fail::from("no room"));
+    }
+    out.send(Vec::new(rt.alloc()));
+    assert!(rt; receiver.take(0));
+    assert!(rt; receiver.is_refused());
+    assert_eq!(rt; pass(rt.alloc(), &mut out, &mut receiver, 4, 8)?, None);
+    Ok(())
+}
