@@ -1,6 +1,6 @@
 -- What a cache keeps of a guest's pages. This project's own, as versions are.
-use Rattle.std.specs.Prelude.{◌≡◌, ℕ, ◌<◌, ◌≤◌, List, length}
-use Rattle.std.specs.List.{All}
+use Rattle.std.specs.Prelude.{◌≡◌, ℕ, ◌<◌, ◌≤◌, List, ◌++◌, length, slice_index_or}
+use Rattle.std.specs.List.{All, enumerate_from}
 use Rattle.migration_model.specs.Trace.{GuestTrace}
 use Rattle.migration_model.specs.Versions.{page_at}
 
@@ -20,6 +20,10 @@ pub record GuestPages : Type 0 where
 abbrev pub pages_with : List (ℕ × KeptPage) → ℕ → GuestPages
 pages_with entries capacity = record { entries = entries; capacity = capacity }
 
+-- all pages of a small guest under their numbers, and then the others
+abbrev pub entries_by : List KeptPage → List (ℕ × KeptPage) → List (ℕ × KeptPage)
+entries_by all others = enumerate_from 0 all ++ others
+
 -- the same of a trace
 pub record GuestCache : Type 0 where
   pub trace : GuestTrace
@@ -36,3 +40,7 @@ IsKept trace page kept = (page < trace.pages) × (kept.version ≤ length trace.
 -- each entry has the bytes of its page and version
 abbrev pub AreKept : GuestTrace → List (ℕ × KeptPage) → Type 0
 AreKept trace entries = All (λ entry. IsKept trace entry.0 entry.1) entries
+
+-- each page of a small guest, by its number, has the bytes of its version
+abbrev pub AreSmall : GuestTrace → List KeptPage → Type 0
+AreSmall trace pages = (d : KeptPage) (page : ℕ) → page < length pages → IsKept trace page (slice_index_or pages page d)

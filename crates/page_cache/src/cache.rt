@@ -4,11 +4,13 @@ ghost use Rattle.std.specs.Prelude.{◌≡◌, ◌<◌, ◌≤◌, [], IfOk, IsT
 ghost use Rattle.std.specs.Map.{lookup};
 ghost use Rattle.migration_model.specs.Versions.{page_at};
 ghost use Rattle.page_versions.specs.Index.{IsIndexOf};
-ghost use Rattle.page_cache.specs.Cache.{AreKept, GuestCache, cache_with, page_with, pages_with};
+ghost use Rattle.page_cache.specs.Cache.{AreKept, GuestCache, cache_with, entries_by, page_with, pages_with};
 
 use crate::error::CacheError;
 use crate::kept::Kept;
 use crate::pages::KeptPages;
+use crate::recent::{keep_recent, recent_bytes};
+use crate::small::keep_small;
 use lru::LruCache;
 use page_versions::PageIndex;
 use std::alloc::Global;
@@ -21,15 +23,16 @@ use trace_codec::WriteLog;
 pub struct PageCache<'a, W: WriteLog> {
     trace: &'a W,
     index: &'a PageIndex,
+    all: Vec<Kept>,
     kept: LruCache<u32, Kept>,
 }
 
 impl<'a, W: WriteLog> Model for PageCache<'a, W> {
     ghost Value = { GuestCache };
 
-    ghost view = { λ c. cache_with (W.trace c.trace.now) c.kept.entries c.kept.cap };
+    ghost view = { λ c. cache_with (W.trace c.trace.now) (entries_by c.all.items c.kept.entries) c.kept.cap };
 
-    ghost invariant = { λ c. IsIndexOf c.index.now (W.trace c.trace.now) × AreKept (W.trace c.trace.now) c.kept.entries };
+    ghost invariant = { λ c. IsIndexOf c.index.now (W.trace c.trace.now) × AreKept (W.trace c.trace.now) (entries_by c.all.items c.kept.entries) };
 }
 
 impl<'a, W: WriteLog> PageCache<'a, W> {
@@ -54,8 +57,13 @@ impl<'a, W: WriteLog> PageCache<'a, W> {
         requires kept { AreKept (W.trace trace.now) pages.entries }
         ensures { result ≡ cache_with (W.trace trace.now) pages.entries pages.capacity }
     {
-        let KeptPages { kept } = pages;
-        PageCache { trace, index, kept }
+        let KeptPages { all, kept } = pages;
+        PageCache {
+            trace,
+            index,
+            all,
+            kept,
+        }
     }
 
     /// What the cache keeps, given away.
@@ -66,28 +74,10 @@ impl<'a, W: WriteLog> PageCache<'a, W> {
         let PageCache {
             trace: _,
             index: _,
+            all,
             kept,
         } = self;
-        KeptPages { kept }
-    }
-
-    /// Brings what is kept of a page on to a version, where it stands: only the writes in between are put there. Returns
-    /// whether that was done; it is not where nothing is kept of the page, or a later version, which stays then.
-    fn bring_kept_on(&mut self, page: u32, version: u32) -> bool
-        requires version { version ≤ length self.old.trace.writes }
-        ensures kept { AreKept self.new.trace self.new.entries }
-        ensures last { IsTrue result → lookup (nat_eq page) self.new.entries ≡ Some (page_with version (page_at self.old.trace page version)) }
-        ensures trace { self.new.trace ≡ self.old.trace }
-        ensures capacity { self.new.capacity ≡ self.old.capacity }
-    {
-        let Some(kept) = self.kept.get_mut(&page) else {
-            return false;
-        };
-        if kept.version > version {
-            return false;
-        }
-        kept.bring_to(self.trace, self.index, page, version);
-        true
+        KeptPages { all, kept }
     }
 
     /// Keeps the page after the first `version` writes of the trace. Where an earlier version of the page is kept, only the
@@ -100,20 +90,21 @@ impl<'a, W: WriteLog> PageCache<'a, W> {
         ensures trace { self.new.trace ≡ self.old.trace }
         ensures capacity { self.new.capacity ≡ self.old.capacity }
     {
-        if self.bring_kept_on(page, version) {
-            return Ok(());
+        if (page as usize) < self.all.len() {
+            return keep_small(alloc, self.trace, self.index, &mut self.all, page, version);
         }
-        let bytes = self.index.bytes_at(alloc, self.trace, page, version)?;
-        self.kept.put(page, Kept { version, bytes })?;
-        Ok(())
+        keep_recent(alloc, self.trace, self.index, &mut self.kept, page, version)
     }
 
     /// The bytes that are kept of a page, of whatever version.
     pub fn bytes(&self, page: u32) -> Option<&[u8]>
         ensures { option_map (λ b. b.now) result ≡ option_map (λ k. k.bytes) (lookup (nat_eq page) self.now.entries) }
     {
-        let kept = self.kept.peek(&page)?;
-        Some(&kept.bytes)
+        if (page as usize) < self.all.len() {
+            let kept = &self.all[page as usize];
+            return Some(&kept.bytes);
+        }
+        recent_bytes(&self.kept, page)
     }
 
     /// The page after the first `version` writes of the trace, as `PageIndex::bytes_at` tells it. It is kept then.

@@ -5,10 +5,13 @@ mod cache;
 mod error;
 mod kept;
 mod pages;
+mod recent;
+mod small;
 
 pub use cache::PageCache;
 pub use error::CacheError;
 pub use pages::KeptPages;
+pub use small::is_small;
 
 #[cfg(test)]
 mod tests;

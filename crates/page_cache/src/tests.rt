@@ -2,11 +2,11 @@
 
 ghost use Rattle.std.specs.Prelude.{◌≡◌, IfOk};
 
-use crate::PageCache;
+use crate::{KeptPages, PageCache, is_small};
 use page_versions::PageIndex;
 use std::alloc::Global;
 use std::test::Fail;
-use trace_codec::{Trace, Write};
+use trace_codec::{Shape, Trace, Write};
 
 /// A guest of 4 pages of 16 bytes, which writes pages 0 and 1 at ticks 0 and 5, page 1 at tick 1200, and pages 3 and 1
 /// at tick 2500.
@@ -71,6 +71,79 @@ fn new_cache<'a>(
         return Err(Fail::from("the index of the trace, and a capacity"));
     }
     Ok(PageCache::new(alloc, trace, index, capacity)?)
+}
+
+/// A cache of all pages of a trace that is small.
+fn new_small_cache<'a>(
+    alloc: Global,
+    trace: &'a Trace,
+    index: &'a PageIndex,
+) -> Result<PageCache<'a, Trace>, Fail>
+    ensures { IfOk result (λ cache. cache.trace ≡ trace.now) }
+{
+    if !index.is_of(trace) {
+        return Err(Fail::from("the index of the trace"));
+    }
+    let pages = KeptPages::of_guest(alloc, &trace.shape(), 1)?;
+    Ok(PageCache::with_pages(trace, index, pages))
+}
+
+#[test]
+fn all_pages_of_a_small_guest_are_kept(rt: HostRuntime) -> Result<(), Fail> {
+    let alloc = rt.alloc();
+    let trace = guest(alloc)?;
+    let index = PageIndex::build(&rt, alloc, &trace)?;
+    let mut cache = new_small_cache(alloc, &trace, &index)?;
+    assert!(rt; cache.bytes(0).is_some() && cache.bytes(3).is_some());
+    let zeros = page_with(&[])?;
+    let second = page_with(&[(15, 2)])?;
+    let third = page_with(&[(0, 3), (15, 2)])?;
+    let other = page_with(&[(2, 4), (3, 5)])?;
+    assert_eq!(rt;
+        bytes_of(alloc, &mut cache, &trace, 1, 2)?.as_slice(),
+        second.as_slice()
+    );
+    assert_eq!(rt;
+        bytes_of(alloc, &mut cache, &trace, 3, 4)?.as_slice(),
+        other.as_slice()
+    );
+    assert_eq!(rt;
+        bytes_of(alloc, &mut cache, &trace, 1, 3)?.as_slice(),
+        third.as_slice()
+    );
+    assert_eq!(rt;
+        bytes_of(alloc, &mut cache, &trace, 1, 2)?.as_slice(),
+        second.as_slice()
+    );
+    assert_eq!(rt;
+        bytes_of(alloc, &mut cache, &trace, 2, 5)?.as_slice(),
+        zeros.as_slice()
+    );
+    assert_eq!(rt;
+        bytes_of(alloc, &mut cache, &trace, 1, 5)?.as_slice(),
+        second.as_slice()
+    );
+    assert_eq!(rt;
+        bytes_of(alloc, &mut cache, &trace, 3, 3)?.as_slice(),
+        zeros.as_slice()
+    );
+    Ok(())
+}
+
+#[test]
+fn a_guest_of_four_mebibytes_is_small(rt: HostRuntime) {
+    let shape = Shape {
+        shift: 12,
+        pages: 1024,
+        writes: 1,
+    };
+    assert!(rt; is_small(&shape));
+    let larger = Shape {
+        shift: 12,
+        pages: 1025,
+        writes: 1,
+    };
+    assert!(rt; !is_small(&larger));
 }
 
 #[test]
