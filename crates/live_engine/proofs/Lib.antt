@@ -1,3 +1,4 @@
+pub mod AtFirst
 pub mod Each
 pub mod FirstSeats
 pub mod Visits

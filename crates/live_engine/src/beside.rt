@@ -176,10 +176,11 @@ impl<'a, W: WriteLog + Sync, G: Gate> Crew<'a, W, G> {
         ensures { IfOk result (λ a. AllArrived (W.trace self.now.trace.now) settings.now plan.now self.now.streams a.closed a.rounds.items a.parts.items) }
     {
         let _ = settings.asked();
+        let shape = self.trace.shape();
         let grid = lanes(alloc, self.copiers, self.streams, self.lane)?;
         let Lanes { outs, ins } = grid;
-        let desks = new_desks(alloc, outs)?;
-        let receivers = new_receivers(alloc, self.trace.shape(), ins)?;
+        let desks = new_desks(alloc, &shape, outs)?;
+        let receivers = new_receivers(alloc, shape, ins)?;
         let ended = self.run_beside(rt, alloc, settings, plan, desks, receivers)?;
         let Ended {
             progress,

@@ -1,6 +1,6 @@
 //! What a migration begins with.
 
-ghost use Rattle.std.specs.Prelude.{◌≡◌, ◌<◌, ◌≤◌, ◌+◌, ◌/◌, ℕ, nat_lt, IfOk, [], length, map, slice_index};
+ghost use Rattle.std.specs.Prelude.{◌≡◌, ◌<◌, ◌≤◌, ◌+◌, ◌/◌, ℕ, nat_lt, IfOk, [], length, map, replicate, slice_index};
 ghost use Rattle.std.specs.List.{All};
 ghost use Rattle.dirty_core.specs.Pages.{in_words};
 ghost use Rattle.migration_model.specs.Versions.{version_before};
@@ -21,6 +21,13 @@ use stream_lanes::{LaneIn, LaneOut};
 use stream_receivers::Receiver;
 use trace_codec::{Shape, WriteLog};
 
+/// A version of 0 for each page.
+fn no_versions(alloc: Global, pages: usize) -> Result<Vec<u32>, LiveError>
+    ensures { IfOk result (λ v. v.items ≡ replicate pages 0) }
+{
+    Ok(Vec::from_elem(alloc, 0, pages)?)
+}
+
 /// The version of each page before a tick.
 pub(crate) fn versions_before<W: WriteLog>(
     alloc: Global,
@@ -33,6 +40,10 @@ pub(crate) fn versions_before<W: WriteLog>(
     ensures each { IfOk result (λ v. (page : ℕ) → page < (W.trace trace.now).pages → slice_index v.items page ≡ version_before (W.trace trace.now) page tick) }
 {
     let pages = trace.shape().pages;
+    if tick == 0 {
+        // Nothing is written before the first tick.
+        return no_versions(alloc, pages as usize);
+    }
     let mut versions = Vec::with_capacity(alloc, pages as usize)?;
     for page in 0..pages {
         versions.push(index.version_before(page, tick))?;
@@ -54,15 +65,19 @@ pub(crate) fn all_pages(alloc: Global, pages: u32) -> Result<Vec<u64>, LiveError
 }
 
 /// A desk for each copier, before the first round, with its lanes.
-pub(crate) fn new_desks(alloc: Global, rows: Vec<Vec<LaneOut>>) -> Result<VecDeque<Desk>, LiveError>
+pub(crate) fn new_desks(
+    alloc: Global,
+    shape: &Shape,
+    rows: Vec<Vec<LaneOut>>,
+) -> Result<VecDeque<Desk>, LiveError>
     requires some { All (λ row. 1 ≤ length row.items) rows.items }
     requires few { All (λ row. length row.items ≤ 16) rows.items }
     ensures rows { IfOk result (λ v. rows_of v.items ≡ map (λ row. row.items) rows.items) }
-    ensures each { (trace : GuestTrace) (streams : ℕ) → All (λ row. length row.items ≡ streams) rows.items → IfOk result (λ v. All (IsDesk trace streams) v.items) }
+    ensures each { (trace : GuestTrace) (streams : ℕ) → trace.shift ≡ shape.now.shift → trace.pages ≡ shape.now.pages → All (λ row. length row.items ≡ streams) rows.items → IfOk result (λ v. All (IsDesk trace streams) v.items) }
 {
     let mut desks = VecDeque::with_capacity(alloc, rows.len())?;
     for row in rows {
-        desks.push_back(Desk::new(alloc, row)?)?;
+        desks.push_back(Desk::new(alloc, shape, row)?)?;
     }
     Ok(desks)
 }

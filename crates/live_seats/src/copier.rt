@@ -13,10 +13,10 @@ ghost use Rattle.live_seats.specs.Copies.{AdvancesScan, HasCopied, HasDeferredPa
 
 use crate::desk::{Desk, OpenDesk};
 use crate::error::SeatError;
-use crate::frame::frame_of;
+use crate::frame::spell_frame;
 use crate::gate::{Gate, Point};
 use dirty_words::{CopySeat, RoundTable};
-use page_cache::PageCache;
+use page_cache::{PageCache, is_small};
 use page_versions::PageIndex;
 use std::alloc::Global;
 use trace_codec::WriteLog;
@@ -96,44 +96,46 @@ impl<'a, W: WriteLog, G: Gate> Round<'a, W, G> {
         place
     }
 
-    /// Whether a page is written so often that it is kept.
+    /// Whether a page is kept: all are of a small guest, and else those that are written often.
     fn is_hot(&self, page: u32) -> bool
         requires of { IsIndexOf self.now.index.now (W.trace self.now.trace.now) }
         requires page { page < (W.trace self.now.trace.now).pages }
     {
-        let least = self.trace.shape().page_size() / KEPT_FOR_A_WRITE;
-        self.index.places(page).len() >= least.max(HOT_WRITES)
+        let shape = self.trace.shape();
+        let least = shape.page_size() / KEPT_FOR_A_WRITE;
+        is_small(&shape) || self.index.places(page).len() >= least.max(HOT_WRITES)
     }
 
-    /// The frame of a page at the place that was read. The page is made from zeros.
-    fn cold_frame(
+    /// Spells the frame of a page at the place that was read. The page is made from zeros.
+    fn spell_cold(
         &self,
-        alloc: Global,
         room: &mut Vec<u8>,
         page: u32,
         place: u32,
-    ) -> Result<Vec<u8>, SeatError>
+        text: &mut Vec<u8>,
+    ) -> Result<(), SeatError>
         requires of { IsIndexOf self.now.index.now (W.trace self.now.trace.now) }
         requires page { page < (W.trace self.now.trace.now).pages }
-        ensures { IfOk result (λ text. SpellsPage (W.trace self.now.trace.now) page place text.items) }
+        ensures { OnOk result (SpellsPage (W.trace self.now.trace.now) page place text.new.items) }
     {
         let shape = self.trace.shape();
         let stamp = place.min(shape.writes);
         self.index.bytes_into(self.trace, page, stamp, room)?;
-        frame_of(alloc, &shape, page, stamp, room)
+        spell_frame(text, &shape, page, stamp, room)
     }
 
-    /// The frame of a page at the place that was read. The page is kept.
-    fn hot_frame(
+    /// Spells the frame of a page at the place that was read. The page is kept.
+    fn spell_hot(
         &self,
         alloc: Global,
         cache: &mut PageCache<'_, W>,
         page: u32,
         place: u32,
-    ) -> Result<Vec<u8>, SeatError>
+        text: &mut Vec<u8>,
+    ) -> Result<(), SeatError>
         requires trace { cache.old.trace ≡ (W.trace self.now.trace.now) }
         requires page { page < (W.trace self.now.trace.now).pages }
-        ensures spells { IfOk result (λ text. SpellsPage (W.trace self.now.trace.now) page place text.items) }
+        ensures spells { OnOk result (SpellsPage (W.trace self.now.trace.now) page place text.new.items) }
         ensures trace { cache.new.trace ≡ cache.old.trace }
     {
         let shape = self.trace.shape();
@@ -142,30 +144,31 @@ impl<'a, W: WriteLog, G: Gate> Round<'a, W, G> {
         let Some(bytes) = cache.bytes(page) else {
             unreachable!()
         };
-        frame_of(alloc, &shape, page, stamp, bytes)
+        spell_frame(text, &shape, page, stamp, bytes)
     }
 
-    /// The frame of a page at the place that was read.
-    fn frame(
+    /// Spells the frame of a page at the place that was read.
+    fn spell(
         &self,
         alloc: Global,
         desk: &mut OpenDesk<'_, W>,
         page: u32,
         place: u32,
-    ) -> Result<Vec<u8>, SeatError>
+        text: &mut Vec<u8>,
+    ) -> Result<(), SeatError>
         requires of { IsIndexOf self.now.index.now (W.trace self.now.trace.now) }
         requires trace { desk.old.cache.trace ≡ (W.trace self.now.trace.now) }
         requires page { page < (W.trace self.now.trace.now).pages }
-        ensures spells { IfOk result (λ text. SpellsPage (W.trace self.now.trace.now) page place text.items) }
+        ensures spells { OnOk result (SpellsPage (W.trace self.now.trace.now) page place text.new.items) }
         ensures trace { desk.new.cache.trace ≡ desk.old.cache.trace }
         ensures turn { desk.new.turn ≡ desk.old.turn }
         ensures outbox { desk.new.outbox ≡ desk.old.outbox }
         ensures outs { desk.new.outs ≡ desk.old.outs }
     {
         if self.is_hot(page) {
-            return self.hot_frame(alloc, &mut desk.cache, page, place);
+            return self.spell_hot(alloc, &mut desk.cache, page, place, text);
         }
-        self.cold_frame(alloc, &mut desk.room, page, place)
+        self.spell_cold(&mut desk.room, page, place, text)
     }
 
     /// Whether the word of a page shows it now.
@@ -199,8 +202,9 @@ impl<'a, W: WriteLog, G: Gate> Round<'a, W, G> {
         ensures turn { copier.new.desk.turn ≡ copier.old.desk.turn }
     {
         let place = self.read(&mut copier.seat, page);
-        let frame = self.frame(alloc, &mut copier.desk, page, place)?;
-        copier.desk.send(stream, frame);
+        let mut text = copier.desk.text(alloc, stream);
+        self.spell(alloc, &mut copier.desk, page, place, &mut text)?;
+        copier.desk.send(stream, text);
         copier.desk.outbox.list_sent(page, place)?;
         Ok(())
     }

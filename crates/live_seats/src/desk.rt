@@ -16,7 +16,7 @@ use std::alloc::Global;
 use std::marker::Model;
 use stream_lanes::LaneOut;
 use stream_split::Dealer;
-use trace_codec::WriteLog;
+use trace_codec::{Shape, WriteLog};
 
 /// How many pages a copier keeps at most: as many as a trace may have.
 const KEPT_PAGES: usize = 65_536;
@@ -60,16 +60,16 @@ impl<'a, W: WriteLog> Model for OpenDesk<'a, W> {
 }
 
 impl Desk {
-    /// A desk before the first round, with the sending ends of a copier's lanes, one of each of 1 to 16 streams.
-    pub fn new(alloc: Global, outs: Vec<LaneOut>) -> Result<Desk, SeatError>
+    /// A desk before the first round of a guest of this shape, with the sending ends of a copier's lanes, one of each of 1 to 16 streams.
+    pub fn new(alloc: Global, shape: &Shape, outs: Vec<LaneOut>) -> Result<Desk, SeatError>
         requires some { 1 ≤ length outs.items }
         requires few { length outs.items ≤ 16 }
-        ensures desk { (trace : GuestTrace) → IfOk result (IsDesk trace (length outs.items)) }
+        ensures desk { (trace : GuestTrace) → trace.shift ≡ shape.now.shift → trace.pages ≡ shape.now.pages → IfOk result (IsDesk trace (length outs.items)) }
         ensures outs { IfOk result (λ desk. desk.outs ≡ outs.items) }
     {
         Ok(Desk {
             dealer: Dealer::new(outs.len()),
-            pages: KeptPages::new(alloc, KEPT_PAGES)?,
+            pages: KeptPages::of_guest(alloc, shape, KEPT_PAGES)?,
             outbox: Outbox::new(alloc),
             outs,
         })
@@ -120,6 +120,17 @@ impl<'a, W: WriteLog> OpenDesk<'a, W> {
             return Some(stream);
         }
         None
+    }
+
+    /// A text for a frame that goes on the lane of a stream: one that came back on it, whose room is used again, or a new one.
+    pub(crate) fn text(&mut self, alloc: Global, stream: usize) -> Vec<u8>
+        requires { HasRoomAt self.old.outs stream }
+        ensures { self.new ≡ self.old }
+    {
+        match self.outs[stream].spare() {
+            Some(text) => text,
+            None => Vec::new(alloc),
+        }
     }
 
     /// Sends a frame on the lane of a stream.

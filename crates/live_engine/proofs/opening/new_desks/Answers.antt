@@ -35,8 +35,8 @@ loop-row-preserved c =
       rows = ap rows_of items ∙ map-append (λ (d : DeskView). d.outs) desks (desk ∷ []) ∙ ap (λ (rows : List (List OutView)). rows ++ desk.outs ∷ []) c.loop-row.invariant.rows
           ∙ ap (λ (outs : List OutView). map (λ (r : Vec OutView Global). r.items) front ++ outs ∷ []) c.in_ok-new.ensures.outs
           ∙ sym (map-append (λ (r : Vec OutView Global). r.items) front (row ∷ []));
-      each = λ trace streams same.
+      each = λ trace streams shifts counts same.
           let one : IsDesk trace streams desk = subst (λ (n : ℕ). IsDesk trace n desk) (next_holds (λ (r : Vec OutView Global). length r.items ≡ streams) front old rest c.args.rows.items row
-          c.in-Some.ensures.steps.0 c.loop-row.invariant.all same) (c.in_ok-new.ensures.desk trace) in
-          subst (All (IsDesk trace streams)) (sym items) (All-push (IsDesk trace streams) desks desk (c.loop-row.invariant.each trace streams same) one);
+          c.in-Some.ensures.steps.0 c.loop-row.invariant.all same) (c.in_ok-new.ensures.desk trace shifts counts) in
+          subst (All (IsDesk trace streams)) (sym items) (All-push (IsDesk trace streams) desks desk (c.loop-row.invariant.each trace streams shifts counts same) one);
     }

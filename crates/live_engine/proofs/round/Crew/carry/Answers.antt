@@ -30,7 +30,7 @@ run_beside-requires-clause-may g c κs within =
       replayers_are = c.requires.replayers;
       copiers_are = c.requires.copiers;
       count = sym (length-map desks (λ (d : DeskView). d.outs)) ∙ ap length c.in_ok-desks.ensures.rows ∙ length-map c.in_ok-grid.grid.outs.items (λ (r : Vec OutView Global). r.items) ∙ grid.workers_are;
-      each = c.in_ok-desks.ensures.each (g.W.WriteLog.trace crew.trace.now) crew.streams grid.out_rows;
+      each = c.in_ok-desks.ensures.each (g.W.WriteLog.trace crew.trace.now) crew.streams (sym c.shape-shape.ensures.shift) (sym c.shape-shape.ensures.pages) grid.out_rows;
       new = subst HaveSentNothing (sym c.in_ok-desks.ensures.rows) (nothing_sent crew.copiers crew.streams crew.lane c.in_ok-grid.grid.outs.items c.in_ok-grid.grid.ins.items grid);
     }
 
@@ -59,7 +59,7 @@ returns g c =
     let parts = c.in_ok-parts.parts.items in
     let done = c.in_ok-ended.ensures.done in
     let grid : IsGrid crew.copiers crew.streams crew.lane c.in_ok-grid.grid.outs.items c.in_ok-grid.grid.ins.items = c.in_ok-grid.ensures in
-    let shape : shape_of c.shape.result ≡ shape_of_trace trace = λ i. shape_with (c.shape.ensures.shift i) (c.shape.ensures.pages i) (c.shape.ensures.writes i) in
+    let shape : shape_of c.shape-shape.result ≡ shape_of_trace trace = λ i. shape_with (c.shape-shape.ensures.shift i) (c.shape-shape.ensures.pages i) (c.shape-shape.ensures.writes i) in
     let shapes : All (λ (r : ReceiverView). r.part.shape ≡ shape_of_trace trace) ended.receivers.items =
     shapes_kept (shape_of_trace trace) c.in_ok-receivers.receivers.items ended.receivers.items c.in_ok-ended.ensures.receivers
     (subst (λ (sh : GuestShape). All (λ (r : ReceiverView). r.part.shape ≡ sh) c.in_ok-receivers.receivers.items) shape c.in_ok-receivers.ensures.shapes) in
