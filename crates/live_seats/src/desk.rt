@@ -60,7 +60,8 @@ impl<'a, W: WriteLog> Model for OpenDesk<'a, W> {
 }
 
 impl Desk {
-    /// A desk before the first round of a guest of this shape, with the sending ends of a copier's lanes, one of each of 1 to 16 streams.
+    /// A desk before the first round of a guest of this shape, with the sending ends of a copier's lanes, one of each of 1 to 16
+    /// streams.
     pub fn new(alloc: Global, shape: &Shape, outs: Vec<LaneOut>) -> Result<Desk, SeatError>
         requires some { 1 ≤ length outs.items }
         requires few { length outs.items ≤ 16 }

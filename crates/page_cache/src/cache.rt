@@ -18,7 +18,7 @@ use std::marker::Model;
 use trace_codec::WriteLog;
 
 /// Pages of a trace, each with the version that it was last asked for: at most so many, and the one that was not used for
-/// longest goes first.
+/// longest goes first; or all pages of a small guest.
 #[derive(Debug, Drop)]
 pub struct PageCache<'a, W: WriteLog> {
     trace: &'a W,
