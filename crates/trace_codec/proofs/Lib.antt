@@ -10,3 +10,4 @@ pub mod Longer
 pub mod Logs
 pub mod OneMore
 pub mod Texts
+pub mod Fronts

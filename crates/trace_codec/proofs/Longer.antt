@@ -10,9 +10,11 @@ use Rattle.migration_model.specs.TraceReading.{length_in, write_in, rest_after, 
 use Rattle.migration_model.proofs.Numbers.{wide16}
 use Rattle.migration_model.proofs.Writes.{IsBytes-drop, same_write}
 use Rattle.trace_codec.proofs.Steps.{passed}
+use Rattle.trace_codec.proofs.Texts.{whole_at}
 use Rattle.trace_codec.specs.Pieces.{wants_bytes}
 use Rattle.trace_codec.specs.Reading.{HoldsWrites, IsReading}
 use Rattle.trace_codec.specs.Refusals.{header_refusal, write_refusal, Begins, Refuses, in_header, in_write, behind}
+use Rattle.trace_codec.specs.Texts.{ArePositions}
 use Rattle.trace_codec.specs.declared.error.TraceError.{TraceError}
 use Rattle.trace_codec.specs.declared.error.TraceError.TheVariants.{ShortHeader, ShortRecord, TickOrder, TickTooLarge, PageOutOfRange, EmptyWrite, OutOfPage, ReadFault}
 
@@ -265,6 +267,28 @@ reading_longer bytes more shift pages count n last rest on long fits short =
 pub writes_longer : (bytes more : List ℕ) (n : ℕ) → 16 ≤ length bytes → HoldsWrites n (drop 16 bytes) → writes_in n (drop 16 (bytes ++ more)) ≡ writes_in n (drop 16 bytes)
 writes_longer bytes more n long holds =
     ap (writes_in n) (drop-append-le 16 bytes more long) ∙ (SameFront-from n (drop 16 bytes) more holds).writes
+
+holds_fewer : (count n : ℕ) (bytes : List ℕ) → HoldsWrites count bytes → n ≤ count → HoldsWrites n bytes
+holds_fewer count zero bytes holds few = tt
+holds_fewer zero (suc n) bytes holds few = absurd (omega arith)
+holds_fewer (suc count) (suc n) bytes holds few = (holds.0, holds_fewer count n (rest_after bytes) holds.1 (omega arith))
+
+-- and the same positions
+pub positions_longer : (bytes more : List ℕ) (count : ℕ) (positions : List ℕ) → ArePositions bytes count positions → 16 ≤ length bytes
+    → HoldsWrites count (drop 16 bytes) → ArePositions (bytes ++ more) count positions
+positions_longer bytes more count positions are long holds =
+    record {
+      count_is = are.count_is;
+      stands = λ n d low.
+          let position = get_or positions n d in
+          let here = are.stands n d low in
+          let whole = whole_at count n (drop 16 bytes) holds low in
+          let inside : position ≤ length bytes = omega (arith, whole, ap length here, length-drop position bytes) in
+          drop-append-le position bytes more inside
+          ∙ ap (λ (x : List ℕ). x ++ more) here
+          ∙ sym (SameFront-from n (drop 16 bytes) more (holds_fewer count n (drop 16 bytes) holds (omega arith))).rest
+          ∙ ap (rest_of n) (sym (drop-append-le 16 bytes more long));
+    }
 
 -- a text that ends in its header
 pub short_header : (bytes : List ℕ) → length bytes < 16 → Refuses bytes ShortHeader

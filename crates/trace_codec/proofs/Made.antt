@@ -1,15 +1,14 @@
 -- Writes that are tested one by one before they are a trace.
-use Rattle.std.proofs.Common.{◌≡◌, ℕ, ◌+◌, ◌*◌, ◌^◌, ◌<◌, ◌≤◌, Bool, true, false, cond, ltb, not, leb, eqb, ◌&&◌, List, [], ◌∷◌, ◌++◌, length, get_or, take, drop, Option, Some, None, Result, Ok, Err, refl, sym, ap, subst, ◌∙◌, inl, inr, arith}
-use Rattle.std.specs.Prelude.{IsOk, IfErr}
+use Rattle.std.proofs.Common.{◌≡◌, ℕ, ◌+◌, ◌^◌, ◌<◌, ◌≤◌, Bool, true, false, cond, not, leb, ◌&&◌, List, [], ◌∷◌, ◌++◌, length, get_or, take, drop, Option, Some, None, refl, sym, ap, subst, ◌∙◌, arith}
 use Rattle.std.specs.List.{All, flat_map, sum_by}
 use Rattle.std.specs.List.Sorted.{IsNonDecreasingBy}
-use Rattle.std.proofs.lemmas.Bool.{eqb-false, ltb-false, leb-false, leb-true, le-ltb, le-leb, lt-leb, ne_eqb, and_parts, not-false}
-use Rattle.std.proofs.lemmas.List.{get_or_at, take_more, drop_more, take-append-drop, length-append, length-take, length-take-le}
+use Rattle.std.proofs.lemmas.Bool.{eqb-false, ltb-false, leb-false, le-ltb, le-leb, lt-leb, ne_eqb}
+use Rattle.std.proofs.lemmas.List.{get_or_at, take_more, drop_more, take-append-drop, length-append, length-take}
 use Rattle.std.proofs.lemmas.List.Elements.{All-push, All-same}
 use Rattle.std.proofs.lemmas.List.Sums.{sum_by-take-le, sum_by_push}
 use Rattle.std.proofs.lemmas.List.Concat.{length-flat_map}
 use Rattle.migration_model.specs.Numbers.{text_of}
-use Rattle.migration_model.specs.Trace.{GuestWrite, GuestTrace, IsGuestSize, IsGuestWrite, AreGuestWrites, last_tick, trace_with, write_text, header_text, trace_text, IsTrace}
+use Rattle.migration_model.specs.Trace.{GuestWrite, GuestTrace, IsGuestWrite, AreGuestWrites, last_tick, trace_with, write_text, header_text, trace_text, IsTrace}
 use Rattle.migration_model.proofs.Order.{last_by-push, in_order-push, last_by-le, in_order-front}
 use Rattle.migration_model.proofs.Writes.{length-write_text}
 use Rattle.trace_codec.specs.Refusals.{record_refusal, RefusesRecord, sizes_refusal, is_short, RefusesTrace, in_sizes, in_record}

@@ -1,6 +1,6 @@
 -- No spelling of a trace is refused.
 use Rattle.std.proofs.Common.{◌≡◌, ℕ, ◌+◌, ◌^◌, ◌<◌, ◌≤◌, Bool, false, cond, not, ◌&&◌, leb, eqb, List, [], ◌∷◌, ◌++◌, length, get_or, drop, Option, Some, None, Result, Ok, Err, refl, sym, ap, subst, ◌∙◌, inl, inr, arith}
-use Rattle.std.specs.Prelude.{IfOk, IfErr}
+use Rattle.std.specs.Prelude.{IfOk, IfErr, MatchResult}
 use Rattle.std.specs.Int.{w32}
 use Rattle.std.specs.List.{flat_map}
 use Rattle.std.proofs.lemmas.Bool.{le-ltb, le-leb, lt-leb, ne_eqb}
@@ -123,3 +123,9 @@ pub only_memory : {X : Type 0} (bytes : List ℕ) (r : Result X TraceError) → 
 only_memory bytes (Ok found) refused trace is = tt
 only_memory bytes (Err e) (inl memory) trace is = memory
 only_memory bytes (Err e) (inr refused) trace is = absurd (never_refused bytes trace e is refused)
+
+-- and if memory doesn't run out, it is found
+pub only_found : (bytes : List ℕ) (r : Result GuestTrace TraceError) → IfOk r (λ t. Spells bytes t) → IfErr r (RefusesUnlessMemory bytes)
+    → (trace : GuestTrace) → Spells bytes trace → MatchResult r (λ t. t ≡ trace) (λ e. e ≡ Memory)
+only_found bytes (Ok found) spells refused trace is = one_trace_lem bytes found trace spells is
+only_found bytes (Err e) spells refused trace is = only_memory {X = GuestTrace} bytes (Err e) refused trace is

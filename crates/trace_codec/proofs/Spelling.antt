@@ -1,11 +1,9 @@
 -- The spelling of a trace, part after part; and the sizes of one that is not spelled yet.
-use Rattle.std.proofs.Common.{◌≡◌, ℕ, ◌+◌, ◌^◌, ◌<◌, ◌≤◌, Bool, cond, ltb, not, leb, ◌&&◌, List, [], ◌∷◌, ◌++◌, length, get_or, take, drop, Option, Some, None, Result, Ok, Err, IsOk, refl, sym, ap, ◌∙◌, append_assoc, arith}
+use Rattle.std.proofs.Common.{◌≡◌, ℕ, List, ◌++◌, length, ap, ◌∙◌, append_assoc}
 use Rattle.std.specs.Int.{w16, w32, w64}
-use Rattle.std.specs.List.{All, flat_map, sum_by}
-use Rattle.std.proofs.lemmas.List.{length-append}
-use Rattle.std.proofs.lemmas.List.Concat.{length-flat_map}
+use Rattle.std.specs.List.{flat_map}
 use Rattle.migration_model.specs.Numbers.{text_of}
-use Rattle.migration_model.specs.Trace.{GuestWrite, GuestTrace, trace_with, write_text, header_text, trace_text, IsTrace, Spells}
+use Rattle.migration_model.specs.Trace.{GuestWrite, GuestTrace, write_text, header_text, trace_text}
 
 pub write_parts : (write : GuestWrite) (tick page offset len : ℕ) (bytes old new last : List ℕ) → tick ≡ write.tick → page ≡ write.page → offset ≡ write.offset
     → len ≡ length write.bytes → bytes ≡ write.bytes

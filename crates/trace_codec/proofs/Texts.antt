@@ -1,5 +1,5 @@
 -- The writes that are read at the positions of their records.
-use Rattle.std.proofs.Common.{◌≡◌, ℕ, zero, suc, ◌+◌, ◌<◌, ◌≤◌, List, [], ◌∷◌, ◌++◌, length, get_or, drop, refl, sym, ap, ◌∙◌, ◌⊎◌, inl, inr, arith}
+use Rattle.std.proofs.Common.{◌≡◌, ℕ, zero, suc, ◌+◌, ◌<◌, ◌≤◌, List, [], ◌∷◌, ◌++◌, length, get_or, drop, refl, sym, ap, ◌∙◌, inl, inr, arith}
 use Rattle.std.specs.List.Sorted.{IsNonDecreasingBy}
 use Rattle.std.proofs.lemmas.Bool.{cases_lt}
 use Rattle.std.proofs.lemmas.List.{get_or_append_left, get_or_default, get_or-map, get_or_push, length-drop, length-map, length_push}
@@ -7,13 +7,9 @@ use Rattle.migration_model.specs.Touches.{GuestTouch, no_touch, touch_of, touch_
 use Rattle.migration_model.specs.Trace.{GuestTrace, GuestWrite}
 use Rattle.migration_model.specs.TraceReading.{length_in, page_in, tick_in, write_in, rest_after, writes_in, rest_of}
 use Rattle.migration_model.proofs.Writes.{length-writes_in}
-use Rattle.trace_codec.specs.Reading.{HoldsWrites, IsCut, RefusesBody}
-use Rattle.trace_codec.specs.Refusals.{RefusesUnlessMemory}
+use Rattle.trace_codec.specs.Reading.{HoldsWrites}
 use Rattle.trace_codec.specs.Texts.{ArePositions, IsHeldText, held_trace}
 use Rattle.trace_codec.specs.Writes.{no_write}
-use Rattle.trace_codec.specs.declared.error.TraceError.{TraceError}
-use Rattle.trace_codec.specs.declared.error.TraceError.TheVariants.{Memory}
-use Rattle.trace_codec.proofs.Found.{cut_refused}
 
 -- one of the writes stands behind those before it
 pub write_at : (count n : ℕ) (bytes : List ℕ) (d : GuestWrite) → n < count → get_or (writes_in count bytes) n d ≡ write_in (rest_of n bytes)
@@ -28,9 +24,6 @@ whole_at (suc count) zero bytes holds low = holds.0
 whole_at (suc count) (suc n) bytes holds low = whole_at count n (rest_after bytes) holds.1 (omega arith)
 
 -- ---- positions
-
-pub positions_none : (bytes : List ℕ) → ArePositions bytes 0 []
-positions_none bytes = record { count_is = refl; stands = λ n d low. absurd (omega arith) }
 
 pub positions_more : (bytes : List ℕ) (count : ℕ) (positions : List ℕ) (position : ℕ) → ArePositions bytes count positions
     → drop position bytes ≡ rest_of count (drop 16 bytes) → ArePositions bytes (count + 1) (positions ++ position ∷ [])
@@ -102,11 +95,3 @@ later_from touches tick middle here order low is after k d behind inside =
     let same = ap (λ (t : GuestTouch). t.tick) (get_or_default touches middle d no_touch low) in
     let rises = order middle k d behind inside in
     omega (arith, rises, same, is)
-
--- ---- what taking bytes over answers
-
--- memory ran out, or the writes are refused, and so is the whole
-pub held_refused : (bytes : List ℕ) (shift pages count : ℕ) (e : TraceError) → IsCut bytes shift pages count (drop 16 bytes)
-    → (e ≡ Memory) ⊎ RefusesBody shift pages count (drop 16 bytes) e → RefusesUnlessMemory bytes e
-held_refused bytes shift pages count e cut (inl memory) = inl memory
-held_refused bytes shift pages count e cut (inr refused) = inr (cut_refused bytes shift pages count (drop 16 bytes) e cut refused)

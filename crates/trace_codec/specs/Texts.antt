@@ -1,8 +1,9 @@
 -- Where the records of a trace stand in its bytes.
-use Rattle.std.specs.Prelude.{◌≡◌, ◌<◌, ℕ, List, drop, length, slice_index_or}
+use Rattle.std.specs.Prelude.{◌≡◌, ◌<◌, ◌≤◌, ℕ, List, drop, length, slice_index_or, take}
 use Rattle.migration_model.specs.Trace.{GuestTrace, trace_with}
 use Rattle.migration_model.specs.TraceReading.{rest_of, writes_in}
-use Rattle.trace_codec.specs.Reading.{IsView}
+use Rattle.trace_codec.specs.Reading.{IsReading, IsView}
+use Rattle.trace_codec.specs.declared.front_records.FrontRecords.{FrontRecords}
 
 -- the trace whose writes, so many, stand behind the header in these bytes
 abbrev pub held_trace : ℕ → ℕ → ℕ → List ℕ → GuestTrace
@@ -17,3 +18,13 @@ pub record ArePositions (bytes : List ℕ) (count : ℕ) (positions : List ℕ) 
 pub record IsHeldText (shift pages count : ℕ) (bytes positions : List ℕ) : Type 0 where
   pub is_view : IsView shift pages count (drop 16 bytes)
   pub are_positions : ArePositions bytes count positions
+
+-- the first records of a text are right, the last of them at its last tick: these are their positions, and there they end
+pub record IsTested (text : List ℕ) (front : FrontRecords) : Type 0 where
+  pub reads : IsReading text front.shape.shift front.shape.pages front.shape.writes (length front.positions.items) front.last (drop front.end text)
+  pub found : ArePositions text (length front.positions.items) front.positions.items
+  pub within : front.end ≤ length text
+
+-- the same of a front of the text, when that was all that had come
+abbrev pub IsTestedBefore : List ℕ → FrontRecords → Type 0
+IsTestedBefore text front = (n : ℕ) × IsTested (take n text) front

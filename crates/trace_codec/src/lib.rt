@@ -6,6 +6,7 @@ mod decoding;
 mod encoding;
 mod error;
 mod fields;
+mod front_records;
 mod log_reader;
 mod pieces;
 mod reader;
@@ -16,6 +17,7 @@ mod source;
 mod test_source;
 #[cfg(test)]
 mod tests;
+mod text_reading;
 mod timeline;
 mod touch_log;
 mod trace;

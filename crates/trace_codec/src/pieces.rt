@@ -15,7 +15,7 @@ use std::marker::Model;
 
 /// The room that pieces are read into: much more than the longest record has, and no more than stays in a processor's
 /// cache.
-const ROOM: usize = 262_144;
+pub(crate) const ROOM: usize = 262_144;
 
 /// The bytes of a source that came and are not taken yet, and how many came at all.
 #[derive(Drop)]
@@ -41,7 +41,7 @@ fn wants_bytes(cause: TraceError) -> bool
 }
 
 /// So many zeros.
-fn room_of(alloc: Global, size: usize) -> Result<Vec<u8>, AllocError>
+pub(crate) fn room_of(alloc: Global, size: usize) -> Result<Vec<u8>, AllocError>
     ensures { IfOk result (λ room. vec_len room ≡ size) }
 {
     let mut room = Vec::new(alloc);

@@ -144,3 +144,69 @@ fn refuses_the_first_cause(rt: HostRuntime) -> Result<(), Fail> {
     assert!(rt; matches!(read, Err(TraceError::ReadFault)));
     Ok(())
 }
+
+/// The text of a guest of 2 pages of 16 bytes, which writes byte 7 to the start of page 1 at each of 70000 ticks.
+fn long_text(alloc: Global) -> Result<Vec<u8>, AllocError> {
+    let mut bytes = Vec::from_slice(
+        alloc,
+        &[
+            0x50, 0x43, 0x57, 0x54, 1, 4, 0, 0, 2, 0, 0, 0, 0x70, 0x11, 1, 0,
+        ],
+    )?;
+    for tick in 0..70_000u64 {
+        let [a, b, c, ..] = tick.to_le_bytes();
+        bytes.extend_from_slice(&[a, b, c, 0, 0, 0, 0, 0, 1, 0, 0, 0, 0, 0, 1, 0, 7])?;
+    }
+    Ok(bytes)
+}
+
+#[test]
+fn tests_a_text_while_it_comes(rt: HostRuntime) -> Result<(), Fail> {
+    let alloc = rt.alloc();
+    for greatest in [100_003, 1_000_000] {
+        let bytes = long_text(alloc)?;
+        assert_eq!(rt; bytes.len(), 1_190_016);
+        let read = TraceText::read(alloc, &mut TestSource::new(bytes, greatest, None))?;
+        let shape = read.shape();
+        assert_eq!(rt; (shape.shift, shape.pages, shape.writes), (4, 2, 70_000));
+        assert_eq!(rt; (read.touch_count(), read.before(65_536)), (70_000, 65_536));
+        for place in [0, 61_679, 69_999] {
+            let write = read.write(place);
+            assert_eq!(rt;
+                (write.tick, write.page, write.offset),
+                (place as u64, 1, 0)
+            );
+            assert_eq!(rt; write.bytes, &[7][..]);
+        }
+    }
+    Ok(())
+}
+
+#[test]
+fn refuses_behind_what_was_tested(rt: HostRuntime) -> Result<(), Fail> {
+    let alloc = rt.alloc();
+    // The first 1 MiB ends in front of record 61680, counted from 0, and record 69998 begins at byte 1189982.
+    let refused: [(usize, u8, TraceError); 7] = [
+        (0, 0x51, TraceError::BadMagic),
+        (109, 2, TraceError::PageOutOfRange(5)),
+        (1_048_576, 0, TraceError::TickOrder(61_680)),
+        (1_189_982, 0x6c, TraceError::TickOrder(69_998)),
+        (1_189_990, 2, TraceError::PageOutOfRange(69_998)),
+        (12, 0x71, TraceError::ShortRecord(70_000)),
+        (12, 0x6f, TraceError::TrailingBytes),
+    ];
+    for (place, byte, cause) in refused {
+        let mut bytes = long_text(alloc)?;
+        for old in bytes.iter_mut().skip(place).take(1) {
+            *old = byte;
+        }
+        let read = TraceText::read(alloc, &mut TestSource::new(bytes, 100_003, None));
+        assert!(rt; matches!(read, Err(error) if error == cause));
+    }
+    let read = TraceText::read(
+        alloc,
+        &mut TestSource::new(long_text(alloc)?, 100_003, Some(12)),
+    );
+    assert!(rt; matches!(read, Err(TraceError::ReadFault)));
+    Ok(())
+}

@@ -1,63 +1,27 @@
 //! A trace that is held as its bytes.
 
-ghost use Rattle.std.specs.Prelude.{◌≡◌, ◌↔◌, ◌⊎◌, ◌+◌, ◌<◌, ◌≤◌, ◌^◌, Err, IfErr, IfOk, List, MatchResult, OnOk, Some, drop, false, length, refl, slice_index_or, true, ℕ};
+ghost use Rattle.std.specs.Prelude.{◌≡◌, ◌↔◌, ◌+◌, ◌<◌, ◌≤◌, Err, IfErr, IfOk, List, MatchResult, Some, false, length, refl, slice_index_or, true, ℕ};
 ghost use Rattle.migration_model.specs.Touches.{touches_of};
 ghost use Rattle.migration_model.specs.Trace.{GuestTrace, IsTrace, Spells};
 ghost use Rattle.migration_model.specs.TraceReading.{length_in, write_in};
-ghost use Rattle.trace_codec.specs.Reading.{IsBody, RefusesBody};
 ghost use Rattle.trace_codec.specs.Refusals.{RefusesUnlessMemory};
 ghost use Rattle.trace_codec.specs.Source.{IsOutside, SourceRefuses, SourceSpells};
-ghost use Rattle.trace_codec.specs.Texts.{ArePositions, IsHeldText, held_trace};
+ghost use Rattle.trace_codec.specs.Texts.{IsHeldText, held_trace};
 ghost use Rattle.trace_codec.specs.Writes.{no_write};
 
 use crate::error::TraceError;
-use crate::fields::{checked_write, shape_of, u32_in, u64_in};
-use crate::reading::read_bytes;
+use crate::fields::{u32_in, u64_in};
+use crate::front_records::FrontRecords;
 use crate::records::first_write;
 use crate::shape::Shape;
 use crate::source::Source;
+use crate::text_reading::{ComingText, read_text};
 use crate::timeline::{Timeline, Touch};
 use crate::touch_log::SHORTEST_RECORD;
 use crate::write::WriteView;
 use crate::write_log::WriteLog;
 use std::alloc::Global;
 use std::marker::Model;
-
-/// Tests the writes of a trace of this shape, which are all that stands behind its header, and finds where the record of
-/// each begins. The room for that follows the bytes, whatever the header claims.
-fn record_positions(alloc: Global, shape: Shape, bytes: &[u8]) -> Result<Vec<u32>, TraceError>
-    requires long { 16 ≤ length bytes.now }
-    requires short { length bytes.now ≤ 2 ^ 28 }
-    ensures refused { IfErr result (λ e. (e ≡ TraceError.Memory) ⊎ RefusesBody shape.shift shape.pages shape.writes (drop 16 bytes.now) e) }
-    ensures accepted { OnOk result (IsBody shape.shift shape.pages shape.writes (drop 16 bytes.now)) }
-    ensures found { IfOk result (λ positions. ArePositions bytes.now shape.writes positions.items) }
-{
-    let room = (shape.writes as usize).min(bytes.len() / SHORTEST_RECORD);
-    let mut positions = Vec::with_capacity(alloc, room)?;
-    let mut last = 0;
-    let (_, mut rest) = bytes.split_at(16);
-    for index in 0..shape.writes {
-        let (tick, after) = checked_write(shape, last, index, rest)?;
-        positions.push((bytes.len() - rest.len()) as u32)?;
-        last = tick;
-        rest = after;
-    }
-    if !rest.is_empty() {
-        return Err(TraceError::TrailingBytes);
-    }
-    Ok(positions)
-}
-
-/// How large the trace is that the bytes spell, and where the record of each of its writes begins.
-fn shape_and_positions(alloc: Global, bytes: &[u8]) -> Result<(Shape, Vec<u32>), TraceError>
-    ensures spelled { IfOk result (λ found. Spells bytes.now (held_trace found.0.shift found.0.pages found.0.writes bytes.now)) }
-    ensures held { IfOk result (λ found. IsHeldText found.0.shift found.0.pages found.0.writes bytes.now found.1.items) }
-    ensures refused { IfErr result (RefusesUnlessMemory bytes.now) }
-{
-    let shape = shape_of(bytes)?;
-    let positions = record_positions(alloc, shape, bytes)?;
-    Ok((shape, positions))
-}
 
 /// A trace that is held as its bytes, with the position of each record: 4 bytes a write beside the text, and no other
 /// copy of what is written.
@@ -77,6 +41,25 @@ impl Model for TraceText {
 }
 
 impl TraceText {
+    /// Takes over a text, of which the first records may be tested already. Where none are, the room for the positions
+    /// follows the bytes, whatever the header claims.
+    fn of_text(alloc: Global, text: ComingText) -> Result<TraceText, TraceError>
+        ensures found { IfOk result (λ trace. Spells text trace) }
+        ensures refused { IfErr result (RefusesUnlessMemory text) }
+    {
+        let bytes = text.bytes;
+        let front = match text.front {
+            Some(front) => front,
+            None => FrontRecords::new(alloc, &bytes, bytes.len() / SHORTEST_RECORD)?,
+        };
+        let all = front.all(&bytes)?;
+        Ok(TraceText {
+            shape: all.shape,
+            bytes,
+            positions: all.positions,
+        })
+    }
+
     /// Takes over the bytes of a trace, in one pass over the records. `E17` is never answered. It takes no more memory
     /// than a quarter of what the bytes have, whatever the header claims.
     pub fn parse(alloc: Global, bytes: Vec<u8>) -> Result<TraceText, TraceError>
@@ -85,15 +68,13 @@ impl TraceText {
         ensures only { (trace : GuestTrace) → Spells bytes.items trace
             → MatchResult result (λ found. found ≡ trace) (λ e. e ≡ TraceError.Memory) }
     {
-        let (shape, positions) = shape_and_positions(alloc, &bytes)?;
-        Ok(TraceText {
-            shape,
-            bytes,
-            positions,
-        })
+        TraceText::of_text(alloc, ComingText { bytes, front: None })
     }
 
-    /// The trace that a source holds, read to its end. Any failed read is `E17`, whatever came before it.
+    /// The trace that a source holds. The source is read to its end, or past the longest trace and no further, also where
+    /// a refusal was found before. Any failed read is `E17`, whatever came before it. Once 1 MiB has come, each piece is
+    /// tested while it is at hand; then the positions take 4 bytes for each write that the header counts, which are no
+    /// more than 4 MiB. Of a shorter text they take a quarter of what its bytes have, whatever the header claims.
     pub fn read<S: Source>(alloc: Global, source: &mut S) -> Result<TraceText, TraceError>
         requires { S.has_failed source.old ≡ false }
         ensures found { IfOk result (SourceSpells (S.remaining source.old)) }
@@ -102,8 +83,8 @@ impl TraceText {
             → MatchResult result (λ found. found ≡ trace) IsOutside }
         ensures failed { (result ≡ Err TraceError.ReadFault) ↔ (S.has_failed source.new ≡ true) }
     {
-        let bytes = read_bytes(alloc, source)?;
-        TraceText::parse(alloc, bytes)
+        let text = read_text(alloc, source)?;
+        TraceText::of_text(alloc, text)
     }
 
     /// How large the trace is.

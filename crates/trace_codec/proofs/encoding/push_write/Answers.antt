@@ -1,4 +1,4 @@
-use Rattle.std.proofs.Common.{◌≡◌, ◌<◌, length, sym, ap, ◌∙◌, arith}
+use Rattle.std.proofs.Common.{length, ap, ◌∙◌, arith}
 use Rattle.trace_codec.proofs.Spelling.{write_parts}
 use Rattle.trace_codec.proofs.encoding.push_write.Goals as goal
 

@@ -1,8 +1,8 @@
-use Rattle.std.proofs.Common.{◌≡◌, ap, length, map, inr, ◌∙◌, arith}
+use Rattle.std.proofs.Common.{ap, length, map, inr, arith}
 use Rattle.std.proofs.lemmas.List.{length-map}
 use Rattle.std.proofs.lemmas.Result.{err_from_is_err_and}
 use Rattle.migration_model.specs.Trace.{trace_with}
-use Rattle.migration_model.specs.Touches.{touch_of, AreTouches, touches_of}
+use Rattle.migration_model.specs.Touches.{touch_of, AreTouches}
 use Rattle.migration_model.proofs.Touches.{AreTouches-from_trace}
 use Rattle.trace_codec.proofs.touch_log.log_of_reader.Goals as goal
 

@@ -1,4 +1,4 @@
-use Rattle.std.proofs.Common.{rules, of_calls, ◌≡◌, ◌<◌, ◌≤◌, ◌∙◌, ltb, length, ap, arith}
+use Rattle.std.proofs.Common.{rules, of_calls, ◌≡◌, ◌≤◌, ◌∙◌, ltb, length, ap}
 use Rattle.std.specs.List.Sorted.{IsNonDecreasingBy}
 use Rattle.std.proofs.lemmas.List.Sorted.{IsPartitionPoint-from_clause, IsPartitionedBy-ltb}
 use Rattle.migration_model.specs.Trace.{IsTrace, GuestWrite}
