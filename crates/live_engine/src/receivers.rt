@@ -14,10 +14,14 @@ use std::thread::{Parker, Promise, PromisedHandle, Scope, Threads, join_promised
 use std::time::Duration;
 use stream_receivers::Receiver;
 
-/// How often a receiver to which nothing came looks again at once.
-const LOOKS: u32 = 100;
+/// How often a receiver to which nothing came looks again before it sleeps.
+const LOOKS: u32 = 8;
 
-/// How many microseconds it then sleeps before each look: who goes on looking takes time from those who send.
+/// How many turns it waits before each of these looks, a few microseconds in all. Each look takes the lane's memory away from who
+/// sends, so that it is cheaper for both to take some frames at a time.
+const TURNS: u32 = 64;
+
+/// How many microseconds it sleeps then before each look: who goes on looking takes time from those who send.
 const SLEEP: u64 = 20;
 
 /// What a run and its receivers tell each other. No claim rests on it.
@@ -66,7 +70,9 @@ fn sweep<G: Gate>(gate: &G, stream: usize, receiver: &mut Receiver) -> bool
 /// Waits before the next look, where nothing came in so many.
 fn pause<R: Wait>(rt: &R, looks: u32) {
     if looks < LOOKS {
-        spin_loop();
+        for _ in 0..TURNS {
+            spin_loop();
+        }
     } else {
         Parker::new().park_timeout(rt, Duration::from_micros(SLEEP));
     }
