@@ -7,7 +7,7 @@ ghost use Rattle.live_engine.specs.Runs.{IsStoppedAt};
 
 use crate::listing::LiveRound;
 use image_build::JoinedParts;
-use page_versions::PageIndex;
+use page_versions::{PageIndex, Reached};
 use trace_codec::WriteLog;
 
 /// A guest that has stopped, and whose memory has come.
@@ -37,6 +37,7 @@ impl Stopped {
         let writes = trace.shape().writes;
         let version = self.versions[page as usize];
         self.memory.page_into(page, room);
-        self.index.bring_on(trace, page, version, writes, room);
+        let stopped = Reached { version, writes: 0 };
+        self.index.bring_on(trace, page, stopped, writes, room);
     }
 }

@@ -8,7 +8,8 @@ use Rattle.std.proofs.lemmas.List.{get_or-set_same, get_or-set_other, get_or-rep
 use Rattle.std.proofs.lemmas.List.Elements.{All-cons, All-head, All-tail}
 use Rattle.migration_model.proofs.Pages.{zero_page}
 use Rattle.migration_model.specs.Trace.{GuestTrace}
-use Rattle.page_cache.specs.Cache.{AreKept, AreSmall, IsKept, KeptPage, entries_by, page_with}
+use Rattle.migration_model.specs.Versions.{page_at}
+use Rattle.page_cache.specs.Cache.{AreKept, AreSmall, IsKept, KeptPage, entries_by, first_pages, page_with}
 
 -- a look-up of a page of theirs finds it
 found_from : (others : List (ℕ × KeptPage)) (d : KeptPage) (ks : List KeptPage) (from page : ℕ) → page < length ks
@@ -91,7 +92,7 @@ small_joined trace ks others small are =
     are
 
 -- one page changes
-pub small_set : (trace : GuestTrace) (ks : List KeptPage) (page : ℕ) (kept : KeptPage) → AreSmall trace ks → IsKept trace page kept → AreSmall trace (set ks page kept)
+small_set : (trace : GuestTrace) (ks : List KeptPage) (page : ℕ) (kept : KeptPage) → AreSmall trace ks → IsKept trace page kept → AreSmall trace (set ks page kept)
 small_set trace ks page kept small is d i low =
     elim (cases_eq i page) [
       | inl same ↦
@@ -102,8 +103,15 @@ small_set trace ks page kept small is d i low =
           subst (λ (k : KeptPage). IsKept trace i k) (sym (get_or-set_other ks page i kept d other)) (small d i (omega (arith, low, length-set ks page kept)))
     ]
 
+-- one page is brought to a version
+pub small_brought : (trace : GuestTrace) (ks now : List KeptPage) (page version : ℕ) → AreSmall trace ks → page < length ks → version ≤ length trace.writes
+    → now ≡ set ks page (page_with version (page_at trace page version)) → AreSmall trace now
+small_brought trace ks now page version small there within is =
+    let kept = page_with version (page_at trace page version) in
+    subst (AreSmall trace) (sym is) (small_set trace ks page kept small ((small kept page there).0, within, refl))
+
 -- before the first write each page is zeros
-pub new_small : (trace : GuestTrace) (shift pages : ℕ) → trace.shift ≡ shift → trace.pages ≡ pages → AreSmall trace (replicate pages (page_with 0 (replicate (2 ^ shift) 0)))
+pub new_small : (trace : GuestTrace) (shift pages : ℕ) → trace.shift ≡ shift → trace.pages ≡ pages → AreSmall trace (first_pages shift pages)
 new_small trace shift pages shifts counts d i low =
     let below : i < pages = omega (arith, low, length-replicate pages (page_with 0 (replicate (2 ^ shift) 0))) in
     let inside : i < trace.pages = omega (arith, below, counts) in

@@ -1,8 +1,9 @@
 -- What a cache keeps of a guest's pages. This project's own, as versions are.
-use Rattle.std.specs.Prelude.{◌≡◌, ℕ, ◌<◌, ◌≤◌, List, ◌++◌, length, slice_index_or}
-use Rattle.std.specs.List.{All, enumerate_from}
+use Rattle.std.specs.Prelude.{◌≡◌, ℕ, ◌+◌, ◌*◌, ◌^◌, ◌<◌, ◌≤◌, if◌then◌else◌, List, [], ◌++◌, length, map, nat_le, replicate, slice_index_or}
+use Rattle.std.specs.List.{All, between, enumerate_from}
 use Rattle.migration_model.specs.Trace.{GuestTrace}
 use Rattle.migration_model.specs.Versions.{page_at}
+use Rattle.page_versions.specs.declared.index.Reached.{Reached}
 
 -- bytes of a page, and the version that they are of
 pub record KeptPage : Type 0 where
@@ -11,6 +12,14 @@ pub record KeptPage : Type 0 where
 
 abbrev pub page_with : ℕ → List ℕ → KeptPage
 page_with version bytes = record { version = version; bytes = bytes }
+
+-- the versions that pages have come to
+abbrev pub versions_of : List Reached → List ℕ
+versions_of reached = map (λ r. r.version) reached
+
+-- pages at these versions, whose bytes stand one after the other, so many of each
+abbrev pub pages_by : ℕ → List ℕ → List ℕ → List KeptPage
+pages_by size versions bytes = map (λ at. page_with at.1 (between (at.0 * size) (at.0 * size + size) bytes)) (enumerate_from 0 versions)
 
 -- pages that are kept by their numbers, at most so many, the one that was used last in front
 pub record GuestPages : Type 0 where
@@ -32,6 +41,14 @@ pub record GuestCache : Type 0 where
 
 abbrev pub cache_with : GuestTrace → List (ℕ × KeptPage) → ℕ → GuestCache
 cache_with trace entries capacity = record { trace = trace; entries = entries; capacity = capacity }
+
+-- all pages of a guest before its first write: zeros at version 0
+abbrev pub first_pages : ℕ → ℕ → List KeptPage
+first_pages shift pages = replicate pages (page_with 0 (replicate (2 ^ shift) 0))
+
+-- what is kept before the first write: all pages of a guest of at most 4 MiB, and none of a larger one
+abbrev pub first_entries : ℕ → ℕ → List (ℕ × KeptPage)
+first_entries shift pages = if nat_le (pages * 2 ^ shift) 4_194_304 then enumerate_from 0 (first_pages shift pages) else []
 
 -- a page of the trace has the bytes of its version
 abbrev pub IsKept : GuestTrace → ℕ → KeptPage → Type 0

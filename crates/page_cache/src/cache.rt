@@ -10,7 +10,7 @@ use crate::error::CacheError;
 use crate::kept::Kept;
 use crate::pages::KeptPages;
 use crate::recent::{keep_recent, recent_bytes};
-use crate::small::keep_small;
+use crate::small::AllPages;
 use lru::LruCache;
 use page_versions::PageIndex;
 use std::alloc::Global;
@@ -23,16 +23,16 @@ use trace_codec::WriteLog;
 pub struct PageCache<'a, W: WriteLog> {
     trace: &'a W,
     index: &'a PageIndex,
-    all: Vec<Kept>,
+    all: AllPages,
     kept: LruCache<u32, Kept>,
 }
 
 impl<'a, W: WriteLog> Model for PageCache<'a, W> {
     ghost Value = { GuestCache };
 
-    ghost view = { λ c. cache_with (W.trace c.trace.now) (entries_by c.all.items c.kept.entries) c.kept.cap };
+    ghost view = { λ c. cache_with (W.trace c.trace.now) (entries_by c.all c.kept.entries) c.kept.cap };
 
-    ghost invariant = { λ c. IsIndexOf c.index.now (W.trace c.trace.now) × AreKept (W.trace c.trace.now) (entries_by c.all.items c.kept.entries) };
+    ghost invariant = { λ c. IsIndexOf c.index.now (W.trace c.trace.now) × AreKept (W.trace c.trace.now) (entries_by c.all c.kept.entries) };
 }
 
 impl<'a, W: WriteLog> PageCache<'a, W> {
@@ -91,7 +91,8 @@ impl<'a, W: WriteLog> PageCache<'a, W> {
         ensures capacity { self.new.capacity ≡ self.old.capacity }
     {
         if (page as usize) < self.all.len() {
-            return keep_small(alloc, self.trace, self.index, &mut self.all, page, version);
+            self.all.keep(self.trace, self.index, page, version);
+            return Ok(());
         }
         keep_recent(alloc, self.trace, self.index, &mut self.kept, page, version)
     }
@@ -101,8 +102,7 @@ impl<'a, W: WriteLog> PageCache<'a, W> {
         ensures { option_map (λ b. b.now) result ≡ option_map (λ k. k.bytes) (lookup (nat_eq page) self.now.entries) }
     {
         if (page as usize) < self.all.len() {
-            let kept = &self.all[page as usize];
-            return Some(&kept.bytes);
+            return Some(self.all.bytes(page));
         }
         recent_bytes(&self.kept, page)
     }

@@ -5,21 +5,21 @@ ghost use Rattle.migration_model.specs.Versions.{page_at};
 ghost use Rattle.page_versions.specs.Index.{IsIndexOf};
 ghost use Rattle.page_cache.specs.Cache.{IsKept, KeptPage, page_with};
 
-use page_versions::PageIndex;
+use page_versions::{PageIndex, Reached};
 use std::marker::Model;
 use trace_codec::WriteLog;
 
-/// The bytes of a page, and the version that they are of.
+/// The bytes of a page, and how far it has come.
 #[derive(Debug, Drop)]
 pub(crate) struct Kept {
-    pub(crate) version: u32,
+    pub(crate) reached: Reached,
     pub(crate) bytes: Vec<u8>,
 }
 
 impl Model for Kept {
     ghost Value = { KeptPage };
 
-    ghost view = { λ k. page_with k.version k.bytes.items };
+    ghost view = { λ k. page_with k.reached.version k.bytes.items };
 }
 
 impl Kept {
@@ -37,7 +37,6 @@ impl Kept {
         requires version { version ≤ length (W.trace trace.now).writes }
         ensures { self.new ≡ page_with version (page_at (W.trace trace.now) page version) }
     {
-        index.bring_on(trace, page, self.version, version, &mut self.bytes);
-        self.version = version;
+        self.reached = index.bring_on(trace, page, self.reached, version, &mut self.bytes);
     }
 }

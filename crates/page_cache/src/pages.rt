@@ -4,7 +4,7 @@ ghost use Rattle.std.specs.Prelude.{◌≡◌, ◌≤◌, [], IfOk};
 
 use crate::error::CacheError;
 use crate::kept::Kept;
-use crate::small::{first_pages, is_small};
+use crate::small::{AllPages, is_small};
 use lru::LruCache;
 use std::alloc::Global;
 use std::marker::Model;
@@ -15,7 +15,7 @@ use trace_codec::Shape;
 #[derive(Debug, Drop)]
 pub struct KeptPages {
     /// Each page of a small guest, by its number; none of a larger one.
-    pub(crate) all: Vec<Kept>,
+    pub(crate) all: AllPages,
     pub(crate) kept: LruCache<u32, Kept>,
 }
 
@@ -24,11 +24,11 @@ impl Model for KeptPages {
 
     ghost Value = { GuestPages };
 
-    ghost view = { λ p. pages_with (entries_by p.all.items p.kept.entries) p.kept.cap };
+    ghost view = { λ p. pages_with (entries_by p.all p.kept.entries) p.kept.cap };
 }
 
 impl KeptPages {
-    ghost use Rattle.page_cache.specs.Cache.{AreKept, pages_with};
+    ghost use Rattle.page_cache.specs.Cache.{AreKept, first_entries, pages_with};
     ghost use Rattle.migration_model.specs.Trace.{GuestTrace};
 
     /// No pages yet, and at most `capacity` later. Memory follows what is kept.
@@ -38,7 +38,7 @@ impl KeptPages {
     {
         let capacity = NonZeroUsize::new(capacity).unwrap();
         Ok(KeptPages {
-            all: Vec::new(alloc),
+            all: AllPages::none(alloc),
             kept: LruCache::sparse(alloc, capacity)?,
         })
     }
@@ -46,6 +46,7 @@ impl KeptPages {
     /// The pages of a guest of this shape, before its first write: all of them, where it is small.
     pub fn of_guest(alloc: Global, shape: &Shape, capacity: usize) -> Result<KeptPages, CacheError>
         requires { (1 ≤ capacity) × (capacity ≤ 65_536) }
+        ensures pages { IfOk result (λ pages. pages.entries ≡ first_entries shape.now.shift shape.now.pages) }
         ensures kept { (trace : GuestTrace) → trace.shift ≡ shape.now.shift → trace.pages ≡ shape.now.pages → IfOk result (λ pages. AreKept trace pages.entries) }
         ensures capacity { IfOk result (λ pages. pages.capacity ≡ capacity) }
     {
@@ -53,7 +54,7 @@ impl KeptPages {
         if !is_small(shape) {
             return Ok(KeptPages { all, kept });
         }
-        let all = first_pages(alloc, shape)?;
+        let all = AllPages::zeros(alloc, shape)?;
         Ok(KeptPages { all, kept })
     }
 }

@@ -9,7 +9,7 @@ ghost use Rattle.page_cache.specs.Cache.{AreKept, page_with};
 use crate::error::CacheError;
 use crate::kept::Kept;
 use lru::LruCache;
-use page_versions::PageIndex;
+use page_versions::{PageIndex, Reached};
 use std::alloc::Global;
 use trace_codec::WriteLog;
 
@@ -32,7 +32,7 @@ fn bring_kept_on<W: WriteLog>(
     let Some(was) = kept.get_mut(&page) else {
         return false;
     };
-    if was.version > version {
+    if was.reached.version > version {
         return false;
     }
     was.bring_to(trace, index, page, version);
@@ -61,7 +61,9 @@ pub(crate) fn keep_recent<W: WriteLog>(
         return Ok(());
     }
     let bytes = index.bytes_at(alloc, trace, page, version)?;
-    kept.put(page, Kept { version, bytes })?;
+    // How many of its writes are in them is looked for when the page is brought on.
+    let reached = Reached { version, writes: 0 };
+    kept.put(page, Kept { reached, bytes })?;
     Ok(())
 }
 

@@ -130,6 +130,33 @@ fn all_pages_of_a_small_guest_are_kept(rt: HostRuntime) -> Result<(), Fail> {
     Ok(())
 }
 
+/// Whether the cache keeps a page with these bytes.
+fn keeps(cache: &PageCache<'_, Trace>, page: u32, bytes: &[u8]) -> bool {
+    match cache.bytes(page) {
+        Some(kept) => kept == bytes,
+        None => false,
+    }
+}
+
+#[test]
+fn neighbours_of_a_page_stay(rt: HostRuntime) -> Result<(), Fail> {
+    let alloc = rt.alloc();
+    let trace = guest(alloc)?;
+    let index = PageIndex::build(&rt, alloc, &trace)?;
+    let mut cache = new_small_cache(alloc, &trace, &index)?;
+    let zeros = page_with(&[])?;
+    let first = page_with(&[(0, 1)])?;
+    let third = page_with(&[(0, 3), (15, 2)])?;
+    drop(bytes_of(alloc, &mut cache, &trace, 1, 3)?);
+    assert!(rt; keeps(&cache, 0, &zeros) && keeps(&cache, 1, &third) && keeps(&cache, 2, &zeros));
+    drop(bytes_of(alloc, &mut cache, &trace, 0, 5)?);
+    drop(bytes_of(alloc, &mut cache, &trace, 2, 5)?);
+    assert!(rt; keeps(&cache, 0, &first) && keeps(&cache, 1, &third) && keeps(&cache, 2, &zeros));
+    drop(bytes_of(alloc, &mut cache, &trace, 1, 0)?);
+    assert!(rt; keeps(&cache, 0, &first) && keeps(&cache, 1, &zeros) && keeps(&cache, 3, &zeros));
+    Ok(())
+}
+
 #[test]
 fn a_guest_of_four_mebibytes_is_small(rt: HostRuntime) {
     let shape = Shape {

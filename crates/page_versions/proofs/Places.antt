@@ -1,8 +1,11 @@
 -- Places of those elements of a list that pass a test.
 use Rattle.std.proofs.Common.{◌≡◌, ℕ, zero, suc, ◌+◌, ◌-◌, ◌<◌, ◌≤◌, Bool, true, false, cond, leb, ltb, eqb, ◌&&◌, List, [], ◌∷◌, length, take, drop, map, get_or, refl, sym, ap, ◌∙◌, arith}
-use Rattle.std.specs.List.{All, filter, fold}
+use Rattle.std.specs.List.{All, enumerate_from, filter, fold}
 use Rattle.std.specs.List.Sorted.{IsNonDecreasingBy, IsNonDecreasing}
 use Rattle.std.proofs.lemmas.Bool.{cond_both, cond-true, cond-false, le-leb, lt-leb, le-ltb, lt-ltb}
+use Rattle.std.proofs.lemmas.List.{length-map}
+use Rattle.std.proofs.lemmas.List.FromFn.{length-enumerate_from}
+use Rattle.std.proofs.lemmas.List.Sums.{count_by-le-length, length-filter}
 use Rattle.std.proofs.lemmas.List.Elements.{All-nil, All-cons, All-head, All-tail, All-weaker}
 use Rattle.migration_model.specs.Trace.{GuestTrace, GuestWrite}
 use Rattle.migration_model.specs.Touches.{GuestTouch, AreTouches, touch_of, touches_of, no_touch}
@@ -148,3 +151,15 @@ fold_places {X} {B} f look q s (x ∷ xs) b same =
     ∙ fold_places f look q (s + 1) xs (cond (q x) (f b x) b) (λ i d low.
     let there : s + 1 + i ≡ s + suc i = omega arith in
     ap look there ∙ same (suc i) d (omega arith))
+
+-- a page has no more places than there are touches
+pub places_few : (touches : List GuestTouch) (page : ℕ) → length (places_in touches page) ≤ length touches
+places_few touches page =
+    let own : ℕ × GuestTouch → Bool = λ at. eqb at.1.page page in
+    omega (
+      arith,
+      length-map (filter own (enumerate_from 1 touches)) (λ (at : ℕ × GuestTouch). at.0),
+      length-filter own (enumerate_from 1 touches),
+      count_by-le-length own (enumerate_from 1 touches),
+      length-enumerate_from 1 touches,
+    )

@@ -2,14 +2,14 @@
 use Rattle.std.proofs.Common.{◌≡◌, ℕ, suc, ◌+◌, ◌-◌, ◌<◌, ◌≤◌, Bool, true, false, not, ltb, leb, eqb, ◌&&◌, List, [], ◌∷◌, ◌++◌, length, take, drop, map, get_or, max, inl, inr, refl, sym, ap, ◌∙◌, arith}
 use Rattle.std.specs.List.{filter, fold}
 use Rattle.std.specs.List.Sorted.{IsNonDecreasing, IsPartitionPoint}
-use Rattle.std.proofs.lemmas.Bool.{cases_lt, lt-ltb, lt-leb, le-ltb, le-leb}
-use Rattle.std.proofs.lemmas.List.{take-append-drop, get_or-take, get_or-drop, length-drop, length-take, append-nil, get_or-map}
+use Rattle.std.proofs.lemmas.Bool.{cases_lt, leb-true, lt-ltb, lt-leb, le-ltb, le-leb}
+use Rattle.std.proofs.lemmas.List.{take-append-drop, get_or-take, get_or-drop, length-append, length-drop, length-take, append-nil, get_or-map}
 use Rattle.std.proofs.lemmas.List.Elements.{filter-append}
 use Rattle.migration_model.specs.Trace.{GuestTrace, GuestWrite}
 use Rattle.migration_model.specs.Touches.{GuestTouch, touch_of, no_touch}
 use Rattle.migration_model.specs.Versions.{version_before}
 use Rattle.page_versions.specs.Index.{GuestIndex, IsIndexOf, places_in}
-use Rattle.page_versions.specs.Layout.{tick_at}
+use Rattle.page_versions.specs.Layout.{IsCountTo, tick_at}
 use Rattle.migration_model.proofs.Places.{from_is}
 use Rattle.page_versions.proofs.Places.{filter_none, filter_all, places_both, places_of_index, places_of_is}
 
@@ -71,3 +71,16 @@ after_is version place = elim (cases_lt version place) [
   | inl less ↦ rw (lt-ltb version place less, lt-leb place version less) refl
   | inr le ↦ rw (le-ltb version place le, le-leb place version le) refl
 ]
+
+-- how many are not after a later version: those not after an earlier one, and as many of the rest
+pub count_on : (places : List ℕ) (earlier later start more : ℕ) → earlier ≤ later → IsCountTo places earlier start → IsCountTo (drop start places) later more
+    → start + more ≡ length (filter (λ v. leb v later) places)
+count_on places earlier later start more rise first rest =
+    let p : ℕ → Bool = λ v. leb v later in
+    let front : filter p (take start places) ≡ take start places = filter_all p (take start places)
+    (λ k d inside. let below : k < start = omega (arith, inside, length-take start places) in
+    rw (get_or-take start places k d below) (le-leb (get_or places k d) later (omega (arith, rise, leb-true (get_or places k d) earlier (first.1.0 k d (omega arith) below))))) in
+    let all : filter p places ≡ take start places ++ take more (drop start places) =
+    ap (filter p) (sym (take-append-drop start places)) ∙ filter-append p (take start places) (drop start places)
+    ∙ ap (λ l. l ++ filter p (drop start places)) front ∙ ap (λ l. take start places ++ l) (filter_front p (drop start places) more rest.0 rest.1) in
+    omega (arith, ap length all, length-append (take start places) (take more (drop start places)), length-take start places, length-take more (drop start places), first.0, rest.0)

@@ -1,6 +1,6 @@
 //! A page's bytes from its own writes.
 
-ghost use Rattle.std.specs.Prelude.{◌≡◌, ◌+◌, ◌^◌, ◌≤◌, ◌∷◌, [], List, OnOk, fold, length, map, take, vec_len};
+ghost use Rattle.std.specs.Prelude.{◌≡◌, ◌+◌, ◌^◌, ◌≤◌, ◌∷◌, [], List, OnOk, fold, length, map, take};
 ghost use Rattle.std.specs.List.{All};
 ghost use Rattle.migration_model.specs.Memory.{put};
 ghost use Rattle.migration_model.specs.Trace.{GuestWrite, IsTrace};
@@ -12,10 +12,10 @@ use std::marker::Model;
 use trace_codec::{WriteLog, WriteView};
 
 /// Puts a write's bytes over those of its page.
-fn write_over(bytes: &mut Vec<u8>, write: &WriteView<'_>)
-    requires { write.now.offset + length write.now.bytes.now ≤ vec_len bytes.old }
-    ensures room { vec_len bytes.new ≡ vec_len bytes.old }
-    ensures put { bytes.new.items ≡ put bytes.old.items write.now.offset write.now.bytes.now }
+fn write_over(bytes: &mut [u8], write: &WriteView<'_>)
+    requires { write.now.offset + length write.now.bytes.now ≤ length bytes.old }
+    ensures room { length bytes.new ≡ length bytes.old }
+    ensures put { bytes.new ≡ put bytes.old write.now.offset write.now.bytes.now }
 {
     let start = write.offset as usize;
     bytes[start..start + write.bytes.len()].copy_from_slice(write.bytes);
@@ -41,10 +41,10 @@ impl<'a> Model for UpToFour<'a> {
 
 impl<'a> UpToFour<'a> {
     /// Puts them, one after the other.
-    fn put_over(&self, bytes: &mut Vec<u8>)
-        requires { All (λ write. write.offset + length write.bytes ≤ vec_len bytes.old) self.now }
-        ensures room { vec_len bytes.new ≡ vec_len bytes.old }
-        ensures put { bytes.new.items ≡ fold overwrite bytes.old.items self.now }
+    fn put_over(&self, bytes: &mut [u8])
+        requires { All (λ write. write.offset + length write.bytes ≤ length bytes.old) self.now }
+        ensures room { length bytes.new ≡ length bytes.old }
+        ensures put { bytes.new ≡ fold overwrite bytes.old self.now }
     {
         write_over(bytes, &self.first);
         if self.count == 1 {
@@ -81,27 +81,27 @@ fn look_up<'a, W: WriteLog>(trace: &'a W, places: &[u32]) -> UpToFour<'a>
 
 /// Puts the writes at one to four places. All are looked up before the first is put: so none waits for the one before where
 /// they have to come from memory.
-fn put_four<W: WriteLog>(bytes: &mut Vec<u8>, trace: &W, places: &[u32])
+fn put_four<W: WriteLog>(bytes: &mut [u8], trace: &W, places: &[u32])
     requires some { 1 ≤ length places.now }
     requires few { length places.now ≤ 4 }
-    requires room { length bytes.old.items ≡ 2 ^ (W.trace trace.now).shift }
+    requires room { length bytes.old ≡ 2 ^ (W.trace trace.now).shift }
     requires places { All (λ place. (1 ≤ place) × (place ≤ length (W.trace trace.now).writes)) places.now }
     requires is_trace { IsTrace (W.trace trace.now) }
-    ensures room { length bytes.new.items ≡ 2 ^ (W.trace trace.now).shift }
-    ensures put { bytes.new.items ≡ put_all (W.trace trace.now) bytes.old.items places.now }
+    ensures room { length bytes.new ≡ 2 ^ (W.trace trace.now).shift }
+    ensures put { bytes.new ≡ put_all (W.trace trace.now) bytes.old places.now }
 {
     look_up(trace, places).put_over(bytes);
 }
 
 /// Puts the writes at five to eight places, all of which are looked up before the first is put, for the same reason.
-fn put_eight<W: WriteLog>(bytes: &mut Vec<u8>, trace: &W, places: &[u32])
+fn put_eight<W: WriteLog>(bytes: &mut [u8], trace: &W, places: &[u32])
     requires many { 5 ≤ length places.now }
     requires few { length places.now ≤ 8 }
-    requires room { length bytes.old.items ≡ 2 ^ (W.trace trace.now).shift }
+    requires room { length bytes.old ≡ 2 ^ (W.trace trace.now).shift }
     requires places { All (λ place. (1 ≤ place) × (place ≤ length (W.trace trace.now).writes)) places.now }
     requires is_trace { IsTrace (W.trace trace.now) }
-    ensures room { length bytes.new.items ≡ 2 ^ (W.trace trace.now).shift }
-    ensures put { bytes.new.items ≡ put_all (W.trace trace.now) bytes.old.items places.now }
+    ensures room { length bytes.new ≡ 2 ^ (W.trace trace.now).shift }
+    ensures put { bytes.new ≡ put_all (W.trace trace.now) bytes.old places.now }
 {
     let (front, back) = places.split_at(4);
     let earlier = look_up(trace, front);
@@ -111,11 +111,11 @@ fn put_eight<W: WriteLog>(bytes: &mut Vec<u8>, trace: &W, places: &[u32])
 }
 
 /// Puts the writes at these places over the bytes of their page, up to eight at a time.
-pub(crate) fn put_writes<W: WriteLog>(bytes: &mut Vec<u8>, trace: &W, places: &[u32])
-    requires room { length bytes.old.items ≡ 2 ^ (W.trace trace.now).shift }
+pub(crate) fn put_writes<W: WriteLog>(bytes: &mut [u8], trace: &W, places: &[u32])
+    requires room { length bytes.old ≡ 2 ^ (W.trace trace.now).shift }
     requires places { All (λ place. (1 ≤ place) × (place ≤ length (W.trace trace.now).writes)) places.now }
     requires is_trace { IsTrace (W.trace trace.now) }
-    ensures { bytes.new.items ≡ put_all (W.trace trace.now) bytes.old.items places.now }
+    ensures { bytes.new ≡ put_all (W.trace trace.now) bytes.old places.now }
 {
     let mut rest = places;
     while rest.len() > 4 {

@@ -1,6 +1,6 @@
 //! Where a trace writes each page.
 
-ghost use Rattle.std.specs.Prelude.{◌≡◌, ◌<◌, ◌≤◌, ◌↔◌, IfOk, IsTrue, OnOk, length, nat_lt};
+ghost use Rattle.std.specs.Prelude.{◌≡◌, ◌<◌, ◌≤◌, ◌↔◌, IfOk, IsTrue, OnOk, length, nat_le, nat_lt};
 ghost use Rattle.std.specs.List.{filter};
 ghost use Rattle.migration_model.specs.Trace.{GuestTrace};
 ghost use Rattle.migration_model.specs.Versions.{page_at, version_before as version_of};
@@ -11,7 +11,7 @@ use crate::bytes::{put_bytes, put_writes};
 use crate::error::IndexError;
 use crate::laying::Parts;
 use crate::making::{are_touches, parts_of, touches_in};
-use crate::searching::{greatest_before, places_after, places_to};
+use crate::searching::{greatest_before, places_after, places_between, places_to};
 use std::alloc::{AllocError, Global};
 use std::marker::Model;
 use std::thread;
@@ -26,6 +26,13 @@ pub struct PageIndex {
     touches: Vec<Touch>,
     starts: Vec<u32>,
     places: Vec<u32>,
+}
+
+/// How far a page has come: the version that its bytes are of, and a guess at how many of its writes are in them.
+#[derive(Clone, Copy, Debug)]
+pub struct Reached {
+    pub version: u32,
+    pub writes: u32,
 }
 
 impl Model for PageIndex {
@@ -136,26 +143,34 @@ impl PageIndex {
         put_bytes(room, trace, places_to(self.part(page), version))
     }
 
-    /// Brings a page on from one version to a later one: only its writes in between are put over its bytes. It takes no memory.
+    /// Brings a page on to a later version: only its writes in between are put over its bytes. How many of its writes are in
+    /// them is looked for where the guess says first. It takes no memory.
     pub fn bring_on<W: WriteLog>(
         &self,
         trace: &W,
         page: u32,
-        from: u32,
+        from: Reached,
         to: u32,
-        bytes: &mut Vec<u8>,
-    )
+        bytes: &mut [u8],
+    ) -> Reached
         requires of { IsIndexOf self.now (W.trace trace.now) }
         requires page { page < self.now.pages }
-        requires later { from ≤ to }
+        requires later { from.version ≤ to }
         requires version { to ≤ length (W.trace trace.now).writes }
-        requires bytes { bytes.old.items ≡ page_at (W.trace trace.now) page from }
-        ensures { bytes.new.items ≡ page_at (W.trace trace.now) page to }
+        requires bytes { bytes.old ≡ page_at (W.trace trace.now) page from.version }
+        ensures bytes { bytes.new ≡ page_at (W.trace trace.now) page to }
+        ensures version { result.version ≡ to }
+        ensures writes { result.writes ≡ length (filter (λ place. nat_le place to) (places_of (W.trace trace.now) page)) }
     {
         // It tells a trace: that is known where it was asked for the trace's shape.
         let _ = trace.shape();
-        let places = places_to(self.writes_after(page, from), to);
+        let guess = from.writes as usize;
+        let (places, writes) = places_between(self.part(page), from.version, to, guess);
         put_writes(bytes, trace, places);
+        Reached {
+            version: to,
+            writes: writes as u32,
+        }
     }
 
     /// Whether the index has the trace's pages and touches.

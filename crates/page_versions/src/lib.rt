@@ -10,7 +10,7 @@ mod searching;
 mod sorting;
 
 pub use error::IndexError;
-pub use index::PageIndex;
+pub use index::{PageIndex, Reached};
 
 #[cfg(test)]
 mod tests;

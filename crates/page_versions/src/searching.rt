@@ -1,23 +1,58 @@
 //! Searches by halves among the places of a page.
 
-ghost use Rattle.std.specs.Prelude.{◌≡◌, ◌≤◌, true, false, nat_le, nat_lt, length, fold, max};
+ghost use Rattle.std.specs.Prelude.{◌≡◌, ◌≤◌, ◌↔◌, IsTrue, true, false, nat_le, nat_lt, length, fold, max};
 ghost use Rattle.std.specs.List.{filter};
 ghost use Rattle.std.specs.List.Sorted.{IsNonDecreasing, IsNonDecreasingBy, IsPartitionPoint};
-ghost use Rattle.page_versions.specs.Layout.{tick_at};
+ghost use Rattle.page_versions.specs.Layout.{IsCountTo, tick_at};
 
 use trace_codec::Touch;
 
 /// How many of the places are not after a version.
 pub(crate) fn count_to(places: &[u32], version: u32) -> usize
     requires { IsNonDecreasing places.now }
-    ensures bound { result ≤ length places.now }
-    ensures point { IsPartitionPoint (λ place. nat_le place version ≡ true) (λ place. nat_le place version ≡ false) places.now result }
+    ensures { IsCountTo places.now version result }
 {
     places.partition_point(
         |place: &u32| -> bool
             ensures { result ≡ nat_le place.now version }
         { *place <= version },
     )
+}
+
+/// Whether so many of the places are not after a version, and no more.
+fn is_count(places: &[u32], version: u32, count: usize) -> bool
+    requires { IsNonDecreasing places.now }
+    ensures { IsTrue result ↔ IsCountTo places.now version count }
+{
+    count <= places.len()
+        && (count == 0 || places[count - 1] <= version)
+        && (count == places.len() || places[count] > version)
+}
+
+/// How many of the places are not after a version: as many as a guess says, where it is right, or else they are searched.
+fn count_near(places: &[u32], version: u32, guess: usize) -> usize
+    requires { IsNonDecreasing places.now }
+    ensures { IsCountTo places.now version result }
+{
+    if is_count(places, version, guess) {
+        return guess;
+    }
+    count_to(places, version)
+}
+
+/// How many of the places are not after a version, counted one by one: they are few, or all.
+fn count_few(places: &[u32], version: u32) -> usize
+    requires { IsNonDecreasing places.now }
+    ensures { IsCountTo places.now version result }
+{
+    if is_count(places, version, places.len()) {
+        return places.len();
+    }
+    let mut count = 0;
+    while count < places.len() && places[count] <= version {
+        count += 1;
+    }
+    count
 }
 
 /// The tick of the touch at a place; 0 where there is none.
@@ -74,6 +109,21 @@ pub(crate) fn places_to(places: &[u32], version: u32) -> &[u32]
 {
     let count = count_to(places, version);
     &places[..count]
+}
+
+/// The places after a version and not after a later one, and how many are not after that. How many are not after the first is
+/// looked for where the guess says.
+pub(crate) fn places_between(places: &[u32], from: u32, to: u32, guess: usize) -> (&[u32], usize)
+    requires rising { IsNonDecreasing places.now }
+    requires later { from ≤ to }
+    ensures places { result.0.now ≡ filter (λ place. nat_le place to) (filter (λ place. nat_lt from place) places.now) }
+    ensures count { result.1 ≡ length (filter (λ place. nat_le place to) places.now) }
+    ensures bound { result.1 ≤ length places.now }
+{
+    let start = count_near(places, from, guess);
+    let rest = &places[start..];
+    let more = count_few(rest, to);
+    (&rest[..more], start + more)
 }
 
 /// The places after a version.

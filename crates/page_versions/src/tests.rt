@@ -1,6 +1,6 @@
 //! Worked examples, whose answers were made by hand.
 
-use crate::PageIndex;
+use crate::{PageIndex, Reached};
 use std::alloc::Global;
 use std::test::Fail;
 use trace_codec::{Trace, Write};
@@ -196,27 +196,27 @@ fn pages_in_one_room(rt: HostRuntime) -> Result<(), Fail> {
     Ok(())
 }
 
-/// A page at a version, brought on to a later one.
+/// A page that has come so far, brought on to a later version; and how far it has come then.
 fn brought_on(
     alloc: Global,
     index: &PageIndex,
     trace: &Trace,
     page: u32,
-    from: u32,
+    from: Reached,
     to: u32,
-) -> Result<Vec<u8>, Fail> {
+) -> Result<(Vec<u8>, Reached), Fail> {
     if !index.is_of(trace) {
         return Err(Fail::from("the index of the trace"));
     }
     if page >= trace.pages {
         return Err(Fail::from("a page"));
     }
-    if from > to || to as usize > trace.writes.len() {
+    if from.version > to || to as usize > trace.writes.len() {
         return Err(Fail::from("a later version"));
     }
-    let mut bytes = index.bytes_at(alloc, trace, page, from)?;
-    index.bring_on(trace, page, from, to, &mut bytes);
-    Ok(bytes)
+    let mut bytes = index.bytes_at(alloc, trace, page, from.version)?;
+    let reached = index.bring_on(trace, page, from, to, &mut bytes);
+    Ok((bytes, reached))
 }
 
 #[test]
@@ -224,18 +224,23 @@ fn pages_at_later_versions(rt: HostRuntime) -> Result<(), Fail> {
     let alloc = rt.alloc();
     let trace = guest(alloc, 0)?;
     let index = PageIndex::build(&rt, alloc, &trace)?;
-    for (page, from, to, first, third, last) in [
-        (1u32, 0u32, 2u32, 0u8, 0u8, 2u8),
-        (1, 2, 3, 3, 0, 2),
-        (1, 3, 3, 3, 0, 2),
-        (1, 2, 5, 0, 0, 2),
-        (3, 3, 4, 0, 4, 0),
-        (2, 0, 5, 0, 0, 0),
+    for (page, version, to, count, first, third, last) in [
+        (1u32, 0u32, 2u32, 1u32, 0u8, 0u8, 2u8),
+        (1, 2, 3, 2, 3, 0, 2),
+        (1, 3, 3, 2, 3, 0, 2),
+        (1, 2, 5, 3, 0, 0, 2),
+        (3, 3, 4, 1, 0, 4, 0),
+        (2, 0, 5, 0, 0, 0, 0),
     ] {
-        let bytes = brought_on(alloc, &index, &trace, page, from, to)?;
-        assert_eq!(rt; bytes.first(), Some(&first));
-        assert_eq!(rt; bytes.get(2), Some(&third));
-        assert_eq!(rt; bytes.last(), Some(&last));
+        for writes in [0u32, 1, 2, 3, 4, u32::MAX] {
+            let from = Reached { version, writes };
+            let (bytes, reached) = brought_on(alloc, &index, &trace, page, from, to)?;
+            assert_eq!(rt; reached.version, to);
+            assert_eq!(rt; reached.writes, count);
+            assert_eq!(rt; bytes.first(), Some(&first));
+            assert_eq!(rt; bytes.get(2), Some(&third));
+            assert_eq!(rt; bytes.last(), Some(&last));
+        }
     }
     Ok(())
 }

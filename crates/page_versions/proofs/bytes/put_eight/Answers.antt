@@ -7,12 +7,12 @@ pub put_over-requires : goal.put_over-requires
 put_over-requires g c =
     let trace = g.W.WriteLog.trace c.args.trace.now in
     let P : ℕ → Type 0 = λ place. (1 ≤ place) × (place ≤ length trace.writes) in
-    rw (c.look_up-earlier.ensures, c.split_at.ensures.front, c.args.bytes.now.ok.0, c.requires.room)
+    rw (c.look_up-earlier.ensures, c.split_at.ensures.front, c.requires.room)
     (writes_fit trace _ c.requires.is_trace (All-take P 4 c.args.places.now c.requires.places))
 
 pub put_over-requires-2 : goal.put_over-requires-2
 put_over-requires-2 g c =
     let trace = g.W.WriteLog.trace c.args.trace.now in
     let P : ℕ → Type 0 = λ place. (1 ≤ place) × (place ≤ length trace.writes) in
-    rw (c.look_up-later.ensures, c.split_at.ensures.back, c.put_over.ensures.room, c.args.bytes.now.ok.0, c.requires.room)
+    rw (c.look_up-later.ensures, c.split_at.ensures.back, c.put_over.ensures.room, c.requires.room)
     (writes_fit trace _ c.requires.is_trace (All-drop P 4 c.args.places.now c.requires.places))

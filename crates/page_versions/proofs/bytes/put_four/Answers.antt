@@ -3,4 +3,4 @@ use Rattle.page_versions.proofs.bytes.put_four.Goals as goal
 
 pub put_over-requires : goal.put_over-requires
 put_over-requires g c =
-    rw (c.look_up.ensures, c.args.bytes.now.ok.0, c.requires.room) (writes_fit (g.W.WriteLog.trace c.args.trace.now) c.args.places.now c.requires.is_trace c.requires.places)
+    rw (c.look_up.ensures, c.requires.room) (writes_fit (g.W.WriteLog.trace c.args.trace.now) c.args.places.now c.requires.is_trace c.requires.places)

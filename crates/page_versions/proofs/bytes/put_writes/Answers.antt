@@ -12,5 +12,5 @@ loop-rest-preserved g c =
       room = c.put_eight.ensures.room;
       places = rw c.split_at.ensures.back (All-drop P c.min.result rest c.loop-rest.invariant.places);
       made = rw (c.put_eight.ensures.put, c.split_at.ensures.front, c.split_at.ensures.back)
-          (put_in_two trace c.loop-rest.bytes.items c.min.result rest ∙ c.loop-rest.invariant.made);
+          (put_in_two trace c.loop-rest.bytes c.min.result rest ∙ c.loop-rest.invariant.made);
     }
