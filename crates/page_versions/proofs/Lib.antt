@@ -1,8 +1,7 @@
 pub mod Places
 pub mod Searches
 pub mod Pages
-pub mod Orders
-pub mod Stamps
-pub mod Keyed
+pub mod Counted
 pub mod Laid
+pub mod Stamps
 pub mod Later
