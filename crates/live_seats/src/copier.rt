@@ -48,12 +48,12 @@ struct Copying<'a, W: WriteLog> {
     desk: OpenDesk<'a, W>,
 }
 
-/// How often a page is written at least that is kept from round to round.
+/// How many writes a page has at least that is kept from round to round.
 const HOT_WRITES: usize = 8;
 
-/// How many bytes are kept for each write of a page at most. What is written less often is made from zeros again in no more
-/// time than new memory for it takes.
-const KEPT_FOR_A_WRITE: usize = 128;
+/// How many bytes are kept at most for each write that a page has. One that has fewer is made from zeros again in no more time than
+/// new memory for it takes.
+const KEPT_FOR_A_WRITE: usize = 64;
 
 /// A page by its dirty word, and its bit there.
 fn page_at(word: usize, bit: u32) -> u32
@@ -96,14 +96,17 @@ impl<'a, W: WriteLog, G: Gate> Round<'a, W, G> {
         place
     }
 
-    /// Whether a page is kept: all are of a small guest, and else those that are written often.
-    fn is_hot(&self, page: u32) -> bool
+    /// Whether a page is kept: all are of a small guest, and else those that have many writes up to the place that was read.
+    fn is_hot(&self, page: u32, place: u32) -> bool
         requires of { IsIndexOf self.now.index.now (W.trace self.now.trace.now) }
         requires page { page < (W.trace self.now.trace.now).pages }
     {
         let shape = self.trace.shape();
-        let least = shape.page_size() / KEPT_FOR_A_WRITE;
-        is_small(&shape) || self.index.places(page).len() >= least.max(HOT_WRITES)
+        if is_small(&shape) {
+            return true;
+        }
+        let least = HOT_WRITES.max(shape.page_size() / KEPT_FOR_A_WRITE);
+        self.index.writes_after(page, place).len() + least <= self.index.places(page).len()
     }
 
     /// Spells the frame of a page at the place that was read. The page is made from zeros.
@@ -165,7 +168,7 @@ impl<'a, W: WriteLog, G: Gate> Round<'a, W, G> {
         ensures outbox { desk.new.outbox ≡ desk.old.outbox }
         ensures outs { desk.new.outs ≡ desk.old.outs }
     {
-        if self.is_hot(page) {
+        if self.is_hot(page, place) {
             return self.spell_hot(alloc, &mut desk.cache, page, place, text);
         }
         self.spell_cold(&mut desk.room, page, place, text)
