@@ -51,8 +51,8 @@ struct Copying<'a, W: WriteLog> {
 /// How many writes a page has at least that is kept from round to round.
 const HOT_WRITES: usize = 8;
 
-/// How many bytes are kept at most for each write that a page has. One that has fewer is made from zeros again in no more time than
-/// new memory for it takes.
+/// How many bytes are kept at most for each write that a page has. A page with fewer writes is made from zeros again in no more
+/// time than new memory for it takes.
 const KEPT_FOR_A_WRITE: usize = 64;
 
 /// A page by its dirty word, and its bit there.

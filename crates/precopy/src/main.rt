@@ -11,10 +11,14 @@ mod options;
 mod output;
 #[cfg(test)]
 mod piece_tests;
+#[cfg(test)]
+mod report_tests;
 mod running;
 mod shown;
 mod sink;
 mod starting;
+#[cfg(test)]
+mod sweep_tests;
 mod test_sink;
 #[cfg(test)]
 mod tests;

@@ -1,8 +1,7 @@
 -- A part where texts come to it until one of them is refused.
 use Rattle.std.proofs.Common.{◌≡◌, ℕ, ◌+◌, ◌⊎◌, inl, inr, List, [], ◌∷◌, ◌++◌, length, get_or, map, refl, sym, subst, ◌∙◌, arith}
-use Rattle.std.specs.Prelude.{Option, Some, None, IfSome, Result, Ok, Err, IfErr, OnOk}
+use Rattle.std.specs.Prelude.{Option, Some, None, IfSome, false, is_some}
 use Rattle.std.specs.List.{All, Contains}
-use Rattle.std.specs.Result.{result_err}
 use Rattle.std.proofs.lemmas.List.{get_or_append_left, get_or-append-add, length-append}
 use Rattle.std.proofs.lemmas.List.Elements.{All-head, All-tail, Contains-get_or}
 use Rattle.migration_model.specs.Frames.{GuestShape, PageFrame, IsFrame, SpellsFrame, frame_text}
@@ -21,24 +20,16 @@ pub accepts_none : (part : GuestPart) (refusal : Option ReceiverError) → Accep
 accepts_none part None = record { shape = refl; kept = tt; taken = λ e. (refl, texts_none part); only = λ e all. tt }
 accepts_none part (Some error) = record { shape = refl; kept = refl; taken = λ e. absurd (cc e); only = λ e all. absurd (cc e) }
 
--- one text came to a part
-pub accepts_one : (old new : GuestPart) (before after : Option ReceiverError) (r : Result (Unit {0}) ReceiverError) (text : List ℕ) → before ≡ None → after ≡ result_err r
-    → new.shape ≡ old.shape → OnOk r (TakesText old new text) → ((frame : PageFrame) → SpellsFrame old.shape text frame → IfErr r (λ e. e ≡ Memory))
-    → Accepts old new before after (text ∷ [])
-accepts_one old new before after (Ok done) text none is shape taken only = record {
+-- one text was taken, and nothing is refused
+pub accepts_taken : (old new : GuestPart) (refusal : Option ReceiverError) (text : List ℕ) → is_some refusal ≡ false → new.shape ≡ old.shape → TakesText old new text
+    → Accepts old new refusal refusal (text ∷ [])
+accepts_taken old new None text none shape taken = record {
   shape = shape;
-  kept = subst (λ (o : Option ReceiverError). IfSome o (λ e. after ≡ Some e)) (sym none) tt;
-  taken = λ e. (none, texts_one old new text taken);
-  only = λ e all. subst (λ (o : Option ReceiverError). IfSome o (λ x. x ≡ Memory)) (sym is) tt;
+  kept = tt;
+  taken = λ e. (refl, texts_one old new text taken);
+  only = λ e all. tt;
 }
-accepts_one old new before after (Err error) text none is shape taken only = record {
-  shape = shape;
-  kept = subst (λ (o : Option ReceiverError). IfSome o (λ e. after ≡ Some e)) (sym none) tt;
-  taken = λ e. absurd (cc (e, is));
-  only = λ e all.
-      let one = all 0 [] (omega arith) in
-      subst (λ (o : Option ReceiverError). IfSome o (λ x. x ≡ Memory)) (sym is) (only one.0 one.1);
-}
+accepts_taken old new (Some error) text none shape taken = absurd (cc none)
 
 all_front : {X : Type 0} (P : X → Type 0) (xs ys : List X) → All P (xs ++ ys) → All P xs
 all_front P xs ys all = λ k d low.

@@ -8,7 +8,7 @@ ghost use Rattle.stream_lanes.specs.Ends.{InView, IsSentOn};
 ghost use Rattle.stream_receivers.specs.Receivers.{AreEnds, AreFrames, HasFrames, IsReceiver, TakesOne, receiver_with};
 
 use crate::error::ReceiverError;
-use crate::taking::{accept_live, accept_rests};
+use crate::taking::{accept, accept_rests, give_back};
 use collector::Part;
 use std::alloc::Global;
 use std::marker::Model;
@@ -83,7 +83,8 @@ impl Receiver {
         let Some(text) = end.take() else {
             return false;
         };
-        self.refusal = accept_live(&mut self.part, self.refusal, text, end);
+        let gone = accept(&mut self.part, &mut self.refusal, text);
+        give_back(end, gone);
         true
     }
 

@@ -35,57 +35,33 @@ fn exchange(part: &mut Part, text: Vec<u8>) -> Result<Option<Vec<u8>>, ReceiverE
     }
 }
 
-/// Takes a text, which is to spell one frame.
-pub(crate) fn accept(part: &mut Part, text: Vec<u8>) -> Result<(), ReceiverError>
-    ensures shape { part.new.shape ≡ part.old.shape }
-    ensures taken { OnOk result (TakesText part.old part.new text.items) }
-    ensures only { (frame : PageFrame) → SpellsFrame part.old.shape text.items frame → IfErr result (λ e. e ≡ ReceiverError.Memory) }
-{
-    exchange(part, text)?;
-    Ok(())
-}
-
-/// Takes a text that came on a lane, where the text of the frame that goes for it goes back.
-fn accept_giving(part: &mut Part, text: Vec<u8>, end: &mut LaneIn) -> Result<(), ReceiverError>
-    ensures shape { part.new.shape ≡ part.old.shape }
-    ensures taken { OnOk result (TakesText part.old part.new text.items) }
-    ensures only { (frame : PageFrame) → SpellsFrame part.old.shape text.items frame → IfErr result (λ e. e ≡ ReceiverError.Memory) }
-    ensures end { end.new ≡ end.old }
-{
-    if let Some(bytes) = exchange(part, text)? {
-        end.give_back(bytes);
-    }
-    Ok(())
-}
-
-/// Takes a text, unless something was refused before, and answers the first refusal.
-pub(crate) fn accept_next(
+/// Takes a text, unless something was refused before, and keeps the first refusal. It answers the text of the frame that goes for
+/// this one, if that has one.
+pub(crate) fn accept(
     part: &mut Part,
-    refusal: Option<ReceiverError>,
+    refusal: &mut Option<ReceiverError>,
     text: Vec<u8>,
-) -> Option<ReceiverError>
-    ensures { Accepts part.old part.new refusal result (text.items ∷ []) }
+) -> Option<Vec<u8>>
+    ensures { Accepts part.old part.new refusal.old refusal.new (text.items ∷ []) }
 {
-    match refusal {
-        Some(error) => Some(error),
-        None => accept(part, text).err(),
+    if refusal.is_some() {
+        return None;
+    }
+    match exchange(part, text) {
+        Ok(gone) => gone,
+        Err(error) => {
+            *refusal = Some(error);
+            None
+        }
     }
 }
 
-/// Takes a text that came on a lane, unless something was refused before, and answers the first refusal. After a refusal no text
-/// goes back.
-pub(crate) fn accept_live(
-    part: &mut Part,
-    refusal: Option<ReceiverError>,
-    text: Vec<u8>,
-    end: &mut LaneIn,
-) -> Option<ReceiverError>
-    ensures accepts { Accepts part.old part.new refusal result (text.items ∷ []) }
-    ensures end { end.new ≡ end.old }
+/// Gives a text back to the worker of a lane, if there is one.
+pub(crate) fn give_back(end: &mut LaneIn, text: Option<Vec<u8>>)
+    ensures { end.new ≡ end.old }
 {
-    match refusal {
-        Some(error) => Some(error),
-        None => accept_giving(part, text, end).err(),
+    if let Some(text) = text {
+        end.give_back(text);
     }
 }
 
@@ -100,7 +76,7 @@ pub(crate) fn accept_rest(
     let mut refusal = refusal;
     let mut rest = rest;
     while let Some(text) = rest.take() {
-        refusal = accept_next(part, refusal, text);
+        drop(accept(part, &mut refusal, text));
     }
     refusal
 }

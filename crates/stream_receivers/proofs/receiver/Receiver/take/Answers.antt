@@ -46,9 +46,9 @@ invariant_of-self-2 c =
     let size = ap (λ (r : ReceiverView). length r.ends) c.self.view_is in
     let low : worker < length ends = omega (arith, size, c.requires) in
     let part = c.self.inside.part in
-    let new = c.accept_live-self-inside.new.part in
-    let result = c.accept_live-self-inside.result in
-    let accepts : Accepts part new c.self.inside.refusal result (text ∷ []) = c.accept_live-self-inside.ensures.accepts in
+    let new = c.accept-gone.new.part in
+    let result = c.accept-gone.new.refusal in
+    let accepts : Accepts part new c.self.inside.refusal result (text ∷ []) = c.accept-gone.ensures in
     let held = held_more part.shape (IsTakenFrom ends) (IsTakenFrom (set ends worker after)) part new c.self.inside.refusal result (text ∷ []) refl
     (taken_before ends worker before after text low there grown)
     (λ t a. elim (taken_cases ends worker before after text low there grown t a) [ inl earlier ↦ inl earlier | inr last ↦ inr (0, omega arith, sym last) ])
@@ -57,12 +57,12 @@ invariant_of-self-2 c =
       | inr none ↦ absurd (omega (arith, none.1))
     ])
     accepts c.self.invariant in
-    rw c.accept_live-self-inside.ensures.end (subst (λ s. IsHeld s (IsTakenFrom (set ends worker after)) new result) (sym accepts.shape) held)
+    rw c.give_back.ensures (subst (λ s. IsHeld s (IsTakenFrom (set ends worker after)) new result) (sym accepts.shape) held)
 
 pub returns-clause-lanes : goal.returns-clause-lanes
 returns-clause-lanes c =
     let ends_are = ap (λ (r : ReceiverView). r.ends) c.self.view_is in
-    rw c.accept_live-self-inside.ensures.end (one_end (λ (end : InView). end.lane) c.self.inside.ends.items c.args.worker c.index_mut-end.result.now c.take.new.self (let size = ap length ends_are in omega (arith, size, c.requires))
+    rw c.give_back.ensures (one_end (λ (end : InView). end.lane) c.self.inside.ends.items c.args.worker c.index_mut-end.result.now c.take.new.self (let size = ap length ends_are in omega (arith, size, c.requires))
     c.index_mut-end.ensures.value c.in-Some.ensures.lane) ∙ ap (λ (ends : List InView). map (λ (end : InView). end.lane) ends) ends_are
 
 pub returns-clause-some : goal.returns-clause-some
@@ -75,7 +75,7 @@ returns-clause-some c e =
       text = c.in-Some.text.items;
       was = ap (λ (ends : List InView). slice_get ends c.args.worker) (sym ends_are)
           ∙ stood c.self.inside.ends.items c.args.worker c.index_mut-end.result.now (omega (arith, size, c.requires)) c.index_mut-end.ensures.value;
-      is = rw c.accept_live-self-inside.ensures.end (ap (λ (ends : List InView). set ends c.args.worker c.take.new.self) ends_are);
+      is = rw c.give_back.ensures (ap (λ (ends : List InView). set ends c.args.worker c.take.new.self) ends_are);
       lane = c.in-Some.ensures.lane;
       taken = c.in-Some.ensures.taken;
       seen = c.in-Some.ensures.seen;
