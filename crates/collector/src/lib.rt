@@ -5,8 +5,6 @@ mod error;
 mod fate;
 mod part;
 mod table;
-#[cfg(test)]
-mod tests;
 
 pub use error::PartError;
 pub use fate::Fate;

@@ -8,8 +8,6 @@ mod machine;
 mod opening;
 mod refusal;
 mod running;
-#[cfg(test)]
-mod tests;
 mod words;
 
 pub use answer::Answer;

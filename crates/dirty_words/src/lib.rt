@@ -10,8 +10,6 @@ mod guest;
 mod opening;
 mod rule;
 mod table;
-#[cfg(test)]
-mod tests;
 
 pub use closed::Closed;
 pub use copier::CopySeat;

@@ -7,8 +7,6 @@ mod joined_parts;
 mod joining;
 mod replaying;
 mod resuming;
-#[cfg(test)]
-mod tests;
 
 pub use error::{ImageError, ReplayError};
 pub use image::Image;

@@ -12,6 +12,3 @@ pub use cache::PageCache;
 pub use error::CacheError;
 pub use pages::KeptPages;
 pub use small::is_small;
-
-#[cfg(test)]
-mod tests;

@@ -6,8 +6,6 @@ mod encoding;
 mod error;
 mod frame;
 mod making;
-#[cfg(test)]
-mod tests;
 
 pub use decoding::{decode_frame, view_frame};
 pub use encoding::{append_frame, encode_frame};

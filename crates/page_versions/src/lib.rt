@@ -10,6 +10,3 @@ mod searching;
 
 pub use error::IndexError;
 pub use index::{PageIndex, Reached};
-
-#[cfg(test)]
-mod tests;

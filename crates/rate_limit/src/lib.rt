@@ -5,8 +5,6 @@ mod error;
 mod outcome;
 mod pacing;
 mod settings;
-#[cfg(test)]
-mod tests;
 
 pub use error::SettingsError;
 pub use outcome::{Next, Reason};

@@ -11,8 +11,6 @@ mod planner;
 mod planning;
 mod scan;
 mod tally;
-#[cfg(test)]
-mod tests;
 
 pub use error::PlanError;
 pub use index::RoundIndex;

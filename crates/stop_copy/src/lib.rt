@@ -10,6 +10,3 @@ mod workers;
 
 pub use copying::final_copy;
 pub use error::CopyError;
-
-#[cfg(test)]
-mod tests;

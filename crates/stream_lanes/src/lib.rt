@@ -6,8 +6,6 @@ mod error;
 mod grid;
 mod making;
 mod rest;
-#[cfg(test)]
-mod tests;
 mod turning;
 
 pub use ends::{LaneIn, LaneOut};

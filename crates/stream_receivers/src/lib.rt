@@ -5,8 +5,6 @@ mod error;
 mod owning;
 mod receiver;
 mod taking;
-#[cfg(test)]
-mod tests;
 
 pub use error::ReceiverError;
 pub use receiver::Receiver;

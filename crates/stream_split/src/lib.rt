@@ -4,8 +4,6 @@
 mod dealer;
 mod error;
 mod splitting;
-#[cfg(test)]
-mod tests;
 
 pub use dealer::Dealer;
 pub use error::SplitError;

@@ -7,8 +7,6 @@ mod line;
 mod lines;
 mod report;
 mod sweeping;
-#[cfg(test)]
-mod tests;
 
 pub use cases::sweep_text;
 pub use error::SweepError;

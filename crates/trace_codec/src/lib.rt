@@ -15,8 +15,6 @@ mod records;
 mod shape;
 mod source;
 mod test_source;
-#[cfg(test)]
-mod tests;
 mod text_reading;
 mod timeline;
 mod touch_log;

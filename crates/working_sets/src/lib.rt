@@ -6,8 +6,6 @@ mod error;
 mod hot;
 mod laws;
 mod making;
-#[cfg(test)]
-mod tests;
 mod window;
 
 pub use error::TablesError;

@@ -1,0 +1,184 @@
+//! Worked openings with their events and answers.
+
+use dirty_core::{Answer, Core, CoreRefusal, Event, Opening, run, step};
+use std::alloc::Global;
+use std::process::Abort;
+use std::test::Fail;
+
+type Step = (Event, Result<Answer, CoreRefusal>);
+
+const fn store(page: u32, place: u32) -> Event {
+    Event::Store {
+        guest: 0,
+        page,
+        place,
+    }
+}
+
+const MARK: Event = Event::Mark { guest: 0 };
+
+const fn harvest(copier: usize, word: usize) -> Event {
+    Event::Harvest { copier, word }
+}
+
+const fn peek(word: usize) -> Event {
+    Event::Peek { copier: 0, word }
+}
+
+const fn restore(bits: u64) -> Event {
+    Event::Restore {
+        copier: 0,
+        word: 0,
+        bits,
+    }
+}
+
+const fn read(page: u32) -> Event {
+    Event::Read { copier: 0, page }
+}
+
+/// An opening of pages at place 0, if there is one.
+fn opening_of(
+    alloc: Global,
+    pages: usize,
+    dirty: u64,
+    last: Option<u64>,
+    guests: usize,
+    copiers: usize,
+) -> Result<Option<Opening>, Fail> {
+    let places = vec![in alloc; 0u32; pages]?;
+    let mut words = vec![in alloc; dirty]?;
+    if let Some(last) = last {
+        words.push(last)?;
+    }
+    Ok(Opening::new(places, words, guests, copiers))
+}
+
+/// Steps through the events, and compares each answer.
+fn follow(rt: &impl Abort, core: &mut Core, steps: &[Step]) {
+    for (event, wanted) in steps {
+        let answer = step(core, *event);
+        assert_eq!(rt; answer, *wanted, "at {event:?}");
+    }
+}
+
+#[test]
+fn two_clean_pages(rt: HostRuntime) -> Result<(), Fail> {
+    let opening = opening_of(rt.alloc(), 2, 0, None, 1, 1)?.ok_or("an opening")?;
+    let mut core = Core::open(rt.alloc(), &opening)?;
+    assert_eq!(rt; core.place(0), 0);
+    let steps = [
+        (MARK, Err(CoreRefusal::NothingPending)),
+        (store(0, 1), Ok(Answer::Done)),
+        (store(1, 2), Err(CoreRefusal::Pending)),
+        (MARK, Ok(Answer::Done)),
+        (harvest(0, 0), Ok(Answer::Pages(1))),
+        (read(0), Ok(Answer::Place(1))),
+        (read(0), Err(CoreRefusal::NotHeld)),
+        (store(0, 1), Err(CoreRefusal::OldPlace)),
+        (harvest(0, 1), Err(CoreRefusal::NotOwner)),
+    ];
+    follow(&rt, &mut core, &steps);
+    Ok(())
+}
+
+#[test]
+fn marked_again_though_not_behind(rt: HostRuntime) -> Result<(), Fail> {
+    let opening = opening_of(rt.alloc(), 1, 1, None, 1, 1)?.ok_or("an opening")?;
+    let mut core = Core::open(rt.alloc(), &opening)?;
+    let steps = [
+        (store(0, 1), Ok(Answer::Done)),
+        (harvest(0, 0), Ok(Answer::Pages(1))),
+        (read(0), Ok(Answer::Place(1))),
+        (MARK, Ok(Answer::Done)),
+    ];
+    follow(&rt, &mut core, &steps);
+    let events = [store(0, 1), harvest(0, 0), read(0), MARK];
+    let after = run(rt.alloc(), &opening, &events).ok().ok_or("a core")?;
+    for core in [&core, &after] {
+        assert!(rt; core.marked(0));
+        assert!(rt; !core.held(0, 0));
+        assert_eq!(rt; core.pending(0), None);
+    }
+    let refused = run(rt.alloc(), &opening, &[store(0, 1), MARK, MARK]).err();
+    assert_eq!(rt; refused, Some((2, CoreRefusal::NothingPending)));
+    Ok(())
+}
+
+#[test]
+fn restored_while_stored_again(rt: HostRuntime) -> Result<(), Fail> {
+    let opening = opening_of(rt.alloc(), 2, 3, None, 1, 1)?.ok_or("an opening")?;
+    let mut core = Core::open(rt.alloc(), &opening)?;
+    let steps = [
+        (harvest(0, 0), Ok(Answer::Pages(3))),
+        (store(1, 1), Ok(Answer::Done)),
+        (MARK, Ok(Answer::Done)),
+        (peek(0), Ok(Answer::Pages(2))),
+        (restore(2), Ok(Answer::Done)),
+        (read(1), Err(CoreRefusal::NotHeld)),
+        (read(0), Ok(Answer::Place(0))),
+    ];
+    follow(&rt, &mut core, &steps);
+    assert!(rt; core.marked(1) && !core.marked(0));
+    assert!(rt; !core.held(0, 0) && !core.held(0, 1));
+    Ok(())
+}
+
+#[test]
+fn restored_after_a_read(rt: HostRuntime) -> Result<(), Fail> {
+    let opening = opening_of(rt.alloc(), 2, 3, None, 1, 1)?.ok_or("an opening")?;
+    let mut core = Core::open(rt.alloc(), &opening)?;
+    let steps = [
+        (harvest(0, 0), Ok(Answer::Pages(3))),
+        (read(1), Ok(Answer::Place(0))),
+        (restore(3), Err(CoreRefusal::NotHeld)),
+        (restore(0), Ok(Answer::Done)),
+    ];
+    follow(&rt, &mut core, &steps);
+    assert!(rt; core.held(0, 0));
+    Ok(())
+}
+
+#[test]
+fn words_of_two_copiers(rt: HostRuntime) -> Result<(), Fail> {
+    let opening = opening_of(rt.alloc(), 65, 0, Some(1), 1, 2)?.ok_or("an opening")?;
+    let mut core = Core::open(rt.alloc(), &opening)?;
+    let steps = [
+        (harvest(0, 1), Err(CoreRefusal::NotOwner)),
+        (harvest(1, 2), Err(CoreRefusal::NotOwner)),
+        (harvest(1, 1), Ok(Answer::Pages(1))),
+        (harvest(1, 1), Ok(Answer::Pages(0))),
+    ];
+    follow(&rt, &mut core, &steps);
+    assert!(rt; core.held(1, 64) && !core.held(0, 64));
+    Ok(())
+}
+
+#[test]
+fn no_such_opening(rt: HostRuntime) -> Result<(), Fail> {
+    assert!(rt; opening_of(rt.alloc(), 4, 16, None, 1, 1)?.is_none());
+    assert!(rt; opening_of(rt.alloc(), 4, 15, None, 17, 1)?.is_none());
+    assert!(rt; opening_of(rt.alloc(), 0, 0, None, 1, 1)?.is_none());
+    let opening = opening_of(rt.alloc(), 4, 15, None, 16, 2)?.ok_or("an opening")?;
+    assert_eq!(rt; opening.dirty(), [15].as_slice());
+    assert_eq!(rt; opening.places(), [0, 0, 0, 0].as_slice());
+    assert_eq!(rt; (opening.guests(), opening.copiers()), (16, 2));
+    Ok(())
+}
+
+#[test]
+fn names_of_refusals(rt: HostRuntime) -> Result<(), Fail> {
+    let names = [
+        (CoreRefusal::NotOwner, "C1"),
+        (CoreRefusal::Pending, "C2"),
+        (CoreRefusal::NothingPending, "C3"),
+        (CoreRefusal::NotHeld, "C4"),
+        (CoreRefusal::OldPlace, "C5"),
+        (CoreRefusal::Memory, "C6"),
+    ];
+    for (refusal, name) in &names {
+        let text = refusal.to_string(rt.alloc())?;
+        assert_eq!(rt; text.as_str(), *name);
+    }
+    Ok(())
+}

@@ -1,0 +1,404 @@
+//! Worked tables, on one thread and on two.
+
+ghost use Rattle.std.specs.Prelude.{◌≡◌, [], ◌∷◌, IsTrue, IfSome};
+ghost use Rattle.dirty_words.specs.Facts.{after_store};
+ghost use Rattle.dirty_words.specs.Seats.{guest_table, copy_table};
+ghost use Rattle.dirty_words.specs.Pairs.{IsPair, IsPairOf, with_read, UnmarkedWasRead, UnmarkedIsRead};
+
+use dirty_core::Opening;
+use dirty_words::{Closed, CopySeat, GuestSeat, Opened, RoundTable, TableError};
+use std::alloc::Global;
+use std::process::Abort;
+use std::sync::atomic::{AtomicBool, Ordering};
+use std::test::Fail;
+use std::thread;
+use std::thread::Threads;
+
+/// A table of one guest and one copier.
+#[derive(Drop)]
+struct Pair {
+    table: RoundTable,
+    guest: GuestSeat,
+    copier: CopySeat,
+}
+
+fn open_pair(alloc: Global, opening: Opening) -> Option<Pair>
+    ensures { IfSome result (λ pair. IsPair opening pair.table pair.guest pair.copier) }
+{
+    if opening.guests() != 1 || opening.copiers() != 1 {
+        return None;
+    }
+    let Ok(opened) = RoundTable::open(alloc, opening) else {
+        return None;
+    };
+    let Opened {
+        table,
+        mut guests,
+        mut copiers,
+    } = opened;
+    let guest = guests.pop()?;
+    let copier = copiers.pop()?;
+    Some(Pair {
+        table,
+        guest,
+        copier,
+    })
+}
+
+/// Four pages at place 0, with these marked.
+fn open_four(alloc: Global, dirty: u64) -> Option<Pair>
+    ensures { IfSome result (λ pair. IsPairOf pair.table pair.guest pair.copier) }
+{
+    let places = vec![in alloc; 0u32, 0u32, 0u32, 0u32].ok()?;
+    let words = vec![in alloc; dirty].ok()?;
+    let opening = Opening::new(places, words, 1, 1)?;
+    open_pair(alloc, opening)
+}
+
+fn one_guest(alloc: Global, guest: GuestSeat) -> Option<Vec<GuestSeat>>
+    ensures { IfSome result (λ guests. guests.items ≡ guest ∷ []) }
+{
+    vec![in alloc; guest].ok()
+}
+
+fn one_copier(alloc: Global, copier: CopySeat) -> Option<Vec<CopySeat>>
+    ensures { IfSome result (λ copiers. copiers.items ≡ copier ∷ []) }
+{
+    vec![in alloc; copier].ok()
+}
+
+/// Closes the table where nothing is pending and nothing is held.
+fn close_pair(
+    alloc: Global,
+    table: RoundTable,
+    guest: GuestSeat,
+    copier: CopySeat,
+) -> Option<Closed>
+    requires { IsPairOf table guest copier }
+    ensures { IfSome result (λ closed. UnmarkedWasRead table.start guest.facts copier.facts closed) }
+{
+    if guest.pending().is_some() || copier.holds() {
+        return None;
+    }
+    if guest.number() != 0 || copier.number() != 0 {
+        return None;
+    }
+    let guests = one_guest(alloc, guest)?;
+    let copiers = one_copier(alloc, copier)?;
+    Some(table.close(guests, copiers))
+}
+
+/// Stores a page, where the guest may.
+fn store_page(table: &RoundTable, guest: &mut GuestSeat, page: u32, place: u32) -> bool
+    requires { guest_table guest.old ≡ table.now }
+    ensures table { guest_table guest.new ≡ guest_table guest.old }
+    ensures facts { IsTrue result → guest.new.facts ≡ after_store page place guest.old.facts }
+{
+    if !guest.owns(page) || guest.pending().is_some() || guest.last(page) >= place {
+        return false;
+    }
+    guest.advance(table, page, place);
+    true
+}
+
+/// Marks the page that was stored, where there is one.
+fn mark_page(table: &RoundTable, guest: &mut GuestSeat) -> bool
+    requires { guest_table guest.old ≡ table.now }
+    ensures { guest_table guest.new ≡ guest_table guest.old }
+{
+    if guest.pending().is_none() {
+        return false;
+    }
+    guest.mark(table);
+    true
+}
+
+/// Reads a page, where it is held.
+fn read_page(table: &RoundTable, copier: &mut CopySeat, page: u32) -> Option<u32>
+    requires { copy_table copier.old ≡ table.now }
+    ensures table { copy_table copier.new ≡ copy_table copier.old }
+    ensures reads { copier.new.facts.reads ≡ with_read page result copier.old.facts.reads }
+{
+    let word = (page / 64) as usize;
+    if !copier.owns(word) || (copier.held(word) >> (page % 64)) & 1 != 1 {
+        return None;
+    }
+    Some(copier.read(table, page))
+}
+
+/// Restores pages, where all are held.
+fn restore_pages(table: &RoundTable, copier: &mut CopySeat, word: usize, bits: u64) -> bool
+    requires { copy_table copier.old ≡ table.now }
+    ensures table { copy_table copier.new ≡ copy_table copier.old }
+    ensures reads { copier.new.facts.reads ≡ copier.old.facts.reads }
+{
+    if !copier.owns(word) || copier.held(word) & bits != bits {
+        return false;
+    }
+    copier.restore(table, word, bits);
+    true
+}
+
+/// Harvests a word, where the copier may.
+fn harvest_word(table: &RoundTable, copier: &mut CopySeat, word: usize) -> Option<u64>
+    requires { copy_table copier.old ≡ table.now }
+    ensures table { copy_table copier.new ≡ copy_table copier.old }
+    ensures reads { copier.new.facts.reads ≡ copier.old.facts.reads }
+{
+    if !copier.owns(word) {
+        return None;
+    }
+    Some(copier.harvest(table, word))
+}
+
+/// Peeks at a word, where the copier may.
+fn peek_word(table: &RoundTable, copier: &mut CopySeat, word: usize) -> Option<u64>
+    requires { copy_table copier.old ≡ table.now }
+    ensures { copy_table copier.new ≡ copy_table copier.old }
+{
+    if !copier.owns(word) {
+        return None;
+    }
+    Some(copier.peek(table, word))
+}
+
+#[test]
+fn one_table_on_one_thread(rt: HostRuntime) -> Result<(), Fail> {
+    let Pair {
+        table,
+        mut guest,
+        mut copier,
+    } = open_four(rt.alloc(), 8).ok_or("a table")?;
+    assert_eq!(rt; harvest_word(&table, &mut copier, 0), Some(8));
+    assert_eq!(rt; harvest_word(&table, &mut copier, 0), Some(0));
+    assert!(rt; store_page(&table, &mut guest, 1, 1));
+    assert!(rt; mark_page(&table, &mut guest));
+    assert_eq!(rt; peek_word(&table, &mut copier, 0), Some(2));
+    assert_eq!(rt; harvest_word(&table, &mut copier, 0), Some(2));
+    assert_eq!(rt; read_page(&table, &mut copier, 1), Some(1));
+    assert!(rt; restore_pages(&table, &mut copier, 0, 8));
+    assert_eq!(rt; peek_word(&table, &mut copier, 0), Some(8));
+    let closed = close_pair(rt.alloc(), table, guest, copier).ok_or("closed")?;
+    assert_eq!(rt; closed.versions.as_slice(), [0, 1, 0, 0].as_slice());
+    assert_eq!(rt; closed.dirty.as_slice(), [8].as_slice());
+    assert!(rt; closed.fits(4, 1));
+    assert!(rt; !closed.fits(4, 0) && !closed.fits(5, 1) && !closed.fits(3, 1));
+    Ok(())
+}
+
+/// What a round of two threads went through: each sets its flag when its first step is done.
+#[derive(Drop)]
+struct Flags {
+    stored: AtomicBool,
+    harvested: AtomicBool,
+    tied: bool,
+}
+
+const fn lowered(tied: bool) -> Flags {
+    Flags {
+        stored: AtomicBool::new(false),
+        harvested: AtomicBool::new(false),
+        tied,
+    }
+}
+
+/// Waits where the threads are tied; false where the other came too late.
+fn reached(flags: &Flags, flag: &AtomicBool) -> bool {
+    if !flags.tied {
+        return true;
+    }
+    for _ in 0..50_000_000u32 {
+        if flag.load(Ordering::SeqCst) {
+            return true;
+        }
+        thread::yield_now();
+    }
+    false
+}
+
+/// The guest after its thread, and whether all went as it should.
+#[derive(Drop)]
+struct Stored {
+    guest: GuestSeat,
+    done: bool,
+}
+
+fn store_and_mark(table: &RoundTable, mut guest: GuestSeat, flags: &Flags) -> Stored
+    requires { guest_table guest ≡ table.now }
+    ensures { guest_table result.guest ≡ guest_table guest }
+{
+    let stored = store_page(table, &mut guest, 0, 1);
+    flags.stored.store(true, Ordering::SeqCst);
+    let in_time = reached(flags, &flags.harvested);
+    let marked = mark_page(table, &mut guest);
+    Stored {
+        guest,
+        done: stored && in_time && marked,
+    }
+}
+
+/// The copier after its thread, what it harvested, what it read of page 0, and whether all went as it should.
+#[derive(Drop)]
+struct Copied {
+    copier: CopySeat,
+    harvested: Option<u64>,
+    place: Option<u32>,
+    done: bool,
+}
+
+fn harvest_and_read(table: &RoundTable, mut copier: CopySeat, flags: &Flags) -> Copied
+    requires { copy_table copier ≡ table.now }
+    ensures { copy_table result.copier ≡ copy_table copier }
+{
+    let harvested = harvest_word(table, &mut copier, 0);
+    flags.harvested.store(true, Ordering::SeqCst);
+    let in_time = reached(flags, &flags.stored);
+    let place = read_page(table, &mut copier, 0);
+    let one = read_page(table, &mut copier, 1);
+    let two = read_page(table, &mut copier, 2);
+    let three = read_page(table, &mut copier, 3);
+    Copied {
+        copier,
+        harvested,
+        place,
+        done: in_time && one == Some(0) && two == Some(0) && three == Some(0),
+    }
+}
+
+/// Four marked pages: one thread stores page 0 at place 1 and marks it, the other harvests and reads. What page 0's read
+/// answered, and what is left.
+fn on_two_threads(
+    rt: &(impl Threads + Abort),
+    alloc: Global,
+    tied: bool,
+) -> Result<(Option<u32>, Closed), Fail> {
+    let Pair {
+        table,
+        guest,
+        copier,
+    } = open_four(alloc, 15).ok_or("a table")?;
+    let shared = &table;
+    let flags = lowered(tied);
+    let watched = &flags;
+    let (stored, copied) = thread::join(
+        rt,
+        move || store_and_mark(shared, guest, watched),
+        move || harvest_and_read(shared, copier, watched),
+    );
+    assert!(rt; stored.done && copied.done);
+    assert_eq!(rt; copied.harvested, Some(15));
+    let Stored { guest, done: _ } = stored;
+    let Copied {
+        copier,
+        harvested: _,
+        place,
+        done: _,
+    } = copied;
+    let closed = close_pair(alloc, table, guest, copier).ok_or("closed")?;
+    Ok((place, closed))
+}
+
+#[test]
+fn two_free_threads(rt: HostRuntime) -> Result<(), Fail> {
+    let (place, closed) = on_two_threads(&rt, rt.alloc(), false)?;
+    assert_eq!(rt; closed.versions.as_slice(), [1, 0, 0, 0].as_slice());
+    let marked = closed.dirty.as_slice() == [1].as_slice();
+    let clean = closed.dirty.as_slice() == [0].as_slice();
+    assert!(rt; marked || (clean && place == Some(1)));
+    Ok(())
+}
+
+#[test]
+fn two_tied_threads(rt: HostRuntime) -> Result<(), Fail> {
+    let (place, closed) = on_two_threads(&rt, rt.alloc(), true)?;
+    assert_eq!(rt; place, Some(1));
+    assert_eq!(rt; closed.versions.as_slice(), [1, 0, 0, 0].as_slice());
+    assert_eq!(rt; closed.dirty.as_slice(), [1].as_slice());
+    Ok(())
+}
+
+/// A round: the guest stores and marks a page while the copier harvests its word, reads that page and restores the
+/// others. What the copier read, and what is left.
+fn round_of_one_page(
+    alloc: Global,
+    opening: Opening,
+    page: u32,
+    place: u32,
+) -> Option<(Option<u32>, Closed)>
+    ensures { IfSome result (λ left. UnmarkedIsRead opening page left.0 left.1) }
+{
+    let word = (page / 64) as usize;
+    let Pair {
+        table,
+        mut guest,
+        mut copier,
+    } = open_pair(alloc, opening)?;
+    let stored = store_page(&table, &mut guest, page, place);
+    let harvested = harvest_word(&table, &mut copier, word)?;
+    let read = read_page(&table, &mut copier, page);
+    let marked = mark_page(&table, &mut guest);
+    let left = harvested & !(1u64 << (page % 64));
+    if !stored || !marked || !restore_pages(&table, &mut copier, word, left) {
+        return None;
+    }
+    let closed = close_pair(alloc, table, guest, copier)?;
+    Some((read, closed))
+}
+
+#[test]
+fn one_page_of_a_round(rt: HostRuntime) -> Result<(), Fail> {
+    let places = vec![in rt.alloc(); 7u32, 0u32]?;
+    let dirty = vec![in rt.alloc(); 3u64]?;
+    let opening = Opening::new(places, dirty, 1, 1).ok_or("an opening")?;
+    let (read, closed) = round_of_one_page(rt.alloc(), opening, 0, 9).ok_or("a round")?;
+    assert_eq!(rt; read, Some(9));
+    assert_eq!(rt; closed.versions.as_slice(), [9, 0].as_slice());
+    assert_eq!(rt; closed.dirty.as_slice(), [3].as_slice());
+    Ok(())
+}
+
+#[test]
+fn name_of_the_refusal(rt: HostRuntime) -> Result<(), Fail> {
+    let text = TableError::Memory.to_string(rt.alloc())?;
+    assert_eq!(rt; text.as_str(), "memory");
+    Ok(())
+}
+
+/// Opens a table and closes it again with all its seats.
+fn opened_and_closed(alloc: Global, opening: Opening) -> Option<Closed> {
+    let Ok(opened) = RoundTable::open(alloc, opening) else {
+        return None;
+    };
+    let Opened {
+        table,
+        guests,
+        copiers,
+    } = opened;
+    Some(table.close(guests, copiers))
+}
+
+/// 130 pages at place 5, with the first and the last marked, for three guests and two copiers.
+fn many_pages(alloc: Global) -> Option<Opening> {
+    let places = vec![in alloc; 5u32; 130].ok()?;
+    let dirty = vec![in alloc; 1u64, 0u64, 2u64].ok()?;
+    Opening::new(places, dirty, 3, 2)
+}
+
+#[test]
+fn many_seats(rt: HostRuntime) -> Result<(), Fail> {
+    let opening = many_pages(rt.alloc()).ok_or("an opening")?;
+    let opened = RoundTable::open(rt.alloc(), opening)?;
+    assert_eq!(rt; (opened.guests.len(), opened.copiers.len()), (3, 2));
+    let guest = opened.guests.get(1).ok_or("a guest")?;
+    assert!(rt; guest.number() == 1 && guest.pending().is_none());
+    assert!(rt; guest.owns(4) && guest.owns(127) && !guest.owns(5) && !guest.owns(130));
+    let copier = opened.copiers.get(1).ok_or("a copier")?;
+    assert!(rt; copier.number() == 1 && !copier.holds());
+    assert!(rt; copier.owns(1) && !copier.owns(0) && !copier.owns(2) && !copier.owns(3));
+    let opening = many_pages(rt.alloc()).ok_or("an opening")?;
+    let closed = opened_and_closed(rt.alloc(), opening).ok_or("closed")?;
+    assert!(rt; closed.fits(130, 5) && !closed.fits(130, 4) && !closed.fits(129, 5));
+    assert_eq!(rt; closed.dirty.as_slice(), [1, 0, 2].as_slice());
+    assert!(rt; closed.versions.iter().all(|version| *version == 5));
+    Ok(())
+}

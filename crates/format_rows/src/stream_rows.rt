@@ -1,0 +1,64 @@
+//! Worked examples: streams of frames of a guest of 4 pages of 16 bytes, with 5 writes.
+
+ghost use Rattle.std.specs.Prelude.{◌≡◌, OnOk};
+ghost use Rattle.std.specs.List.{All};
+ghost use Rattle.migration_model.specs.Frames.{IsFrame};
+ghost use Rattle.page_message.specs.Shapes.{shape_of};
+
+use page_message::{Frame, frame_of};
+use std::test::Fail;
+use stream_split::{Dealer, split};
+use trace_codec::Shape;
+
+const TWO_FRAMES: [u8; 18] = [2, 0, 0, 0, 0, 0, 0, 0, 0, 2, 0, 0, 0, 0, 0, 0, 0, 0];
+
+fn shape() -> Shape
+    ensures pages { result.pages ≡ 4 }
+    ensures writes { result.writes ≡ 5 }
+    ensures shift { result.shift ≡ 4 }
+{
+    Shape {
+        shift: 4,
+        pages: 4,
+        writes: 5,
+    }
+}
+
+fn add_frame(shape: &Shape, frames: &mut Vec<Frame>, frame: Frame) -> Result<(), Fail>
+    requires so_far { All (IsFrame (shape_of shape.now)) frames.old.items }
+    requires frame { IsFrame (shape_of shape.now) frame }
+    ensures { OnOk result (All (IsFrame (shape_of shape.now)) frames.new.items) }
+{
+    frames.push(frame)?;
+    Ok(())
+}
+
+#[test]
+fn frames_go_to_streams_in_turn(rt: HostRuntime) -> Result<(), Fail> {
+    let shape = shape();
+    let zeros = vec![in rt.alloc(); 0u8; shape.page_size()]?;
+    let more = vec![in rt.alloc(); 0u8; shape.page_size()]?;
+    let mut bytes = vec![in rt.alloc(); 0u8; shape.page_size()]?;
+    bytes[2] = 4;
+    bytes[3] = 5;
+    let mut frames = Vec::new(rt.alloc());
+    add_frame(&shape, &mut frames, frame_of(&shape, 2, 0, zeros))?;
+    add_frame(&shape, &mut frames, frame_of(&shape, 3, 4, bytes))?;
+    add_frame(&shape, &mut frames, frame_of(&shape, 2, 0, more))?;
+    let streams = split(rt.alloc(), &shape, frames, 2)?;
+    assert_eq!(rt; streams.len(), 2);
+    let first = streams.get(0).ok_or("a first stream")?;
+    let second = streams.get(1).ok_or("a second stream")?;
+    assert!(rt; first.as_slice() == TWO_FRAMES.as_slice());
+    assert_eq!(rt; second.len(), 25);
+    Ok(())
+}
+
+#[test]
+fn streams_are_dealt_in_turn(rt: HostRuntime) {
+    let mut dealer = Dealer::new(3);
+    assert_eq!(rt; dealer.deal(), 0);
+    assert_eq!(rt; dealer.deal(), 1);
+    assert_eq!(rt; dealer.deal(), 2);
+    assert_eq!(rt; dealer.deal(), 0);
+}

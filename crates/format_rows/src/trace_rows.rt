@@ -1,0 +1,212 @@
+//! Worked examples of a trace that is held as its bytes.
+
+use std::alloc::{AllocError, Global};
+use std::test::Fail;
+use trace_codec::{TestSource, Timeline, TraceError, TraceText, WriteLog, decode};
+
+/// A guest of 4 pages of 16 bytes, which writes pages 0 and 1 at ticks 0 and 5, page 1 at tick 1200, and pages 3 and 1
+/// at tick 2500.
+const TRACE: [u8; 102] = [
+    0x50, 0x43, 0x57, 0x54, 1, 4, 0, 0, 4, 0, 0, 0, 5, 0, 0, 0, // header
+    0, 0, 0, 0, 0, 0, 0, 0, 0, 0, 0, 0, 0, 0, 1, 0, 1, // write 1
+    5, 0, 0, 0, 0, 0, 0, 0, 1, 0, 0, 0, 0x0f, 0, 1, 0, 2, // write 2
+    0xb0, 4, 0, 0, 0, 0, 0, 0, 1, 0, 0, 0, 0, 0, 1, 0, 3, // write 3
+    0xc4, 9, 0, 0, 0, 0, 0, 0, 3, 0, 0, 0, 2, 0, 2, 0, 4, 5, // write 4
+    0xc4, 9, 0, 0, 0, 0, 0, 0, 1, 0, 0, 0, 0, 0, 1, 0, 0, // write 5
+];
+
+const NO_WRITES: [u8; 16] = [0x50, 0x43, 0x57, 0x54, 1, 4, 0, 0, 4, 0, 0, 0, 0, 0, 0, 0];
+
+/// The first bytes of the trace above, some of them changed, and more behind them.
+fn changed(
+    alloc: Global,
+    len: usize,
+    place: usize,
+    patch: &[u8],
+    more: &[u8],
+) -> Result<Vec<u8>, AllocError> {
+    let mut bytes = Vec::from_slice(alloc, &TRACE)?;
+    for (byte, new) in bytes.iter_mut().skip(place).zip(patch) {
+        *byte = *new;
+    }
+    bytes.truncate(len);
+    bytes.extend_from_slice(more)?;
+    Ok(bytes)
+}
+
+/// Ticks, pages, offsets and bytes in order.
+fn writes<L: WriteLog>(
+    alloc: Global,
+    log: &L,
+) -> Result<Vec<(u64, u32, u16, Vec<u8>)>, AllocError> {
+    let mut writes = Vec::new(alloc);
+    for index in 0..log.shape().writes as usize {
+        let write = log.write(index);
+        let bytes = Vec::from_slice(alloc, write.bytes)?;
+        writes.push((write.tick, write.page, write.offset, bytes))?;
+    }
+    Ok(writes)
+}
+
+#[test]
+fn holds_each_write(rt: HostRuntime) -> Result<(), Fail> {
+    let alloc = rt.alloc();
+    let text = TraceText::parse(alloc, Vec::from_slice(alloc, &TRACE)?)?;
+    let shape = text.shape();
+    assert_eq!(rt; (shape.shift, shape.pages, shape.writes), (4, 4, 5));
+    assert_eq!(rt; (text.page_count(), text.touch_count()), (4, 5));
+    let expected: [(u64, u32, u16, &[u8]); 5] = [
+        (0, 0, 0, &[1]),
+        (5, 1, 15, &[2]),
+        (1200, 1, 0, &[3]),
+        (2500, 3, 2, &[4, 5]),
+        (2500, 1, 0, &[0]),
+    ];
+    for (index, (tick, page, offset, bytes)) in expected.into_iter().enumerate() {
+        let write = text.write(index);
+        assert_eq!(rt;
+            (write.tick, write.page, write.offset),
+            (tick, page, offset)
+        );
+        assert_eq!(rt; write.bytes, bytes);
+        let touch = text.touch(index);
+        assert_eq!(rt; (touch.tick, touch.page), (tick, page));
+    }
+    Ok(())
+}
+
+#[test]
+fn counts_the_touches_before_a_tick(rt: HostRuntime) -> Result<(), Fail> {
+    let alloc = rt.alloc();
+    let text = TraceText::parse(alloc, Vec::from_slice(alloc, &TRACE)?)?;
+    let counts: [(u64, usize); 9] = [
+        (0, 0),
+        (1, 1),
+        (5, 1),
+        (6, 2),
+        (1200, 2),
+        (1201, 3),
+        (2500, 3),
+        (2501, 5),
+        (1 << 40, 5),
+    ];
+    for (tick, count) in counts {
+        assert_eq!(rt; text.before(tick), count);
+    }
+    let empty = TraceText::parse(alloc, Vec::from_slice(alloc, &NO_WRITES)?)?;
+    assert_eq!(rt;
+        (empty.page_count(), empty.touch_count(), empty.before(1)),
+        (4, 0, 0)
+    );
+    Ok(())
+}
+
+#[test]
+fn is_the_same_as_a_trace_with_writes_of_its_own(rt: HostRuntime) -> Result<(), Fail> {
+    let alloc = rt.alloc();
+    let trace = decode(alloc, &TRACE)?;
+    for greatest in [1, 17, 102, 1000] {
+        let mut source = TestSource::new(Vec::from_slice(alloc, &TRACE)?, greatest, None);
+        let read = TraceText::read(alloc, &mut source)?;
+        assert_eq!(rt; read.shape(), trace.shape());
+        assert_eq!(rt; writes(alloc, &read)?, writes(alloc, &trace)?);
+    }
+    Ok(())
+}
+
+#[test]
+fn refuses_the_first_cause(rt: HostRuntime) -> Result<(), Fail> {
+    let alloc = rt.alloc();
+    let refused: [(usize, usize, &[u8], &[u8], TraceError); 12] = [
+        (0, 0, &[], &[], TraceError::ShortHeader),
+        (15, 0, &[], &[], TraceError::ShortHeader),
+        (102, 0, &[0x51], &[], TraceError::BadMagic),
+        (102, 12, &[6], &[], TraceError::ShortRecord(5)),
+        (101, 0, &[], &[], TraceError::ShortRecord(4)),
+        (102, 47, &[0xff, 0xff], &[], TraceError::ShortRecord(1)),
+        (102, 67, &[0xaf, 4], &[], TraceError::TickOrder(3)),
+        (102, 55, &[1], &[], TraceError::TickTooLarge(2)),
+        (102, 41, &[4], &[], TraceError::PageOutOfRange(1)),
+        (102, 47, &[0], &[], TraceError::EmptyWrite(1)),
+        (102, 45, &[16], &[], TraceError::OutOfPage(1)),
+        (102, 0, &[], &[0], TraceError::TrailingBytes),
+    ];
+    for (len, place, patch, more, cause) in refused {
+        let bytes = changed(alloc, len, place, patch, more)?;
+        let text = TraceText::parse(alloc, bytes);
+        assert!(rt; matches!(text, Err(error) if error == cause));
+        let bytes = changed(alloc, len, place, patch, more)?;
+        let read = TraceText::read(alloc, &mut TestSource::new(bytes, 20, None));
+        assert!(rt; matches!(read, Err(error) if error == cause));
+    }
+    let mut source = TestSource::new(Vec::from_slice(alloc, &TRACE)?, 20, Some(6));
+    let read = TraceText::read(alloc, &mut source);
+    assert!(rt; matches!(read, Err(TraceError::ReadFault)));
+    Ok(())
+}
+
+/// The text of a guest of 2 pages of 16 bytes, which writes byte 7 to the start of page 1 at each of 70000 ticks.
+fn long_text(alloc: Global) -> Result<Vec<u8>, AllocError> {
+    let mut bytes = Vec::from_slice(
+        alloc,
+        &[
+            0x50, 0x43, 0x57, 0x54, 1, 4, 0, 0, 2, 0, 0, 0, 0x70, 0x11, 1, 0,
+        ],
+    )?;
+    for tick in 0..70_000u64 {
+        let [a, b, c, ..] = tick.to_le_bytes();
+        bytes.extend_from_slice(&[a, b, c, 0, 0, 0, 0, 0, 1, 0, 0, 0, 0, 0, 1, 0, 7])?;
+    }
+    Ok(bytes)
+}
+
+#[test]
+fn tests_a_text_while_it_comes(rt: HostRuntime) -> Result<(), Fail> {
+    let alloc = rt.alloc();
+    for greatest in [100_003, 1_000_000] {
+        let bytes = long_text(alloc)?;
+        assert_eq!(rt; bytes.len(), 1_190_016);
+        let read = TraceText::read(alloc, &mut TestSource::new(bytes, greatest, None))?;
+        let shape = read.shape();
+        assert_eq!(rt; (shape.shift, shape.pages, shape.writes), (4, 2, 70_000));
+        assert_eq!(rt; (read.touch_count(), read.before(65_536)), (70_000, 65_536));
+        for place in [0, 61_679, 69_999] {
+            let write = read.write(place);
+            assert_eq!(rt;
+                (write.tick, write.page, write.offset),
+                (place as u64, 1, 0)
+            );
+            assert_eq!(rt; write.bytes, &[7][..]);
+        }
+    }
+    Ok(())
+}
+
+#[test]
+fn refuses_behind_what_was_tested(rt: HostRuntime) -> Result<(), Fail> {
+    let alloc = rt.alloc();
+    // The first 1 MiB ends in front of record 61680, counted from 0, and record 69998 begins at byte 1189982.
+    let refused: [(usize, u8, TraceError); 7] = [
+        (0, 0x51, TraceError::BadMagic),
+        (109, 2, TraceError::PageOutOfRange(5)),
+        (1_048_576, 0, TraceError::TickOrder(61_680)),
+        (1_189_982, 0x6c, TraceError::TickOrder(69_998)),
+        (1_189_990, 2, TraceError::PageOutOfRange(69_998)),
+        (12, 0x71, TraceError::ShortRecord(70_000)),
+        (12, 0x6f, TraceError::TrailingBytes),
+    ];
+    for (place, byte, cause) in refused {
+        let mut bytes = long_text(alloc)?;
+        for old in bytes.iter_mut().skip(place).take(1) {
+            *old = byte;
+        }
+        let read = TraceText::read(alloc, &mut TestSource::new(bytes, 100_003, None));
+        assert!(rt; matches!(read, Err(error) if error == cause));
+    }
+    let read = TraceText::read(
+        alloc,
+        &mut TestSource::new(long_text(alloc)?, 100_003, Some(12)),
+    );
+    assert!(rt; matches!(read, Err(TraceError::ReadFault)));
+    Ok(())
+}

@@ -1,0 +1,303 @@
+//! Live runs, by the command line and under a schedule of the tests' choosing.
+
+ghost use Rattle.std.specs.Prelude.{◌≡◌, false};
+
+use crate::tests::{MEMORY, MEMORY_AT_2000, changed, sink, told};
+use live_engine::{Gate, LiveError, OpenGate, Point};
+use migration_jobs::{Job, RunError, Show, TestSink, run};
+use rate_limit::{Asked, Settings};
+use std::alloc::Global;
+use std::sync::Wait;
+use std::sync::atomic::{AtomicU64, Ordering};
+use std::test::Fail;
+use std::thread;
+use std::thread::Threads;
+use trace_codec::{TestSource, TraceError};
+
+/// Slow rates, by which the plan of the tests' trace has three rounds and stops at tick 3667.
+fn slow() -> Asked {
+    Asked {
+        min: 2,
+        max: 4,
+        increment: 1,
+        threshold: 1,
+        rounds: 8,
+        start: 0,
+        window: 1000,
+        hot: 2,
+        workers: 1,
+        streams: 1,
+        replayers: 1,
+        lane: 1024,
+        skip: false,
+    }
+}
+
+/// What a live run over some bytes writes.
+fn shown<R: Threads + Wait + Sync, G: Gate>(
+    rt: &R,
+    alloc: Global,
+    bytes: Vec<u8>,
+    asked: Asked,
+    show: Show,
+    gate: &G,
+) -> Result<TestSink, Fail> {
+    let job = Job::Live(Settings::new(asked)?, show);
+    let mut source = TestSource::new(bytes, 102, None);
+    let mut output = sink(alloc);
+    run(rt, alloc, &job, &mut source, &mut output, gate)?;
+    Ok(output)
+}
+
+#[test]
+fn writes_memory_of_a_live_run(rt: HostRuntime) -> Result<(), Fail> {
+    let alloc = rt.alloc();
+    let many = Asked {
+        max: 2,
+        workers: 3,
+        streams: 2,
+        replayers: 4,
+        ..slow()
+    };
+    let one_round = Asked {
+        max: 2,
+        rounds: 1,
+        ..slow()
+    };
+    let cases: [(Asked, &[u8]); 4] = [
+        (slow(), &MEMORY),
+        (many, &MEMORY),
+        (one_round, &MEMORY_AT_2000),
+        (
+            Asked {
+                skip: true,
+                ..slow()
+            },
+            &MEMORY,
+        ),
+    ];
+    for (asked, at_stop) in cases {
+        let bytes = changed(alloc, 102, 0, &[], &[])?;
+        let output = shown(&rt, alloc, bytes, asked, Show::Stop, &OpenGate)?;
+        assert_eq!(rt; output.bytes(), at_stop);
+        let bytes = changed(alloc, 102, 0, &[], &[])?;
+        let output = shown(&rt, alloc, bytes, asked, Show::End, &OpenGate)?;
+        assert_eq!(rt; output.bytes(), MEMORY.as_slice());
+    }
+    Ok(())
+}
+
+/// Pages of 16 bytes, 65 pages, one write.
+static LAST_PAGE: [u8; 33] = [
+    0x50, 0x43, 0x57, 0x54, 1, 4, 0, 0, 0x41, 0, 0, 0, 1, 0, 0, 0, //
+    10, 0, 0, 0, 0, 0, 0, 0, 0x40, 0, 0, 0, 0, 0, 1, 0, 7,
+];
+
+#[test]
+fn writes_a_page_past_the_first_word(rt: HostRuntime) -> Result<(), Fail> {
+    let alloc = rt.alloc();
+    let mut memory = Vec::from_elem(alloc, 0u8, 1024)?;
+    memory.push(7)?;
+    memory.extend_from_slice(&[0; 15])?;
+    let asked = Asked {
+        min: 10,
+        max: 10,
+        rounds: 1,
+        workers: 2,
+        ..slow()
+    };
+    for show in [Show::Stop, Show::End] {
+        let bytes = Vec::from_slice(alloc, &LAST_PAGE)?;
+        let output = shown(&rt, alloc, bytes, asked, show, &OpenGate)?;
+        assert_eq!(rt; output.bytes(), memory.as_slice());
+    }
+    Ok(())
+}
+
+#[test]
+fn runs_live_by_the_command_line(rt: HostRuntime) -> Result<(), Fail> {
+    let alloc = rt.alloc();
+    let cases: [(&[&str], &[u8]); 4] = [
+        (&[], &MEMORY),
+        (
+            &[
+                "--at-stop",
+                "--min",
+                "2",
+                "--max",
+                "2",
+                "--inc",
+                "1",
+                "--threshold",
+                "1",
+                "--rounds",
+                "1",
+            ],
+            &MEMORY_AT_2000,
+        ),
+        (
+            &[
+                "--min=2",
+                "--max=2",
+                "--inc=1",
+                "--threshold=1",
+                "--rounds=1",
+            ],
+            &MEMORY,
+        ),
+        (
+            &[
+                "--start=2000",
+                "--workers=16",
+                "--streams=16",
+                "--replayers=16",
+                "--lane=1",
+                "--skip",
+                "--at-stop",
+            ],
+            &MEMORY_AT_2000,
+        ),
+    ];
+    for (options, memory) in cases {
+        let bytes = changed(alloc, 102, 0, &[], &[])?;
+        let (status, output, faults) = told(&rt, alloc, "live", bytes, options)?;
+        assert_eq!(rt; status, 0);
+        assert_eq!(rt; output.bytes(), memory);
+        assert!(rt; faults.bytes().is_empty());
+    }
+    Ok(())
+}
+
+#[test]
+fn refuses_live_words_before_the_trace(rt: HostRuntime) -> Result<(), Fail> {
+    let alloc = rt.alloc();
+    let refused: [(&[&str], &str); 8] = [
+        (&["--min=0"], "precopy: settings S1\n"),
+        (&["--max=500"], "precopy: settings S2\n"),
+        (&["--inc=1000001"], "precopy: settings S3\n"),
+        (&["--rounds=65"], "precopy: settings S5\n"),
+        (&["--workers=17"], "precopy: settings S9\n"),
+        (&["--streams=0"], "precopy: settings S9\n"),
+        (&["--replayers=17"], "precopy: settings S9\n"),
+        (&["--lane=0"], "precopy: settings S9\n"),
+    ];
+    for (words, line) in refused {
+        // No trace at all: E1 where it was read.
+        let (status, output, faults) = told(&rt, alloc, "live", Vec::new(alloc), words)?;
+        assert_eq!(rt; status, 2, "{line}");
+        assert_eq!(rt; faults.bytes(), line.as_bytes(), "{line}");
+        assert!(rt; output.bytes().is_empty(), "{line}");
+    }
+    let usage: [&[&str]; 5] = [
+        &["--window=1"],
+        &["--hot=1"],
+        &["--at-stop=1"],
+        &["--at-stop", "--at-stop"],
+        &["--streams", "x"],
+    ];
+    for words in usage {
+        let (status, _, faults) = told(&rt, alloc, "live", Vec::new(alloc), words)?;
+        assert_eq!(rt; status, 2);
+        assert!(rt; !faults.bytes().starts_with(b"precopy: "));
+    }
+    Ok(())
+}
+
+#[test]
+fn says_why_a_live_run_ends(rt: HostRuntime) -> Result<(), Fail> {
+    let alloc = rt.alloc();
+    let cases: [(usize, &[u8], &str); 3] = [
+        (0, &[], "precopy: trace E1\n"),
+        (102, &[0], "precopy: trace E14\n"),
+        (101, &[], "precopy: trace E8 record 4\n"),
+    ];
+    for (len, more, line) in cases {
+        let bytes = changed(alloc, len, 0, &[], more)?;
+        let (status, output, faults) = told(&rt, alloc, "live", bytes, &[])?;
+        assert_eq!(rt; status, 1, "{line}");
+        assert_eq!(rt; faults.bytes(), line.as_bytes(), "{line}");
+        assert!(rt; output.bytes().is_empty(), "{line}");
+    }
+    let errors = [
+        (RunError::Live(LiveError::Memory), "live L1"),
+        (RunError::Live(LiveError::Thread), "live L2"),
+        (RunError::Trace(TraceError::Memory), "trace E16"),
+    ];
+    for (error, text) in errors {
+        let line = format!(in alloc; "{error}")?;
+        assert_eq!(rt; line.as_str(), text);
+    }
+    Ok(())
+}
+
+/// How often points were reached. Each side waits for the other's first step.
+#[derive(Drop)]
+struct Meeting {
+    stored: AtomicU64,
+    marked: AtomicU64,
+    harvested: AtomicU64,
+    /// How many waits gave up.
+    late: AtomicU64,
+}
+
+/// How often a wait looks before it gives up.
+const TURNS: u64 = 50_000_000;
+
+impl Meeting {
+    fn new() -> Meeting {
+        Meeting {
+            stored: AtomicU64::new(0),
+            marked: AtomicU64::new(0),
+            harvested: AtomicU64::new(0),
+            late: AtomicU64::new(0),
+        }
+    }
+
+    /// Waits until a point was reached.
+    fn wait_for(&self, count: &AtomicU64) {
+        for _ in 0..TURNS {
+            if count.load(Ordering::SeqCst) > 0 {
+                return;
+            }
+            thread::yield_now();
+        }
+        add_one(&self.late);
+    }
+}
+
+fn add_one(count: &AtomicU64) {
+    count.fetch_add(1, Ordering::SeqCst);
+}
+
+impl Gate for Meeting {
+    fn at(&self, point: Point) {
+        match point {
+            Point::Stored { .. } => {
+                add_one(&self.stored);
+                self.wait_for(&self.harvested);
+            }
+            Point::Marked { .. } => add_one(&self.marked),
+            Point::Harvested { .. } => {
+                add_one(&self.harvested);
+                self.wait_for(&self.stored);
+            }
+            _ => {}
+        }
+    }
+}
+
+#[test]
+fn replayers_and_copiers_run_at_once(rt: HostRuntime) -> Result<(), Fail> {
+    let alloc = rt.alloc();
+    for show in [Show::Stop, Show::End] {
+        let gate = Meeting::new();
+        let bytes = changed(alloc, 102, 0, &[], &[])?;
+        let output = shown(&rt, alloc, bytes, slow(), show, &gate)?;
+        assert_eq!(rt; output.bytes(), MEMORY.as_slice());
+        assert_eq!(rt; gate.late.load(Ordering::SeqCst), 0);
+        assert_eq!(rt; gate.stored.load(Ordering::SeqCst), 5);
+        assert_eq!(rt; gate.marked.load(Ordering::SeqCst), 5);
+        assert_eq!(rt; gate.harvested.load(Ordering::SeqCst), 3);
+    }
+    Ok(())
+}

@@ -1,0 +1,156 @@
+//! What a trace touches, read from sources that give it in pieces of many sizes.
+
+ghost use Rattle.std.specs.Prelude.{None, false};
+
+use crate::tests::{changed, sink};
+use live_engine::OpenGate;
+use migration_jobs::{Job, RunError, run};
+use std::alloc::{AllocError, Global};
+use std::test::Fail;
+use trace_codec::{Source, TestSource, Timeline, TouchLog, TraceError};
+
+/// A source of bytes without end, which leaves in the buffer what stands there.
+#[derive(Drop)]
+struct Endless {
+    reads: u64,
+}
+
+impl Source for Endless {
+    ghost remaining = { λ _. None };
+
+    ghost has_failed = { λ _. false };
+
+    fn read(&mut self, buffer: &mut [u8]) -> Option<usize> {
+        self.reads = self.reads.saturating_add(1);
+        Some(buffer.len())
+    }
+
+    fn failed(&self) -> bool {
+        false
+    }
+}
+
+/// The log of some bytes that come at most so many in one read, of which one may fail.
+fn log_of(
+    alloc: Global,
+    bytes: Vec<u8>,
+    greatest: usize,
+    failing_call: Option<u64>,
+) -> Result<TouchLog, TraceError> {
+    let mut source = TestSource::new(bytes, greatest.max(1), failing_call);
+    TouchLog::read(alloc, &mut source)
+}
+
+/// Ticks and pages in order.
+fn touches(alloc: Global, log: &TouchLog) -> Result<Vec<(u64, u32)>, AllocError> {
+    let mut touches = Vec::new(alloc);
+    for index in 0..log.touch_count() {
+        let touch = log.touch(index);
+        touches.push((touch.tick, touch.page))?;
+    }
+    Ok(touches)
+}
+
+#[test]
+fn logs_pieces_of_every_size(rt: HostRuntime) -> Result<(), Fail> {
+    let alloc = rt.alloc();
+    let expected = [(0, 0), (5, 1), (1200, 1), (2500, 3), (2500, 1)];
+    for greatest in [1, 2, 7, 15, 16, 17, 33, 49, 101, 102, 1000] {
+        let log = log_of(alloc, changed(alloc, 102, 0, &[], &[])?, greatest, None)?;
+        assert_eq!(rt; touches(alloc, &log)?.as_slice(), expected.as_slice());
+        assert_eq!(rt; (log.shape().shift, log.page_count()), (4, 4));
+    }
+    let log = TouchLog::parse(alloc, &changed(alloc, 102, 0, &[], &[])?)?;
+    assert_eq!(rt; touches(alloc, &log)?.as_slice(), expected.as_slice());
+    Ok(())
+}
+
+#[test]
+fn refuses_the_first_cause_in_pieces(rt: HostRuntime) -> Result<(), Fail> {
+    let alloc = rt.alloc();
+    let refused: [(usize, usize, &[u8], &[u8], TraceError); 12] = [
+        (0, 0, &[], &[], TraceError::ShortHeader),
+        (15, 0, &[], &[], TraceError::ShortHeader),
+        (102, 0, &[0x51], &[], TraceError::BadMagic),
+        (102, 12, &[6], &[], TraceError::ShortRecord(5)),
+        (101, 0, &[], &[], TraceError::ShortRecord(4)),
+        (102, 47, &[0xff, 0xff], &[], TraceError::ShortRecord(1)),
+        (102, 67, &[0xaf, 4], &[], TraceError::TickOrder(3)),
+        (102, 55, &[1], &[], TraceError::TickTooLarge(2)),
+        (102, 41, &[4], &[], TraceError::PageOutOfRange(1)),
+        (102, 47, &[0], &[], TraceError::EmptyWrite(1)),
+        (102, 45, &[16], &[], TraceError::OutOfPage(1)),
+        (102, 0, &[], &[0], TraceError::TrailingBytes),
+    ];
+    for (len, place, patch, more, cause) in refused {
+        for greatest in [1, 20, 102, 1000] {
+            let bytes = changed(alloc, len, place, patch, more)?;
+            let log = log_of(alloc, bytes, greatest, None);
+            assert!(rt; matches!(log, Err(error) if error == cause));
+        }
+    }
+    Ok(())
+}
+
+#[test]
+fn a_failed_read_comes_before_a_cause(rt: HostRuntime) -> Result<(), Fail> {
+    let alloc = rt.alloc();
+    for failing in 1..=6 {
+        for (place, patch) in [(0, 0x51), (41, 4), (12, 4), (12, 6), (102, 0)] {
+            let bytes = changed(alloc, 102, place, &[patch], &[])?;
+            let log = log_of(alloc, bytes, 20, Some(failing));
+            // Six reads give 102 bytes, and the seventh is the end.
+            assert!(rt; matches!(log, Err(TraceError::ReadFault)));
+        }
+    }
+    let bytes = changed(alloc, 102, 41, &[4], &[])?;
+    let mut source = TestSource::new(bytes, 51, Some(3));
+    let mut sink = sink(alloc);
+    let job = Job::Sweep {
+        cases: Vec::new(alloc),
+        workers: 1,
+    };
+    assert_eq!(rt;
+        run(&rt, alloc, &job, &mut source, &mut sink, &OpenGate),
+        Err(RunError::Trace(TraceError::ReadFault))
+    );
+    assert!(rt; sink.bytes().is_empty());
+    Ok(())
+}
+
+#[test]
+fn reads_past_the_longest_trace_and_no_further(rt: HostRuntime) -> Result<(), Fail> {
+    let mut source = Endless { reads: 0 };
+    let log = TouchLog::read(rt.alloc(), &mut source);
+    assert!(rt; matches!(log, Err(TraceError::TooLong)));
+    // 2^10 pieces of 2^18 bytes, and one more.
+    assert_eq!(rt; source.reads, 1025);
+    Ok(())
+}
+
+#[test]
+fn logs_more_than_one_room(rt: HostRuntime) -> Result<(), Fail> {
+    let alloc = rt.alloc();
+    // 200 writes of whole pages of 4,096 bytes: 822,416 bytes.
+    let header = [80, 67, 87, 84, 1, 12, 0, 0, 1, 0, 0, 0, 200, 0, 0, 0];
+    let mut bytes = Vec::from_slice(alloc, &header)?;
+    for tick in 0..200u64 {
+        bytes.extend_from_slice(&tick.to_le_bytes())?;
+        bytes.extend_from_slice(&[0, 0, 0, 0, 0, 0, 0, 0x10])?;
+        for _ in 0..256 {
+            bytes.extend_from_slice(&[0xff; 16])?;
+        }
+    }
+    for greatest in [100_000, usize::MAX] {
+        let log = log_of(alloc, Vec::from_slice(alloc, &bytes)?, greatest, None)?;
+        assert_eq!(rt; log.touch_count(), 200);
+        let touches = touches(alloc, &log)?;
+        assert!(rt;
+            touches
+                .iter()
+                .zip(0..200u64)
+                .all(|(touch, tick)| *touch == (tick, 0))
+        );
+    }
+    Ok(())
+}

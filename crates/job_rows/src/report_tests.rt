@@ -1,0 +1,149 @@
+//! Reports by the command line, whose lines were worked out by hand.
+
+use crate::tests::{changed, told};
+use migration_jobs::TestSink;
+use std::alloc::{AllocError, Global};
+use std::sync::Wait;
+use std::test::Fail;
+use std::thread::Threads;
+
+/// Slow rates, which the worked rounds have.
+static SLOW: [&str; 5] = [
+    "--min=2",
+    "--max=4",
+    "--inc=1",
+    "--threshold=1",
+    "--rounds=8",
+];
+
+/// The report over a changed trace, by the command line.
+fn report<R: Threads + Wait + Sync>(
+    rt: &R,
+    alloc: Global,
+    bytes: Vec<u8>,
+    options: &[&str],
+) -> Result<(u8, TestSink, TestSink), AllocError> {
+    told(rt, alloc, "report", bytes, options)
+}
+
+/// The report with windows of 5,000 ticks, in one of which a page is hot.
+static LONG_WINDOW: &str = "trace pages 4 size 16 writes 5
+window 0 writes 5 pages 3 again 0 fresh 3
+hot 1 pages 3
+page 0
+page 1
+page 3
+round 0 from 0 to 4 rate 1000 pages 4 sent 4 dirtied 1
+stop few at 4 pages 1 down 1 total 5
+";
+
+#[test]
+fn reports_working_sets(rt: HostRuntime) -> Result<(), Fail> {
+    let alloc = rt.alloc();
+    let bytes = changed(alloc, 102, 0, &[], &[])?;
+    let (status, output, _) = report(&rt, alloc, bytes, &SLOW)?;
+    assert_eq!(rt; status, 0);
+    assert_eq!(rt;
+        output.bytes(),
+        "trace pages 4 size 16 writes 5
+window 0 writes 2 pages 2 again 0 fresh 2
+window 1 writes 1 pages 1 again 1 fresh 0
+window 2 writes 2 pages 2 again 1 fresh 1
+hot 2 pages 1
+page 1
+round 0 from 0 to 2000 rate 2 pages 4 sent 4 dirtied 2
+round 1 from 2000 to 3000 rate 2 pages 2 sent 2 dirtied 2
+round 2 from 3000 to 3667 rate 3 pages 2 sent 2 dirtied 0
+stop few at 3667 pages 0 down 0 total 8
+"
+            .as_bytes()
+    );
+    for workers in ["--workers=2", "--workers=16"] {
+        let bytes = changed(alloc, 102, 0, &[], &[])?;
+        let options = [
+            "--min=2",
+            "--max=4",
+            "--inc=1",
+            "--threshold=1",
+            "--rounds=8",
+            workers,
+        ];
+        let (_, same, _) = report(&rt, alloc, bytes, &options)?;
+        assert_eq!(rt; same.bytes(), output.bytes(), "{workers}");
+    }
+    for workers in ["--workers=1", "--workers=2", "--workers=16"] {
+        let bytes = changed(alloc, 102, 0, &[], &[])?;
+        let options = ["--window=5000", "--hot", "1", workers];
+        let (_, output, _) = report(&rt, alloc, bytes, &options)?;
+        assert_eq!(rt; output.bytes(), LONG_WINDOW.as_bytes(), "{workers}");
+    }
+    let (_, output, _) = report(&rt, alloc, changed(alloc, 16, 12, &[0], &[])?, &SLOW)?;
+    assert_eq!(rt;
+        output.bytes(),
+        "trace pages 4 size 16 writes 0
+hot 2 pages 0
+round 0 from 0 to 2000 rate 2 pages 4 sent 4 dirtied 0
+stop few at 2000 pages 0 down 0 total 4
+"
+            .as_bytes()
+    );
+    Ok(())
+}
+
+#[test]
+fn reports_skipped_pages(rt: HostRuntime) -> Result<(), Fail> {
+    let alloc = rt.alloc();
+    let mut bytes = changed(alloc, 102, 0, &[], &[])?;
+    // The last two writes come a tick earlier.
+    for place in [67, 85] {
+        match bytes.get_mut(place) {
+            Some(byte) => *byte = 0xc3,
+            None => return Err("a shorter trace".into()),
+        }
+    }
+    let options = [
+        "--min=2",
+        "--max=4",
+        "--inc=1",
+        "--threshold=1",
+        "--rounds=8",
+        "--skip",
+    ];
+    let (status, output, _) = report(&rt, alloc, bytes, &options)?;
+    assert_eq!(rt; status, 0);
+    assert_eq!(rt;
+        output.bytes(),
+        "trace pages 4 size 16 writes 5
+window 0 writes 2 pages 2 again 0 fresh 2
+window 1 writes 1 pages 1 again 1 fresh 0
+window 2 writes 2 pages 2 again 1 fresh 1
+hot 2 pages 1
+page 1
+round 0 from 0 to 2000 rate 2 pages 4 sent 4 dirtied 2
+round 1 from 2000 to 2500 rate 2 pages 2 sent 1 dirtied 2
+stop fast at 2500 pages 2 down 500 total 7
+"
+            .as_bytes()
+    );
+    Ok(())
+}
+
+#[test]
+fn refuses_settings_before_the_trace(rt: HostRuntime) -> Result<(), Fail> {
+    let alloc = rt.alloc();
+    let cases: [(&str, &str); 5] = [
+        ("--min=0", "precopy: settings S1\n"),
+        ("--max=500", "precopy: settings S2\n"),
+        ("--rounds=65", "precopy: settings S5\n"),
+        ("--hot=0", "precopy: settings S7\n"),
+        ("--workers=17", "precopy: settings S9\n"),
+    ];
+    for (option, line) in cases {
+        // No trace at all: E1 where it was read.
+        let (status, output, faults) = report(&rt, alloc, Vec::new(alloc), &[option])?;
+        assert_eq!(rt; status, 2, "{option}");
+        assert_eq!(rt; faults.bytes(), line.as_bytes(), "{option}");
+        assert!(rt; output.bytes().is_empty(), "{option}");
+    }
+    Ok(())
+}

@@ -1,0 +1,11 @@
+//! Worked examples of versions, caches, images and the final copy: tests alone.
+#![tactic(auto)]
+
+#[cfg(test)]
+mod cache_rows;
+#[cfg(test)]
+mod copy_rows;
+#[cfg(test)]
+mod image_rows;
+#[cfg(test)]
+mod version_rows;

@@ -1,0 +1,39 @@
+-- Memory that is as large as a trace says.
+use Rattle.std.proofs.Common.{◌≡◌, ℕ, suc, ◌-◌, ◌*◌, ◌^◌, ◌+◌, ◌<◌, ◌≤◌, length, take, drop, replicate, refl, sym, ap, subst, ◌∙◌, arith}
+use Rattle.std.proofs.Math.Nat.{mul-le-mul_right}
+use Rattle.std.proofs.lemmas.List.{length-take-le, length-drop, length-replicate}
+use Rattle.migration_model.specs.Trace.{GuestTrace, IsTrace}
+use Rattle.migration_model.specs.Memory.{GuestMemory, IsMemory, image_of, page_of}
+use Rattle.migration_model.proofs.Pages.{length-applied}
+use Rattle.migration_jobs.specs.Shown.{memory_shown}
+use Rattle.migration_jobs.specs.declared.job.Show.{Show}
+use Rattle.migration_jobs.specs.declared.job.Show.TheVariants as shows
+
+pub record IsAsLarge (trace : GuestTrace) (memory : GuestMemory) : Type 0 where
+  pub shift : memory.shift ≡ trace.shift
+  pub pages : memory.pages ≡ trace.pages
+  pub len : length memory.bytes ≡ memory.pages * 2 ^ memory.shift
+
+image_large : (trace : GuestTrace) → IsTrace trace → IsAsLarge trace (image_of trace)
+image_large trace is =
+    let none = replicate (trace.pages * 2 ^ trace.shift) 0 in
+    let after = length-applied trace.shift trace.pages trace.writes none (length-replicate (trace.pages * 2 ^ trace.shift) 0) is.writes.each in
+    subst (IsAsLarge trace) (sym after.1) (record { shift = refl; pages = refl; len = after.2 })
+
+-- so is the memory that is shown
+pub shown_large : (show : Show) (trace : GuestTrace) (memory : GuestMemory) → IsTrace trace → IsAsLarge trace memory → IsAsLarge trace (memory_shown show trace memory)
+shown_large shows.Stop trace memory is large = large
+shown_large shows.End trace memory is large = image_large trace is
+
+pub large_memory : (trace : GuestTrace) (memory : GuestMemory) → IsTrace trace → IsAsLarge trace memory → IsMemory memory.shift memory.pages memory.bytes
+large_memory trace memory is large = record { size = rw (large.shift, large.pages) is.size; len = large.len }
+
+-- a page of memory has the size of a page
+pub length-page : (memory : GuestMemory) (page : ℕ) → length memory.bytes ≡ memory.pages * 2 ^ memory.shift → page < memory.pages
+    → length (page_of memory page) ≡ 2 ^ memory.shift
+length-page memory page len low =
+    let n = 2 ^ memory.shift in
+    let end : suc page * n ≤ memory.pages * n = mul-le-mul_right n low in
+    let width : page * n + n - page * n ≡ n = omega arith in
+    ap (λ (k : ℕ). length (take k (drop (page * n) memory.bytes))) width
+    ∙ length-take-le n (drop (page * n) memory.bytes) (omega (arith, end, len, length-drop (page * n) memory.bytes))

@@ -1,0 +1,80 @@
+-- What a job writes, and why it does not.
+use Rattle.std.specs.Prelude.{◌≡◌, ℕ, List, Option, IfSome, ⊤, length}
+use Rattle.migration_model.specs.Trace.{GuestTrace, Spells}
+use Rattle.migration_model.specs.Memory.{image_before, image_of}
+use Rattle.migration_model.specs.Rates.{MigrationSettings}
+use Rattle.migration_model.specs.Rounds.{IsPlan, MigrationPlan}
+use Rattle.migration_model.specs.Sweeps.{SweepLine, AreLines}
+use Rattle.migration_model.specs.Touches.{touches_of}
+use Rattle.migration_model.specs.Windows.{working_sets_of}
+use Rattle.sweep_report.specs.Texts.{report_of, sweep_of}
+use Rattle.trace_codec.specs.Refusals.{RefusesUnlessMemory}
+use Rattle.trace_codec.specs.Source.{SourceRefuses, IsOutside}
+use Rattle.migration_jobs.specs.declared.job.Job.{Job}
+use Rattle.migration_jobs.specs.declared.job.Job.TheVariants as jobs
+use Rattle.migration_jobs.specs.declared.job.Show.{Show}
+use Rattle.migration_jobs.specs.declared.job.Show.TheVariants as shows
+use Rattle.migration_jobs.specs.declared.job.RunError.{RunError}
+use Rattle.migration_jobs.specs.declared.job.RunError.TheVariants as errors
+
+-- the text of a report on a trace with these settings: its working sets, and its plan
+pub record IsReport (trace : GuestTrace) (settings : MigrationSettings) (text : List ℕ) : Type 0 where
+  pub plan : MigrationPlan
+  pub is_plan : IsPlan trace.pages (touches_of trace) settings plan
+  pub text_is : text ≡ report_of trace.shift trace.pages (length trace.writes) settings.hot (working_sets_of trace.pages (touches_of trace) settings) plan
+
+-- the text of a sweep of a trace over some cases: what the plan of each comes to, and the best of them
+pub record IsSweep (trace : GuestTrace) (cases : List MigrationSettings) (text : List ℕ) : Type 0 where
+  pub lines : List SweepLine
+  pub are_lines : AreLines trace.pages (touches_of trace) cases lines
+  pub text_is : text ≡ sweep_of lines
+
+-- the memory where the plan with these settings stops the guest
+pub record IsStopMemory (trace : GuestTrace) (settings : MigrationSettings) (bytes : List ℕ) : Type 0 where
+  pub plan : MigrationPlan
+  pub is_plan : IsPlan trace.pages (touches_of trace) settings plan
+  pub bytes_are : bytes ≡ (image_before trace plan.stop).bytes
+
+-- the memory of a live run that is written
+abbrev pub IsShown : Show → GuestTrace → MigrationSettings → List ℕ → Type 0
+IsShown shows.Stop trace settings bytes = IsStopMemory trace settings bytes
+IsShown shows.End trace settings bytes = bytes ≡ (image_of trace).bytes
+
+-- the whole output of a job over a trace
+abbrev pub IsOutputOf : Job → GuestTrace → List ℕ → Type 0
+IsOutputOf jobs.Image trace output = output ≡ (image_of trace).bytes
+IsOutputOf (jobs.Report settings) trace output = IsReport trace settings output
+IsOutputOf (jobs.Live settings show) trace output = IsShown show trace settings output
+IsOutputOf (jobs.Sweep cases workers) trace output = IsSweep trace cases.items output
+
+-- The output of a job for what a source held: bytes that spell a trace, and all of its bytes, where they are known.
+pub record IsOutput (known : Option (List ℕ)) (job : Job) (output : List ℕ) : Type 0 where
+  pub bytes : List ℕ
+  pub trace : GuestTrace
+  pub all : IfSome known (λ held. held ≡ bytes)
+  pub spells : Spells bytes trace
+  pub is_output : IsOutputOf job trace output
+
+-- A trace is refused only for a cause that stands in what the source held, or for one outside of it.
+abbrev pub RefusesRun : Option (List ℕ) → RunError → Type 0
+RefusesRun known (errors.Trace e) = SourceRefuses known e
+RefusesRun known errors.Memory = ⊤
+RefusesRun known errors.Thread = ⊤
+RefusesRun known (errors.Live e) = ⊤
+RefusesRun known errors.Write = ⊤
+
+-- memory ran out, a thread was not to be had, or a read or a write failed
+abbrev pub IsOutsideRun : RunError → Type 0
+IsOutsideRun (errors.Trace e) = IsOutside e
+IsOutsideRun errors.Memory = ⊤
+IsOutsideRun errors.Thread = ⊤
+IsOutsideRun (errors.Live e) = ⊤
+IsOutsideRun errors.Write = ⊤
+
+-- a text is refused as a trace for this, or memory ran out
+abbrev pub RefusesText : List ℕ → RunError → Type 0
+RefusesText bytes (errors.Trace e) = RefusesUnlessMemory bytes e
+RefusesText bytes errors.Memory = ⊤
+RefusesText bytes errors.Thread = ⊥
+RefusesText bytes (errors.Live e) = ⊥
+RefusesText bytes errors.Write = ⊥

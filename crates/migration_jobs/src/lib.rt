@@ -1,0 +1,16 @@
+//! The jobs of precopy as calls: a trace is read from a source, and the whole output of a job is written to a sink.
+#![tactic(auto)]
+
+mod job;
+mod live;
+mod output;
+mod running;
+mod shown;
+mod sink;
+mod test_sink;
+
+pub use job::{Job, RunError, Show};
+pub use output::write_out;
+pub use running::run;
+pub use sink::{FromWrite, Sink};
+pub use test_sink::TestSink;

@@ -1,0 +1,57 @@
+//! A live run over the trace that was read, and the memory of it that is asked for.
+
+ghost use Rattle.std.specs.Prelude.{◌≡◌, ◌≢◌, ◌↔◌, ℕ, List, IfErr, IfOk, Err, Some, false, true};
+ghost use Rattle.migration_model.specs.Trace.{GuestTrace, IsTrace, Spells};
+ghost use Rattle.trace_codec.specs.Source.{SourceSpells};
+ghost use Rattle.trace_codec.specs.declared.error.TraceError.TheVariants.{ReadFault};
+ghost use Rattle.migration_jobs.specs.Output.{IsOutsideRun, IsShown, RefusesRun};
+
+use crate::job::{RunError, Show};
+use crate::shown::Shown;
+use live_engine::{Gate, LiveError, migrate};
+use rate_limit::Settings;
+use std::alloc::Global;
+use std::sync::Wait;
+use std::thread::Threads;
+use trace_codec::{Source, TraceText};
+
+/// The memory of a live run of a trace.
+fn live_of_trace<R: Threads + Wait + Sync, G: Gate>(
+    rt: &R,
+    alloc: Global,
+    settings: &Settings,
+    show: Show,
+    trace: TraceText,
+    gate: &G,
+) -> Result<Shown, RunError>
+    ensures made { IfOk result (λ m. IsTrace trace × IsShown show trace settings.now m.bytes) }
+    ensures refused { IfErr result (λ e. (error : LiveError) × (e ≡ RunError.Live error)) }
+{
+    match migrate(rt, alloc, &trace, settings, gate) {
+        Ok(stopped) => Ok(Shown::new(stopped, trace, show)),
+        Err(error) => Err(RunError::Live(error)),
+    }
+}
+
+/// The memory of a live run of the trace that a source holds.
+pub(crate) fn live_output<R: Threads + Wait + Sync, S: Source, G: Gate>(
+    rt: &R,
+    alloc: Global,
+    settings: &Settings,
+    show: Show,
+    source: &mut S,
+    gate: &G,
+) -> Result<Shown, RunError>
+    requires { S.has_failed source.old ≡ false }
+    ensures made { IfOk result (λ m. (trace : GuestTrace) × IsTrace trace × SourceSpells (S.remaining source.old) trace × IsShown show trace settings.now m.bytes) }
+    ensures refused { IfErr result (RefusesRun (S.remaining source.old)) }
+    ensures unwritten { IfErr result (λ e. e ≢ RunError.Write) }
+    ensures only { (bytes : List ℕ) (trace : GuestTrace) → S.remaining source.old ≡ Some bytes → Spells bytes trace
+        → IfErr result IsOutsideRun }
+    ensures read_failed { (result ≡ Err (RunError.Trace ReadFault)) ↔ (S.has_failed source.new ≡ true) }
+{
+    match TraceText::read(alloc, source) {
+        Ok(trace) => live_of_trace(rt, alloc, settings, show, trace, gate),
+        Err(refusal) => Err(RunError::Trace(refusal)),
+    }
+}

@@ -1,0 +1,235 @@
+//! A job, from the bytes read to the bytes written.
+
+ghost use Rattle.std.specs.Prelude.{◌≡◌, ◌≢◌, ◌↔◌, ℕ, List, IfErr, IfOk, OnErr, OnOk, Err, Some, false, true};
+ghost use Rattle.std.specs.Io.KnownBytes.{Appends, Keeps};
+ghost use Rattle.migration_model.specs.Trace.{GuestTrace, IsTrace, Spells};
+ghost use Rattle.migration_model.specs.Memory.{image_of};
+ghost use Rattle.migration_model.specs.Rounds.{IsPlan};
+ghost use Rattle.migration_model.specs.Touches.{touches_in};
+ghost use Rattle.migration_model.specs.Windows.{working_sets_of};
+ghost use Rattle.trace_codec.specs.declared.error.TraceError.TheVariants.{ReadFault};
+ghost use Rattle.trace_codec.specs.Source.{SourceSpells};
+ghost use Rattle.image_build.specs.Replay.{RefusesReplay};
+ghost use Rattle.migration_jobs.specs.Sink.{AppendsPart};
+ghost use Rattle.migration_jobs.specs.Output.{IsOutput, IsOutsideRun, IsReport, IsSweep, RefusesRun, RefusesText};
+ghost use Rattle.migration_jobs.specs.Bytes.{bytes_in};
+
+use crate::job::{Job, RunError};
+use crate::live::live_output;
+use crate::output::{Output, write_output};
+use crate::sink::Sink;
+use image_build::{ReplayError, replay_bytes};
+use live_engine::Gate;
+use rate_limit::Settings;
+use round_planner::{Plan, PlanError, par_plan};
+use std::alloc::Global;
+use std::sync::Wait;
+use std::thread;
+use std::thread::Threads;
+use sweep_report::{report_text, sweep, sweep_text};
+use trace_codec::{Source, Timeline, TouchLog, read_bytes};
+use working_sets::{Tables, TablesError, par_tables};
+
+/// How many touches there have to be for tables and plan to be made side by side: fewer take less time than a thread's start.
+const WORTH_A_THREAD: usize = 1 << 18;
+
+/// The same refusal, as one of a run.
+fn run_error_of(error: ReplayError) -> RunError
+    ensures refused { (bytes : List ℕ) → RefusesReplay bytes error → RefusesText bytes result }
+    ensures memory { error ≡ ReplayError.Memory → result ≡ RunError.Memory }
+{
+    match error {
+        ReplayError::Trace(error) => RunError::Trace(error),
+        ReplayError::Memory => RunError::Memory,
+    }
+}
+
+/// The memory after all writes of the trace that the bytes spell.
+fn image_of_bytes(alloc: Global, bytes: &[u8]) -> Result<Vec<u8>, RunError>
+    ensures made { IfOk result (λ v. (trace : GuestTrace) × Spells bytes.now trace × (v.items ≡ (image_of trace).bytes)) }
+    ensures refused { IfErr result (RefusesText bytes.now) }
+    ensures only { (trace : GuestTrace) → Spells bytes.now trace → IfErr result (λ e. e ≡ RunError.Memory) }
+{
+    match replay_bytes(alloc, bytes) {
+        Ok(image) => Ok(image.into_bytes()),
+        Err(error) => Err(run_error_of(error)),
+    }
+}
+
+/// The memory after all writes of the trace that a source holds.
+fn image_output<S: Source>(alloc: Global, source: &mut S) -> Result<Vec<u8>, RunError>
+    requires { S.has_failed source.old ≡ false }
+    ensures made { IfOk result (λ v. (trace : GuestTrace) × IsTrace trace × SourceSpells (S.remaining source.old) trace × (v.items ≡ (image_of trace).bytes)) }
+    ensures refused { IfErr result (RefusesRun (S.remaining source.old)) }
+    ensures unwritten { IfErr result (λ e. e ≢ RunError.Write) }
+    ensures only { (bytes : List ℕ) (trace : GuestTrace) → S.remaining source.old ≡ Some bytes → Spells bytes trace
+        → IfErr result IsOutsideRun }
+    ensures read_failed { (result ≡ Err (RunError.Trace ReadFault)) ↔ (S.has_failed source.new ≡ true) }
+{
+    match read_bytes(alloc, source) {
+        Ok(bytes) => image_of_bytes(alloc, &bytes),
+        Err(error) => Err(RunError::Trace(error)),
+    }
+}
+
+/// The tables of what is touched, and its plan: side by side, where there are two workers and enough to do.
+fn tables_and_plan<R: Threads + Sync>(
+    rt: &R,
+    alloc: Global,
+    settings: &Settings,
+    log: &TouchLog,
+) -> (Result<Tables, TablesError>, Result<Plan, PlanError>)
+    ensures tables { IfOk result.0 (λ tables. tables ≡ working_sets_of log.now.pages log.now.touches settings.now) }
+    ensures plan { IfOk result.1 (λ plan. IsPlan log.now.pages log.now.touches settings.now plan) }
+{
+    let workers = settings.asked().workers as usize;
+    let tables = || -> Result<Tables, TablesError>
+        ensures { IfOk result (λ tables. tables ≡ working_sets_of log.entry.now.pages log.entry.now.touches settings.entry.now) }
+    { par_tables(rt, alloc, log, settings, workers) };
+    let planned = || -> Result<Plan, PlanError>
+        ensures { IfOk result (λ plan. IsPlan log.entry.now.pages log.entry.now.touches settings.entry.now plan) }
+    { par_plan(rt, alloc, log, settings, workers) };
+    if workers < 2 || log.touch_count() < WORTH_A_THREAD {
+        return (tables(), planned());
+    }
+    thread::join(rt, tables, planned)
+}
+
+/// The report on what is touched of a trace.
+fn report_of_log<R: Threads + Sync>(
+    rt: &R,
+    alloc: Global,
+    settings: &Settings,
+    log: &TouchLog,
+) -> Result<Vec<u8>, RunError>
+    ensures made { IfOk result (λ v. (trace : GuestTrace) → log.now ≡ touches_in trace → IsReport trace settings.now v.items) }
+    ensures memory { IfErr result (λ e. e ≡ RunError.Memory) }
+{
+    let (tables, planned) = tables_and_plan(rt, alloc, settings, log);
+    let tables = tables.or(Err(RunError::Memory))?;
+    let planned = planned.or(Err(RunError::Memory))?;
+    report_text(alloc, &log.shape(), settings, &tables, &planned).or(Err(RunError::Memory))
+}
+
+/// The report on the trace that a source holds.
+fn report_output<R: Threads + Sync, S: Source>(
+    rt: &R,
+    alloc: Global,
+    settings: &Settings,
+    source: &mut S,
+) -> Result<Vec<u8>, RunError>
+    requires { S.has_failed source.old ≡ false }
+    ensures made { IfOk result (λ v. (trace : GuestTrace) × IsTrace trace × SourceSpells (S.remaining source.old) trace × IsReport trace settings.now v.items) }
+    ensures refused { IfErr result (RefusesRun (S.remaining source.old)) }
+    ensures unwritten { IfErr result (λ e. e ≢ RunError.Write) }
+    ensures only { (bytes : List ℕ) (trace : GuestTrace) → S.remaining source.old ≡ Some bytes → Spells bytes trace
+        → IfErr result IsOutsideRun }
+    ensures read_failed { (result ≡ Err (RunError.Trace ReadFault)) ↔ (S.has_failed source.new ≡ true) }
+{
+    match TouchLog::read(alloc, source) {
+        Ok(log) => report_of_log(rt, alloc, settings, &log),
+        Err(refusal) => Err(RunError::Trace(refusal)),
+    }
+}
+
+/// The sweep over what is touched of a trace.
+fn sweep_of_log<R: Threads + Sync>(
+    rt: &R,
+    alloc: Global,
+    cases: &[Settings],
+    workers: usize,
+    log: &TouchLog,
+) -> Result<Vec<u8>, RunError>
+    ensures made { IfOk result (λ v. (trace : GuestTrace) → log.now ≡ touches_in trace → IsSweep trace cases.now v.items) }
+    ensures memory { IfErr result (λ e. e ≡ RunError.Memory) }
+{
+    let lines = sweep(rt, alloc, log, cases, workers).or(Err(RunError::Memory))?;
+    sweep_text(alloc, &lines).or(Err(RunError::Memory))
+}
+
+/// The sweep over the trace that a source holds.
+fn sweep_output<R: Threads + Sync, S: Source>(
+    rt: &R,
+    alloc: Global,
+    cases: &[Settings],
+    workers: usize,
+    source: &mut S,
+) -> Result<Vec<u8>, RunError>
+    requires { S.has_failed source.old ≡ false }
+    ensures made { IfOk result (λ v. (trace : GuestTrace) × IsTrace trace × SourceSpells (S.remaining source.old) trace × IsSweep trace cases.now v.items) }
+    ensures refused { IfErr result (RefusesRun (S.remaining source.old)) }
+    ensures unwritten { IfErr result (λ e. e ≢ RunError.Write) }
+    ensures only { (bytes : List ℕ) (trace : GuestTrace) → S.remaining source.old ≡ Some bytes → Spells bytes trace
+        → IfErr result IsOutsideRun }
+    ensures read_failed { (result ≡ Err (RunError.Trace ReadFault)) ↔ (S.has_failed source.new ≡ true) }
+{
+    match TouchLog::read(alloc, source) {
+        Ok(log) => sweep_of_log(rt, alloc, cases, workers, &log),
+        Err(refusal) => Err(RunError::Trace(refusal)),
+    }
+}
+
+/// The output of a job over the trace that a source holds.
+fn read_output<R: Threads + Wait + Sync, S: Source, G: Gate>(
+    rt: &R,
+    alloc: Global,
+    job: &Job,
+    source: &mut S,
+    gate: &G,
+) -> Result<Output, RunError>
+    requires { S.has_failed source.old ≡ false }
+    ensures made { IfOk result (λ output. IsOutput (S.remaining source.old) job.now (bytes_in output)) }
+    ensures refused { IfErr result (RefusesRun (S.remaining source.old)) }
+    ensures unwritten { IfErr result (λ e. e ≢ RunError.Write) }
+    ensures only { (bytes : List ℕ) (trace : GuestTrace) → S.remaining source.old ≡ Some bytes → Spells bytes trace
+        → IfErr result IsOutsideRun }
+    ensures read_failed { (result ≡ Err (RunError.Trace ReadFault)) ↔ (S.has_failed source.new ≡ true) }
+{
+    match job {
+        Job::Image => Ok(Output::Text(image_output(alloc, source)?)),
+        Job::Report(settings) => Ok(Output::Text(report_output(rt, alloc, settings, source)?)),
+        Job::Live(settings, show) => {
+            let memory = live_output(rt, alloc, settings, *show, source, gate)?;
+            Ok(Output::Memory(memory))
+        }
+        Job::Sweep { cases, workers } => {
+            Ok(Output::Text(sweep_output(rt, alloc, cases, *workers, source)?))
+        }
+    }
+}
+
+/// Runs one job: reads a trace to the end of the source, makes the whole output, and then writes it and flushes. Nothing
+/// is written while anything but a write can still fail, so each error but `Write` leaves nothing written, and that one a
+/// beginning. The threads of a live run call the gate; no other job does.
+pub fn run<R: Threads + Wait + Sync, S: Source, K: Sink, G: Gate>(
+    rt: &R,
+    alloc: Global,
+    job: &Job,
+    source: &mut S,
+    sink: &mut K,
+    gate: &G,
+) -> Result<(), RunError>
+    requires unread { S.has_failed source.old ≡ false }
+    requires unwritten { K.has_failed sink.old ≡ false }
+    // Exactly the output of what was read is written, and flushed.
+    ensures written { OnOk result ((output : List ℕ) × IsOutput (S.remaining source.old) job.now output
+        × Appends (K.contents sink.old) (K.contents sink.new) output) }
+    ensures flushed { OnOk result (K.is_flushed sink.new ≡ true) }
+
+    // What an error leaves written.
+    ensures part { result ≡ Err RunError.Write → (output : List ℕ) × IsOutput (S.remaining source.old) job.now output
+        × AppendsPart (K.contents sink.old) (K.contents sink.new) output }
+    ensures unwritten { IfErr result (λ e. e ≢ RunError.Write → Keeps (K.contents sink.old) (K.contents sink.new)) }
+
+    // When each error comes.
+    ensures refused { IfErr result (RefusesRun (S.remaining source.old)) }
+    ensures only { (bytes : List ℕ) (trace : GuestTrace) → S.remaining source.old ≡ Some bytes → Spells bytes trace
+        → IfErr result IsOutsideRun }
+    ensures read_failed { (result ≡ Err (RunError.Trace ReadFault)) ↔ (S.has_failed source.new ≡ true) }
+    ensures write_failed { (result ≡ Err RunError.Write) ↔ (K.has_failed sink.new ≡ true) }
+{
+    match read_output(rt, alloc, job, source, gate) {
+        Ok(output) => write_output(alloc, sink, &output),
+        Err(error) => Err(error),
+    }
+}

@@ -1,0 +1,11 @@
+//! Worked examples of settings, working sets, plans, reports and sweeps: tests alone.
+#![tactic(auto)]
+
+#[cfg(test)]
+mod plan_rows;
+#[cfg(test)]
+mod rate_rows;
+#[cfg(test)]
+mod table_rows;
+#[cfg(test)]
+mod text_rows;

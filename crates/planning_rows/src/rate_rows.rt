@@ -1,0 +1,107 @@
+//! Worked examples: refusals in their order, rates and stop tests, and printed names.
+
+use rate_limit::{Asked, Next, Reason, Settings, SettingsError, dirty_rate, duration, next};
+use std::test::Fail;
+
+fn asked() -> Asked {
+    Asked {
+        min: 2,
+        max: 4,
+        increment: 1,
+        threshold: 1,
+        rounds: 8,
+        start: 0,
+        window: 1000,
+        hot: 2,
+        workers: 1,
+        streams: 1,
+        replayers: 1,
+        lane: 1024,
+        skip: false,
+    }
+}
+
+fn refusal(asked: Asked) -> Option<SettingsError> {
+    Settings::new(asked).err()
+}
+
+#[test]
+fn first_setting_out_of_range_is_named(rt: HostRuntime) {
+    let good = asked();
+    assert_eq!(rt; refusal(good), None);
+    assert_eq!(rt;
+        refusal(Asked { min: 0, ..good }),
+        Some(SettingsError::MinRate)
+    );
+    assert_eq!(rt;
+        refusal(Asked { max: 1, ..good }),
+        Some(SettingsError::MaxRate)
+    );
+    assert_eq!(rt;
+        refusal(Asked { rounds: 65, ..good }),
+        Some(SettingsError::Rounds)
+    );
+    assert_eq!(rt;
+        refusal(Asked {
+            workers: 17,
+            ..good
+        }),
+        Some(SettingsError::Parallelism)
+    );
+    assert_eq!(rt;
+        refusal(Asked {
+            min: 0,
+            workers: 17,
+            ..good
+        }),
+        Some(SettingsError::MinRate)
+    );
+}
+
+#[test]
+fn refusals_have_their_names(rt: HostRuntime) -> Result<(), Fail> {
+    let errors = [
+        (SettingsError::MinRate, "S1"),
+        (SettingsError::MaxRate, "S2"),
+        (SettingsError::Increment, "S3"),
+        (SettingsError::Threshold, "S4"),
+        (SettingsError::Rounds, "S5"),
+        (SettingsError::WindowLength, "S6"),
+        (SettingsError::HotWindows, "S7"),
+        (SettingsError::StartTick, "S8"),
+        (SettingsError::Parallelism, "S9"),
+    ];
+    for (error, name) in errors {
+        let text = format!(in rt.alloc(); "{error}")?;
+        assert_eq!(rt; text.as_str(), name);
+    }
+    Ok(())
+}
+
+#[test]
+fn durations_and_rates_are_rounded_up(rt: HostRuntime) {
+    assert_eq!(rt; duration(2, 3), 667);
+    assert_eq!(rt; duration(65_536, 1), 65_536_000);
+    assert_eq!(rt; duration(1, u64::MAX), 1);
+    assert_eq!(rt; dirty_rate(1, 2000), 1);
+    assert_eq!(rt; dirty_rate(2, 500), 4);
+    assert_eq!(rt; dirty_rate(0, 7), 0);
+}
+
+#[test]
+fn stop_tests_come_in_order(rt: HostRuntime) -> Result<(), Fail> {
+    let settings = Settings::new(asked())?;
+    assert_eq!(rt; *settings.asked(), asked());
+    assert_eq!(rt; next(&settings, 0, 1000, 8), Next::Stop(Reason::Few));
+    assert_eq!(rt; next(&settings, 4, 1000, 8), Next::Stop(Reason::Fast));
+    assert_eq!(rt; next(&settings, 3, 1000, 8), Next::Stop(Reason::Rounds));
+    assert_eq!(rt; next(&settings, 3, 1000, 7), Next::Go(4));
+    let steady = Settings::new(Asked {
+        min: 10,
+        max: 10,
+        increment: 0,
+        ..asked()
+    })?;
+    assert_eq!(rt; next(&steady, 1, 1000, 1), Next::Go(10));
+    Ok(())
+}

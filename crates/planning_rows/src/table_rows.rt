@@ -1,0 +1,127 @@
+//! Worked examples.
+
+use rate_limit::{Asked, Settings, SettingsError};
+use std::alloc::Global;
+use std::test::Fail;
+use trace_codec::{TouchLog, decode};
+use working_sets::{Tables, Window, par_tables, tables};
+
+/// A guest of 4 pages of 16 bytes, which writes pages 0 and 1 at ticks 0 and 5, page 1 at tick 1200, and pages 3 and 1
+/// at tick 2500.
+const TRACE: [u8; 102] = [
+    0x50, 0x43, 0x57, 0x54, 1, 4, 0, 0, 4, 0, 0, 0, 5, 0, 0, 0, // header
+    0, 0, 0, 0, 0, 0, 0, 0, 0, 0, 0, 0, 0, 0, 1, 0, 1, // write 1
+    5, 0, 0, 0, 0, 0, 0, 0, 1, 0, 0, 0, 0x0f, 0, 1, 0, 2, // write 2
+    0xb0, 4, 0, 0, 0, 0, 0, 0, 1, 0, 0, 0, 0, 0, 1, 0, 3, // write 3
+    0xc4, 9, 0, 0, 0, 0, 0, 0, 3, 0, 0, 0, 2, 0, 2, 0, 4, 5, // write 4
+    0xc4, 9, 0, 0, 0, 0, 0, 0, 1, 0, 0, 0, 0, 0, 1, 0, 0, // write 5
+];
+
+/// The same guest, with no write.
+const NO_WRITES: [u8; 16] = [0x50, 0x43, 0x57, 0x54, 1, 4, 0, 0, 4, 0, 0, 0, 0, 0, 0, 0];
+
+/// A guest of 1 page with a write at tick 0 and one at the greatest tick, 2^40 - 1.
+const FAR_APART: [u8; 50] = [
+    0x50, 0x43, 0x57, 0x54, 1, 4, 0, 0, 1, 0, 0, 0, 2, 0, 0, 0, // header
+    0, 0, 0, 0, 0, 0, 0, 0, 0, 0, 0, 0, 0, 0, 1, 0, 1, // write 1
+    0xff, 0xff, 0xff, 0xff, 0xff, 0, 0, 0, 0, 0, 0, 0, 0, 0, 1, 0, 1, // write 2
+];
+
+fn settings(window: u64, hot: u64) -> Result<Settings, SettingsError> {
+    Settings::new(Asked {
+        min: 2,
+        max: 4,
+        increment: 1,
+        threshold: 1,
+        rounds: 8,
+        start: 0,
+        window,
+        hot,
+        workers: 1,
+        streams: 1,
+        replayers: 1,
+        lane: 1024,
+        skip: false,
+    })
+}
+
+fn row(number: u64, writes: u32, pages: u32, again: u32, fresh: u32) -> Window {
+    Window {
+        number,
+        writes,
+        pages,
+        again,
+        fresh,
+    }
+}
+
+/// The tables of a trace, and of its touches alone.
+fn both(alloc: Global, bytes: &[u8], window: u64, hot: u64) -> Result<(Tables, Tables), Fail> {
+    let settings = settings(window, hot)?;
+    let trace = decode(alloc, bytes)?;
+    let owned = tables(alloc, &trace, &settings)?;
+    let log = TouchLog::parse(alloc, bytes)?;
+    let touched = tables(alloc, &log, &settings)?;
+    Ok((owned, touched))
+}
+
+#[test]
+fn windows_of_a_thousand_ticks(rt: HostRuntime) -> Result<(), Fail> {
+    let rows = [row(0, 2, 2, 0, 2), row(1, 1, 1, 1, 0), row(2, 2, 2, 1, 1)];
+    let (owned, touched) = both(rt.alloc(), &TRACE, 1000, 2)?;
+    assert_eq!(rt; owned.windows.as_slice(), rows.as_slice());
+    assert_eq!(rt; owned.hot.as_slice(), [1].as_slice());
+    assert_eq!(rt; touched.windows.as_slice(), rows.as_slice());
+    assert_eq!(rt; touched.hot.as_slice(), [1].as_slice());
+    Ok(())
+}
+
+#[test]
+fn one_long_window(rt: HostRuntime) -> Result<(), Fail> {
+    let rows = [row(0, 5, 3, 0, 3)];
+    let (owned, touched) = both(rt.alloc(), &TRACE, 5000, 1)?;
+    assert_eq!(rt; owned.windows.as_slice(), rows.as_slice());
+    assert_eq!(rt; owned.hot.as_slice(), [0, 1, 3].as_slice());
+    assert_eq!(rt; touched.windows.as_slice(), rows.as_slice());
+    assert_eq!(rt; touched.hot.as_slice(), [0, 1, 3].as_slice());
+    Ok(())
+}
+
+#[test]
+fn any_number_of_workers(rt: HostRuntime) -> Result<(), Fail> {
+    let alloc = rt.alloc();
+    let log = TouchLog::parse(alloc, &TRACE)?;
+    for workers in [1, 2, 16] {
+        let long = par_tables(&rt, alloc, &log, &settings(5000, 1)?, workers)?;
+        assert_eq!(rt; long.windows.as_slice(), [row(0, 5, 3, 0, 3)].as_slice());
+        assert_eq!(rt; long.hot.as_slice(), [0, 1, 3].as_slice());
+        let short = par_tables(&rt, alloc, &log, &settings(1000, 2)?, workers)?;
+        assert_eq!(rt;
+            short.windows.as_slice(),
+            [row(0, 2, 2, 0, 2), row(1, 1, 1, 1, 0), row(2, 2, 2, 1, 1)].as_slice()
+        );
+        assert_eq!(rt; short.hot.as_slice(), [1].as_slice());
+    }
+    Ok(())
+}
+
+#[test]
+fn no_writes_no_rows(rt: HostRuntime) -> Result<(), Fail> {
+    let (owned, touched) = both(rt.alloc(), &NO_WRITES, 1000, 2)?;
+    assert_eq!(rt; owned.windows.len(), 0);
+    assert_eq!(rt; owned.hot.len(), 0);
+    assert_eq!(rt; touched.windows.len(), 0);
+    assert_eq!(rt; touched.hot.len(), 0);
+    Ok(())
+}
+
+#[test]
+fn one_tick_windows_have_rows_only_where_writes_are(rt: HostRuntime) -> Result<(), Fail> {
+    let rows = [row(0, 1, 1, 0, 1), row(1_099_511_627_775, 1, 1, 0, 0)];
+    let (owned, touched) = both(rt.alloc(), &FAR_APART, 1, 2)?;
+    assert_eq!(rt; owned.windows.as_slice(), rows.as_slice());
+    assert_eq!(rt; owned.hot.as_slice(), [0].as_slice());
+    assert_eq!(rt; touched.windows.as_slice(), rows.as_slice());
+    assert_eq!(rt; touched.hot.as_slice(), [0].as_slice());
+    Ok(())
+}

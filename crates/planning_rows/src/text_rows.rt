@@ -1,0 +1,241 @@
+//! Worked examples.
+
+use rate_limit::{Asked, Reason, Settings};
+use round_planner::{Plan, Round, plan};
+use std::alloc::Global;
+use std::test::Fail;
+use std::thread::Threads;
+use sweep_report::{Line, report_text, sweep, sweep_text};
+use trace_codec::{Trace, TraceView, Write};
+use working_sets::{Tables, Window};
+
+/// The beginning of a trace of 4 pages of 16 bytes, with no write.
+const NO_WRITES: [u8; 16] = [0x50, 0x43, 0x57, 0x54, 1, 4, 0, 0, 4, 0, 0, 0, 0, 0, 0, 0];
+
+/// A plan of one round, with its greatest numbers.
+fn one_round(alloc: Global) -> Result<Plan, Fail> {
+    let mut rounds = Vec::new(alloc);
+    rounds.push(Round {
+        from: 1_099_511_627_775,
+        to: 1_099_577_163_775,
+        rate: 1_000_000,
+        pages: Vec::from_slice(alloc, &[1, 2, 3])?,
+        sent: Vec::from_slice(alloc, &[2, 3])?,
+        dirtied: 65_536,
+    })?;
+    Ok(Plan {
+        rounds,
+        reason: Reason::Fast,
+        stop: 1_099_577_163_775,
+        last: Vec::from_slice(alloc, &[0])?,
+        down: 65_536_000,
+    })
+}
+
+/// The report over these tables, with so many windows for a hot page.
+fn text(alloc: Global, tables: &Tables, hot: u64) -> Result<Vec<u8>, Fail> {
+    let settings = Settings::new(Asked {
+        min: 2,
+        max: 4,
+        increment: 1,
+        threshold: 1,
+        rounds: 8,
+        start: 0,
+        window: 1000,
+        hot,
+        workers: 1,
+        streams: 1,
+        replayers: 1,
+        lane: 1024,
+        skip: false,
+    })?;
+    let trace = TraceView::parse(&NO_WRITES)?;
+    let plan = one_round(alloc)?;
+    Ok(report_text(alloc, &trace.shape(), &settings, tables, &plan)?)
+}
+
+#[test]
+fn a_line_for_each_window_and_hot_page(rt: HostRuntime) -> Result<(), Fail> {
+    let alloc = rt.alloc();
+    let mut tables = Tables {
+        windows: Vec::new(alloc),
+        hot: Vec::new(alloc),
+    };
+    let empty = text(alloc, &tables, 2)?;
+    assert_eq!(rt;
+        empty.as_slice(),
+        "trace pages 4 size 16 writes 0
+hot 2 pages 0
+round 0 from 1099511627775 to 1099577163775 rate 1000000 pages 3 sent 2 dirtied 65536
+stop fast at 1099577163775 pages 1 down 65536000 total 3
+"
+            .as_bytes()
+    );
+    tables.windows.push(Window {
+        number: 1_099_511_627_775,
+        writes: 1_048_576,
+        pages: 65_536,
+        again: 10,
+        fresh: 0,
+    })?;
+    tables.hot.push(0)?;
+    tables.hot.push(65_535)?;
+    let full = text(alloc, &tables, 1_048_576)?;
+    assert_eq!(rt;
+        full.as_slice(),
+        "trace pages 4 size 16 writes 0
+window 1099511627775 writes 1048576 pages 65536 again 10 fresh 0
+hot 1048576 pages 2
+page 0
+page 65535
+round 0 from 1099511627775 to 1099577163775 rate 1000000 pages 3 sent 2 dirtied 65536
+stop fast at 1099577163775 pages 1 down 65536000 total 3
+"
+            .as_bytes()
+    );
+    Ok(())
+}
+
+/// A guest of 4 pages that writes one byte at these ticks and to these pages.
+fn guest(alloc: Global) -> Result<Trace, Fail> {
+    let mut writes = Vec::new(alloc);
+    for (tick, page) in [(0, 0), (5, 1), (1200, 1), (2500, 3), (2500, 1)] {
+        writes.push(Write {
+            tick,
+            page,
+            offset: 0,
+            bytes: Vec::from_slice(alloc, &[1])?,
+        })?;
+    }
+    Ok(Trace::new(4, 4, writes)?)
+}
+
+fn case(max: u64, threshold: u64) -> Result<Settings, Fail> {
+    Ok(Settings::new(Asked {
+        min: 2,
+        max,
+        increment: 1,
+        threshold,
+        rounds: 8,
+        start: 0,
+        window: 1000,
+        hot: 2,
+        workers: 1,
+        streams: 1,
+        replayers: 1,
+        lane: 1024,
+        skip: false,
+    })?)
+}
+
+/// The text of the sweep over these cases.
+fn swept<R: Threads + Sync>(
+    rt: &R,
+    alloc: Global,
+    cases: &[Settings],
+    workers: usize,
+) -> Result<Vec<u8>, Fail> {
+    let lines = sweep(rt, alloc, &guest(alloc)?, cases, workers)?;
+    Ok(sweep_text(alloc, &lines)?)
+}
+
+#[test]
+fn sweeps_of_any_number_of_workers(rt: HostRuntime) -> Result<(), Fail> {
+    let alloc = rt.alloc();
+    let cases = [case(4, 1)?, case(2, 1)?, case(4, 3)?];
+    for workers in [1, 2, 16] {
+        let text = swept(&rt, alloc, &cases, workers)?;
+        assert_eq!(rt;
+            text.as_slice(),
+            "case 0 min 2 max 4 inc 1 threshold 1 limit 8 skip 0 rounds 3 stop few at 3667 down 0 total 8
+case 1 min 2 max 2 inc 1 threshold 1 limit 8 skip 0 rounds 2 stop fast at 3000 down 1000 total 8
+case 2 min 2 max 4 inc 1 threshold 3 limit 8 skip 0 rounds 1 stop few at 2000 down 500 total 6
+best 0
+"
+                .as_bytes()
+        );
+        assert!(rt; swept(&rt, alloc, &[], workers)?.is_empty());
+    }
+    Ok(())
+}
+
+#[test]
+fn the_first_of_equal_cases_is_the_best(rt: HostRuntime) -> Result<(), Fail> {
+    let alloc = rt.alloc();
+    let text = swept(&rt, alloc, &[case(2, 1)?, case(4, 1)?, case(4, 1)?], 1)?;
+    assert_eq!(rt;
+        text.as_slice(),
+        "case 0 min 2 max 2 inc 1 threshold 1 limit 8 skip 0 rounds 2 stop fast at 3000 down 1000 total 8
+case 1 min 2 max 4 inc 1 threshold 1 limit 8 skip 0 rounds 3 stop few at 3667 down 0 total 8
+case 2 min 2 max 4 inc 1 threshold 1 limit 8 skip 0 rounds 3 stop few at 3667 down 0 total 8
+best 1
+"
+            .as_bytes()
+    );
+    Ok(())
+}
+
+/// A line with this downtime and total.
+fn line(down: u64, total: u64) -> Result<Line, Fail> {
+    Ok(Line {
+        settings: case(4, 1)?,
+        rounds: 64,
+        reason: Reason::Rounds,
+        stop: 2_199_023_255_551,
+        down,
+        total,
+    })
+}
+
+#[test]
+fn the_downtime_counts_first(rt: HostRuntime) -> Result<(), Fail> {
+    let alloc = rt.alloc();
+    let text = sweep_text(alloc, &[line(2, 1)?, line(1, 3)?, line(1, 2)?])?;
+    assert!(rt; text.ends_with(b"down 1 total 2\nbest 2\n"));
+    Ok(())
+}
+
+/// A guest of 64 pages that writes one byte at each of 8,192 ticks.
+fn busy_guest(alloc: Global) -> Result<Trace, Fail> {
+    let mut writes = Vec::new(alloc);
+    for tick in 0..8192u32 {
+        writes.push(Write {
+            tick: tick as u64,
+            page: tick % 977 % 64,
+            offset: 0,
+            bytes: Vec::from_slice(alloc, &[1])?,
+        })?;
+    }
+    Ok(Trace::new(4, 64, writes)?)
+}
+
+#[test]
+fn many_cases_side_by_side(rt: HostRuntime) -> Result<(), Fail> {
+    let alloc = rt.alloc();
+    let guest = busy_guest(alloc)?;
+    let mut cases = Vec::new(alloc);
+    for number in 0..256u64 {
+        let mut asked = *case(4, 1)?.asked();
+        asked.min = 1 + number % 100;
+        asked.max = 100 + number;
+        asked.skip = number % 2 == 1;
+        cases.push(Settings::new(asked)?)?;
+    }
+    let alone = sweep_text(alloc, &sweep(&rt, alloc, &guest, &cases, 1)?)?;
+    for workers in [2, 16] {
+        let lines = sweep(&rt, alloc, &guest, &cases, workers)?;
+        assert_eq!(rt; sweep_text(alloc, &lines)?.as_slice(), alone.as_slice());
+        for (line, case) in lines.iter().zip(&cases) {
+            let made = plan(alloc, &guest, case)?;
+            assert_eq!(rt;
+                (line.rounds, line.reason),
+                (made.rounds.len() as u64, made.reason)
+            );
+            assert_eq!(rt;
+                (line.stop, line.down, line.total),
+                (made.stop, made.down, made.total())
+            );
+        }
+    }
+    Ok(())
+}
