@@ -71,6 +71,28 @@ IsOutsideRun errors.Thread = ⊤
 IsOutsideRun (errors.Live e) = ⊤
 IsOutsideRun errors.Write = ⊤
 
+-- a job that performs a migration
+abbrev pub IsLiveJob : Job → Type 0
+IsLiveJob (jobs.Live settings show) = ⊤
+IsLiveJob jobs.Image = ⊥
+IsLiveJob (jobs.Report settings) = ⊥
+IsLiveJob (jobs.Sweep cases workers) = ⊥
+
+-- a job that plans on several threads
+abbrev pub IsPlanningJob : Job → Type 0
+IsPlanningJob (jobs.Report settings) = ⊤
+IsPlanningJob (jobs.Sweep cases workers) = ⊤
+IsPlanningJob jobs.Image = ⊥
+IsPlanningJob (jobs.Live settings show) = ⊥
+
+-- A job's refusals: that of a live run comes from a live run alone, and a missing thread from what plans.
+abbrev pub IsRefusalOf : Job → RunError → Type 0
+IsRefusalOf job (errors.Trace e) = ⊤
+IsRefusalOf job errors.Memory = ⊤
+IsRefusalOf job errors.Write = ⊤
+IsRefusalOf job (errors.Live e) = IsLiveJob job
+IsRefusalOf job errors.Thread = IsPlanningJob job
+
 -- a text is refused as a trace for this, or memory ran out
 abbrev pub RefusesText : List ℕ → RunError → Type 0
 RefusesText bytes (errors.Trace e) = RefusesUnlessMemory bytes e

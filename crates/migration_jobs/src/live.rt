@@ -4,9 +4,9 @@ ghost use Rattle.std.specs.Prelude.{◌≡◌, ◌≢◌, ◌↔◌, ℕ, List, 
 ghost use Rattle.migration_model.specs.Trace.{GuestTrace, IsTrace, Spells};
 ghost use Rattle.trace_codec.specs.Source.{SourceSpells};
 ghost use Rattle.trace_codec.specs.declared.error.TraceError.TheVariants.{ReadFault};
-ghost use Rattle.migration_jobs.specs.Output.{IsOutsideRun, IsShown, RefusesRun};
+ghost use Rattle.migration_jobs.specs.Output.{IsOutsideRun, IsLiveJob, IsRefusalOf, IsShown, RefusesRun};
 
-use crate::job::{RunError, Show};
+use crate::job::{Job, RunError, Show};
 use crate::shown::Shown;
 use live_engine::{Gate, LiveError, migrate};
 use rate_limit::Settings;
@@ -45,6 +45,7 @@ pub(crate) fn live_output<R: Threads + Wait + Sync, S: Source, G: Gate>(
     requires { S.has_failed source.old ≡ false }
     ensures made { IfOk result (λ m. (trace : GuestTrace) × IsTrace trace × SourceSpells (S.remaining source.old) trace × IsShown show trace settings.now m.bytes) }
     ensures refused { IfErr result (RefusesRun (S.remaining source.old)) }
+    ensures own { IfErr result (λ e. (job : Job) → IsLiveJob job → IsRefusalOf job e) }
     ensures unwritten { IfErr result (λ e. e ≢ RunError.Write) }
     ensures only { (bytes : List ℕ) (trace : GuestTrace) → S.remaining source.old ≡ Some bytes → Spells bytes trace
         → IfErr result IsOutsideRun }

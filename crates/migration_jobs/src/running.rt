@@ -11,7 +11,7 @@ ghost use Rattle.trace_codec.specs.declared.error.TraceError.TheVariants.{ReadFa
 ghost use Rattle.trace_codec.specs.Source.{SourceSpells};
 ghost use Rattle.image_build.specs.Replay.{RefusesReplay};
 ghost use Rattle.migration_jobs.specs.Sink.{AppendsPart};
-ghost use Rattle.migration_jobs.specs.Output.{IsOutput, IsOutsideRun, IsReport, IsSweep, RefusesRun, RefusesText};
+ghost use Rattle.migration_jobs.specs.Output.{IsOutput, IsOutsideRun, IsRefusalOf, IsReport, IsSweep, RefusesRun, RefusesText};
 ghost use Rattle.migration_jobs.specs.Bytes.{bytes_in};
 
 use crate::job::{Job, RunError};
@@ -61,6 +61,7 @@ fn image_output<S: Source>(alloc: Global, source: &mut S) -> Result<Vec<u8>, Run
     requires { S.has_failed source.old ≡ false }
     ensures made { IfOk result (λ v. (trace : GuestTrace) × IsTrace trace × SourceSpells (S.remaining source.old) trace × (v.items ≡ (image_of trace).bytes)) }
     ensures refused { IfErr result (RefusesRun (S.remaining source.old)) }
+    ensures own { IfErr result (λ e. (job : Job) → IsRefusalOf job e) }
     ensures unwritten { IfErr result (λ e. e ≢ RunError.Write) }
     ensures only { (bytes : List ℕ) (trace : GuestTrace) → S.remaining source.old ≡ Some bytes → Spells bytes trace
         → IfErr result IsOutsideRun }
@@ -121,6 +122,7 @@ fn report_output<R: Threads + Sync, S: Source>(
     requires { S.has_failed source.old ≡ false }
     ensures made { IfOk result (λ v. (trace : GuestTrace) × IsTrace trace × SourceSpells (S.remaining source.old) trace × IsReport trace settings.now v.items) }
     ensures refused { IfErr result (RefusesRun (S.remaining source.old)) }
+    ensures own { IfErr result (λ e. (job : Job) → IsRefusalOf job e) }
     ensures unwritten { IfErr result (λ e. e ≢ RunError.Write) }
     ensures only { (bytes : List ℕ) (trace : GuestTrace) → S.remaining source.old ≡ Some bytes → Spells bytes trace
         → IfErr result IsOutsideRun }
@@ -158,6 +160,7 @@ fn sweep_output<R: Threads + Sync, S: Source>(
     requires { S.has_failed source.old ≡ false }
     ensures made { IfOk result (λ v. (trace : GuestTrace) × IsTrace trace × SourceSpells (S.remaining source.old) trace × IsSweep trace cases.now v.items) }
     ensures refused { IfErr result (RefusesRun (S.remaining source.old)) }
+    ensures own { IfErr result (λ e. (job : Job) → IsRefusalOf job e) }
     ensures unwritten { IfErr result (λ e. e ≢ RunError.Write) }
     ensures only { (bytes : List ℕ) (trace : GuestTrace) → S.remaining source.old ≡ Some bytes → Spells bytes trace
         → IfErr result IsOutsideRun }
@@ -180,6 +183,7 @@ fn read_output<R: Threads + Wait + Sync, S: Source, G: Gate>(
     requires { S.has_failed source.old ≡ false }
     ensures made { IfOk result (λ output. IsOutput (S.remaining source.old) job.now (bytes_in output)) }
     ensures refused { IfErr result (RefusesRun (S.remaining source.old)) }
+    ensures own { IfErr result (IsRefusalOf job.now) }
     ensures unwritten { IfErr result (λ e. e ≢ RunError.Write) }
     ensures only { (bytes : List ℕ) (trace : GuestTrace) → S.remaining source.old ≡ Some bytes → Spells bytes trace
         → IfErr result IsOutsideRun }
@@ -223,6 +227,7 @@ pub fn run<R: Threads + Wait + Sync, S: Source, K: Sink, G: Gate>(
 
     // When each error comes.
     ensures refused { IfErr result (RefusesRun (S.remaining source.old)) }
+    ensures own { IfErr result (IsRefusalOf job.now) }
     ensures only { (bytes : List ℕ) (trace : GuestTrace) → S.remaining source.old ≡ Some bytes → Spells bytes trace
         → IfErr result IsOutsideRun }
     ensures read_failed { (result ≡ Err (RunError.Trace ReadFault)) ↔ (S.has_failed source.new ≡ true) }

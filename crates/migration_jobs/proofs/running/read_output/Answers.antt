@@ -1,5 +1,6 @@
 use Rattle.std.proofs.Common.{sym, subst}
-use Rattle.migration_jobs.specs.Output.{IsOutput}
+use Rattle.std.proofs.lemmas.Result.{err_from_is_err_and}
+use Rattle.migration_jobs.specs.Output.{IsLiveJob, IsOutput, IsRefusalOf}
 use Rattle.migration_jobs.proofs.Runs.{made_run}
 use Rattle.migration_jobs.proofs.running.read_output.Goals as goal
 
@@ -22,3 +23,23 @@ pub returns-in_ok-sweep_output-in-Sweep-clause-made : goal.returns-in_ok-sweep_o
 returns-in_ok-sweep_output-in-Sweep-clause-made g c =
     let known = g.S.Source.remaining c.args.source.now in
     subst (λ j. IsOutput known j c.in_ok-sweep_output-in-Sweep.field-0.items) (sym c.in-Sweep.is) (made_run _ c.in_ok-sweep_output-in-Sweep.field-0.items known (rw c.deref.ensures.value at c.in_ok-sweep_output-in-Sweep.ensures.made))
+
+pub returns-in_err-image_output-in-Image-clause-own : goal.returns-in_err-image_output-in-Image-clause-own
+returns-in_err-image_output-in-Image-clause-own g c =
+    let p = err_from_is_err_and c.from_residual.result c.from_residual.ensures.1 in
+    rw p.1 (subst (IsRefusalOf c.args.job.now) (sym p.2) (c.in_err-image_output-in-Image.ensures.own _))
+
+pub returns-in_err-report_output-in-Report-clause-own : goal.returns-in_err-report_output-in-Report-clause-own
+returns-in_err-report_output-in-Report-clause-own g c =
+    let p = err_from_is_err_and c.from_residual-in_err-report_output-in-Report.result c.from_residual-in_err-report_output-in-Report.ensures.1 in
+    rw p.1 (subst (IsRefusalOf c.args.job.now) (sym p.2) (c.in_err-report_output-in-Report.ensures.own _))
+
+pub returns-in_err-memory-in-Live-clause-own : goal.returns-in_err-memory-in-Live-clause-own
+returns-in_err-memory-in-Live-clause-own g c =
+    let p = err_from_is_err_and c.from_residual-in_err-memory-in-Live.result c.from_residual-in_err-memory-in-Live.ensures.1 in
+    rw p.1 (subst (IsRefusalOf c.args.job.now) (sym p.2) (c.in_err-memory-in-Live.ensures.own _ (subst IsLiveJob (sym c.in-Live.is) tt)))
+
+pub returns-in_err-sweep_output-in-Sweep-clause-own : goal.returns-in_err-sweep_output-in-Sweep-clause-own
+returns-in_err-sweep_output-in-Sweep-clause-own g c =
+    let p = err_from_is_err_and c.from_residual-in_err-sweep_output-in-Sweep.result c.from_residual-in_err-sweep_output-in-Sweep.ensures.1 in
+    rw p.1 (subst (IsRefusalOf c.args.job.now) (sym p.2) (c.in_err-sweep_output-in-Sweep.ensures.own _))
