@@ -9,7 +9,7 @@ use Rattle.std.proofs.lemmas.List.Sums.{sum_by-cons, sum_by-set}
 use Rattle.migration_model.specs.Trace.{GuestTrace}
 use Rattle.stream_lanes.specs.Ends.{LaneId, OutView, IsSentOn}
 use Rattle.live_seats.specs.Outboxes.{OutboxView, empty_outbox, with_deferred, with_sent, with_skipped, IsCrowded, IsPosted, SpellsPage, frames_sent}
-use Rattle.live_seats.specs.Copies.{HasSentFrame, KeepsSent}
+use Rattle.live_seats.specs.Copies.{HasSentFrame, IsFullAt, KeepsSent}
 use Rattle.live_seats.proofs.Basics.{in_none}
 
 -- ---- lists whose elements have something in common
@@ -63,6 +63,16 @@ keeps_looked outs i x y low at lane sent = record {
   lanes = map_kept lane_is outs i x y low at lane;
   same = map_kept sent_is outs i x y low at sent;
   crowded = any_grown (λ (out : OutView). out.lane.capacity ≤ length out.sent) outs i x y low at (λ full. omega (arith, full, ap (λ (l : LaneId). l.capacity) lane, ap length sent));
+}
+
+-- a lane that holds no more was looked at
+pub full_looked : (outs : List OutView) (i : ℕ) (x y : OutView) → i < length outs → y.lane ≡ x.lane → y.sent ≡ x.sent → x.lane.capacity ≤ length x.sent
+    → IsFullAt (set outs i y) i
+full_looked outs i x y low lane sent full = record {
+  there = omega (arith, low, length-set outs i y);
+  full = λ out at.
+      let same : y ≡ out = sym (get_or-set_same outs i y out low) ∙ at in
+      subst (λ (o : OutView). o.lane.capacity ≤ length o.sent) same (omega (arith, full, ap (λ (l : LaneId). l.capacity) lane, ap length sent));
 }
 
 -- a frame was sent on a lane

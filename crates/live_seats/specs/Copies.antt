@@ -1,5 +1,5 @@
 -- A copier in a round.
-use Rattle.std.specs.Prelude.{◌≡◌, ◌⊎◌, ◌↔◌, ℕ, ◌<◌, ◌+◌, ◌/◌, Bool, List, length, map, slice_index_or}
+use Rattle.std.specs.Prelude.{◌≡◌, ◌⊎◌, ◌↔◌, ℕ, ◌<◌, ◌≤◌, ◌+◌, ◌/◌, Bool, List, length, map, slice_index_or}
 use Rattle.migration_model.specs.Trace.{GuestTrace}
 use Rattle.migration_model.specs.Frames.{GuestShape, PageFrame, frame_text}
 use Rattle.page_message.specs.Framing.{IsFrameOf}
@@ -29,6 +29,11 @@ pub record SpellsBytes (shape : GuestShape) (page stamp : ℕ) (bytes text : Lis
 pub record HasRoomAt (outs : List OutView) (stream : ℕ) : Type 0 where
   pub there : stream < length outs
   pub room : (out : OutView) → slice_index_or outs stream out ≡ out → HasRoom out
+
+-- as many frames were sent on the lane of this stream as it holds
+pub record IsFullAt (outs : List OutView) (stream : ℕ) : Type 0 where
+  pub there : stream < length outs
+  pub full : (out : OutView) → slice_index_or outs stream out ≡ out → out.lane.capacity ≤ length out.sent
 
 -- nothing was sent on the lanes: what is known of their room alone may differ
 pub record KeepsSent (before after : List OutView) : Type 0 where

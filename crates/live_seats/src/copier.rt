@@ -16,7 +16,7 @@ use crate::error::SeatError;
 use crate::frame::spell_frame;
 use crate::gate::{Gate, Point};
 use dirty_words::{CopySeat, RoundTable};
-use page_cache::{PageCache, is_small};
+use page_cache::PageCache;
 use page_versions::PageIndex;
 use std::alloc::Global;
 use trace_codec::WriteLog;
@@ -47,13 +47,6 @@ struct Copying<'a, W: WriteLog> {
     seat: CopySeat,
     desk: OpenDesk<'a, W>,
 }
-
-/// How many writes a page has at least that is kept from round to round.
-const HOT_WRITES: usize = 8;
-
-/// How many bytes are kept at most for each write that a page has. A page with fewer writes is made from zeros again in no more
-/// time than new memory for it takes.
-const KEPT_FOR_A_WRITE: usize = 64;
 
 /// A page by its dirty word, and its bit there.
 fn page_at(word: usize, bit: u32) -> u32
@@ -96,41 +89,9 @@ impl<'a, W: WriteLog, G: Gate> Round<'a, W, G> {
         place
     }
 
-    /// Whether a page is kept: all are of a small guest, and else those that have many writes up to the place that was read.
-    fn is_hot(&self, page: u32, place: u32) -> bool
-        requires of { IsIndexOf self.now.index.now (W.trace self.now.trace.now) }
-        requires page { page < (W.trace self.now.trace.now).pages }
-    {
-        let shape = self.trace.shape();
-        if is_small(&shape) {
-            return true;
-        }
-        let least = HOT_WRITES.max(shape.page_size() / KEPT_FOR_A_WRITE);
-        self.index.writes_after(page, place).len() + least <= self.index.places(page).len()
-    }
-
-    /// Spells the frame of a page at the place that was read. The page is made from zeros.
-    fn spell_cold(
+    /// Spells the frame of a page at the place that was read. The cache is asked for the page.
+    fn spell(
         &self,
-        room: &mut Vec<u8>,
-        page: u32,
-        place: u32,
-        text: &mut Vec<u8>,
-    ) -> Result<(), SeatError>
-        requires of { IsIndexOf self.now.index.now (W.trace self.now.trace.now) }
-        requires page { page < (W.trace self.now.trace.now).pages }
-        ensures { OnOk result (SpellsPage (W.trace self.now.trace.now) page place text.new.items) }
-    {
-        let shape = self.trace.shape();
-        let stamp = place.min(shape.writes);
-        self.index.bytes_into(self.trace, page, stamp, room)?;
-        spell_frame(text, &shape, page, stamp, room)
-    }
-
-    /// Spells the frame of a page at the place that was read. The page is kept.
-    fn spell_hot(
-        &self,
-        alloc: Global,
         cache: &mut PageCache<'_, W>,
         page: u32,
         place: u32,
@@ -143,35 +104,11 @@ impl<'a, W: WriteLog, G: Gate> Round<'a, W, G> {
     {
         let shape = self.trace.shape();
         let stamp = place.min(shape.writes);
-        cache.keep(alloc, page, stamp)?;
+        cache.keep(page, stamp)?;
         let Some(bytes) = cache.bytes(page) else {
             unreachable!()
         };
         spell_frame(text, &shape, page, stamp, bytes)
-    }
-
-    /// Spells the frame of a page at the place that was read.
-    fn spell(
-        &self,
-        alloc: Global,
-        desk: &mut OpenDesk<'_, W>,
-        page: u32,
-        place: u32,
-        text: &mut Vec<u8>,
-    ) -> Result<(), SeatError>
-        requires of { IsIndexOf self.now.index.now (W.trace self.now.trace.now) }
-        requires trace { desk.old.cache.trace ≡ (W.trace self.now.trace.now) }
-        requires page { page < (W.trace self.now.trace.now).pages }
-        ensures spells { OnOk result (SpellsPage (W.trace self.now.trace.now) page place text.new.items) }
-        ensures trace { desk.new.cache.trace ≡ desk.old.cache.trace }
-        ensures turn { desk.new.turn ≡ desk.old.turn }
-        ensures outbox { desk.new.outbox ≡ desk.old.outbox }
-        ensures outs { desk.new.outs ≡ desk.old.outs }
-    {
-        if self.is_hot(page, place) {
-            return self.spell_hot(alloc, &mut desk.cache, page, place, text);
-        }
-        self.spell_cold(&mut desk.room, page, place, text)
     }
 
     /// Whether the word of a page shows it now.
@@ -193,7 +130,6 @@ impl<'a, W: WriteLog, G: Gate> Round<'a, W, G> {
         page: u32,
         copier: &mut Copying<'_, W>,
     ) -> Result<(), SeatError>
-        requires of { IsIndexOf self.now.index.now (W.trace self.now.trace.now) }
         requires page { page < (W.trace self.now.trace.now).pages }
         requires table { copy_table copier.old.seat ≡ self.now.table.now }
         requires held { IsTrue (in_words copier.old.seat.facts.held page) }
@@ -206,7 +142,7 @@ impl<'a, W: WriteLog, G: Gate> Round<'a, W, G> {
     {
         let place = self.read(&mut copier.seat, page);
         let mut text = copier.desk.text(alloc, stream);
-        self.spell(alloc, &mut copier.desk, page, place, &mut text)?;
+        self.spell(&mut copier.desk.cache, page, place, &mut text)?;
         copier.desk.send(stream, text);
         copier.desk.outbox.list_sent(page, place)?;
         Ok(())
@@ -262,7 +198,6 @@ impl<'a, W: WriteLog, G: Gate> Round<'a, W, G> {
         page: u32,
         copier: &mut Copying<'_, W>,
     ) -> Result<(), SeatError>
-        requires of { IsIndexOf self.now.index.now (W.trace self.now.trace.now) }
         requires page { page < (W.trace self.now.trace.now).pages }
         requires ready { IsReady (W.trace self.now.trace.now) self.now.table.now copier.old.seat copier.old.desk }
         requires own { OwnsWord copier.old.seat.facts (page / 64) }
@@ -284,7 +219,6 @@ impl<'a, W: WriteLog, G: Gate> Round<'a, W, G> {
         page: u32,
         copier: &mut Copying<'_, W>,
     ) -> Result<(), SeatError>
-        requires of { IsIndexOf self.now.index.now (W.trace self.now.trace.now) }
         requires pages { length self.now.table.now.start.places ≡ (W.trace self.now.trace.now).pages }
         requires ready { IsReady (W.trace self.now.trace.now) self.now.table.now copier.old.seat copier.old.desk }
         requires least { IsLeast copier.old.seat.facts page }
@@ -314,7 +248,6 @@ impl<'a, W: WriteLog, G: Gate> Round<'a, W, G> {
         bit: u32,
         copier: &mut Copying<'_, W>,
     ) -> Result<(), SeatError>
-        requires of { IsIndexOf self.now.index.now (W.trace self.now.trace.now) }
         requires pages { length self.now.table.now.start.places ≡ (W.trace self.now.trace.now).pages }
         requires few { (W.trace self.now.trace.now).pages ≤ 65_536 }
         requires ready { IsReady (W.trace self.now.trace.now) self.now.table.now copier.old.seat copier.old.desk }
@@ -342,7 +275,6 @@ impl<'a, W: WriteLog, G: Gate> Round<'a, W, G> {
         bits: u64,
         copier: &mut Copying<'_, W>,
     ) -> Result<(), SeatError>
-        requires of { IsIndexOf self.now.index.now (W.trace self.now.trace.now) }
         requires pages { length self.now.table.now.start.places ≡ (W.trace self.now.trace.now).pages }
         requires few { (W.trace self.now.trace.now).pages ≤ 65_536 }
         requires ready { IsReady (W.trace self.now.trace.now) self.now.table.now copier.old.seat copier.old.desk }
@@ -366,7 +298,6 @@ impl<'a, W: WriteLog, G: Gate> Round<'a, W, G> {
         word: usize,
         copier: &mut Copying<'_, W>,
     ) -> Result<(), SeatError>
-        requires of { IsIndexOf self.now.index.now (W.trace self.now.trace.now) }
         requires pages { length self.now.table.now.start.places ≡ (W.trace self.now.trace.now).pages }
         requires few { (W.trace self.now.trace.now).pages ≤ 65_536 }
         requires ready { IsReady (W.trace self.now.trace.now) self.now.table.now copier.old.seat copier.old.desk }
@@ -395,7 +326,7 @@ impl<'a, W: WriteLog, G: Gate> Round<'a, W, G> {
     {
         let mut copier = Copying {
             seat,
-            desk: desk.open(alloc, self.trace, self.index),
+            desk: desk.open(self.trace, self.index),
         };
         let shape = self.trace.shape();
         let words = (shape.pages as usize + 63) / 64;

@@ -1,12 +1,13 @@
 //! What a copier keeps from round to round.
 
-ghost use Rattle.std.specs.Prelude.{◌≡◌, ◌≤◌, IfNone, IfOk, IfSome, length};
+ghost use Rattle.std.specs.Prelude.{◌≡◌, ◌+◌, ◌%◌, ◌≤◌, [], IfNone, IfOk, IfSome, length};
 ghost use Rattle.migration_model.specs.Trace.{GuestTrace};
-ghost use Rattle.live_seats.specs.Copies.{HasRoomAt, HasSentFrame, KeepsSent};
-ghost use Rattle.live_seats.specs.Desks.{IsDesk, desk_with, open_desk_with};
+ghost use Rattle.live_seats.specs.Copies.{HasRoomAt, HasSentFrame, IsFullAt, KeepsSent};
+ghost use Rattle.live_seats.specs.Desks.{IsDesk, cache_capacity, desk_with, open_desk_with};
 ghost use Rattle.live_seats.specs.Outboxes.{IsCrowded, empty_outbox};
 ghost use Rattle.page_cache.specs.Cache.{AreKept, cache_with, pages_with};
 ghost use Rattle.page_versions.specs.Index.{IsIndexOf};
+ghost use Rattle.stream_split.specs.Deals.{turn_with};
 
 use crate::error::SeatError;
 use crate::outbox::Outbox;
@@ -18,11 +19,24 @@ use stream_lanes::LaneOut;
 use stream_split::Dealer;
 use trace_codec::{Shape, WriteLog};
 
-/// How many pages a copier keeps at most: as many as a trace may have.
-const KEPT_PAGES: usize = 65_536;
+/// A copier's cache has room for as many pages as have so many bytes, within the two bounds below.
+const CACHE_BYTES: usize = 1 << 22;
 
-/// What a copier keeps from round to round: whose turn it is, pages that it sent, what it listed in the round before, whose
-/// room the next round uses again, and the sending ends of its lanes.
+/// How many pages a copier's cache has room for at least.
+const LEAST_CAPACITY: usize = 64;
+
+/// How many pages a copier's cache has room for at most.
+const MOST_CAPACITY: usize = 4_096;
+
+/// How many pages a copier's cache has room for, for a guest of this shape.
+fn capacity_for(shape: &Shape) -> usize
+    ensures { result ≡ cache_capacity shape.now.shift }
+{
+    MOST_CAPACITY.min(LEAST_CAPACITY.max(CACHE_BYTES / shape.page_size()))
+}
+
+/// What a copier keeps from round to round: whose turn it is, its cache of the pages that it sent, what it listed in the round
+/// before, whose room the next round uses again, and the sending ends of its lanes.
 #[derive(Drop)]
 pub struct Desk {
     pub dealer: Dealer,
@@ -47,8 +61,6 @@ pub(crate) struct OpenDesk<'a, W: WriteLog> {
     pub(crate) cache: PageCache<'a, W>,
     pub(crate) outbox: Outbox,
     pub(crate) outs: Vec<LaneOut>,
-    /// Where a page that is not kept is made.
-    pub(crate) room: Vec<u8>,
 }
 
 impl<'a, W: WriteLog> Model for OpenDesk<'a, W> {
@@ -66,23 +78,21 @@ impl Desk {
         requires some { 1 ≤ length outs.items }
         requires few { length outs.items ≤ 16 }
         ensures desk { (trace : GuestTrace) → trace.shift ≡ shape.now.shift → trace.pages ≡ shape.now.pages → IfOk result (IsDesk trace (length outs.items)) }
+        ensures capacity { IfOk result (λ desk. desk.pages ≡ pages_with [] (cache_capacity shape.now.shift)) }
+        ensures turn { IfOk result (λ desk. desk.turn ≡ turn_with (length outs.items) 0) }
         ensures outs { IfOk result (λ desk. desk.outs ≡ outs.items) }
     {
+        let pages = KeptPages::new(alloc, capacity_for(shape))?;
         Ok(Desk {
             dealer: Dealer::new(outs.len()),
-            pages: KeptPages::of_guest(alloc, shape, KEPT_PAGES)?,
+            pages,
             outbox: Outbox::new(alloc),
             outs,
         })
     }
 
     /// The desk at the beginning of a round: what was listed goes, and its room stays.
-    pub(crate) fn open<'a, W: WriteLog>(
-        self,
-        alloc: Global,
-        trace: &'a W,
-        index: &'a PageIndex,
-    ) -> OpenDesk<'a, W>
+    pub(crate) fn open<'a, W: WriteLog>(self, trace: &'a W, index: &'a PageIndex) -> OpenDesk<'a, W>
         requires of { IsIndexOf index.now (W.trace trace.now) }
         requires kept { AreKept (W.trace trace.now) self.pages.entries }
         ensures { result ≡ open_desk_with self.turn (cache_with (W.trace trace.entry.now) self.pages.entries self.pages.capacity) empty_outbox self.outs }
@@ -100,7 +110,6 @@ impl Desk {
             cache: PageCache::with_pages(trace, index, pages),
             outbox,
             outs,
-            room: Vec::new(alloc),
         }
     }
 }
@@ -109,10 +118,12 @@ impl<'a, W: WriteLog> OpenDesk<'a, W> {
     /// The stream whose turn it is, if its lane has room for one more frame. In either case the next stream's turn comes.
     pub(crate) fn next_lane(&mut self) -> Option<usize>
         requires lanes { length self.old.outs ≡ self.old.turn.streams }
+        ensures lane { IfSome result (λ stream. stream ≡ self.old.turn.next) }
         ensures room { IfSome result (HasRoomAt self.new.outs) }
         ensures full { IfNone result (IsCrowded self.new.outs) }
+        ensures full_lane { IfNone result (IsFullAt self.new.outs self.old.turn.next) }
         ensures sent { KeepsSent self.old.outs self.new.outs }
-        ensures turn { self.new.turn.streams ≡ self.old.turn.streams }
+        ensures turn { self.new.turn ≡ turn_with self.old.turn.streams ((self.old.turn.next + 1) % self.old.turn.streams) }
         ensures cache { self.new.cache ≡ self.old.cache }
         ensures outbox { self.new.outbox ≡ self.old.outbox }
     {
@@ -155,7 +166,6 @@ impl<'a, W: WriteLog> OpenDesk<'a, W> {
             cache,
             outbox,
             outs,
-            room: _,
         } = self;
         Desk {
             dealer,

@@ -5,7 +5,6 @@ ghost use Rattle.live_seats.specs.declared.error.SeatError.TheVariants.{Memory};
 
 use page_cache::CacheError;
 use page_message::FrameError;
-use page_versions::IndexError;
 use std::alloc::{AllocError, AllocFailed};
 use thiserror::Error;
 
@@ -29,14 +28,6 @@ impl<T: Drop> From<AllocFailed<T>> for SeatError {
     ghost from_gives = { λ _ e. e ≡ Memory };
 
     fn from(_error: AllocFailed<T>) -> SeatError {
-        SeatError::Memory
-    }
-}
-
-impl From<IndexError> for SeatError {
-    ghost from_gives = { λ _ e. e ≡ Memory };
-
-    fn from(_error: IndexError) -> SeatError {
         SeatError::Memory
     }
 }

@@ -2,11 +2,11 @@
 
 ghost use Rattle.std.specs.Prelude.{◌≡◌, IfOk};
 
-use page_cache::{KeptPages, PageCache, is_small};
+use page_cache::PageCache;
 use page_versions::PageIndex;
 use std::alloc::Global;
 use std::test::Fail;
-use trace_codec::{Shape, Trace, Write};
+use trace_codec::{Trace, Write};
 
 /// A guest of 4 pages of 16 bytes, which writes pages 0 and 1 at ticks 0 and 5, page 1 at tick 1200, and pages 3 and 1
 /// at tick 2500.
@@ -41,7 +41,6 @@ fn page_with(set: &[(usize, u8)]) -> Result<[u8; 16], Fail> {
 
 /// What the cache of a trace answers for a page of it.
 fn bytes_of(
-    alloc: Global,
     cache: &mut PageCache<'_, Trace>,
     trace: &Trace,
     page: u32,
@@ -56,7 +55,7 @@ fn bytes_of(
     if version as usize > trace.writes.len() {
         return Err(Fail::from("a version"));
     }
-    Ok(cache.bytes_at(alloc, page, version)?)
+    Ok(cache.bytes_at(page, version)?)
 }
 
 fn new_cache<'a>(
@@ -73,63 +72,6 @@ fn new_cache<'a>(
     Ok(PageCache::new(alloc, trace, index, capacity)?)
 }
 
-/// A cache of all pages of a trace that is small.
-fn new_small_cache<'a>(
-    alloc: Global,
-    trace: &'a Trace,
-    index: &'a PageIndex,
-) -> Result<PageCache<'a, Trace>, Fail>
-    ensures { IfOk result (λ cache. cache.trace ≡ trace.now) }
-{
-    if !index.is_of(trace) {
-        return Err(Fail::from("the index of the trace"));
-    }
-    let pages = KeptPages::of_guest(alloc, &trace.shape(), 1)?;
-    Ok(PageCache::with_pages(trace, index, pages))
-}
-
-#[test]
-fn all_pages_of_a_small_guest_are_kept(rt: HostRuntime) -> Result<(), Fail> {
-    let alloc = rt.alloc();
-    let trace = guest(alloc)?;
-    let index = PageIndex::build(&rt, alloc, &trace)?;
-    let mut cache = new_small_cache(alloc, &trace, &index)?;
-    assert!(rt; cache.bytes(0).is_some() && cache.bytes(3).is_some());
-    let zeros = page_with(&[])?;
-    let second = page_with(&[(15, 2)])?;
-    let third = page_with(&[(0, 3), (15, 2)])?;
-    let other = page_with(&[(2, 4), (3, 5)])?;
-    assert_eq!(rt;
-        bytes_of(alloc, &mut cache, &trace, 1, 2)?.as_slice(),
-        second.as_slice()
-    );
-    assert_eq!(rt;
-        bytes_of(alloc, &mut cache, &trace, 3, 4)?.as_slice(),
-        other.as_slice()
-    );
-    assert_eq!(rt;
-        bytes_of(alloc, &mut cache, &trace, 1, 3)?.as_slice(),
-        third.as_slice()
-    );
-    assert_eq!(rt;
-        bytes_of(alloc, &mut cache, &trace, 1, 2)?.as_slice(),
-        second.as_slice()
-    );
-    assert_eq!(rt;
-        bytes_of(alloc, &mut cache, &trace, 2, 5)?.as_slice(),
-        zeros.as_slice()
-    );
-    assert_eq!(rt;
-        bytes_of(alloc, &mut cache, &trace, 1, 5)?.as_slice(),
-        second.as_slice()
-    );
-    assert_eq!(rt;
-        bytes_of(alloc, &mut cache, &trace, 3, 3)?.as_slice(),
-        zeros.as_slice()
-    );
-    Ok(())
-}
-
 /// Whether the cache keeps a page with these bytes.
 fn keeps(cache: &PageCache<'_, Trace>, page: u32, bytes: &[u8]) -> bool {
     match cache.bytes(page) {
@@ -143,34 +85,21 @@ fn neighbours_of_a_page_stay(rt: HostRuntime) -> Result<(), Fail> {
     let alloc = rt.alloc();
     let trace = guest(alloc)?;
     let index = PageIndex::build(&rt, alloc, &trace)?;
-    let mut cache = new_small_cache(alloc, &trace, &index)?;
+    let mut cache = new_cache(alloc, &trace, &index, 4)?;
     let zeros = page_with(&[])?;
     let first = page_with(&[(0, 1)])?;
     let third = page_with(&[(0, 3), (15, 2)])?;
-    drop(bytes_of(alloc, &mut cache, &trace, 1, 3)?);
+    drop(bytes_of(&mut cache, &trace, 0, 0)?);
+    drop(bytes_of(&mut cache, &trace, 1, 3)?);
+    drop(bytes_of(&mut cache, &trace, 2, 0)?);
+    drop(bytes_of(&mut cache, &trace, 3, 3)?);
     assert!(rt; keeps(&cache, 0, &zeros) && keeps(&cache, 1, &third) && keeps(&cache, 2, &zeros));
-    drop(bytes_of(alloc, &mut cache, &trace, 0, 5)?);
-    drop(bytes_of(alloc, &mut cache, &trace, 2, 5)?);
+    drop(bytes_of(&mut cache, &trace, 0, 5)?);
+    drop(bytes_of(&mut cache, &trace, 2, 5)?);
     assert!(rt; keeps(&cache, 0, &first) && keeps(&cache, 1, &third) && keeps(&cache, 2, &zeros));
-    drop(bytes_of(alloc, &mut cache, &trace, 1, 0)?);
+    drop(bytes_of(&mut cache, &trace, 1, 0)?);
     assert!(rt; keeps(&cache, 0, &first) && keeps(&cache, 1, &zeros) && keeps(&cache, 3, &zeros));
     Ok(())
-}
-
-#[test]
-fn a_guest_of_four_mebibytes_is_small(rt: HostRuntime) {
-    let shape = Shape {
-        shift: 12,
-        pages: 1024,
-        writes: 1,
-    };
-    assert!(rt; is_small(&shape));
-    let larger = Shape {
-        shift: 12,
-        pages: 1025,
-        writes: 1,
-    };
-    assert!(rt; !is_small(&larger));
 }
 
 #[test]
@@ -183,23 +112,23 @@ fn one_page_is_kept(rt: HostRuntime) -> Result<(), Fail> {
     let third = page_with(&[(0, 3), (15, 2)])?;
     let other = page_with(&[(2, 4), (3, 5)])?;
     assert_eq!(rt;
-        bytes_of(alloc, &mut cache, &trace, 1, 2)?.as_slice(),
+        bytes_of(&mut cache, &trace, 1, 2)?.as_slice(),
         second.as_slice()
     );
     assert_eq!(rt;
-        bytes_of(alloc, &mut cache, &trace, 1, 3)?.as_slice(),
+        bytes_of(&mut cache, &trace, 1, 3)?.as_slice(),
         third.as_slice()
     );
     assert_eq!(rt;
-        bytes_of(alloc, &mut cache, &trace, 1, 2)?.as_slice(),
+        bytes_of(&mut cache, &trace, 1, 2)?.as_slice(),
         second.as_slice()
     );
     assert_eq!(rt;
-        bytes_of(alloc, &mut cache, &trace, 3, 4)?.as_slice(),
+        bytes_of(&mut cache, &trace, 3, 4)?.as_slice(),
         other.as_slice()
     );
     assert_eq!(rt;
-        bytes_of(alloc, &mut cache, &trace, 1, 5)?.as_slice(),
+        bytes_of(&mut cache, &trace, 1, 5)?.as_slice(),
         second.as_slice()
     );
     Ok(())
@@ -216,33 +145,77 @@ fn two_pages_are_kept(rt: HostRuntime) -> Result<(), Fail> {
     let third = page_with(&[(0, 3), (15, 2)])?;
     let last = page_with(&[(15, 2)])?;
     assert_eq!(rt;
-        bytes_of(alloc, &mut cache, &trace, 1, 0)?.as_slice(),
+        bytes_of(&mut cache, &trace, 1, 0)?.as_slice(),
         zeros.as_slice()
     );
     assert_eq!(rt;
-        bytes_of(alloc, &mut cache, &trace, 0, 5)?.as_slice(),
+        bytes_of(&mut cache, &trace, 0, 5)?.as_slice(),
         first.as_slice()
     );
     assert_eq!(rt;
-        bytes_of(alloc, &mut cache, &trace, 1, 4)?.as_slice(),
+        bytes_of(&mut cache, &trace, 1, 4)?.as_slice(),
         third.as_slice()
     );
     assert_eq!(rt;
-        bytes_of(alloc, &mut cache, &trace, 1, 4)?.as_slice(),
+        bytes_of(&mut cache, &trace, 1, 4)?.as_slice(),
         third.as_slice()
     );
     assert_eq!(rt;
-        bytes_of(alloc, &mut cache, &trace, 2, 5)?.as_slice(),
+        bytes_of(&mut cache, &trace, 2, 5)?.as_slice(),
         zeros.as_slice()
     );
     assert_eq!(rt;
-        bytes_of(alloc, &mut cache, &trace, 1, 5)?.as_slice(),
+        bytes_of(&mut cache, &trace, 1, 5)?.as_slice(),
         last.as_slice()
     );
     assert_eq!(rt;
-        bytes_of(alloc, &mut cache, &trace, 0, 0)?.as_slice(),
+        bytes_of(&mut cache, &trace, 0, 0)?.as_slice(),
         zeros.as_slice()
     );
+    Ok(())
+}
+
+/// What the index of a trace answers for a page of it.
+fn indexed_bytes(
+    alloc: Global,
+    trace: &Trace,
+    index: &PageIndex,
+    page: u32,
+    version: u32,
+) -> Result<Vec<u8>, Fail> {
+    if !index.is_of(trace) || page >= trace.pages {
+        return Err(Fail::from("the index of the trace, and a page"));
+    }
+    if version as usize > trace.writes.len() {
+        return Err(Fail::from("a version"));
+    }
+    Ok(index.bytes_at(alloc, trace, page, version)?)
+}
+
+#[test]
+fn full_cache_makes_pages_again_that_went(rt: HostRuntime) -> Result<(), Fail> {
+    let alloc = rt.alloc();
+    let trace = guest(alloc)?;
+    let index = PageIndex::build(&rt, alloc, &trace)?;
+    let mut cache = new_cache(alloc, &trace, &index, 2)?;
+    drop(bytes_of(&mut cache, &trace, 1, 3)?);
+    drop(bytes_of(&mut cache, &trace, 3, 5)?);
+    drop(bytes_of(&mut cache, &trace, 0, 5)?);
+    assert!(rt; cache.bytes(1).is_none() && cache.bytes(3).is_some());
+    assert_eq!(rt;
+        bytes_of(&mut cache, &trace, 1, 2)?,
+        indexed_bytes(alloc, &trace, &index, 1, 2)?
+    );
+    assert!(rt; cache.bytes(3).is_none() && cache.bytes(0).is_some());
+    assert_eq!(rt;
+        bytes_of(&mut cache, &trace, 3, 4)?,
+        indexed_bytes(alloc, &trace, &index, 3, 4)?
+    );
+    assert_eq!(rt;
+        bytes_of(&mut cache, &trace, 2, 5)?,
+        indexed_bytes(alloc, &trace, &index, 2, 5)?
+    );
+    assert!(rt; cache.bytes(1).is_none() && cache.bytes(2).is_some());
     Ok(())
 }
 
@@ -252,10 +225,10 @@ fn page_brought_on_was_used_last(rt: HostRuntime) -> Result<(), Fail> {
     let trace = guest(alloc)?;
     let index = PageIndex::build(&rt, alloc, &trace)?;
     let mut cache = new_cache(alloc, &trace, &index, 2)?;
-    drop(bytes_of(alloc, &mut cache, &trace, 1, 2)?);
-    drop(bytes_of(alloc, &mut cache, &trace, 0, 2)?);
-    drop(bytes_of(alloc, &mut cache, &trace, 1, 3)?);
-    drop(bytes_of(alloc, &mut cache, &trace, 3, 4)?);
+    drop(bytes_of(&mut cache, &trace, 1, 2)?);
+    drop(bytes_of(&mut cache, &trace, 0, 2)?);
+    drop(bytes_of(&mut cache, &trace, 1, 3)?);
+    drop(bytes_of(&mut cache, &trace, 3, 4)?);
     assert!(rt; cache.bytes(1).is_some());
     assert!(rt; cache.bytes(0).is_none());
     Ok(())
@@ -268,7 +241,7 @@ fn kept_pages_go_to_another_cache(rt: HostRuntime) -> Result<(), Fail> {
     let index = PageIndex::build(&rt, alloc, &trace)?;
     let mut first = new_cache(alloc, &trace, &index, 1)?;
     assert!(rt; first.bytes(1).is_none());
-    drop(bytes_of(alloc, &mut first, &trace, 1, 3)?);
+    drop(bytes_of(&mut first, &trace, 1, 3)?);
     let third = page_with(&[(0, 3), (15, 2)])?;
     let kept = first.bytes(1).ok_or("the page asked for")?;
     assert!(rt; kept == third.as_slice());

@@ -43,14 +43,13 @@ kept_used trace entries page kept are is =
     (all_of_contained (λ (e : ℕ × KeptPage). IsKept trace e.0 e.1) (promoted (nat_eq page) entries)
     (λ e inside. All-contains (λ (e : ℕ × KeptPage). IsKept trace e.0 e.1) entries e are (Contains-promoted (nat_eq page) entries e inside)))
 
--- the same of a page that is brought on to a later version
-pub kept_brought_on : (trace old : GuestTrace) (entries : List (ℕ × KeptPage)) (page version : ℕ) (was kept : KeptPage) → AreKept trace entries → trace ≡ old
-    → lookup (nat_eq page) entries ≡ Some was → version ≤ length old.writes → kept ≡ page_with version (page_at trace page version)
+-- the same of a page that is brought to a version
+pub kept_brought : (trace : GuestTrace) (entries : List (ℕ × KeptPage)) (page version : ℕ) (was kept : KeptPage) → AreKept trace entries
+    → lookup (nat_eq page) entries ≡ Some was → version ≤ length trace.writes → kept ≡ page_with version (page_at trace page version)
     → AreKept trace (set_value (nat_eq page) (promoted (nat_eq page) entries) kept)
-kept_brought_on trace old entries page version was kept are same found within made =
+kept_brought trace entries page version was kept are found within made =
     let low = (kept_found trace entries page was are found).0 in
-    let still = subst (λ (t : GuestTrace). version ≤ length t.writes) (sym same) within in
-    let is : IsKept trace page (page_with version (page_at trace page version)) = (low, still, refl) in
+    let is : IsKept trace page (page_with version (page_at trace page version)) = (low, within, refl) in
     kept_used trace entries page kept are (subst (IsKept trace page) (sym made) is)
 
 -- a look-up finds the changed value
@@ -78,8 +77,8 @@ kept_put trace cache page kept are is =
     ])
 
 -- the same of a page that was made for the trace
-pub kept_put_at : (trace old : GuestTrace) (cache : LruCache ℕ KeptPage) (page version : ℕ) (kept : KeptPage) → AreKept trace cache.entries → trace ≡ old
-    → page < old.pages → version ≤ length old.writes → kept ≡ page_with version (page_at old page version) → AreKept trace (put_entries nat_eq cache page kept)
-kept_put_at trace old cache page version kept are same low within made =
-    let is : IsKept old page (page_with version (page_at old page version)) = (low, within, refl) in
-    kept_put trace cache page kept are (subst (λ (t : GuestTrace). IsKept t page kept) (sym same) (subst (IsKept old page) (sym made) is))
+pub kept_put_at : (trace : GuestTrace) (cache : LruCache ℕ KeptPage) (page version : ℕ) (kept : KeptPage) → AreKept trace cache.entries
+    → page < trace.pages → version ≤ length trace.writes → kept ≡ page_with version (page_at trace page version) → AreKept trace (put_entries nat_eq cache page kept)
+kept_put_at trace cache page version kept are low within made =
+    let is : IsKept trace page (page_with version (page_at trace page version)) = (low, within, refl) in
+    kept_put trace cache page kept are (subst (IsKept trace page) (sym made) is)

@@ -1,3 +1,1 @@
 pub mod Entries
-pub mod Numbered
-pub mod Pieces

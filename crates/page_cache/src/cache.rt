@@ -4,13 +4,12 @@ ghost use Rattle.std.specs.Prelude.{◌≡◌, ◌<◌, ◌≤◌, [], IfOk, IsT
 ghost use Rattle.std.specs.Map.{lookup};
 ghost use Rattle.migration_model.specs.Versions.{page_at};
 ghost use Rattle.page_versions.specs.Index.{IsIndexOf};
-ghost use Rattle.page_cache.specs.Cache.{AreKept, GuestCache, cache_with, entries_by, page_with, pages_with};
+ghost use Rattle.page_cache.specs.Cache.{AreKept, GuestCache, cache_with, page_with, pages_with};
 
 use crate::error::CacheError;
 use crate::kept::Kept;
 use crate::pages::KeptPages;
-use crate::recent::{keep_recent, recent_bytes};
-use crate::small::AllPages;
+use crate::recent::keep_recent;
 use lru::LruCache;
 use page_versions::PageIndex;
 use std::alloc::Global;
@@ -18,21 +17,20 @@ use std::marker::Model;
 use trace_codec::WriteLog;
 
 /// Pages of a trace, each with the version that it was last asked for: at most so many, and the one that was not used for
-/// longest goes first; or all pages of a small guest.
+/// longest goes first. It keeps the allocator that it was made with.
 #[derive(Debug, Drop)]
 pub struct PageCache<'a, W: WriteLog> {
     trace: &'a W,
     index: &'a PageIndex,
-    all: AllPages,
     kept: LruCache<u32, Kept>,
 }
 
 impl<'a, W: WriteLog> Model for PageCache<'a, W> {
     ghost Value = { GuestCache };
 
-    ghost view = { λ c. cache_with (W.trace c.trace.now) (entries_by c.all c.kept.entries) c.kept.cap };
+    ghost view = { λ c. cache_with (W.trace c.trace.now) c.kept.entries c.kept.cap };
 
-    ghost invariant = { λ c. IsIndexOf c.index.now (W.trace c.trace.now) × AreKept (W.trace c.trace.now) (entries_by c.all c.kept.entries) };
+    ghost invariant = { λ c. IsIndexOf c.index.now (W.trace c.trace.now) × AreKept (W.trace c.trace.now) c.kept.entries };
 }
 
 impl<'a, W: WriteLog> PageCache<'a, W> {
@@ -57,13 +55,8 @@ impl<'a, W: WriteLog> PageCache<'a, W> {
         requires kept { AreKept (W.trace trace.now) pages.entries }
         ensures { result ≡ cache_with (W.trace trace.now) pages.entries pages.capacity }
     {
-        let KeptPages { all, kept } = pages;
-        PageCache {
-            trace,
-            index,
-            all,
-            kept,
-        }
+        let KeptPages { kept } = pages;
+        PageCache { trace, index, kept }
     }
 
     /// What the cache keeps, given away.
@@ -74,15 +67,15 @@ impl<'a, W: WriteLog> PageCache<'a, W> {
         let PageCache {
             trace: _,
             index: _,
-            all,
             kept,
         } = self;
-        KeptPages { all, kept }
+        KeptPages { kept }
     }
 
     /// Keeps the page after the first `version` writes of the trace. Where an earlier version of the page is kept, only the
-    /// writes in between are put there; else it is made from zeros.
-    pub fn keep(&mut self, alloc: Global, page: u32, version: u32) -> Result<(), CacheError>
+    /// writes in between are put there; else it is made from zeros. Where any version of it is kept, or as many pages as may
+    /// be, it takes the memory of that page, or of the one that was not used for longest.
+    pub fn keep(&mut self, page: u32, version: u32) -> Result<(), CacheError>
         requires page { page < self.old.trace.pages }
         requires version { version ≤ length self.old.trace.writes }
         ensures kept { AreKept self.new.trace self.new.entries }
@@ -90,30 +83,19 @@ impl<'a, W: WriteLog> PageCache<'a, W> {
         ensures trace { self.new.trace ≡ self.old.trace }
         ensures capacity { self.new.capacity ≡ self.old.capacity }
     {
-        if (page as usize) < self.all.len() {
-            self.all.keep(self.trace, self.index, page, version);
-            return Ok(());
-        }
-        keep_recent(alloc, self.trace, self.index, &mut self.kept, page, version)
+        keep_recent(self.trace, self.index, &mut self.kept, page, version)
     }
 
     /// The bytes that are kept of a page, of whatever version.
     pub fn bytes(&self, page: u32) -> Option<&[u8]>
         ensures { option_map (λ b. b.now) result ≡ option_map (λ k. k.bytes) (lookup (nat_eq page) self.now.entries) }
     {
-        if (page as usize) < self.all.len() {
-            return Some(self.all.bytes(page));
-        }
-        recent_bytes(&self.kept, page)
+        let kept = self.kept.peek(&page)?;
+        Some(&kept.bytes)
     }
 
     /// The page after the first `version` writes of the trace, as `PageIndex::bytes_at` tells it. It is kept then.
-    pub fn bytes_at(
-        &mut self,
-        alloc: Global,
-        page: u32,
-        version: u32,
-    ) -> Result<Vec<u8>, CacheError>
+    pub fn bytes_at(&mut self, page: u32, version: u32) -> Result<Vec<u8>, CacheError>
         requires page { page < self.old.trace.pages }
         requires version { version ≤ length self.old.trace.writes }
         ensures bytes { IfOk result (λ v. v.items ≡ page_at self.old.trace page version) }
@@ -122,7 +104,8 @@ impl<'a, W: WriteLog> PageCache<'a, W> {
         ensures trace { self.new.trace ≡ self.old.trace }
         ensures capacity { self.new.capacity ≡ self.old.capacity }
     {
-        self.keep(alloc, page, version)?;
+        self.keep(page, version)?;
+        let alloc = *self.kept.allocator();
         let Some(bytes) = self.bytes(page) else {
             unreachable!()
         };

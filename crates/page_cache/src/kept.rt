@@ -9,6 +9,12 @@ use page_versions::{PageIndex, Reached};
 use std::marker::Model;
 use trace_codec::WriteLog;
 
+/// How far a page of zeros has come.
+const FROM_ZEROS: Reached = Reached {
+    version: 0,
+    writes: 0,
+};
+
 /// The bytes of a page, and how far it has come.
 #[derive(Debug, Drop)]
 pub(crate) struct Kept {
@@ -22,8 +28,33 @@ impl Model for Kept {
     ghost view = { λ k. page_with k.reached.version k.bytes.items };
 }
 
+/// Brings the bytes of a page to a version. Of a later one only its writes in between are put over them; an earlier one is made
+/// from zeros, in the same memory.
+fn bring_bytes_to<W: WriteLog>(
+    trace: &W,
+    index: &PageIndex,
+    page: u32,
+    from: Reached,
+    version: u32,
+    bytes: &mut [u8],
+) -> Reached
+    requires of { IsIndexOf index.now (W.trace trace.now) }
+    requires kept { IsKept (W.trace trace.now) page (page_with from.version bytes.old) }
+    requires version { version ≤ length (W.trace trace.now).writes }
+    ensures bytes { bytes.new ≡ page_at (W.trace trace.now) page version }
+    ensures version { result.version ≡ version }
+{
+    // It tells a trace: that is known where it was asked for the trace's shape.
+    let _ = trace.shape();
+    if from.version <= version {
+        return index.bring_on(trace, page, from, version, bytes);
+    }
+    bytes.fill(0);
+    index.bring_on(trace, page, FROM_ZEROS, version, bytes)
+}
+
 impl Kept {
-    /// Brings the page on to a later version: only its writes in between are put there.
+    /// Brings the page to a version, in the same memory.
     pub(crate) fn bring_to<W: WriteLog>(
         &mut self,
         trace: &W,
@@ -33,10 +64,9 @@ impl Kept {
     )
         requires of { IsIndexOf index.now (W.trace trace.now) }
         requires kept { IsKept (W.trace trace.now) page self.old }
-        requires later { self.old.version ≤ version }
         requires version { version ≤ length (W.trace trace.now).writes }
         ensures { self.new ≡ page_with version (page_at (W.trace trace.now) page version) }
     {
-        self.reached = index.bring_on(trace, page, self.reached, version, &mut self.bytes);
+        self.reached = bring_bytes_to(trace, index, page, self.reached, version, &mut self.bytes);
     }
 }

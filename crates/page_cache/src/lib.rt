@@ -6,9 +6,7 @@ mod error;
 mod kept;
 mod pages;
 mod recent;
-mod small;
 
 pub use cache::PageCache;
 pub use error::CacheError;
 pub use pages::KeptPages;
-pub use small::is_small;

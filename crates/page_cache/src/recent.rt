@@ -1,7 +1,8 @@
 //! The pages that were used last.
 
-ghost use Rattle.std.specs.Prelude.{◌≡◌, ◌<◌, ◌≤◌, IsTrue, OnOk, Some, length, nat_eq, option_map};
+ghost use Rattle.std.specs.Prelude.{◌≡◌, ◌<◌, ◌≤◌, IsTrue, OnOk, Some, length, nat_eq};
 ghost use Rattle.std.specs.Map.{lookup};
+ghost use Rattle.migration_model.specs.Trace.{GuestTrace};
 ghost use Rattle.migration_model.specs.Versions.{page_at};
 ghost use Rattle.page_versions.specs.Index.{IsIndexOf};
 ghost use Rattle.page_cache.specs.Cache.{AreKept, page_with};
@@ -10,12 +11,10 @@ use crate::error::CacheError;
 use crate::kept::Kept;
 use lru::LruCache;
 use page_versions::{PageIndex, Reached};
-use std::alloc::Global;
 use trace_codec::WriteLog;
 
-/// Brings what is kept of a page on to a version, where it stands: only the writes in between are put there. Returns
-/// whether that was done; it is not where nothing is kept of the page, or a later version, which stays then.
-fn bring_kept_on<W: WriteLog>(
+/// Brings what is kept of a page to a version, where it stands. Returns whether anything is kept of the page.
+fn bring_kept<W: WriteLog>(
     trace: &W,
     index: &PageIndex,
     kept: &mut LruCache<u32, Kept>,
@@ -32,17 +31,29 @@ fn bring_kept_on<W: WriteLog>(
     let Some(was) = kept.get_mut(&page) else {
         return false;
     };
-    if was.reached.version > version {
-        return false;
-    }
     was.bring_to(trace, index, page, version);
     true
 }
 
-/// Keeps a page at a version: where an earlier one is kept, only the writes in between are put there; else it is made from
-/// zeros, and the page that was not used for longest may go.
+/// Room for the bytes of one page more. Where as many are kept as may be, the page that was not used for longest goes, and
+/// its room is used again.
+fn room_for_page(kept: &mut LruCache<u32, Kept>) -> Vec<u8>
+    ensures kept { (trace : GuestTrace) → AreKept trace kept.old.entries → AreKept trace kept.new.entries }
+    ensures capacity { kept.new.cap ≡ kept.old.cap }
+{
+    let alloc = *kept.allocator();
+    if kept.len() < kept.cap().get() {
+        return Vec::new(alloc);
+    }
+    match kept.pop_lru() {
+        Some((_, oldest)) => oldest.bytes,
+        None => Vec::new(alloc),
+    }
+}
+
+/// Keeps a page at a version: what is kept of it is brought there; else the page is made from zeros, and the one that was not
+/// used for longest may go.
 pub(crate) fn keep_recent<W: WriteLog>(
-    alloc: Global,
     trace: &W,
     index: &PageIndex,
     kept: &mut LruCache<u32, Kept>,
@@ -57,20 +68,13 @@ pub(crate) fn keep_recent<W: WriteLog>(
     ensures last { OnOk result (lookup (nat_eq page) kept.new.entries ≡ Some (page_with version (page_at (W.trace trace.now) page version))) }
     ensures capacity { kept.new.cap ≡ kept.old.cap }
 {
-    if bring_kept_on(trace, index, kept, page, version) {
+    if bring_kept(trace, index, kept, page, version) {
         return Ok(());
     }
-    let bytes = index.bytes_at(alloc, trace, page, version)?;
+    let mut bytes = room_for_page(kept);
+    index.bytes_into(trace, page, version, &mut bytes)?;
     // How many of its writes are in them is looked for when the page is brought on.
     let reached = Reached { version, writes: 0 };
     kept.put(page, Kept { reached, bytes })?;
     Ok(())
-}
-
-/// The bytes that are kept of a page, of whatever version.
-pub(crate) fn recent_bytes(kept: &LruCache<u32, Kept>, page: u32) -> Option<&[u8]>
-    ensures { option_map (λ b. b.now) result ≡ option_map (λ k. k.bytes) (lookup (nat_eq page) kept.now.entries) }
-{
-    let kept = kept.peek(&page)?;
-    Some(&kept.bytes)
 }

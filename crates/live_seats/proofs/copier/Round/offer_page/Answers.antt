@@ -32,6 +32,6 @@ returns-in-Some-clause-ready g c =
       table_is = c.send_page.ensures.table ∙ c.requires.ready.table_is;
       trace_is = c.send_page.ensures.trace ∙ ap (λ (k : GuestCache). k.trace) c.next_lane.ensures.cache ∙ c.requires.ready.trace_is;
       lanes = same_count before.outs sent.desk.outs (is.sends.lanes ∙ c.next_lane.ensures.sent.lanes) ∙ c.requires.ready.lanes
-          ∙ sym (ap (λ (t : Turn). t.streams) c.send_page.ensures.turn ∙ c.next_lane.ensures.turn);
+          ∙ sym (ap (λ (t : Turn). t.streams) c.send_page.ensures.turn ∙ ap (λ (t : Turn). t.streams) c.next_lane.ensures.turn);
     })
     c.send_page.ensures.sent

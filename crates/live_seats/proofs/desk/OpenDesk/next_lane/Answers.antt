@@ -1,7 +1,9 @@
-use Rattle.std.proofs.Common.{◌<◌, length, set, sym, ap, subst, arith}
+use Rattle.std.proofs.Common.{◌<◌, ◌≤◌, length, set, sym, ap, subst, arith, ◌∙◌, inl, inr}
+use Rattle.std.proofs.lemmas.Bool.{cases_lt}
 use Rattle.live_seats.specs.Desks.{OpenDeskView}
-use Rattle.live_seats.specs.Copies.{KeepsSent}
-use Rattle.live_seats.proofs.Posting.{keeps_looked}
+use Rattle.live_seats.specs.Copies.{IsFullAt, KeepsSent}
+use Rattle.live_seats.proofs.Basics.{false_true}
+use Rattle.live_seats.proofs.Posting.{full_looked, keeps_looked}
 use Rattle.live_seats.proofs.desk.OpenDesk.next_lane.Goals as goal
 
 pub returns-then-has_room-clause-sent : goal.returns-then-has_room-clause-sent
@@ -21,3 +23,17 @@ returns-clause-sent g c =
     omega (arith, c.deal-stream.ensures.within, c.requires.lanes, ap (λ (d : OpenDeskView). length d.outs) c.self.view_is, ap (λ (d : OpenDeskView). d.turn.streams) c.self.view_is) in
     subst (λ (d : OpenDeskView). KeepsSent d.outs (set outs stream c.has_room.new.self)) c.self.view_is
     (keeps_looked outs stream c.index_mut.result.now c.has_room.new.self inside (sym c.index_mut.ensures.value) c.has_room.ensures.lane c.has_room.ensures.sent)
+
+pub returns-clause-full_lane : goal.returns-clause-full_lane
+returns-clause-full_lane g c =
+    let outs = c.self.inside.outs.items in
+    let stream = c.deal-stream.result in
+    let was = c.index_mut.result.now in
+    let inside : stream < length outs =
+    omega (arith, c.deal-stream.ensures.within, c.requires.lanes, ap (λ (d : OpenDeskView). length d.outs) c.self.view_is, ap (λ (d : OpenDeskView). d.turn.streams) c.self.view_is) in
+    let full : was.lane.capacity ≤ length was.sent = elim (cases_lt (length was.sent) was.lane.capacity) [
+      | inl few ↦ absurd (false_true (sym c.if-has_room.false ∙ c.has_room.ensures.few few))
+      | inr full ↦ full
+    ] in
+    subst (IsFullAt (set outs stream c.has_room.new.self)) (c.deal-stream.ensures.next ∙ ap (λ (d : OpenDeskView). d.turn.next) c.self.view_is)
+    (full_looked outs stream was c.has_room.new.self inside c.has_room.ensures.lane c.has_room.ensures.sent full)

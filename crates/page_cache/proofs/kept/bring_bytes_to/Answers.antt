@@ -1,6 +1,6 @@
 use Rattle.std.proofs.Common.{◌≡◌, ◌^◌, ℕ, length, replicate, sym, ap, ◌∙◌}
 use Rattle.migration_model.proofs.Pages.{length-page_at, zero_page}
-use Rattle.page_cache.proofs.small.bring_to.Goals as goal
+use Rattle.page_cache.proofs.kept.bring_bytes_to.Goals as goal
 
 pub bring_on-requires-2-clause-bytes : goal.bring_on-requires-2-clause-bytes
 bring_on-requires-2-clause-bytes g c =

@@ -3,7 +3,7 @@ use Rattle.migration_model.specs.Trace.{GuestTrace}
 use Rattle.migration_model.specs.Versions.{page_at}
 use Rattle.migration_model.proofs.Pages.{length-page_at}
 use Rattle.page_cache.specs.Cache.{KeptPage}
-use Rattle.live_seats.proofs.copier.Round.spell_hot.Goals as goal
+use Rattle.live_seats.proofs.copier.Round.spell.Goals as goal
 
 pub spell_frame-requires-clause-whole : goal.spell_frame-requires-clause-whole
 spell_frame-requires-clause-whole g c =
