@@ -96,6 +96,22 @@ fn tables_and_plan<R: Threads + Sync>(
     thread::join(rt, tables, planned)
 }
 
+/// The text of a report, from its tables and its plan.
+fn text_of_report(
+    alloc: Global,
+    settings: &Settings,
+    log: &TouchLog,
+    tables: &Tables,
+    plan: &Plan,
+) -> Result<Vec<u8>, RunError>
+    requires tables { tables.now ≡ working_sets_of log.now.pages log.now.touches settings.now }
+    requires plan { IsPlan log.now.pages log.now.touches settings.now plan.now }
+    ensures made { IfOk result (λ v. (trace : GuestTrace) → log.now ≡ touches_in trace → IsReport trace settings.now v.items) }
+    ensures memory { IfErr result (λ e. e ≡ RunError.Memory) }
+{
+    report_text(alloc, &log.shape(), settings, tables, plan).or(Err(RunError::Memory))
+}
+
 /// The report on what is touched of a trace.
 fn report_of_log<R: Threads + Sync>(
     rt: &R,
@@ -109,7 +125,7 @@ fn report_of_log<R: Threads + Sync>(
     let (tables, planned) = tables_and_plan(rt, alloc, settings, log);
     let tables = tables.or(Err(RunError::Memory))?;
     let planned = planned.or(Err(RunError::Memory))?;
-    report_text(alloc, &log.shape(), settings, &tables, &planned).or(Err(RunError::Memory))
+    text_of_report(alloc, settings, log, &tables, &planned)
 }
 
 /// The report on the trace that a source holds.
