@@ -35,8 +35,8 @@ fn capacity_for(shape: &Shape) -> usize
     MOST_CAPACITY.min(LEAST_CAPACITY.max(CACHE_BYTES / shape.page_size()))
 }
 
-/// What a copier keeps from round to round: whose turn it is, its cache of the pages that it sent, what it listed in the round
-/// before, whose room the next round uses again, and the sending ends of its lanes.
+/// What a copier keeps from round to round: whose turn it is, its cache of the pages that it sent, what it listed in
+/// the round before, whose room the next round uses again, and the sending ends of its lanes.
 #[derive(Drop)]
 pub struct Desk {
     pub dealer: Dealer,
@@ -72,8 +72,8 @@ impl<'a, W: WriteLog> Model for OpenDesk<'a, W> {
 }
 
 impl Desk {
-    /// A desk before the first round of a guest of this shape, with the sending ends of a copier's lanes, one of each of 1 to 16
-    /// streams.
+    /// A desk before the first round of a guest of this shape, with the sending ends of a copier's lanes, one of each
+    /// of 1 to 16 streams.
     pub fn new(alloc: Global, shape: &Shape, outs: Vec<LaneOut>) -> Result<Desk, SeatError>
         requires some { 1 ≤ length outs.items }
         requires few { length outs.items ≤ 16 }
@@ -115,7 +115,8 @@ impl Desk {
 }
 
 impl<'a, W: WriteLog> OpenDesk<'a, W> {
-    /// The stream whose turn it is, if its lane has room for one more frame. In either case the next stream's turn comes.
+    /// The stream whose turn it is, if its lane has room for one more frame. In either case the next stream's turn
+    /// comes.
     pub(crate) fn next_lane(&mut self) -> Option<usize>
         requires lanes { length self.old.outs ≡ self.old.turn.streams }
         ensures lane { IfSome result (λ stream. stream ≡ self.old.turn.next) }
@@ -134,7 +135,8 @@ impl<'a, W: WriteLog> OpenDesk<'a, W> {
         None
     }
 
-    /// A text for a frame that goes on the lane of a stream: one that came back on it, whose room is used again, or a new one.
+    /// A text for a frame that goes on the lane of a stream: one that came back on it, whose room is used again, or a
+    /// new one.
     pub(crate) fn text(&mut self, alloc: Global, stream: usize) -> Vec<u8>
         requires { HasRoomAt self.old.outs stream }
         ensures { self.new ≡ self.old }

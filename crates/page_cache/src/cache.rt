@@ -16,8 +16,8 @@ use std::alloc::Global;
 use std::marker::Model;
 use trace_codec::WriteLog;
 
-/// Pages of a trace, each with the version that it was last asked for: at most so many, and the one that was not used for
-/// longest goes first. It keeps the allocator that it was made with.
+/// Pages of a trace, each with the version that it was last asked for: at most so many, and the one that was not used
+/// for longest goes first. It keeps the allocator that it was made with.
 #[derive(Debug, Drop)]
 pub struct PageCache<'a, W: WriteLog> {
     trace: &'a W,
@@ -72,9 +72,9 @@ impl<'a, W: WriteLog> PageCache<'a, W> {
         KeptPages { kept }
     }
 
-    /// Keeps the page after the first `version` writes of the trace. Where an earlier version of the page is kept, only the
-    /// writes in between are put there; else it is made from zeros. Where any version of it is kept, or as many pages as may
-    /// be, it takes the memory of that page, or of the one that was not used for longest.
+    /// Keeps the page after the first `version` writes of the trace. Where an earlier version of the page is kept,
+    /// only the writes in between are put there; else it is made from zeros. Where any version of it is kept, or as
+    /// many pages as may be, it takes the memory of that page, or of the one that was not used for longest.
     pub fn keep(&mut self, page: u32, version: u32) -> Result<(), CacheError>
         requires page { page < self.old.trace.pages }
         requires version { version ≤ length self.old.trace.writes }

@@ -35,8 +35,8 @@ fn bring_kept<W: WriteLog>(
     true
 }
 
-/// Room for the bytes of one page more. Where as many are kept as may be, the page that was not used for longest goes, and
-/// its room is used again.
+/// Room for the bytes of one page more. Where as many are kept as may be, the page that was not used for longest
+/// goes, and its room is used again.
 fn room_for_page(kept: &mut LruCache<u32, Kept>) -> Vec<u8>
     ensures kept { (trace : GuestTrace) → AreKept trace kept.old.entries → AreKept trace kept.new.entries }
     ensures capacity { kept.new.cap ≡ kept.old.cap }
@@ -51,8 +51,8 @@ fn room_for_page(kept: &mut LruCache<u32, Kept>) -> Vec<u8>
     }
 }
 
-/// Keeps a page at a version: what is kept of it is brought there; else the page is made from zeros, and the one that was not
-/// used for longest may go.
+/// Keeps a page at a version: what is kept of it is brought there; else the page is made from zeros, and the one that
+/// was not used for longest may go.
 pub(crate) fn keep_recent<W: WriteLog>(
     trace: &W,
     index: &PageIndex,
