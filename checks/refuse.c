@@ -1,0 +1,182 @@
+/* Stands between a program and the C library, and refuses what the program asks for.
+ *
+ *     cc -shared -fPIC -O2 -o refuse.so refuse.c
+ *     REFUSE_GROWTH=17 LD_PRELOAD=./refuse.so PROGRAM ..
+ *
+ * Each variable is a number, counted from 1; one that is missing, empty or 0 refuses nothing.
+ *
+ *     REFUSE_GROWTH=N   the Nth growth of memory: NULL, or ENOMEM
+ *     REFUSE_THREAD=N   the Nth start of a thread: EAGAIN
+ *     REFUSE_INNER=N    the Nth growth that the C library asks for itself once the program asked for one, as for a thread
+ *     REFUSE_READ=N     the Nth read of standard input: -1 with EIO
+ *     REFUSE_WRITE=N    the Nth write to standard output: -1 with EIO
+ *     ZERO_WRITE=N      the Nth write to standard output takes no byte: 0
+ *     REFUSE_FAULTS=N   the Nth write to standard error: -1 with EIO
+ *     BREAK_READ=N      the Nth read of standard input: -1 with EINTR; so for BREAK_WRITE
+ *     REFUSE_ON=1       what is refused is refused from then on, and not once
+ *     ONE_BYTE=1        reads of standard input and writes to standard output move one byte a call
+ *     REFUSE_COUNTS=F   the counts stand in the file F, of 64 bytes at least, as numbers of 8 bytes: growths, threads,
+ *                       inner growths, reads, writes, writes to standard error, refusals. They are right at each
+ *                       moment, so also where the program dies.
+ *
+ * Growths and starts of threads are counted where the program's own code calls: what the C library asks for at its start,
+ * or for itself, is no growth of the program. Calls are counted over all threads together.
+ */
+#define _GNU_SOURCE
+#include <dlfcn.h>
+#include <errno.h>
+#include <fcntl.h>
+#include <link.h>
+#include <pthread.h>
+#include <stdatomic.h>
+#include <stddef.h>
+#include <stdint.h>
+#include <stdlib.h>
+#include <sys/mman.h>
+#include <sys/syscall.h>
+#include <sys/uio.h>
+#include <unistd.h>
+
+extern void *__libc_malloc(size_t);
+extern void *__libc_calloc(size_t, size_t);
+extern void *__libc_realloc(void *, size_t);
+extern void *__libc_memalign(size_t, size_t);
+
+enum { GROWTH, THREAD, INNER, READ, WRITE, FAULTS, REFUSED, COUNTS };
+
+static _Atomic uint64_t own_counts[COUNTS];
+static _Atomic uint64_t *counts = own_counts;
+static uint64_t refuse[COUNTS], zero_write, break_read, break_write;
+static int refuse_on, one_byte;
+static uintptr_t low, high; /* the program's own code */
+static int (*start_thread)(pthread_t *, const pthread_attr_t *, void *(*)(void *), void *);
+
+static uint64_t number(const char *name) {
+    const char *text = getenv(name);
+    return text ? strtoull(text, NULL, 10) : 0;
+}
+
+/* The first object that is told is the program itself. */
+static int find_program(struct dl_phdr_info *info, size_t size, void *data) {
+    (void)size, (void)data;
+    for (int i = 0; i < info->dlpi_phnum; i++) {
+        const ElfW(Phdr) *part = &info->dlpi_phdr[i];
+        if (part->p_type == PT_LOAD && (part->p_flags & PF_X)) {
+            uintptr_t from = info->dlpi_addr + part->p_vaddr;
+            if (!low || from < low) low = from;
+            if (from + part->p_memsz > high) high = from + part->p_memsz;
+        }
+    }
+    return 1;
+}
+
+__attribute__((constructor)) static void begin(void) {
+    start_thread = (__typeof__(start_thread))dlsym(RTLD_NEXT, "pthread_create");
+    refuse[GROWTH] = number("REFUSE_GROWTH");
+    refuse[THREAD] = number("REFUSE_THREAD");
+    refuse[INNER] = number("REFUSE_INNER");
+    refuse[READ] = number("REFUSE_READ");
+    refuse[WRITE] = number("REFUSE_WRITE");
+    refuse[FAULTS] = number("REFUSE_FAULTS");
+    zero_write = number("ZERO_WRITE");
+    break_read = number("BREAK_READ");
+    break_write = number("BREAK_WRITE");
+    refuse_on = number("REFUSE_ON") != 0;
+    one_byte = number("ONE_BYTE") != 0;
+    const char *path = getenv("REFUSE_COUNTS");
+    if (path && *path) {
+        int file = open(path, O_RDWR | O_CLOEXEC);
+        void *at = file < 0 ? MAP_FAILED : mmap(NULL, sizeof own_counts, PROT_READ | PROT_WRITE, MAP_SHARED, file, 0);
+        if (at == MAP_FAILED) _exit(125); /* a run whose counts nobody sees would tell nothing */
+        counts = at;
+        close(file);
+    }
+    dl_iterate_phdr(find_program, NULL);
+}
+
+/* Whether the next call of a kind is one that `which` names. */
+static int is_named(uint64_t which, uint64_t call) { return which && (call == which || (refuse_on && call > which)); }
+
+static int refuses(int kind) {
+    if (!is_named(refuse[kind], atomic_fetch_add(&counts[kind], 1) + 1)) return 0;
+    atomic_fetch_add(&counts[REFUSED], 1);
+    return 1;
+}
+
+static int refuses_growth(const void *caller) {
+    if (!low) return 0;
+    if ((uintptr_t)caller >= low && (uintptr_t)caller < high) return refuses(GROWTH);
+    return atomic_load(&counts[GROWTH]) ? refuses(INNER) : 0;
+}
+
+#define CALLER __builtin_extract_return_addr(__builtin_return_address(0))
+#define OUT_OF_MEMORY (errno = ENOMEM, NULL)
+
+void *malloc(size_t size) { return refuses_growth(CALLER) ? OUT_OF_MEMORY : __libc_malloc(size); }
+
+void *calloc(size_t count, size_t size) { return refuses_growth(CALLER) ? OUT_OF_MEMORY : __libc_calloc(count, size); }
+
+void *realloc(void *old, size_t size) { return refuses_growth(CALLER) ? OUT_OF_MEMORY : __libc_realloc(old, size); }
+
+void *memalign(size_t step, size_t size) { return refuses_growth(CALLER) ? OUT_OF_MEMORY : __libc_memalign(step, size); }
+
+void *aligned_alloc(size_t step, size_t size) {
+    return refuses_growth(CALLER) ? OUT_OF_MEMORY : __libc_memalign(step, size);
+}
+
+int posix_memalign(void **place, size_t step, size_t size) {
+    void *room = refuses_growth(CALLER) ? NULL : __libc_memalign(step, size);
+    if (!room) return ENOMEM;
+    *place = room;
+    return 0;
+}
+
+int pthread_create(pthread_t *thread, const pthread_attr_t *attributes, void *(*body)(void *), void *argument) {
+    return refuses(THREAD) ? EAGAIN : start_thread(thread, attributes, body, argument);
+}
+
+static ssize_t fail(int cause) {
+    errno = cause;
+    return -1;
+}
+
+static ssize_t broken(void) {
+    atomic_fetch_add(&counts[REFUSED], 1);
+    return fail(EINTR);
+}
+
+ssize_t read(int file, void *room, size_t size) {
+    if (file == STDIN_FILENO) {
+        if (refuses(READ)) return fail(EIO);
+        if (is_named(break_read, atomic_load(&counts[READ]))) return broken();
+        if (one_byte && size > 1) size = 1;
+    }
+    return syscall(SYS_read, file, room, size);
+}
+
+/* Whether a write goes through, and how much of it: answers 1, or 0 with the call's own answer. */
+static int may_write(int file, size_t *size, ssize_t *answer) {
+    if (file == STDERR_FILENO && refuses(FAULTS)) return *answer = fail(EIO), 0;
+    if (file != STDOUT_FILENO) return 1;
+    if (refuses(WRITE)) return *answer = fail(EIO), 0;
+    uint64_t call = atomic_load(&counts[WRITE]);
+    if (is_named(zero_write, call)) return atomic_fetch_add(&counts[REFUSED], 1), *answer = 0, 0;
+    if (is_named(break_write, call)) return *answer = broken(), 0;
+    if (one_byte && *size > 1) *size = 1;
+    return 1;
+}
+
+ssize_t write(int file, const void *bytes, size_t size) {
+    ssize_t answer;
+    return may_write(file, &size, &answer) ? syscall(SYS_write, file, bytes, size) : answer;
+}
+
+ssize_t writev(int file, const struct iovec *parts, int count) {
+    ssize_t answer;
+    size_t size = SIZE_MAX;
+    if (!may_write(file, &size, &answer)) return answer;
+    if (size == SIZE_MAX) return syscall(SYS_writev, file, parts, count);
+    for (int i = 0; i < count; i++)
+        if (parts[i].iov_len) return syscall(SYS_write, file, parts[i].iov_base, size);
+    return 0;
+}
