@@ -52,12 +52,15 @@ impl Promise<Receiver> for Receives {
     ghost kept_by = { λ p receiver. identity_of receiver ≡ identity_of p.receiver.value };
 }
 
-/// Looks at each lane of a stream once, and tells whether a frame came.
+/// Looks at each lane of a stream once, and tells whether a frame came. Once a frame is refused it looks no further.
 fn sweep<G: Gate>(gate: &G, stream: usize, receiver: &mut Receiver) -> bool
     ensures { identity_of receiver.new ≡ identity_of receiver.old }
 {
     let mut came = false;
     for worker in 0..receiver.lanes() {
+        if receiver.is_refused() {
+            break;
+        }
         gate.at(Point::Taking { stream });
         if receiver.take(worker) {
             gate.at(Point::Taken { stream });
@@ -78,7 +81,7 @@ fn pause<R: Wait>(rt: &R, looks: u32) {
     }
 }
 
-/// Takes what comes on the lanes of a stream, until the run has ended and nothing is left.
+/// Takes what comes on the lanes of a stream, until the run has ended and nothing is left, or until a frame is refused.
 fn receive<R: Wait, G: Gate>(
     rt: &R,
     gate: &G,
@@ -92,16 +95,18 @@ fn receive<R: Wait, G: Gate>(
     let mut looks = 0u32;
     for _ in 0..u64::MAX {
         let ended = signals.ended.load(Ordering::SeqCst);
-        if sweep(gate, stream, &mut receiver) {
+        let came = sweep(gate, stream, &mut receiver);
+        if receiver.is_refused() {
+            signals.refused.store(true, Ordering::SeqCst);
+            break;
+        }
+        if came {
             looks = 0;
         } else if ended {
             break;
         } else {
             pause(rt, looks);
             looks = looks.saturating_add(1);
-        }
-        if receiver.is_refused() {
-            signals.refused.store(true, Ordering::SeqCst);
         }
     }
     receiver

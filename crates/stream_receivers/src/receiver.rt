@@ -17,8 +17,8 @@ use trace_codec::Shape;
 
 /// What takes the frames of one stream, which come on a lane from each worker, into a part of the guest's memory.
 ///
-/// Once a frame is refused, for want of memory or since the bytes are not the spelling of one frame, the receiver goes on to
-/// take frames, so that the lanes have room, and drops them. At the end it answers why, in place of its part.
+/// Once a frame is refused, for want of memory or since the bytes are not the spelling of one frame, the part stays as it
+/// is: frames that are taken after it are dropped. At the end the receiver answers why, in place of its part.
 #[derive(Drop)]
 pub struct Receiver {
     ends: Vec<LaneIn>,

@@ -8,33 +8,33 @@ ghost use Rattle.migration_model.specs.Trace.{Spells, header_text, trace_text, w
 use crate::error::TraceError;
 use crate::trace::Trace;
 use crate::write::Write;
+use byteorder::{ByteOrder, LittleEndian};
 use std::alloc::{AllocError, Global};
 
-/// Adds the first 16 bytes of a trace.
+/// The 16 bytes in front of the records.
 #[tactic(auto, unfolding(migration_model::specs::Trace::header_text, migration_model::specs::Numbers::text_of))]
-fn push_header(text: &mut Vec<u8>, shift: u8, pages: u32, writes: u32) -> Result<(), AllocError>
-    ensures { OnOk result (text.new.items ≡ text.old.items ++ header_text shift pages writes) }
+fn header_of(shift: u8, pages: u32, writes: u32) -> [u8; 16]
+    ensures { result ≡ header_text shift pages writes }
 {
-    text.extend_from_slice(&[b'P', b'C', b'W', b'T', 1, shift, 0, 0])?;
-    text.extend_from_slice(&pages.to_le_bytes())?;
-    text.extend_from_slice(&writes.to_le_bytes())
+    let mut header = [
+        b'P', b'C', b'W', b'T', 1, shift, 0, 0, 0, 0, 0, 0, 0, 0, 0, 0,
+    ];
+    LittleEndian::write_u32(&mut header[8..], pages);
+    LittleEndian::write_u32(&mut header[12..], writes);
+    header
 }
 
-/// Adds the numbers in front of a write's bytes.
+/// The numbers in front of a write's bytes.
 #[tactic(auto, unfolding(migration_model::specs::Numbers::text_of))]
-fn push_head(
-    text: &mut Vec<u8>,
-    tick: u64,
-    page: u32,
-    offset: u16,
-    len: u16,
-) -> Result<(), AllocError>
-    ensures { OnOk result (text.new.items ≡ text.old.items ++ (text_of w64 tick ++ (text_of w32 page ++ (text_of w16 offset ++ text_of w16 len)))) }
+fn head_of(tick: u64, page: u32, offset: u16, len: u16) -> [u8; 16]
+    ensures { result ≡ text_of w64 tick ++ (text_of w32 page ++ (text_of w16 offset ++ text_of w16 len)) }
 {
-    text.extend_from_slice(&tick.to_le_bytes())?;
-    text.extend_from_slice(&page.to_le_bytes())?;
-    text.extend_from_slice(&offset.to_le_bytes())?;
-    text.extend_from_slice(&len.to_le_bytes())
+    let mut head = [0u8; 16];
+    LittleEndian::write_u64(&mut head, tick);
+    LittleEndian::write_u32(&mut head[8..], page);
+    LittleEndian::write_u16(&mut head[12..], offset);
+    LittleEndian::write_u16(&mut head[14..], len);
+    head
 }
 
 /// Adds the spelling of one write.
@@ -43,7 +43,7 @@ fn push_write(text: &mut Vec<u8>, write: &Write) -> Result<(), AllocError>
     ensures { OnOk result (text.new.items ≡ text.old.items ++ write_text write.now) }
 {
     let len = write.bytes.len() as u16;
-    push_head(text, write.tick, write.page, write.offset, len)?;
+    text.extend_from_slice(&head_of(write.tick, write.page, write.offset, len))?;
     text.extend_from_slice(&write.bytes)?;
     Ok(())
 }
@@ -56,7 +56,7 @@ pub fn encode(alloc: Global, trace: &Trace) -> Result<Vec<u8>, TraceError>
 {
     let shape = trace.shape();
     let mut text = Vec::new(alloc);
-    push_header(&mut text, shape.shift, shape.pages, shape.writes)?;
+    text.extend_from_slice(&header_of(shape.shift, shape.pages, shape.writes))?;
     for write in &trace.writes {
         push_write(&mut text, write)?;
     }

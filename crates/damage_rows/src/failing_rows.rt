@@ -1,0 +1,155 @@
+//! Reads and writes of one byte a call that fail, each call in turn, in each job.
+
+ghost use Rattle.std.specs.Prelude.{◌≡◌, IfOk, false};
+
+use crate::input_rows::{MEMORY, trace_of};
+use live_engine::OpenGate;
+use migration_jobs::{Job, RunError, Show, TestSink, run};
+use rate_limit::{Asked, Settings};
+use std::alloc::{AllocError, Global};
+use std::sync::Wait;
+use std::test::Fail;
+use std::thread::Threads;
+use trace_codec::{TestSource, TraceError};
+
+/// How many jobs there are.
+const JOBS: usize = 5;
+
+/// Slow rates, by which the plan has three rounds and stops at tick 3667.
+fn settings() -> Result<Settings, Fail> {
+    Ok(Settings::new(Asked {
+        min: 2,
+        max: 4,
+        increment: 1,
+        threshold: 1,
+        rounds: 8,
+        start: 0,
+        window: 1000,
+        hot: 2,
+        workers: 2,
+        streams: 2,
+        replayers: 2,
+        lane: 1024,
+        skip: false,
+    })?)
+}
+
+/// The jobs by their numbers: an image, a report, live runs to the end and to the stop, and a sweep.
+fn job(alloc: Global, number: usize) -> Result<Job, Fail> {
+    match number {
+        0 => Ok(Job::Image),
+        1 => Ok(Job::Report(settings()?)),
+        2 => Ok(Job::Live(settings()?, Show::End)),
+        3 => Ok(Job::Live(settings()?, Show::Stop)),
+        _ => {
+            let mut cases = Vec::new(alloc);
+            cases.push(settings()?)?;
+            Ok(Job::Sweep { cases, workers: 2 })
+        }
+    }
+}
+
+/// A source that gives one byte a call, and fails at a call.
+fn source(alloc: Global, failing_call: Option<u64>) -> Result<TestSource, AllocError>
+    ensures { IfOk result (λ s. s.has_failed ≡ false) }
+{
+    let bytes = trace_of(alloc, 5, &[0, 1, 2, 3, 4])?;
+    Ok(TestSource::new(bytes, 1, failing_call))
+}
+
+/// What a job answers and leaves written, over these.
+fn ran<R: Threads + Wait + Sync>(
+    rt: &R,
+    alloc: Global,
+    number: usize,
+    failing_read: Option<u64>,
+    mut sink: TestSink,
+) -> Result<(Result<(), RunError>, TestSink), Fail>
+    requires { sink.has_failed ≡ false }
+{
+    let job = job(alloc, number)?;
+    let mut source = source(alloc, failing_read)?;
+    let answer = run(rt, alloc, &job, &mut source, &mut sink, &OpenGate);
+    Ok((answer, sink))
+}
+
+/// The whole output of a job.
+fn whole<R: Threads + Wait + Sync>(rt: &R, alloc: Global, number: usize) -> Result<Vec<u8>, Fail> {
+    let sink = TestSink::new(Vec::new(alloc), usize::MAX, None, false);
+    let (answer, sink) = ran(rt, alloc, number, None, sink)?;
+    answer?;
+    Ok(Vec::from_slice(alloc, sink.bytes())?)
+}
+
+#[test]
+fn all_jobs_write_their_output(rt: HostRuntime) -> Result<(), Fail> {
+    let alloc = rt.alloc();
+    for number in [0usize, 2, 3] {
+        assert_eq!(rt; whole(&rt, alloc, number)?.as_slice(), MEMORY.as_slice());
+    }
+    let lengths = [64usize, 389, 64, 64, 100];
+    for (number, length) in lengths.into_iter().enumerate() {
+        assert_eq!(rt; whole(&rt, alloc, number)?.len(), length, "job {number}");
+    }
+    Ok(())
+}
+
+#[test]
+fn each_read_that_fails_is_told(rt: HostRuntime) -> Result<(), Fail> {
+    let alloc = rt.alloc();
+    for number in 0..JOBS {
+        // 102 calls give the bytes, and one more would tell the end.
+        for call in 1..=103u64 {
+            let sink = TestSink::new(Vec::new(alloc), usize::MAX, None, false);
+            let (answer, sink) = ran(&rt, alloc, number, Some(call), sink)?;
+            let fault = Err(RunError::Trace(TraceError::ReadFault));
+            assert_eq!(rt; answer, fault, "job {number}, read {call}");
+            assert!(rt; sink.bytes().is_empty(), "job {number}, read {call}");
+        }
+    }
+    Ok(())
+}
+
+#[test]
+fn each_write_that_fails_leaves_a_beginning(rt: HostRuntime) -> Result<(), Fail> {
+    let alloc = rt.alloc();
+    for number in 0..JOBS {
+        let output = whole(&rt, alloc, number)?;
+        for count in 0..output.len() {
+            let sink = TestSink::new(Vec::new(alloc), 1, Some(count as u64 + 1), false);
+            let (answer, sink) = ran(&rt, alloc, number, None, sink)?;
+            assert_eq!(rt; answer, Err(RunError::Write), "job {number}, {count} bytes");
+            assert_eq!(rt;
+                sink.bytes(),
+                &output[..count],
+                "job {number}, {count} bytes"
+            );
+        }
+    }
+    Ok(())
+}
+
+#[test]
+fn a_writer_that_takes_nothing_has_failed(rt: HostRuntime) -> Result<(), Fail> {
+    let alloc = rt.alloc();
+    for number in 0..JOBS {
+        let sink = TestSink::new(Vec::new(alloc), 0, None, false);
+        let (answer, sink) = ran(&rt, alloc, number, None, sink)?;
+        assert_eq!(rt; answer, Err(RunError::Write), "job {number}");
+        assert!(rt; sink.bytes().is_empty(), "job {number}");
+    }
+    Ok(())
+}
+
+#[test]
+fn a_flush_that_fails_is_told(rt: HostRuntime) -> Result<(), Fail> {
+    let alloc = rt.alloc();
+    for number in 0..JOBS {
+        let output = whole(&rt, alloc, number)?;
+        let sink = TestSink::new(Vec::new(alloc), 64, None, true);
+        let (answer, sink) = ran(&rt, alloc, number, None, sink)?;
+        assert_eq!(rt; answer, Err(RunError::Write), "job {number}");
+        assert_eq!(rt; sink.bytes(), output.as_slice(), "job {number}");
+    }
+    Ok(())
+}
