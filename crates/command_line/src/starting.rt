@@ -4,8 +4,8 @@ ghost use Rattle.std.specs.Prelude.{◌≡◌, ◌≤◌, ◌⊎◌, List, ℕ, 
 ghost use Rattle.std.specs.Io.KnownBytes.{Appends};
 ghost use Rattle.migration_jobs.specs.Output.{IsOutput};
 
-use crate::command::{WordsError, WordsRefusal, job_of};
 use arrayvec::ArrayString;
+use job_words::{WordsError, WordsRefusal, job_of};
 use live_engine::OpenGate;
 use migration_jobs::{Job, RunError, Sink, run, write_out};
 use std::alloc::Global;

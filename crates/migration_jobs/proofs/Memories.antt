@@ -6,8 +6,8 @@ use Rattle.migration_model.specs.Trace.{GuestTrace, IsTrace}
 use Rattle.migration_model.specs.Memory.{GuestMemory, IsMemory, image_of, page_of}
 use Rattle.migration_model.proofs.Pages.{length-applied}
 use Rattle.migration_jobs.specs.Shown.{memory_shown}
-use Rattle.migration_jobs.specs.declared.job.Show.{Show}
-use Rattle.migration_jobs.specs.declared.job.Show.TheVariants as shows
+use Rattle.job_kinds.specs.declared.job.Show.{Show}
+use Rattle.job_kinds.specs.declared.job.Show.TheVariants as shows
 
 pub record IsAsLarge (trace : GuestTrace) (memory : GuestMemory) : Type 0 where
   pub shift : memory.shift ≡ trace.shift

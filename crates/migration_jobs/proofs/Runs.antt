@@ -5,9 +5,9 @@ use Rattle.migration_model.specs.Trace.{GuestTrace, IsTrace, Spells, trace_text}
 use Rattle.trace_codec.specs.Source.{ReadsWhole, SourceSpells}
 use Rattle.trace_codec.proofs.Sources.{refused_whole, spelled_whole}
 use Rattle.migration_jobs.specs.Output.{IsOutputOf, IsOutput, IsOutsideRun, RefusesRun, RefusesText}
-use Rattle.migration_jobs.specs.declared.job.Job.{Job}
-use Rattle.migration_jobs.specs.declared.job.RunError.{RunError}
-use Rattle.migration_jobs.specs.declared.job.RunError.TheVariants as errors
+use Rattle.job_kinds.specs.declared.job.Job.{Job}
+use Rattle.migration_jobs.specs.declared.error.RunError.{RunError}
+use Rattle.migration_jobs.specs.declared.error.RunError.TheVariants as errors
 
 pub refused_run : {T : Type 0} (r : Result T RunError) (old new : Option (List ℕ)) (bytes : List ℕ) → ReadsWhole old new bytes
     → IfErr r (RefusesText bytes) → IfErr r (RefusesRun old)

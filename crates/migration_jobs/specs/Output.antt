@@ -10,12 +10,12 @@ use Rattle.migration_model.specs.Windows.{working_sets_of}
 use Rattle.sweep_report.specs.Texts.{report_of, sweep_of}
 use Rattle.trace_codec.specs.Refusals.{RefusesUnlessMemory}
 use Rattle.trace_codec.specs.Source.{SourceRefuses, IsOutside}
-use Rattle.migration_jobs.specs.declared.job.Job.{Job}
-use Rattle.migration_jobs.specs.declared.job.Job.TheVariants as jobs
-use Rattle.migration_jobs.specs.declared.job.Show.{Show}
-use Rattle.migration_jobs.specs.declared.job.Show.TheVariants as shows
-use Rattle.migration_jobs.specs.declared.job.RunError.{RunError}
-use Rattle.migration_jobs.specs.declared.job.RunError.TheVariants as errors
+use Rattle.job_kinds.specs.declared.job.Job.{Job}
+use Rattle.job_kinds.specs.declared.job.Job.TheVariants as jobs
+use Rattle.job_kinds.specs.declared.job.Show.{Show}
+use Rattle.job_kinds.specs.declared.job.Show.TheVariants as shows
+use Rattle.migration_jobs.specs.declared.error.RunError.{RunError}
+use Rattle.migration_jobs.specs.declared.error.RunError.TheVariants as errors
 
 -- the text of a report on a trace with these settings: its working sets, and its plan
 pub record IsReport (trace : GuestTrace) (settings : MigrationSettings) (text : List ℕ) : Type 0 where

@@ -1,8 +1,8 @@
 -- The memory that is shown of a live run.
 use Rattle.migration_model.specs.Trace.{GuestTrace}
 use Rattle.migration_model.specs.Memory.{GuestMemory, image_of}
-use Rattle.migration_jobs.specs.declared.job.Show.{Show}
-use Rattle.migration_jobs.specs.declared.job.Show.TheVariants as shows
+use Rattle.job_kinds.specs.declared.job.Show.{Show}
+use Rattle.job_kinds.specs.declared.job.Show.TheVariants as shows
 
 -- as it is where the guest stopped, or after all writes
 abbrev pub memory_shown : Show → GuestTrace → GuestMemory → GuestMemory

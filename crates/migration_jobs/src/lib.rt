@@ -1,7 +1,7 @@
 //! The jobs of precopy as calls: a trace is read from a source, and the whole output of a job is written to a sink.
 #![tactic(auto)]
 
-mod job;
+mod error;
 mod live;
 mod output;
 mod running;
@@ -9,7 +9,8 @@ mod shown;
 mod sink;
 mod test_sink;
 
-pub use job::{Job, RunError, Show};
+pub use error::RunError;
+pub use job_kinds::{Job, Show};
 pub use output::write_out;
 pub use running::run;
 pub use sink::{FromWrite, Sink};

@@ -6,8 +6,9 @@ ghost use Rattle.trace_codec.specs.Source.{SourceSpells};
 ghost use Rattle.trace_codec.specs.declared.error.TraceError.TheVariants.{ReadFault};
 ghost use Rattle.migration_jobs.specs.Output.{IsOutsideRun, IsLiveJob, IsRefusalOf, IsShown, RefusesRun};
 
-use crate::job::{Job, RunError, Show};
+use crate::error::RunError;
 use crate::shown::Shown;
+use job_kinds::{Job, Show};
 use live_engine::{Gate, LiveError, migrate};
 use rate_limit::Settings;
 use std::alloc::Global;

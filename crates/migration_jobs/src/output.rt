@@ -5,7 +5,7 @@ ghost use Rattle.std.specs.Io.KnownBytes.{Appends, Keeps};
 ghost use Rattle.migration_jobs.specs.Bytes.{bytes_in};
 ghost use Rattle.migration_jobs.specs.Sink.{AppendsPart};
 
-use crate::job::RunError;
+use crate::error::RunError;
 use crate::shown::Shown;
 use crate::sink::Sink;
 use std::alloc::Global;

@@ -14,11 +14,12 @@ ghost use Rattle.migration_jobs.specs.Sink.{AppendsPart};
 ghost use Rattle.migration_jobs.specs.Output.{IsOutput, IsOutsideRun, IsRefusalOf, IsReport, IsSweep, RefusesRun, RefusesText};
 ghost use Rattle.migration_jobs.specs.Bytes.{bytes_in};
 
-use crate::job::{Job, RunError};
+use crate::error::RunError;
 use crate::live::live_output;
 use crate::output::{Output, write_output};
 use crate::sink::Sink;
 use image_build::{ReplayError, replay_bytes};
+use job_kinds::Job;
 use live_engine::Gate;
 use rate_limit::Settings;
 use round_planner::{Plan, PlanError, par_plan};

@@ -7,7 +7,7 @@ ghost use Rattle.live_engine.specs.Runs.{IsStoppedAt};
 ghost use Rattle.migration_model.specs.Memory.{GuestMemory, IsMemory, page_of};
 ghost use Rattle.migration_jobs.specs.Shown.{memory_shown};
 
-use crate::job::Show;
+use job_kinds::Show;
 use live_engine::Stopped;
 use std::marker::Model;
 use trace_codec::{Shape, TraceText, WriteLog};

@@ -1,7 +1,7 @@
 //! The cases of a sweep, as words.
 
 use crate::command::{WordsError, WordsRefusal};
-use crate::options::{start, workers};
+use crate::options::with_sweep;
 use clap::{Arg, ArgAction, Command};
 use rate_limit::{Asked, Settings};
 use std::alloc::{AllocError, Global};
@@ -17,13 +17,14 @@ pub(crate) fn with_cases<'a>(
     alloc: Global,
     command: Command<'a>,
 ) -> Result<Command<'a>, AllocError> {
+    let command = with_sweep(alloc, command)?;
     let cases = Arg::new(alloc, "case")
         .value_name("CASE")
         .required(true)
         .num_args(1..)
         .action(ArgAction::Append)
         .help("min,max,inc,threshold,rounds,skip: six numbers, the last 0 or 1");
-    command.arg(start(alloc))?.arg(workers(alloc))?.arg(cases)
+    command.arg(cases)
 }
 
 /// A number of 1 to 13 digits.

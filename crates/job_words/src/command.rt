@@ -4,7 +4,7 @@ use crate::cases::{cases_of, with_cases};
 use crate::options::{settings_of, sweep_options, with_live, with_report};
 use clap::error::ErrorKind;
 use clap::{ArgMatches, Command};
-use migration_jobs::{Job, Show};
+use job_kinds::{Job, Show};
 use rate_limit::SettingsError;
 use std::alloc::{AllocError, AllocFailed, Global};
 use std::rt::Env;
@@ -133,7 +133,7 @@ fn sweep_of(alloc: Global, options: &ArgMatches) -> Result<Job, WordsError> {
 }
 
 /// The job that the words ask for, the program's name being the first.
-pub(crate) fn job_of(alloc: Global, words: &[String]) -> Result<Job, WordsError> {
+pub fn job_of(alloc: Global, words: &[String]) -> Result<Job, WordsError> {
     let matches = match commands(alloc)?.try_get_matches_from(words) {
         Ok(matches) => matches,
         Err(error) => return Err(refusal_of(alloc, &error)),

@@ -22,6 +22,58 @@ const DEFAULTS: Asked = Asked {
     skip: false,
 };
 
+/// An option that takes a whole number: its name, and its help.
+type Number<'a> = (&'a str, &'a str);
+
+/// When a migration begins.
+const START: Number<'static> = ("start", "Tick at which the first round begins [default: 0]");
+
+/// How many threads there may be.
+const WORKERS: Number<'static> = ("workers", "Threads that work side by side [default: 1]");
+
+/// How a migration is paced.
+const PACE: [Number<'static>; 6] = [
+    (
+        "min",
+        "Least rate, in pages per 1,000 ticks [default: 1000]",
+    ),
+    (
+        "max",
+        "Greatest rate, in pages per 1,000 ticks [default: 5000]",
+    ),
+    (
+        "inc",
+        "Added to a round's dirtying rate, in pages per 1,000 ticks [default: 500]",
+    ),
+    (
+        "threshold",
+        "End where fewer pages were dirtied [default: 64]",
+    ),
+    ("rounds", "Most rounds [default: 30]"),
+    START,
+];
+
+/// What a report shows beside the plan.
+const REPORT: [Number<'static>; 3] = [
+    ("window", "Length of a window, in ticks [default: 1000]"),
+    ("hot", "Windows that make a page hot [default: 2]"),
+    WORKERS,
+];
+
+/// The threads and lanes of a live run.
+const LIVE: [Number<'static>; 4] = [
+    WORKERS,
+    ("streams", "Streams that pages are sent over [default: 1]"),
+    (
+        "replayers",
+        "Threads that change the guest's pages [default: 1]",
+    ),
+    ("lane", "Frames that each lane has room for [default: 1024]"),
+];
+
+/// What all cases of a sweep have in common.
+const SWEEP: [Number<'static>; 2] = [START, WORKERS];
+
 /// An option that takes a whole number.
 fn number<'a>(alloc: Global, name: &'a str, help: &'a str) -> Arg<'a> {
     Arg::new(alloc, name)
@@ -32,54 +84,35 @@ fn number<'a>(alloc: Global, name: &'a str, help: &'a str) -> Arg<'a> {
         .help(help)
 }
 
-/// The option that says when a migration begins.
-pub(crate) fn start<'a>(alloc: Global) -> Arg<'a> {
-    number(
-        alloc,
-        "start",
-        "Tick at which the first round begins [default: 0]",
-    )
+/// An option that is there or is not.
+fn flag<'a>(alloc: Global, name: &'a str, help: &'a str) -> Arg<'a> {
+    Arg::new(alloc, name)
+        .long(name)
+        .action(ArgAction::SetTrue)
+        .help(help)
 }
 
-/// The option that says how many threads there may be.
-pub(crate) fn workers<'a>(alloc: Global) -> Arg<'a> {
-    number(
-        alloc,
-        "workers",
-        "Threads that work side by side [default: 1]",
-    )
+/// The command with these options.
+fn with_numbers<'a>(
+    alloc: Global,
+    command: Command<'a>,
+    numbers: &[Number<'a>],
+) -> Result<Command<'a>, AllocError> {
+    let mut command = command;
+    for (name, help) in numbers {
+        command = command.arg(number(alloc, name, help))?;
+    }
+    Ok(command)
 }
 
 /// The command with the options that say how a migration is paced.
 fn with_pace<'a>(alloc: Global, command: Command<'a>) -> Result<Command<'a>, AllocError> {
-    let skip = Arg::new(alloc, "skip")
-        .long("skip")
-        .action(ArgAction::SetTrue)
-        .help("Skip pages that are written again while a round sends its pages");
-    command
-        .arg(number(
-            alloc,
-            "min",
-            "Least rate, in pages per 1,000 ticks [default: 1000]",
-        ))?
-        .arg(number(
-            alloc,
-            "max",
-            "Greatest rate, in pages per 1,000 ticks [default: 5000]",
-        ))?
-        .arg(number(
-            alloc,
-            "inc",
-            "Added to a round's dirtying rate, in pages per 1,000 ticks [default: 500]",
-        ))?
-        .arg(number(
-            alloc,
-            "threshold",
-            "End where fewer pages were dirtied [default: 64]",
-        ))?
-        .arg(number(alloc, "rounds", "Most rounds [default: 30]"))?
-        .arg(start(alloc))?
-        .arg(skip)
+    let command = with_numbers(alloc, command, &PACE)?;
+    command.arg(flag(
+        alloc,
+        "skip",
+        "Skip pages that are written again while a round sends its pages",
+    ))
 }
 
 /// The command with the options of a report.
@@ -87,14 +120,8 @@ pub(crate) fn with_report<'a>(
     alloc: Global,
     command: Command<'a>,
 ) -> Result<Command<'a>, AllocError> {
-    with_pace(alloc, command)?
-        .arg(number(
-            alloc,
-            "window",
-            "Length of a window, in ticks [default: 1000]",
-        ))?
-        .arg(number(alloc, "hot", "Windows that make a page hot [default: 2]"))?
-        .arg(workers(alloc))
+    let command = with_pace(alloc, command)?;
+    with_numbers(alloc, command, &REPORT)
 }
 
 /// The command with the options of a live run.
@@ -102,28 +129,21 @@ pub(crate) fn with_live<'a>(
     alloc: Global,
     command: Command<'a>,
 ) -> Result<Command<'a>, AllocError> {
-    let at_stop = Arg::new(alloc, "at-stop")
-        .long("at-stop")
-        .action(ArgAction::SetTrue)
-        .help("Write the memory at the tick where the guest stops");
-    with_pace(alloc, command)?
-        .arg(workers(alloc))?
-        .arg(number(
-            alloc,
-            "streams",
-            "Streams that pages are sent over [default: 1]",
-        ))?
-        .arg(number(
-            alloc,
-            "replayers",
-            "Threads that change the guest's pages [default: 1]",
-        ))?
-        .arg(number(
-            alloc,
-            "lane",
-            "Frames that each lane has room for [default: 1024]",
-        ))?
-        .arg(at_stop)
+    let command = with_pace(alloc, command)?;
+    let command = with_numbers(alloc, command, &LIVE)?;
+    command.arg(flag(
+        alloc,
+        "at-stop",
+        "Write the memory at the tick where the guest stops",
+    ))
+}
+
+/// The command with the options of a sweep.
+pub(crate) fn with_sweep<'a>(
+    alloc: Global,
+    command: Command<'a>,
+) -> Result<Command<'a>, AllocError> {
+    with_numbers(alloc, command, &SWEEP)
 }
 
 /// The number that was given for an option, or the default.

@@ -1,0 +1,29 @@
+//! What the program can do.
+
+use rate_limit::Settings;
+
+/// One run of the program over one trace.
+#[derive(Debug, Drop)]
+pub enum Job {
+    /// Writes the memory after all writes of the trace.
+    Image,
+    /// Writes a report on the trace.
+    Report(Settings),
+    /// Performs a migration over the trace, and writes the memory that it leaves.
+    Live(Settings, Show),
+    /// Writes what the plan of each case comes to, and the best of them; with no case it writes nothing. Up to so many
+    /// workers, 1 to 16, plan side by side.
+    Sweep {
+        cases: Vec<Settings>,
+        workers: usize,
+    },
+}
+
+/// Which memory of a live run is written.
+#[derive(Clone, Copy, Debug, PartialEq, Eq)]
+pub enum Show {
+    /// The memory at the tick where the guest stopped.
+    Stop,
+    /// The memory after all writes.
+    End,
+}
