@@ -74,22 +74,22 @@ const LIVE: [Number<'static>; 4] = [
 /// What all cases of a sweep have in common.
 const SWEEP: [Number<'static>; 2] = [START, WORKERS];
 
+/// An option of this name.
+fn option<'a>(alloc: Global, name: &'a str, help: &'a str) -> Arg<'a> {
+    Arg::new(alloc, name).long(name).help(help)
+}
+
 /// An option that takes a whole number.
 fn number<'a>(alloc: Global, name: &'a str, help: &'a str) -> Arg<'a> {
-    Arg::new(alloc, name)
-        .long(name)
+    option(alloc, name, help)
         .value_name("N")
         .action(ArgAction::Set)
         .value_parser(clap::value_parser!(u64))
-        .help(help)
 }
 
 /// An option that is there or is not.
 fn flag<'a>(alloc: Global, name: &'a str, help: &'a str) -> Arg<'a> {
-    Arg::new(alloc, name)
-        .long(name)
-        .action(ArgAction::SetTrue)
-        .help(help)
+    option(alloc, name, help).action(ArgAction::SetTrue)
 }
 
 /// The command with these options.
