@@ -2,60 +2,24 @@
 
 ghost use Rattle.std.specs.Prelude.{◌≡◌, IfOk};
 
+use crate::fixtures::{FIRST, FOURTH, Page, SECOND, THIRD, ZEROS, guest, page_of};
 use page_cache::PageCache;
 use page_versions::PageIndex;
 use std::alloc::Global;
 use std::test::Fail;
-use trace_codec::{Trace, Write};
-
-/// A guest of 4 pages of 16 bytes, which writes pages 0 and 1 at ticks 0 and 5, page 1 at tick 1200, and pages 3 and 1
-/// at tick 2500.
-fn guest(alloc: Global) -> Result<Trace, Fail> {
-    let cases: [(u64, u32, u16, &[u8]); 5] = [
-        (0, 0, 0, &[1]),
-        (5, 1, 15, &[2]),
-        (1200, 1, 0, &[3]),
-        (2500, 3, 2, &[4, 5]),
-        (2500, 1, 0, &[0]),
-    ];
-    let mut writes = Vec::new(alloc);
-    for (tick, page, offset, bytes) in cases {
-        writes.push(Write {
-            tick,
-            page,
-            offset,
-            bytes: Vec::from_slice(alloc, bytes)?,
-        })?;
-    }
-    Ok(Trace::new(4, 4, writes)?)
-}
-
-/// A page of 16 bytes: these at their places, and zeros.
-fn page_with(set: &[(usize, u8)]) -> Result<[u8; 16], Fail> {
-    let mut page = [0u8; 16];
-    for (at, byte) in set {
-        *page.get_mut(*at).ok_or("within the page")? = *byte;
-    }
-    Ok(page)
-}
+use std::thread::Threads;
+use trace_codec::Trace;
 
 /// What the cache of a trace answers for a page of it.
-fn bytes_of(
-    cache: &mut PageCache<'_, Trace>,
-    trace: &Trace,
-    page: u32,
-    version: u32,
-) -> Result<Vec<u8>, Fail>
+fn page_at(cache: &mut PageCache<'_, Trace>, trace: &Trace, page: u32, version: u32) -> Option<Page>
     requires { cache.old.trace ≡ trace.now }
     ensures { cache.new.trace ≡ trace.now }
 {
-    if page >= trace.pages {
-        return Err(Fail::from("a page"));
+    if page >= trace.pages || version as usize > trace.writes.len() {
+        return None;
     }
-    if version as usize > trace.writes.len() {
-        return Err(Fail::from("a version"));
-    }
-    Ok(cache.bytes_at(page, version)?)
+    let bytes = cache.bytes_at(page, version).ok()?;
+    page_of(&bytes)
 }
 
 fn new_cache<'a>(
@@ -72,186 +36,171 @@ fn new_cache<'a>(
     Ok(PageCache::new(alloc, trace, index, capacity)?)
 }
 
-/// Whether the cache keeps a page with these bytes.
-fn keeps(cache: &PageCache<'_, Trace>, page: u32, bytes: &[u8]) -> bool {
-    match cache.bytes(page) {
-        Some(kept) => kept == bytes,
-        None => false,
+/// What the cache keeps of a page.
+fn kept_of(cache: &PageCache<'_, Trace>, page: u32) -> Option<Page> {
+    page_of(cache.bytes(page)?)
+}
+
+/// What the cache keeps of the four pages.
+fn kept_in(cache: &PageCache<'_, Trace>) -> [Option<Page>; 4] {
+    [
+        kept_of(cache, 0),
+        kept_of(cache, 1),
+        kept_of(cache, 2),
+        kept_of(cache, 3),
+    ]
+}
+
+/// What the cache answers, and what it keeps of the four pages then.
+type Step = (Option<Page>, [Option<Page>; 4]);
+
+/// Asks the cache for these pages at these versions, in order.
+fn ask(
+    alloc: Global,
+    cache: &mut PageCache<'_, Trace>,
+    trace: &Trace,
+    asked: &[(u32, u32)],
+) -> Result<Vec<Step>, Fail>
+    requires { cache.old.trace ≡ trace.now }
+    ensures { cache.new.trace ≡ trace.now }
+{
+    let mut steps = Vec::new(alloc);
+    for (page, version) in asked {
+        let answer = page_at(cache, trace, *page, *version);
+        steps.push((answer, kept_in(cache)))?;
     }
+    Ok(steps)
+}
+
+/// Asks a new cache of so many pages.
+fn ask_new<R: Threads + Sync>(
+    rt: &R,
+    alloc: Global,
+    capacity: usize,
+    asked: &[(u32, u32)],
+) -> Result<Vec<Step>, Fail> {
+    let trace = guest(alloc, 0)?;
+    let index = PageIndex::build(rt, alloc, &trace)?;
+    let mut cache = new_cache(alloc, &trace, &index, capacity)?;
+    ask(alloc, &mut cache, &trace, asked)
 }
 
 #[test]
 fn neighbours_of_a_page_stay(rt: HostRuntime) -> Result<(), Fail> {
-    let alloc = rt.alloc();
-    let trace = guest(alloc)?;
-    let index = PageIndex::build(&rt, alloc, &trace)?;
-    let mut cache = new_cache(alloc, &trace, &index, 4)?;
-    let zeros = page_with(&[])?;
-    let first = page_with(&[(0, 1)])?;
-    let third = page_with(&[(0, 3), (15, 2)])?;
-    drop(bytes_of(&mut cache, &trace, 0, 0)?);
-    drop(bytes_of(&mut cache, &trace, 1, 3)?);
-    drop(bytes_of(&mut cache, &trace, 2, 0)?);
-    drop(bytes_of(&mut cache, &trace, 3, 3)?);
-    assert!(rt; keeps(&cache, 0, &zeros) && keeps(&cache, 1, &third) && keeps(&cache, 2, &zeros));
-    drop(bytes_of(&mut cache, &trace, 0, 5)?);
-    drop(bytes_of(&mut cache, &trace, 2, 5)?);
-    assert!(rt; keeps(&cache, 0, &first) && keeps(&cache, 1, &third) && keeps(&cache, 2, &zeros));
-    drop(bytes_of(&mut cache, &trace, 1, 0)?);
-    assert!(rt; keeps(&cache, 0, &first) && keeps(&cache, 1, &zeros) && keeps(&cache, 3, &zeros));
+    let asked = [(0, 0), (1, 3), (2, 0), (3, 3), (0, 5), (2, 5), (1, 0)];
+    let steps = ask_new(&rt, rt.alloc(), 4, &asked)?;
+    let expected: [Step; 7] = [
+        (Some(ZEROS), [Some(ZEROS), None, None, None]),
+        (Some(THIRD), [Some(ZEROS), Some(THIRD), None, None]),
+        (Some(ZEROS), [Some(ZEROS), Some(THIRD), Some(ZEROS), None]),
+        (
+            Some(ZEROS),
+            [Some(ZEROS), Some(THIRD), Some(ZEROS), Some(ZEROS)],
+        ),
+        (
+            Some(FIRST),
+            [Some(FIRST), Some(THIRD), Some(ZEROS), Some(ZEROS)],
+        ),
+        (
+            Some(ZEROS),
+            [Some(FIRST), Some(THIRD), Some(ZEROS), Some(ZEROS)],
+        ),
+        (
+            Some(ZEROS),
+            [Some(FIRST), Some(ZEROS), Some(ZEROS), Some(ZEROS)],
+        ),
+    ];
+    assert!(rt; steps.as_slice() == expected.as_slice());
     Ok(())
 }
 
 #[test]
 fn one_page_is_kept(rt: HostRuntime) -> Result<(), Fail> {
-    let alloc = rt.alloc();
-    let trace = guest(alloc)?;
-    let index = PageIndex::build(&rt, alloc, &trace)?;
-    let mut cache = new_cache(alloc, &trace, &index, 1)?;
-    let second = page_with(&[(15, 2)])?;
-    let third = page_with(&[(0, 3), (15, 2)])?;
-    let other = page_with(&[(2, 4), (3, 5)])?;
-    assert_eq!(rt;
-        bytes_of(&mut cache, &trace, 1, 2)?.as_slice(),
-        second.as_slice()
-    );
-    assert_eq!(rt;
-        bytes_of(&mut cache, &trace, 1, 3)?.as_slice(),
-        third.as_slice()
-    );
-    assert_eq!(rt;
-        bytes_of(&mut cache, &trace, 1, 2)?.as_slice(),
-        second.as_slice()
-    );
-    assert_eq!(rt;
-        bytes_of(&mut cache, &trace, 3, 4)?.as_slice(),
-        other.as_slice()
-    );
-    assert_eq!(rt;
-        bytes_of(&mut cache, &trace, 1, 5)?.as_slice(),
-        second.as_slice()
-    );
+    let asked = [(1, 2), (1, 3), (1, 2), (3, 4), (1, 5)];
+    let steps = ask_new(&rt, rt.alloc(), 1, &asked)?;
+    let expected: [Step; 5] = [
+        (Some(SECOND), [None, Some(SECOND), None, None]),
+        (Some(THIRD), [None, Some(THIRD), None, None]),
+        (Some(SECOND), [None, Some(SECOND), None, None]),
+        (Some(FOURTH), [None, None, None, Some(FOURTH)]),
+        (Some(SECOND), [None, Some(SECOND), None, None]),
+    ];
+    assert!(rt; steps.as_slice() == expected.as_slice());
     Ok(())
 }
 
 #[test]
 fn two_pages_are_kept(rt: HostRuntime) -> Result<(), Fail> {
-    let alloc = rt.alloc();
-    let trace = guest(alloc)?;
-    let index = PageIndex::build(&rt, alloc, &trace)?;
-    let mut cache = new_cache(alloc, &trace, &index, 2)?;
-    let zeros = page_with(&[])?;
-    let first = page_with(&[(0, 1)])?;
-    let third = page_with(&[(0, 3), (15, 2)])?;
-    let last = page_with(&[(15, 2)])?;
-    assert_eq!(rt;
-        bytes_of(&mut cache, &trace, 1, 0)?.as_slice(),
-        zeros.as_slice()
-    );
-    assert_eq!(rt;
-        bytes_of(&mut cache, &trace, 0, 5)?.as_slice(),
-        first.as_slice()
-    );
-    assert_eq!(rt;
-        bytes_of(&mut cache, &trace, 1, 4)?.as_slice(),
-        third.as_slice()
-    );
-    assert_eq!(rt;
-        bytes_of(&mut cache, &trace, 1, 4)?.as_slice(),
-        third.as_slice()
-    );
-    assert_eq!(rt;
-        bytes_of(&mut cache, &trace, 2, 5)?.as_slice(),
-        zeros.as_slice()
-    );
-    assert_eq!(rt;
-        bytes_of(&mut cache, &trace, 1, 5)?.as_slice(),
-        last.as_slice()
-    );
-    assert_eq!(rt;
-        bytes_of(&mut cache, &trace, 0, 0)?.as_slice(),
-        zeros.as_slice()
-    );
+    let asked = [(1, 0), (0, 5), (1, 4), (1, 4), (2, 5), (1, 5), (0, 0)];
+    let steps = ask_new(&rt, rt.alloc(), 2, &asked)?;
+    let expected: [Step; 7] = [
+        (Some(ZEROS), [None, Some(ZEROS), None, None]),
+        (Some(FIRST), [Some(FIRST), Some(ZEROS), None, None]),
+        (Some(THIRD), [Some(FIRST), Some(THIRD), None, None]),
+        (Some(THIRD), [Some(FIRST), Some(THIRD), None, None]),
+        (Some(ZEROS), [None, Some(THIRD), Some(ZEROS), None]),
+        (Some(SECOND), [None, Some(SECOND), Some(ZEROS), None]),
+        (Some(ZEROS), [Some(ZEROS), Some(SECOND), None, None]),
+    ];
+    assert!(rt; steps.as_slice() == expected.as_slice());
     Ok(())
-}
-
-/// What the index of a trace answers for a page of it.
-fn indexed_bytes(
-    alloc: Global,
-    trace: &Trace,
-    index: &PageIndex,
-    page: u32,
-    version: u32,
-) -> Result<Vec<u8>, Fail> {
-    if !index.is_of(trace) || page >= trace.pages {
-        return Err(Fail::from("the index of the trace, and a page"));
-    }
-    if version as usize > trace.writes.len() {
-        return Err(Fail::from("a version"));
-    }
-    Ok(index.bytes_at(alloc, trace, page, version)?)
 }
 
 #[test]
 fn full_cache_makes_pages_again_that_went(rt: HostRuntime) -> Result<(), Fail> {
-    let alloc = rt.alloc();
-    let trace = guest(alloc)?;
-    let index = PageIndex::build(&rt, alloc, &trace)?;
-    let mut cache = new_cache(alloc, &trace, &index, 2)?;
-    drop(bytes_of(&mut cache, &trace, 1, 3)?);
-    drop(bytes_of(&mut cache, &trace, 3, 5)?);
-    drop(bytes_of(&mut cache, &trace, 0, 5)?);
-    assert!(rt; cache.bytes(1).is_none() && cache.bytes(3).is_some());
-    assert_eq!(rt;
-        bytes_of(&mut cache, &trace, 1, 2)?,
-        indexed_bytes(alloc, &trace, &index, 1, 2)?
-    );
-    assert!(rt; cache.bytes(3).is_none() && cache.bytes(0).is_some());
-    assert_eq!(rt;
-        bytes_of(&mut cache, &trace, 3, 4)?,
-        indexed_bytes(alloc, &trace, &index, 3, 4)?
-    );
-    assert_eq!(rt;
-        bytes_of(&mut cache, &trace, 2, 5)?,
-        indexed_bytes(alloc, &trace, &index, 2, 5)?
-    );
-    assert!(rt; cache.bytes(1).is_none() && cache.bytes(2).is_some());
+    let asked = [(1, 3), (3, 5), (0, 5), (1, 2), (3, 4), (2, 5)];
+    let steps = ask_new(&rt, rt.alloc(), 2, &asked)?;
+    let expected: [Step; 6] = [
+        (Some(THIRD), [None, Some(THIRD), None, None]),
+        (Some(FOURTH), [None, Some(THIRD), None, Some(FOURTH)]),
+        (Some(FIRST), [Some(FIRST), None, None, Some(FOURTH)]),
+        (Some(SECOND), [Some(FIRST), Some(SECOND), None, None]),
+        (Some(FOURTH), [None, Some(SECOND), None, Some(FOURTH)]),
+        (Some(ZEROS), [None, None, Some(ZEROS), Some(FOURTH)]),
+    ];
+    assert!(rt; steps.as_slice() == expected.as_slice());
     Ok(())
 }
 
 #[test]
 fn page_brought_on_was_used_last(rt: HostRuntime) -> Result<(), Fail> {
-    let alloc = rt.alloc();
-    let trace = guest(alloc)?;
-    let index = PageIndex::build(&rt, alloc, &trace)?;
-    let mut cache = new_cache(alloc, &trace, &index, 2)?;
-    drop(bytes_of(&mut cache, &trace, 1, 2)?);
-    drop(bytes_of(&mut cache, &trace, 0, 2)?);
-    drop(bytes_of(&mut cache, &trace, 1, 3)?);
-    drop(bytes_of(&mut cache, &trace, 3, 4)?);
-    assert!(rt; cache.bytes(1).is_some());
-    assert!(rt; cache.bytes(0).is_none());
+    let asked = [(1, 2), (0, 2), (1, 3), (3, 4)];
+    let steps = ask_new(&rt, rt.alloc(), 2, &asked)?;
+    let expected: [Step; 4] = [
+        (Some(SECOND), [None, Some(SECOND), None, None]),
+        (Some(FIRST), [Some(FIRST), Some(SECOND), None, None]),
+        (Some(THIRD), [Some(FIRST), Some(THIRD), None, None]),
+        (Some(FOURTH), [None, Some(THIRD), None, Some(FOURTH)]),
+    ];
+    assert!(rt; steps.as_slice() == expected.as_slice());
     Ok(())
+}
+
+/// What a cache keeps at first, after it was asked for the second page, and in a second cache that gets its pages.
+fn kept_and_handed_on(
+    alloc: Global,
+    trace: &Trace,
+    index: &PageIndex,
+) -> Result<[[Option<Page>; 4]; 3], Fail> {
+    let mut first = new_cache(alloc, trace, index, 1)?;
+    let none = kept_in(&first);
+    let _ = page_at(&mut first, trace, 1, 3);
+    let asked = kept_in(&first);
+    let pages = first.into_pages();
+    if !index.is_of(trace) {
+        return Err(Fail::from("the index of the trace"));
+    }
+    let second = PageCache::with_pages(trace, index, pages);
+    Ok([none, asked, kept_in(&second)])
 }
 
 #[test]
 fn kept_pages_go_to_another_cache(rt: HostRuntime) -> Result<(), Fail> {
     let alloc = rt.alloc();
-    let trace = guest(alloc)?;
+    let trace = guest(alloc, 0)?;
     let index = PageIndex::build(&rt, alloc, &trace)?;
-    let mut first = new_cache(alloc, &trace, &index, 1)?;
-    assert!(rt; first.bytes(1).is_none());
-    drop(bytes_of(&mut first, &trace, 1, 3)?);
-    let third = page_with(&[(0, 3), (15, 2)])?;
-    let kept = first.bytes(1).ok_or("the page asked for")?;
-    assert!(rt; kept == third.as_slice());
-    let pages = first.into_pages();
-    if !index.is_of(&trace) {
-        return Err(Fail::from("the index of the trace"));
-    }
-    let second = PageCache::with_pages(&trace, &index, pages);
-    let kept = second.bytes(1).ok_or("the page of the first cache")?;
-    assert!(rt; kept == third.as_slice());
-    assert!(rt; second.bytes(3).is_none());
+    let kept = kept_and_handed_on(alloc, &trace, &index)?;
+    let third = [None, Some(THIRD), None, None];
+    assert!(rt; kept == [[None; 4], third, third]);
     Ok(())
 }

@@ -8,21 +8,20 @@ ghost use Rattle.migration_model.specs.Final.{shape_of_trace};
 ghost use Rattle.migration_model.specs.Images.{AreNotBeyond, HaveCurrent};
 ghost use Rattle.migration_model.specs.Memory.{image_before, image_of};
 ghost use Rattle.migration_model.specs.Versions.{version_before};
-ghost use Rattle.page_message.specs.Shapes.{shape_of};
 ghost use Rattle.page_versions.specs.Index.{IsIndexOf};
 
+use crate::fixtures::{AT_END, AT_STOP, SECOND, ZEROS, guest, part_of};
 use collector::Part;
 use dirty_words::Closed;
 use image_build::{Image, ImageError, of_parts, replay, resume};
 use migration_model::{current_copies_make_memory, final_copy_makes_current};
-use page_message::frame_of;
 use page_versions::PageIndex;
 use std::alloc::Global;
 use std::sync::Wait;
 use std::test::Fail;
 use std::thread::Threads;
 use stop_copy::{CopyError, final_copy};
-use trace_codec::{Shape, Trace, Write};
+use trace_codec::{Trace, Write};
 
 /// The memory of a guest where it stopped, and after all writes of its trace.
 #[derive(Debug, Drop)]
@@ -62,70 +61,6 @@ fn images_of<R: Threads + Wait + Sync>(
     Ok(Images { at_stop, at_end })
 }
 
-const FIRST: [u8; 16] = [1, 0, 0, 0, 0, 0, 0, 0, 0, 0, 0, 0, 0, 0, 0, 0];
-
-/// The second page after the second write.
-const SECOND: [u8; 16] = [0, 0, 0, 0, 0, 0, 0, 0, 0, 0, 0, 0, 0, 0, 0, 2];
-
-const ZEROS: [u8; 16] = [0; 16];
-
-/// The memory where the guest stopped, before its writes at tick 2500.
-static AT_STOP: [u8; 64] = [
-    1, 0, 0, 0, 0, 0, 0, 0, 0, 0, 0, 0, 0, 0, 0, 0, //
-    3, 0, 0, 0, 0, 0, 0, 0, 0, 0, 0, 0, 0, 0, 0, 2, //
-    0, 0, 0, 0, 0, 0, 0, 0, 0, 0, 0, 0, 0, 0, 0, 0, //
-    0, 0, 0, 0, 0, 0, 0, 0, 0, 0, 0, 0, 0, 0, 0, 0,
-];
-
-/// The memory after all writes.
-static AT_END: [u8; 64] = [
-    1, 0, 0, 0, 0, 0, 0, 0, 0, 0, 0, 0, 0, 0, 0, 0, //
-    0, 0, 0, 0, 0, 0, 0, 0, 0, 0, 0, 0, 0, 0, 0, 2, //
-    0, 0, 0, 0, 0, 0, 0, 0, 0, 0, 0, 0, 0, 0, 0, 0, //
-    0, 0, 4, 5, 0, 0, 0, 0, 0, 0, 0, 0, 0, 0, 0, 0,
-];
-
-/// A guest of 4 pages of 16 bytes, which writes pages 0 and 1 at ticks 0 and 5, page 1 at tick 1200, and pages 3 and 1
-/// at tick 2500.
-fn guest(alloc: Global) -> Result<Trace, Fail> {
-    let cases: [(u64, u32, u16, &[u8]); 5] = [
-        (0, 0, 0, &[1]),
-        (5, 1, 15, &[2]),
-        (1200, 1, 0, &[3]),
-        (2500, 3, 2, &[4, 5]),
-        (2500, 1, 0, &[0]),
-    ];
-    let mut writes = Vec::new(alloc);
-    for (tick, page, offset, bytes) in cases {
-        writes.push(Write {
-            tick,
-            page,
-            offset,
-            bytes: Vec::from_slice(alloc, bytes)?,
-        })?;
-    }
-    Ok(Trace::new(4, 4, writes)?)
-}
-
-/// Gives the part a page, if there can be one with this stamp.
-fn give(
-    alloc: Global,
-    part: &mut Part,
-    shape: &Shape,
-    page: u32,
-    stamp: u32,
-    bytes: &[u8],
-) -> Result<(), Fail>
-    requires { part.old.shape ≡ shape_of shape.now }
-    ensures { part.new.shape ≡ part.old.shape }
-{
-    let bytes = Vec::from_slice(alloc, bytes)?;
-    if page < shape.pages && stamp <= shape.writes && bytes.len() == shape.page_size() {
-        part.accept(frame_of(shape, page, stamp, bytes))?;
-    }
-    Ok(())
-}
-
 /// Two parts after the final copy: the first had page 1 after write 2 and pages 2 and 3 before any write, the second had
 /// nothing. Pages 0 and 1 are now at versions 1 and 3, and these are marked.
 fn copied(
@@ -148,12 +83,12 @@ fn copied(
     if !index.is_of(trace) || !closed.fits(shape.pages, shape.writes) {
         return Err(Fail::from("what was closed of this trace"));
     }
-    let mut first = Part::new(alloc, shape);
-    give(alloc, &mut first, &shape, 1, 2, &SECOND)?;
-    give(alloc, &mut first, &shape, 2, 0, &ZEROS)?;
-    give(alloc, &mut first, &shape, 3, 0, &ZEROS)?;
-    let second = Part::new(alloc, shape);
-    let parts = vec![in alloc; first, second]?;
+    let first = part_of(
+        alloc,
+        &shape,
+        &[(1, 2, SECOND), (2, 0, ZEROS), (3, 0, ZEROS)],
+    )?;
+    let parts = vec![in alloc; first, Part::new(alloc, shape)]?;
     Ok(final_copy(rt, alloc, trace, index, &closed, workers, 2, parts)?)
 }
 
@@ -171,48 +106,87 @@ fn stamps(parts: &[Part]) -> [Option<u32>; 4] {
     found
 }
 
+/// The image of an image's pages at these versions after all other writes of the trace.
+fn resumed(image: Image, trace: &Trace, index: &PageIndex, versions: &[u32]) -> Option<Image> {
+    if !index.is_of(trace)
+        || !image.fits(&trace.shape())
+        || versions.len() != trace.pages as usize
+    {
+        return None;
+    }
+    Some(resume(image, trace, index, versions))
+}
+
+/// What the parts have after the final copy with so many workers, and the memory at the stop and at the end.
+fn copied_and_resumed(
+    rt: &(impl Threads + Wait + Sync),
+    alloc: Global,
+    trace: &Trace,
+    index: &PageIndex,
+    workers: usize,
+) -> Result<([Option<u32>; 4], Image, Image), Fail>
+    requires some { 1 ≤ workers }
+    requires few { workers ≤ 16 }
+{
+    let parts = copied(rt, alloc, trace, index, 3, workers)?;
+    let found = stamps(&parts);
+    let at_stop = of_parts(alloc, &trace.shape(), parts)?;
+    let copy = at_stop.copy(alloc)?;
+    let at_end = resumed(copy, trace, index, &[1, 3, 0, 0]).ok_or("an image of the trace")?;
+    Ok((found, at_stop, at_end))
+}
+
 #[test]
 fn marked_pages_come_once_more(rt: HostRuntime) -> Result<(), Fail> {
     let alloc = rt.alloc();
-    let trace = guest(alloc)?;
+    let trace = guest(alloc, 0)?;
     let index = PageIndex::build(&rt, alloc, &trace)?;
     for workers in [1usize, 2, 16] {
-        let parts = copied(&rt, alloc, &trace, &index, 3, workers)?;
-        assert_eq!(rt; stamps(&parts), [Some(1), Some(3), Some(0), Some(0)]);
-        let image = of_parts(alloc, &trace.shape(), parts)?;
-        assert_eq!(rt; image.bytes(), AT_STOP.as_slice());
-        let versions = [1, 3, 0, 0];
-        if !index.is_of(&trace)
-            || !image.fits(&trace.shape())
-            || versions.len() != trace.pages as usize
-        {
-            return Err(Fail::from("an image of the trace"));
-        }
-        let end = resume(image, &trace, &index, &versions);
-        assert_eq!(rt; end.bytes(), AT_END.as_slice());
+        let (found, at_stop, at_end) = copied_and_resumed(&rt, alloc, &trace, &index, workers)?;
+        let expected = (
+            [Some(1), Some(3), Some(0), Some(0)],
+            AT_STOP.as_slice(),
+            AT_END.as_slice(),
+        );
+        assert!(rt;
+            (found, at_stop.bytes(), at_end.bytes()) == expected,
+            "{workers}"
+        );
     }
     Ok(())
+}
+
+/// What the parts have after the final copy with these pages marked.
+fn stamps_of(
+    rt: &(impl Threads + Wait + Sync),
+    alloc: Global,
+    dirty: u64,
+) -> Result<[Option<u32>; 4], Fail> {
+    let trace = guest(alloc, 0)?;
+    let index = PageIndex::build(rt, alloc, &trace)?;
+    let parts = copied(rt, alloc, &trace, &index, dirty, 1)?;
+    Ok(stamps(&parts))
 }
 
 #[test]
 fn page_that_no_part_has_is_missing(rt: HostRuntime) -> Result<(), Fail> {
     let alloc = rt.alloc();
-    let trace = guest(alloc)?;
+    let trace = guest(alloc, 0)?;
     let index = PageIndex::build(&rt, alloc, &trace)?;
     let parts = copied(&rt, alloc, &trace, &index, 2, 1)?;
-    assert_eq!(rt; stamps(&parts), [None, Some(3), Some(0), Some(0)]);
-    let refused = of_parts(alloc, &trace.shape(), parts);
-    assert_eq!(rt; refused.err(), Some(ImageError::Missing(0)));
+    let found = stamps(&parts);
+    let refused = of_parts(alloc, &trace.shape(), parts).err();
+    assert_eq!(rt; found, [None, Some(3), Some(0), Some(0)]);
+    assert_eq!(rt; refused, Some(ImageError::Missing(0)));
     Ok(())
 }
 
 #[test]
 fn page_that_is_not_marked_stays(rt: HostRuntime) -> Result<(), Fail> {
-    let alloc = rt.alloc();
-    let trace = guest(alloc)?;
-    let index = PageIndex::build(&rt, alloc, &trace)?;
-    let parts = copied(&rt, alloc, &trace, &index, 1, 1)?;
-    assert_eq!(rt; stamps(&parts), [Some(1), Some(2), Some(0), Some(0)]);
+    assert_eq!(rt;
+        stamps_of(&rt, rt.alloc(), 1)?,
+        [Some(1), Some(2), Some(0), Some(0)]
+    );
     Ok(())
 }
 
@@ -247,22 +221,37 @@ fn all_marked(alloc: Global, trace: &Trace, index: &PageIndex) -> Result<Closed,
     Ok(Closed { versions, dirty })
 }
 
+/// The memory that a final copy leaves of two empty parts.
+fn copied_by(
+    rt: &(impl Threads + Wait + Sync),
+    alloc: Global,
+    trace: &Trace,
+    index: &PageIndex,
+    closed: &Closed,
+    workers: usize,
+) -> Result<Image, Fail>
+    requires some { 1 ≤ workers }
+    requires few { workers ≤ 16 }
+{
+    let shape = trace.shape();
+    if !index.is_of(trace) || !closed.fits(shape.pages, shape.writes) {
+        return Err(Fail::from("what was closed of this trace"));
+    }
+    let parts = vec![in alloc; Part::new(alloc, shape), Part::new(alloc, shape)]?;
+    let parts = final_copy(rt, alloc, trace, index, closed, workers, 2, parts)?;
+    Ok(of_parts(alloc, &shape, parts)?)
+}
+
 #[test]
 fn any_number_of_workers_copies_the_same(rt: HostRuntime) -> Result<(), Fail> {
     let alloc = rt.alloc();
     let trace = wide_guest(alloc)?;
     let index = PageIndex::build(&rt, alloc, &trace)?;
     let closed = all_marked(alloc, &trace, &index)?;
-    let shape = trace.shape();
     let expected = replay(alloc, &trace)?;
     for workers in [1usize, 2, 3, 16] {
-        if !index.is_of(&trace) || !closed.fits(shape.pages, shape.writes) {
-            return Err(Fail::from("what was closed of this trace"));
-        }
-        let parts = vec![in alloc; Part::new(alloc, shape), Part::new(alloc, shape)]?;
-        let parts = final_copy(&rt, alloc, &trace, &index, &closed, workers, 2, parts)?;
-        let image = of_parts(alloc, &trace.shape(), parts)?;
-        assert!(rt; image.bytes() == expected.bytes());
+        let image = copied_by(&rt, alloc, &trace, &index, &closed, workers)?;
+        assert!(rt; image.bytes() == expected.bytes(), "{workers}");
     }
     Ok(())
 }

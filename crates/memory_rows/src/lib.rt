@@ -6,6 +6,8 @@ mod cache_rows;
 #[cfg(test)]
 mod copy_rows;
 #[cfg(test)]
+mod fixtures;
+#[cfg(test)]
 mod image_rows;
 #[cfg(test)]
 mod version_rows;

@@ -1,69 +1,23 @@
 //! Worked examples, whose answers were made by hand.
 
+use crate::fixtures::{FIRST, FOURTH, Page, SECOND, THIRD, ZEROS, guest, page_of};
 use page_versions::{PageIndex, Reached};
 use std::alloc::Global;
 use std::test::Fail;
 use trace_codec::{Trace, Write};
 
-/// A guest of 4 pages of 16 bytes, which writes pages 0 and 1 at ticks 0 and 5, page 1 at tick 1200, and pages 3 and 1
-/// at tick 2500; or all of this so many ticks later.
-fn guest(alloc: Global, later: u64) -> Result<Trace, Fail> {
-    let cases: [(u64, u32, u16, &[u8]); 5] = [
-        (0, 0, 0, &[1]),
-        (5, 1, 15, &[2]),
-        (1200, 1, 0, &[3]),
-        (2500, 3, 2, &[4, 5]),
-        (2500, 1, 0, &[0]),
-    ];
-    let mut writes = Vec::new(alloc);
-    for (tick, page, offset, bytes) in cases {
-        writes.push(Write {
-            tick: later.saturating_add(tick),
-            page,
-            offset,
-            bytes: Vec::from_slice(alloc, bytes)?,
-        })?;
+fn places_of<'a>(index: &'a PageIndex, trace: &Trace, page: u32) -> Option<&'a [u32]> {
+    if !index.is_of(trace) || page >= trace.pages {
+        return None;
     }
-    Ok(Trace::new(4, 4, writes)?)
+    Some(index.places(page))
 }
 
-fn places_of<'a>(index: &'a PageIndex, trace: &Trace, page: u32) -> Result<&'a [u32], Fail> {
-    if !index.is_of(trace) {
-        return Err(Fail::from("the index of the trace"));
+fn version_of(index: &PageIndex, trace: &Trace, page: u32, tick: u64) -> Option<u32> {
+    if !index.is_of(trace) || page >= trace.pages {
+        return None;
     }
-    if page >= trace.pages {
-        return Err(Fail::from("a page"));
-    }
-    Ok(index.places(page))
-}
-
-fn version_of(index: &PageIndex, trace: &Trace, page: u32, tick: u64) -> Result<u32, Fail> {
-    if !index.is_of(trace) {
-        return Err(Fail::from("the index of the trace"));
-    }
-    if page >= trace.pages {
-        return Err(Fail::from("a page"));
-    }
-    Ok(index.version_before(page, tick))
-}
-
-fn bytes_of(
-    alloc: Global,
-    index: &PageIndex,
-    trace: &Trace,
-    page: u32,
-    version: u32,
-) -> Result<Vec<u8>, Fail> {
-    if !index.is_of(trace) {
-        return Err(Fail::from("the index of the trace"));
-    }
-    if page >= trace.pages {
-        return Err(Fail::from("a page"));
-    }
-    if version as usize > trace.writes.len() {
-        return Err(Fail::from("a version"));
-    }
-    Ok(index.bytes_at(alloc, trace, page, version)?)
+    Some(index.version_before(page, tick))
 }
 
 fn writes_after<'a>(
@@ -71,14 +25,26 @@ fn writes_after<'a>(
     trace: &Trace,
     page: u32,
     version: u32,
-) -> Result<&'a [u32], Fail> {
-    if !index.is_of(trace) {
-        return Err(Fail::from("the index of the trace"));
+) -> Option<&'a [u32]> {
+    if !index.is_of(trace) || page >= trace.pages {
+        return None;
     }
-    if page >= trace.pages {
-        return Err(Fail::from("a page"));
+    Some(index.writes_after(page, version))
+}
+
+/// What the index of a trace answers for a page of it.
+fn page_at(
+    alloc: Global,
+    index: &PageIndex,
+    trace: &Trace,
+    page: u32,
+    version: u32,
+) -> Option<Page> {
+    if !index.is_of(trace) || page >= trace.pages || version as usize > trace.writes.len() {
+        return None;
     }
-    Ok(index.writes_after(page, version))
+    let bytes = index.bytes_at(alloc, trace, page, version).ok()?;
+    page_of(&bytes)
 }
 
 #[test]
@@ -86,15 +52,22 @@ fn places_and_versions(rt: HostRuntime) -> Result<(), Fail> {
     let alloc = rt.alloc();
     let trace = guest(alloc, 0)?;
     let index = PageIndex::build(&rt, alloc, &trace)?;
-    assert!(rt; index.is_of(&trace));
-    let places: [(u32, &[u32]); 4] = [(0, &[1]), (1, &[2, 3, 5]), (2, &[]), (3, &[4])];
-    for (page, expected) in places {
-        assert_eq!(rt; places_of(&index, &trace, page)?, expected);
-    }
-    assert_eq!(rt; writes_after(&index, &trace, 1, 2)?, [3, 5].as_slice());
-    for (tick, version) in [(5u64, 0u32), (6, 2), (2500, 3), (2501, 5)] {
-        assert_eq!(rt; version_of(&index, &trace, 1, tick)?, version);
-    }
+    let places = [
+        places_of(&index, &trace, 0),
+        places_of(&index, &trace, 1),
+        places_of(&index, &trace, 2),
+        places_of(&index, &trace, 3),
+        writes_after(&index, &trace, 1, 2),
+    ];
+    let expected: [&[u32]; 5] = [&[1], &[2, 3, 5], &[], &[4], &[3, 5]];
+    let versions = [
+        version_of(&index, &trace, 1, 5),
+        version_of(&index, &trace, 1, 6),
+        version_of(&index, &trace, 1, 2500),
+        version_of(&index, &trace, 1, 2501),
+    ];
+    assert!(rt; index.is_of(&trace) && places == expected.map(Some));
+    assert_eq!(rt; versions, [Some(0), Some(2), Some(3), Some(5)]);
     Ok(())
 }
 
@@ -103,49 +76,25 @@ fn bytes_of_pages(rt: HostRuntime) -> Result<(), Fail> {
     let alloc = rt.alloc();
     let trace = guest(alloc, 0)?;
     let index = PageIndex::build(&rt, alloc, &trace)?;
-    // a page, from one version to another, and the bytes of it that are not 0, with their places in the page
-    let cases: [(u32, u32, u32, &[(usize, u8)]); 9] = [
-        (0, 0, 0, &[]),
-        (0, 1, 5, &[(0, 1)]),
-        (1, 0, 1, &[]),
-        (1, 2, 2, &[(15, 2)]),
-        (1, 3, 4, &[(0, 3), (15, 2)]),
-        (1, 5, 5, &[(15, 2)]),
-        (2, 0, 5, &[]),
-        (3, 0, 3, &[]),
-        (3, 4, 5, &[(2, 4), (3, 5)]),
+    // a page, from one version to another, and its bytes
+    let cases: [(u32, u32, u32, Page); 9] = [
+        (0, 0, 0, ZEROS),
+        (0, 1, 5, FIRST),
+        (1, 0, 1, ZEROS),
+        (1, 2, 2, SECOND),
+        (1, 3, 4, THIRD),
+        (1, 5, 5, SECOND),
+        (2, 0, 5, ZEROS),
+        (3, 0, 3, ZEROS),
+        (3, 4, 5, FOURTH),
     ];
-    for (page, first, last, set) in cases {
-        let mut expected = [0u8; 16];
-        for (at, byte) in set {
-            *expected.get_mut(*at).ok_or("within the page")? = *byte;
-        }
+    for (page, first, last, expected) in cases {
         for version in first..last + 1 {
-            let bytes = bytes_of(alloc, &index, &trace, page, version)?;
-            assert_eq!(rt; bytes.as_slice(), expected.as_slice());
+            let found = page_at(alloc, &index, &trace, page, version);
+            assert!(rt; found == Some(expected), "{page} at {version}");
         }
     }
     Ok(())
-}
-
-/// Makes a room a page at a version.
-fn put_into(
-    index: &PageIndex,
-    trace: &Trace,
-    page: u32,
-    version: u32,
-    room: &mut Vec<u8>,
-) -> Result<(), Fail> {
-    if !index.is_of(trace) {
-        return Err(Fail::from("the index of the trace"));
-    }
-    if page >= trace.pages {
-        return Err(Fail::from("a page"));
-    }
-    if version as usize > trace.writes.len() {
-        return Err(Fail::from("a version"));
-    }
-    Ok(index.bytes_into(trace, page, version, room)?)
 }
 
 /// A guest of 1 page of 16 bytes with 11 writes of 2 bytes, each 1 byte behind the one before.
@@ -162,23 +111,46 @@ fn guest_of_one_page(alloc: Global) -> Result<Trace, Fail> {
     Ok(Trace::new(4, 1, writes)?)
 }
 
+/// Its page after so many writes: 1, 2, 3 and so on, and then 255.
+fn rising_page(version: u32) -> Page {
+    let mut page = ZEROS;
+    for (at, byte) in page.iter_mut().enumerate() {
+        if version > 0 && at <= version as usize {
+            *byte = if at < version as usize {
+                at as u8 + 1
+            } else {
+                255
+            };
+        }
+    }
+    page
+}
+
 #[test]
 fn page_with_many_writes(rt: HostRuntime) -> Result<(), Fail> {
     let alloc = rt.alloc();
     let trace = guest_of_one_page(alloc)?;
     let index = PageIndex::build(&rt, alloc, &trace)?;
-    let mut expected = [0u8; 16];
     for version in 0..12u32 {
-        if version > 0 {
-            *expected
-                .get_mut(version as usize - 1)
-                .ok_or("within the page")? = version as u8;
-            *expected.get_mut(version as usize).ok_or("within the page")? = 255;
-        }
-        let bytes = bytes_of(alloc, &index, &trace, 0, version)?;
-        assert_eq!(rt; bytes.as_slice(), expected.as_slice());
+        let found = page_at(alloc, &index, &trace, 0, version);
+        assert!(rt; found == Some(rising_page(version)), "{version}");
     }
     Ok(())
+}
+
+/// The page at a version, made where another page stood.
+fn put_into(
+    index: &PageIndex,
+    trace: &Trace,
+    page: u32,
+    version: u32,
+    room: &mut Vec<u8>,
+) -> Option<Page> {
+    if !index.is_of(trace) || page >= trace.pages || version as usize > trace.writes.len() {
+        return None;
+    }
+    index.bytes_into(trace, page, version, room).ok()?;
+    page_of(room)
 }
 
 #[test]
@@ -187,12 +159,12 @@ fn pages_in_one_room(rt: HostRuntime) -> Result<(), Fail> {
     let trace = guest(alloc, 0)?;
     let index = PageIndex::build(&rt, alloc, &trace)?;
     let mut room = Vec::new(alloc);
-    for (page, version, at, byte) in [(1u32, 2u32, 15usize, 2u8), (0, 5, 0, 1), (1, 5, 15, 2)] {
-        let mut expected = [0u8; 16];
-        *expected.get_mut(at).ok_or("within the page")? = byte;
-        put_into(&index, &trace, page, version, &mut room)?;
-        assert_eq!(rt; room.as_slice(), expected.as_slice());
-    }
+    let pages = [
+        put_into(&index, &trace, 1, 2, &mut room),
+        put_into(&index, &trace, 0, 5, &mut room),
+        put_into(&index, &trace, 1, 5, &mut room),
+    ];
+    assert!(rt; pages == [Some(SECOND), Some(FIRST), Some(SECOND)]);
     Ok(())
 }
 
@@ -204,19 +176,16 @@ fn brought_on(
     page: u32,
     from: Reached,
     to: u32,
-) -> Result<(Vec<u8>, Reached), Fail> {
-    if !index.is_of(trace) {
-        return Err(Fail::from("the index of the trace"));
-    }
-    if page >= trace.pages {
-        return Err(Fail::from("a page"));
+) -> Option<(Page, u32, u32)> {
+    if !index.is_of(trace) || page >= trace.pages {
+        return None;
     }
     if from.version > to || to as usize > trace.writes.len() {
-        return Err(Fail::from("a later version"));
+        return None;
     }
-    let mut bytes = index.bytes_at(alloc, trace, page, from.version)?;
+    let mut bytes = index.bytes_at(alloc, trace, page, from.version).ok()?;
     let reached = index.bring_on(trace, page, from, to, &mut bytes);
-    Ok((bytes, reached))
+    Some((page_of(&bytes)?, reached.version, reached.writes))
 }
 
 #[test]
@@ -224,22 +193,18 @@ fn pages_at_later_versions(rt: HostRuntime) -> Result<(), Fail> {
     let alloc = rt.alloc();
     let trace = guest(alloc, 0)?;
     let index = PageIndex::build(&rt, alloc, &trace)?;
-    for (page, version, to, count, first, third, last) in [
-        (1u32, 0u32, 2u32, 1u32, 0u8, 0u8, 2u8),
-        (1, 2, 3, 2, 3, 0, 2),
-        (1, 3, 3, 2, 3, 0, 2),
-        (1, 2, 5, 3, 0, 0, 2),
-        (3, 3, 4, 1, 0, 4, 0),
-        (2, 0, 5, 0, 0, 0, 0),
+    for (page, version, to, count, expected) in [
+        (1u32, 0u32, 2u32, 1u32, SECOND),
+        (1, 2, 3, 2, THIRD),
+        (1, 3, 3, 2, THIRD),
+        (1, 2, 5, 3, SECOND),
+        (3, 3, 4, 1, FOURTH),
+        (2, 0, 5, 0, ZEROS),
     ] {
         for writes in [0u32, 1, 2, 3, 4, u32::MAX] {
             let from = Reached { version, writes };
-            let (bytes, reached) = brought_on(alloc, &index, &trace, page, from, to)?;
-            assert_eq!(rt; reached.version, to);
-            assert_eq!(rt; reached.writes, count);
-            assert_eq!(rt; bytes.first(), Some(&first));
-            assert_eq!(rt; bytes.get(2), Some(&third));
-            assert_eq!(rt; bytes.last(), Some(&last));
+            let found = brought_on(alloc, &index, &trace, page, from, to);
+            assert!(rt; found == Some((expected, to, count)), "{page} to {to}");
         }
     }
     Ok(())
@@ -250,7 +215,8 @@ fn another_trace(rt: HostRuntime) -> Result<(), Fail> {
     let alloc = rt.alloc();
     let trace = guest(alloc, 0)?;
     let index = PageIndex::build(&rt, alloc, &trace)?;
-    assert!(rt; !index.is_of(&guest(alloc, 1)?));
-    assert!(rt; !index.is_of(&Trace::new(4, 4, Vec::new(alloc))?));
+    let later = guest(alloc, 1)?;
+    let empty = Trace::new(4, 4, Vec::new(alloc))?;
+    assert!(rt; !index.is_of(&later) && !index.is_of(&empty));
     Ok(())
 }

@@ -1,0 +1,109 @@
+//! The guest of the worked examples, its pages, and parts that have some of them.
+
+ghost use Rattle.std.specs.Prelude.{◌≡◌, IfOk};
+ghost use Rattle.page_message.specs.Shapes.{shape_of};
+
+use collector::Part;
+use page_message::frame_of;
+use std::alloc::Global;
+use std::test::Fail;
+use trace_codec::{Shape, Trace, Write};
+
+pub(crate) type Page = [u8; 16];
+
+pub(crate) const ZEROS: Page = [0; 16];
+
+/// The first page after its only write.
+pub(crate) const FIRST: Page = [1, 0, 0, 0, 0, 0, 0, 0, 0, 0, 0, 0, 0, 0, 0, 0];
+
+/// The second page after the second write of the trace, and after the fifth.
+pub(crate) const SECOND: Page = [0, 0, 0, 0, 0, 0, 0, 0, 0, 0, 0, 0, 0, 0, 0, 2];
+
+/// The second page after the third write of the trace.
+pub(crate) const THIRD: Page = [3, 0, 0, 0, 0, 0, 0, 0, 0, 0, 0, 0, 0, 0, 0, 2];
+
+/// The last page after its only write.
+pub(crate) const FOURTH: Page = [0, 0, 4, 5, 0, 0, 0, 0, 0, 0, 0, 0, 0, 0, 0, 0];
+
+/// The memory before the writes at tick 2500.
+pub(crate) static AT_STOP: [u8; 64] = [
+    1, 0, 0, 0, 0, 0, 0, 0, 0, 0, 0, 0, 0, 0, 0, 0, //
+    3, 0, 0, 0, 0, 0, 0, 0, 0, 0, 0, 0, 0, 0, 0, 2, //
+    0, 0, 0, 0, 0, 0, 0, 0, 0, 0, 0, 0, 0, 0, 0, 0, //
+    0, 0, 0, 0, 0, 0, 0, 0, 0, 0, 0, 0, 0, 0, 0, 0,
+];
+
+/// The memory after all writes.
+pub(crate) static AT_END: [u8; 64] = [
+    1, 0, 0, 0, 0, 0, 0, 0, 0, 0, 0, 0, 0, 0, 0, 0, //
+    0, 0, 0, 0, 0, 0, 0, 0, 0, 0, 0, 0, 0, 0, 0, 2, //
+    0, 0, 0, 0, 0, 0, 0, 0, 0, 0, 0, 0, 0, 0, 0, 0, //
+    0, 0, 4, 5, 0, 0, 0, 0, 0, 0, 0, 0, 0, 0, 0, 0,
+];
+
+/// A guest of 4 pages of 16 bytes, which writes pages 0 and 1 at ticks 0 and 5, page 1 at tick 1200, and pages 3 and 1
+/// at tick 2500; or all of this so many ticks later.
+pub(crate) fn guest(alloc: Global, later: u64) -> Result<Trace, Fail> {
+    let cases: [(u64, u32, u16, &[u8]); 5] = [
+        (0, 0, 0, &[1]),
+        (5, 1, 15, &[2]),
+        (1200, 1, 0, &[3]),
+        (2500, 3, 2, &[4, 5]),
+        (2500, 1, 0, &[0]),
+    ];
+    let mut writes = Vec::new(alloc);
+    for (tick, page, offset, bytes) in cases {
+        writes.push(Write {
+            tick: later.saturating_add(tick),
+            page,
+            offset,
+            bytes: Vec::from_slice(alloc, bytes)?,
+        })?;
+    }
+    Ok(Trace::new(4, 4, writes)?)
+}
+
+/// These bytes, where they are a page.
+pub(crate) fn page_of(bytes: &[u8]) -> Option<Page> {
+    if bytes.len() != 16 {
+        return None;
+    }
+    let mut page = ZEROS;
+    page.copy_from_slice(bytes);
+    Some(page)
+}
+
+/// Gives the part a page of the guest.
+fn give(
+    alloc: Global,
+    part: &mut Part,
+    shape: &Shape,
+    page: u32,
+    stamp: u32,
+    bytes: &Page,
+) -> Result<(), Fail>
+    requires { part.old.shape ≡ shape_of shape.now }
+    ensures { part.new.shape ≡ part.old.shape }
+{
+    let bytes = Vec::from_slice(alloc, bytes)?;
+    if page >= shape.pages || stamp > shape.writes || bytes.len() != shape.page_size() {
+        return Err(Fail::from("a page of the guest"));
+    }
+    part.accept(frame_of(shape, page, stamp, bytes))?;
+    Ok(())
+}
+
+/// A part that has these pages: the number of each, its stamp and its bytes.
+pub(crate) fn part_of(
+    alloc: Global,
+    shape: &Shape,
+    pages: &[(u32, u32, Page)],
+) -> Result<Part, Fail>
+    ensures { IfOk result (λ part. part.shape ≡ shape_of shape.now) }
+{
+    let mut part = Part::new(alloc, *shape);
+    for (page, stamp, bytes) in pages {
+        give(alloc, &mut part, shape, *page, *stamp, bytes)?;
+    }
+    Ok(part)
+}
