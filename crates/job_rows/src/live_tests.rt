@@ -2,11 +2,11 @@
 
 ghost use Rattle.std.specs.Prelude.{◌≡◌, false};
 
-use crate::tests::{MEMORY, MEMORY_AT_2000, changed, sink, told};
+use crate::tests::{MEMORY, MEMORY_AT_2000, changed, sink, told, whole};
 use live_engine::{Gate, LiveError, OpenGate, Point};
 use migration_jobs::{Job, RunError, Show, TestSink, run};
 use rate_limit::{Asked, Settings};
-use std::alloc::Global;
+use std::alloc::{AllocError, Global};
 use std::sync::Wait;
 use std::sync::atomic::{AtomicU64, Ordering};
 use std::test::Fail;
@@ -77,12 +77,10 @@ fn writes_memory_of_a_live_run(rt: HostRuntime) -> Result<(), Fail> {
         ),
     ];
     for (asked, at_stop) in cases {
-        let bytes = changed(alloc, 102, 0, &[], &[])?;
-        let output = shown(&rt, alloc, bytes, asked, Show::Stop, &OpenGate)?;
-        assert_eq!(rt; output.bytes(), at_stop);
-        let bytes = changed(alloc, 102, 0, &[], &[])?;
-        let output = shown(&rt, alloc, bytes, asked, Show::End, &OpenGate)?;
-        assert_eq!(rt; output.bytes(), MEMORY.as_slice());
+        for (show, memory) in [(Show::Stop, at_stop), (Show::End, MEMORY.as_slice())] {
+            let output = shown(&rt, alloc, whole(alloc)?, asked, show, &OpenGate)?;
+            assert!(rt; output.bytes() == memory);
+        }
     }
     Ok(())
 }
@@ -93,12 +91,17 @@ static LAST_PAGE: [u8; 33] = [
     10, 0, 0, 0, 0, 0, 0, 0, 0x40, 0, 0, 0, 0, 0, 1, 0, 7,
 ];
 
-#[test]
-fn writes_a_page_past_the_first_word(rt: HostRuntime) -> Result<(), Fail> {
-    let alloc = rt.alloc();
+/// Its memory.
+fn memory_of_the_last_page(alloc: Global) -> Result<Vec<u8>, AllocError> {
     let mut memory = Vec::from_elem(alloc, 0u8, 1024)?;
     memory.push(7)?;
     memory.extend_from_slice(&[0; 15])?;
+    Ok(memory)
+}
+
+#[test]
+fn writes_a_page_past_the_first_word(rt: HostRuntime) -> Result<(), Fail> {
+    let alloc = rt.alloc();
     let asked = Asked {
         min: 10,
         max: 10,
@@ -109,7 +112,8 @@ fn writes_a_page_past_the_first_word(rt: HostRuntime) -> Result<(), Fail> {
     for show in [Show::Stop, Show::End] {
         let bytes = Vec::from_slice(alloc, &LAST_PAGE)?;
         let output = shown(&rt, alloc, bytes, asked, show, &OpenGate)?;
-        assert_eq!(rt; output.bytes(), memory.as_slice());
+        let expected = memory_of_the_last_page(alloc)?;
+        assert!(rt; output.bytes() == expected.as_slice());
     }
     Ok(())
 }
@@ -159,11 +163,8 @@ fn runs_live_by_the_command_line(rt: HostRuntime) -> Result<(), Fail> {
         ),
     ];
     for (options, memory) in cases {
-        let bytes = changed(alloc, 102, 0, &[], &[])?;
-        let (status, output, faults) = told(&rt, alloc, "live", bytes, options)?;
-        assert_eq!(rt; status, 0);
-        assert_eq!(rt; output.bytes(), memory);
-        assert!(rt; faults.bytes().is_empty());
+        let (status, output, faults) = told(&rt, alloc, "live", whole(alloc)?, options)?;
+        assert!(rt; status == 0 && output.bytes() == memory && faults.bytes().is_empty());
     }
     Ok(())
 }
@@ -184,10 +185,17 @@ fn refuses_live_words_before_the_trace(rt: HostRuntime) -> Result<(), Fail> {
     for (words, line) in refused {
         // No trace at all: E1 where it was read.
         let (status, output, faults) = told(&rt, alloc, "live", Vec::new(alloc), words)?;
-        assert_eq!(rt; status, 2, "{line}");
-        assert_eq!(rt; faults.bytes(), line.as_bytes(), "{line}");
-        assert!(rt; output.bytes().is_empty(), "{line}");
+        assert!(rt;
+            status == 2 && faults.bytes() == line.as_bytes() && output.bytes().is_empty(),
+            "{line}"
+        );
     }
+    Ok(())
+}
+
+#[test]
+fn runs_nothing_live_by_unknown_words(rt: HostRuntime) -> Result<(), Fail> {
+    let alloc = rt.alloc();
     let usage: [&[&str]; 5] = [
         &["--window=1"],
         &["--hot=1"],
@@ -197,8 +205,7 @@ fn refuses_live_words_before_the_trace(rt: HostRuntime) -> Result<(), Fail> {
     ];
     for words in usage {
         let (status, _, faults) = told(&rt, alloc, "live", Vec::new(alloc), words)?;
-        assert_eq!(rt; status, 2);
-        assert!(rt; !faults.bytes().starts_with(b"precopy: "));
+        assert!(rt; status == 2 && !faults.bytes().starts_with(b"precopy: "));
     }
     Ok(())
 }
@@ -214,10 +221,17 @@ fn says_why_a_live_run_ends(rt: HostRuntime) -> Result<(), Fail> {
     for (len, more, line) in cases {
         let bytes = changed(alloc, len, 0, &[], more)?;
         let (status, output, faults) = told(&rt, alloc, "live", bytes, &[])?;
-        assert_eq!(rt; status, 1, "{line}");
-        assert_eq!(rt; faults.bytes(), line.as_bytes(), "{line}");
-        assert!(rt; output.bytes().is_empty(), "{line}");
+        assert!(rt;
+            status == 1 && faults.bytes() == line.as_bytes() && output.bytes().is_empty(),
+            "{line}"
+        );
     }
+    Ok(())
+}
+
+#[test]
+fn refusals_of_a_live_run_have_their_names(rt: HostRuntime) -> Result<(), Fail> {
+    let alloc = rt.alloc();
     let errors = [
         (RunError::Live(LiveError::Memory), "live L1"),
         (RunError::Live(LiveError::Thread), "live L2"),
@@ -251,6 +265,16 @@ impl Meeting {
             harvested: AtomicU64::new(0),
             late: AtomicU64::new(0),
         }
+    }
+
+    /// How many waits gave up, and how often each point was reached.
+    fn counts(&self) -> [u64; 4] {
+        [
+            self.late.load(Ordering::SeqCst),
+            self.stored.load(Ordering::SeqCst),
+            self.marked.load(Ordering::SeqCst),
+            self.harvested.load(Ordering::SeqCst),
+        ]
     }
 
     /// Waits until a point was reached.
@@ -291,13 +315,9 @@ fn replayers_and_copiers_run_at_once(rt: HostRuntime) -> Result<(), Fail> {
     let alloc = rt.alloc();
     for show in [Show::Stop, Show::End] {
         let gate = Meeting::new();
-        let bytes = changed(alloc, 102, 0, &[], &[])?;
-        let output = shown(&rt, alloc, bytes, slow(), show, &gate)?;
-        assert_eq!(rt; output.bytes(), MEMORY.as_slice());
-        assert_eq!(rt; gate.late.load(Ordering::SeqCst), 0);
-        assert_eq!(rt; gate.stored.load(Ordering::SeqCst), 5);
-        assert_eq!(rt; gate.marked.load(Ordering::SeqCst), 5);
-        assert_eq!(rt; gate.harvested.load(Ordering::SeqCst), 3);
+        let output = shown(&rt, alloc, whole(alloc)?, slow(), show, &gate)?;
+        assert!(rt; output.bytes() == MEMORY.as_slice());
+        assert_eq!(rt; gate.counts(), [0, 5, 5, 3]);
     }
     Ok(())
 }

@@ -2,9 +2,8 @@
 
 ghost use Rattle.std.specs.Prelude.{None, false};
 
-use crate::tests::{changed, sink};
-use live_engine::OpenGate;
-use migration_jobs::{Job, RunError, run};
+use crate::tests::{changed, ran, sink, whole};
+use migration_jobs::{Job, RunError};
 use std::alloc::{AllocError, Global};
 use std::test::Fail;
 use trace_codec::{Source, TestSource, Timeline, TouchLog, TraceError};
@@ -57,11 +56,23 @@ fn logs_pieces_of_every_size(rt: HostRuntime) -> Result<(), Fail> {
     let expected = [(0, 0), (5, 1), (1200, 1), (2500, 3), (2500, 1)];
     for greatest in [1, 2, 7, 15, 16, 17, 33, 49, 101, 102, 1000] {
         let log = log_of(alloc, changed(alloc, 102, 0, &[], &[])?, greatest, None)?;
-        assert_eq!(rt; touches(alloc, &log)?.as_slice(), expected.as_slice());
-        assert_eq!(rt; (log.shape().shift, log.page_count()), (4, 4));
+        let shape = (log.shape().shift, log.page_count());
+        let found = touches(alloc, &log)?;
+        assert!(rt;
+            shape == (4, 4) && found.as_slice() == expected.as_slice(),
+            "{greatest}"
+        );
     }
-    let log = TouchLog::parse(alloc, &changed(alloc, 102, 0, &[], &[])?)?;
-    assert_eq!(rt; touches(alloc, &log)?.as_slice(), expected.as_slice());
+    Ok(())
+}
+
+#[test]
+fn logs_bytes_that_stand_whole(rt: HostRuntime) -> Result<(), Fail> {
+    let alloc = rt.alloc();
+    let log = TouchLog::parse(alloc, &whole(alloc)?)?;
+    let found = touches(alloc, &log)?;
+    let expected = [(0, 0), (5, 1), (1200, 1), (2500, 3), (2500, 1)];
+    assert!(rt; found.as_slice() == expected.as_slice());
     Ok(())
 }
 
@@ -103,18 +114,20 @@ fn a_failed_read_comes_before_a_cause(rt: HostRuntime) -> Result<(), Fail> {
             assert!(rt; matches!(log, Err(TraceError::ReadFault)));
         }
     }
-    let bytes = changed(alloc, 102, 41, &[4], &[])?;
-    let mut source = TestSource::new(bytes, 51, Some(3));
-    let mut sink = sink(alloc);
+    Ok(())
+}
+
+#[test]
+fn a_sweep_writes_nothing_where_a_read_fails(rt: HostRuntime) -> Result<(), Fail> {
+    let alloc = rt.alloc();
+    let source = TestSource::new(changed(alloc, 102, 41, &[4], &[])?, 51, Some(3));
     let job = Job::Sweep {
         cases: Vec::new(alloc),
         workers: 1,
     };
-    assert_eq!(rt;
-        run(&rt, alloc, &job, &mut source, &mut sink, &OpenGate),
-        Err(RunError::Trace(TraceError::ReadFault))
-    );
-    assert!(rt; sink.bytes().is_empty());
+    let (answer, sink) = ran(&rt, alloc, &job, source, sink(alloc));
+    let fault = Err(RunError::Trace(TraceError::ReadFault));
+    assert!(rt; answer == fault && sink.bytes().is_empty());
     Ok(())
 }
 
@@ -143,14 +156,12 @@ fn logs_more_than_one_room(rt: HostRuntime) -> Result<(), Fail> {
     }
     for greatest in [100_000, usize::MAX] {
         let log = log_of(alloc, Vec::from_slice(alloc, &bytes)?, greatest, None)?;
-        assert_eq!(rt; log.touch_count(), 200);
         let touches = touches(alloc, &log)?;
-        assert!(rt;
-            touches
-                .iter()
-                .zip(0..200u64)
-                .all(|(touch, tick)| *touch == (tick, 0))
-        );
+        let are_all = touches
+            .iter()
+            .zip(0..200u64)
+            .all(|(touch, tick)| *touch == (tick, 0));
+        assert!(rt; are_all && log.touch_count() == 200);
     }
     Ok(())
 }

@@ -1,6 +1,6 @@
 //! Reports by the command line, whose lines were worked out by hand.
 
-use crate::tests::{changed, told};
+use crate::tests::{changed, told, whole};
 use migration_jobs::TestSink;
 use std::alloc::{AllocError, Global};
 use std::sync::Wait;
@@ -8,13 +8,25 @@ use std::test::Fail;
 use std::thread::Threads;
 
 /// Slow rates, which the worked rounds have.
-static SLOW: [&str; 5] = [
+const SLOW: [&str; 5] = [
     "--min=2",
     "--max=4",
     "--inc=1",
     "--threshold=1",
     "--rounds=8",
 ];
+
+/// The same, and one more option.
+const fn slow_and(option: &'static str) -> [&'static str; 6] {
+    [
+        "--min=2",
+        "--max=4",
+        "--inc=1",
+        "--threshold=1",
+        "--rounds=8",
+        option,
+    ]
+}
 
 /// The report over a changed trace, by the command line.
 fn report<R: Threads + Wait + Sync>(
@@ -37,15 +49,8 @@ round 0 from 0 to 4 rate 1000 pages 4 sent 4 dirtied 1
 stop few at 4 pages 1 down 1 total 5
 ";
 
-#[test]
-fn reports_working_sets(rt: HostRuntime) -> Result<(), Fail> {
-    let alloc = rt.alloc();
-    let bytes = changed(alloc, 102, 0, &[], &[])?;
-    let (status, output, _) = report(&rt, alloc, bytes, &SLOW)?;
-    assert_eq!(rt; status, 0);
-    assert_eq!(rt;
-        output.bytes(),
-        "trace pages 4 size 16 writes 5
+/// The report of the worked rounds.
+static THREE_ROUNDS: &str = "trace pages 4 size 16 writes 5
 window 0 writes 2 pages 2 again 0 fresh 2
 window 1 writes 1 pages 1 again 1 fresh 0
 window 2 writes 2 pages 2 again 1 fresh 1
@@ -55,65 +60,42 @@ round 0 from 0 to 2000 rate 2 pages 4 sent 4 dirtied 2
 round 1 from 2000 to 3000 rate 2 pages 2 sent 2 dirtied 2
 round 2 from 3000 to 3667 rate 3 pages 2 sent 2 dirtied 0
 stop few at 3667 pages 0 down 0 total 8
-"
-            .as_bytes()
-    );
-    for workers in ["--workers=2", "--workers=16"] {
-        let bytes = changed(alloc, 102, 0, &[], &[])?;
-        let options = [
-            "--min=2",
-            "--max=4",
-            "--inc=1",
-            "--threshold=1",
-            "--rounds=8",
-            workers,
-        ];
-        let (_, same, _) = report(&rt, alloc, bytes, &options)?;
-        assert_eq!(rt; same.bytes(), output.bytes(), "{workers}");
-    }
-    for workers in ["--workers=1", "--workers=2", "--workers=16"] {
-        let bytes = changed(alloc, 102, 0, &[], &[])?;
-        let options = ["--window=5000", "--hot", "1", workers];
-        let (_, output, _) = report(&rt, alloc, bytes, &options)?;
-        assert_eq!(rt; output.bytes(), LONG_WINDOW.as_bytes(), "{workers}");
-    }
-    let (_, output, _) = report(&rt, alloc, changed(alloc, 16, 12, &[0], &[])?, &SLOW)?;
-    assert_eq!(rt;
-        output.bytes(),
-        "trace pages 4 size 16 writes 0
+";
+
+/// The report on a trace without writes.
+static NO_WRITES: &str = "trace pages 4 size 16 writes 0
 hot 2 pages 0
 round 0 from 0 to 2000 rate 2 pages 4 sent 4 dirtied 0
 stop few at 2000 pages 0 down 0 total 4
-"
-            .as_bytes()
-    );
+";
+
+#[test]
+fn reports_working_sets(rt: HostRuntime) -> Result<(), Fail> {
+    let alloc = rt.alloc();
+    let slow: [&[&str]; 3] = [&SLOW, &slow_and("--workers=2"), &slow_and("--workers=16")];
+    for options in slow {
+        let (status, output, _) = report(&rt, alloc, whole(alloc)?, options)?;
+        assert!(rt; status == 0 && output.bytes() == THREE_ROUNDS.as_bytes());
+    }
+    for workers in ["--workers=1", "--workers=2", "--workers=16"] {
+        let options = ["--window=5000", "--hot", "1", workers];
+        let (_, output, _) = report(&rt, alloc, whole(alloc)?, &options)?;
+        assert!(rt; output.bytes() == LONG_WINDOW.as_bytes(), "{workers}");
+    }
     Ok(())
 }
 
 #[test]
-fn reports_skipped_pages(rt: HostRuntime) -> Result<(), Fail> {
+fn reports_a_trace_without_writes(rt: HostRuntime) -> Result<(), Fail> {
     let alloc = rt.alloc();
-    let mut bytes = changed(alloc, 102, 0, &[], &[])?;
-    // The last two writes come a tick earlier.
-    for place in [67, 85] {
-        match bytes.get_mut(place) {
-            Some(byte) => *byte = 0xc3,
-            None => return Err("a shorter trace".into()),
-        }
-    }
-    let options = [
-        "--min=2",
-        "--max=4",
-        "--inc=1",
-        "--threshold=1",
-        "--rounds=8",
-        "--skip",
-    ];
-    let (status, output, _) = report(&rt, alloc, bytes, &options)?;
-    assert_eq!(rt; status, 0);
-    assert_eq!(rt;
-        output.bytes(),
-        "trace pages 4 size 16 writes 5
+    let bytes = changed(alloc, 16, 12, &[0], &[])?;
+    let (_, output, _) = report(&rt, alloc, bytes, &SLOW)?;
+    assert!(rt; output.bytes() == NO_WRITES.as_bytes());
+    Ok(())
+}
+
+/// The report of the worked rounds that skip pages.
+static SKIPPING: &str = "trace pages 4 size 16 writes 5
 window 0 writes 2 pages 2 again 0 fresh 2
 window 1 writes 1 pages 1 again 1 fresh 0
 window 2 writes 2 pages 2 again 1 fresh 1
@@ -122,9 +104,24 @@ page 1
 round 0 from 0 to 2000 rate 2 pages 4 sent 4 dirtied 2
 round 1 from 2000 to 2500 rate 2 pages 2 sent 1 dirtied 2
 stop fast at 2500 pages 2 down 500 total 7
-"
-            .as_bytes()
-    );
+";
+
+/// The trace, whose last two writes come a tick earlier.
+fn earlier(alloc: Global) -> Result<Vec<u8>, AllocError> {
+    let mut bytes = whole(alloc)?;
+    for (place, byte) in bytes.iter_mut().enumerate() {
+        if place == 67 || place == 85 {
+            *byte = 0xc3;
+        }
+    }
+    Ok(bytes)
+}
+
+#[test]
+fn reports_skipped_pages(rt: HostRuntime) -> Result<(), Fail> {
+    let alloc = rt.alloc();
+    let (status, output, _) = report(&rt, alloc, earlier(alloc)?, &slow_and("--skip"))?;
+    assert!(rt; status == 0 && output.bytes() == SKIPPING.as_bytes());
     Ok(())
 }
 
@@ -141,9 +138,10 @@ fn refuses_settings_before_the_trace(rt: HostRuntime) -> Result<(), Fail> {
     for (option, line) in cases {
         // No trace at all: E1 where it was read.
         let (status, output, faults) = report(&rt, alloc, Vec::new(alloc), &[option])?;
-        assert_eq!(rt; status, 2, "{option}");
-        assert_eq!(rt; faults.bytes(), line.as_bytes(), "{option}");
-        assert!(rt; output.bytes().is_empty(), "{option}");
+        assert!(rt;
+            status == 2 && faults.bytes() == line.as_bytes() && output.bytes().is_empty(),
+            "{option}"
+        );
     }
     Ok(())
 }

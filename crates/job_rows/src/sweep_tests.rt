@@ -1,67 +1,67 @@
 //! Sweeps by the command line, whose lines were worked out by hand.
 
-use crate::tests::{changed, sink, told};
-use live_engine::OpenGate;
-use migration_jobs::{Job, RunError, run};
+use crate::tests::{changed, ran, sink, told, whole};
+use migration_jobs::{Job, RunError};
 use std::test::Fail;
 use trace_codec::{TestSource, TraceError};
+
+/// Three cases, of which the first is the best.
+static THREE: &str =
+    "case 0 min 2 max 4 inc 1 threshold 1 limit 8 skip 0 rounds 3 stop few at 3667 down 0 total 8
+case 1 min 2 max 2 inc 1 threshold 1 limit 8 skip 0 rounds 2 stop fast at 3000 down 1000 total 8
+case 2 min 2 max 4 inc 1 threshold 3 limit 8 skip 0 rounds 1 stop few at 2000 down 500 total 6
+best 0
+";
+
+/// One case twice, later.
+static TWICE: &str =
+    "case 0 min 2 max 4 inc 1 threshold 1 limit 8 skip 0 rounds 1 stop few at 5000 down 0 total 4
+case 1 min 2 max 4 inc 1 threshold 1 limit 8 skip 0 rounds 1 stop few at 5000 down 0 total 4
+best 0
+";
 
 #[test]
 fn sweeps_cases(rt: HostRuntime) -> Result<(), Fail> {
     let alloc = rt.alloc();
-    let three = ["02,4,1,1,8,0", "2,2,1,1,8,0", "2,4,1,3,8,000"];
-    let bytes = changed(alloc, 102, 0, &[], &[])?;
-    let (status, output, _) = told(&rt, alloc, "sweep", bytes, &three)?;
-    assert_eq!(rt; status, 0);
-    assert_eq!(rt;
-        output.bytes(),
-        "case 0 min 2 max 4 inc 1 threshold 1 limit 8 skip 0 rounds 3 stop few at 3667 down 0 total 8
-case 1 min 2 max 2 inc 1 threshold 1 limit 8 skip 0 rounds 2 stop fast at 3000 down 1000 total 8
-case 2 min 2 max 4 inc 1 threshold 3 limit 8 skip 0 rounds 1 stop few at 2000 down 500 total 6
-best 0
-"
-            .as_bytes()
-    );
-    let twice = [
-        "2,4,1,1,8,0",
-        "--workers=16",
-        "2,4,1,1,8,0",
-        "--start",
-        "3000",
+    let sweeps: [(&[&str], &str); 2] = [
+        (&["02,4,1,1,8,0", "2,2,1,1,8,0", "2,4,1,3,8,000"], THREE),
+        (
+            &[
+                "2,4,1,1,8,0",
+                "--workers=16",
+                "2,4,1,1,8,0",
+                "--start",
+                "3000",
+            ],
+            TWICE,
+        ),
     ];
-    let bytes = changed(alloc, 102, 0, &[], &[])?;
-    let (status, output, _) = told(&rt, alloc, "sweep", bytes, &twice)?;
-    assert_eq!(rt; status, 0);
-    assert_eq!(rt;
-        output.bytes(),
-        "case 0 min 2 max 4 inc 1 threshold 1 limit 8 skip 0 rounds 1 stop few at 5000 down 0 total 4
-case 1 min 2 max 4 inc 1 threshold 1 limit 8 skip 0 rounds 1 stop few at 5000 down 0 total 4
-best 0
-"
-            .as_bytes()
-    );
+    for (words, expected) in sweeps {
+        let (status, output, _) = told(&rt, alloc, "sweep", whole(alloc)?, words)?;
+        assert!(rt; status == 0 && output.bytes() == expected.as_bytes());
+    }
     Ok(())
 }
 
 #[test]
 fn sweeps_no_case(rt: HostRuntime) -> Result<(), Fail> {
     let alloc = rt.alloc();
-    let job = Job::Sweep {
-        cases: Vec::new(alloc),
-        workers: 16,
-    };
-    let mut source = TestSource::new(changed(alloc, 102, 0, &[], &[])?, 102, None);
-    let mut output = sink(alloc);
-    assert_eq!(rt;
-        run(&rt, alloc, &job, &mut source, &mut output, &OpenGate),
-        Ok(())
-    );
-    assert!(rt; output.bytes().is_empty());
-    let mut source = TestSource::new(changed(alloc, 101, 0, &[], &[])?, 102, None);
-    assert_eq!(rt;
-        run(&rt, alloc, &job, &mut source, &mut output, &OpenGate),
-        Err(RunError::Trace(TraceError::ShortRecord(4)))
-    );
+    let answers = [
+        (102, Ok(())),
+        (101, Err(RunError::Trace(TraceError::ShortRecord(4)))),
+    ];
+    for (len, expected) in answers {
+        let job = Job::Sweep {
+            cases: Vec::new(alloc),
+            workers: 16,
+        };
+        let source = TestSource::new(changed(alloc, len, 0, &[], &[])?, 102, None);
+        let (answer, sink) = ran(&rt, alloc, &job, source, sink(alloc));
+        assert!(rt;
+            answer == expected && sink.bytes().is_empty(),
+            "{len} bytes"
+        );
+    }
     Ok(())
 }
 
@@ -85,15 +85,21 @@ fn refuses_cases_before_the_trace(rt: HostRuntime) -> Result<(), Fail> {
     for (words, line) in refused {
         // No trace at all: E1 where it was read.
         let (status, output, faults) = told(&rt, alloc, "sweep", Vec::new(alloc), words)?;
-        assert_eq!(rt; status, 2, "{line}");
-        assert_eq!(rt; faults.bytes(), line.as_bytes(), "{line}");
-        assert!(rt; output.bytes().is_empty(), "{line}");
+        assert!(rt;
+            status == 2 && faults.bytes() == line.as_bytes() && output.bytes().is_empty(),
+            "{line}"
+        );
     }
+    Ok(())
+}
+
+#[test]
+fn sweeps_nothing_by_unknown_words(rt: HostRuntime) -> Result<(), Fail> {
+    let alloc = rt.alloc();
     let usage: [&[&str]; 3] = [&[], &["-2,4,1,1,8,0"], &["2,4,1,1,8,0", "--start", "x"]];
     for words in usage {
         let (status, _, faults) = told(&rt, alloc, "sweep", Vec::new(alloc), words)?;
-        assert_eq!(rt; status, 2);
-        assert!(rt; !faults.bytes().starts_with(b"precopy: "));
+        assert!(rt; status == 2 && !faults.bytes().starts_with(b"precopy: "));
     }
     Ok(())
 }
@@ -107,8 +113,7 @@ fn refuses_too_many_cases(rt: HostRuntime) -> Result<(), Fail> {
             words.push("2,4")?;
         }
         let (status, _, faults) = told(&rt, alloc, "sweep", Vec::new(alloc), &words)?;
-        assert_eq!(rt; status, 2, "{line}");
-        assert_eq!(rt; faults.bytes(), line.as_bytes(), "{line}");
+        assert!(rt; status == 2 && faults.bytes() == line.as_bytes(), "{line}");
     }
     Ok(())
 }

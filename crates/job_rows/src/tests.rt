@@ -3,7 +3,7 @@
 ghost use Rattle.std.specs.Prelude.{◌≡◌, false};
 
 use command_line::start;
-use image_build::{replay, replay_before, replay_bytes, replay_view};
+use image_build::{Image, replay, replay_before, replay_bytes, replay_view};
 use live_engine::OpenGate;
 use migration_jobs::{Job, RunError, TestSink, run};
 use std::alloc::{AllocError, Global};
@@ -76,37 +76,57 @@ pub(crate) fn sink(alloc: Global) -> TestSink
     TestSink::new(Vec::new(alloc), usize::MAX, None, false)
 }
 
+/// The whole trace.
+pub(crate) fn whole(alloc: Global) -> Result<Vec<u8>, AllocError> {
+    Vec::from_slice(alloc, &TRACE)
+}
+
+/// What a job answers over a source, and the sink then.
+pub(crate) fn ran<R: Threads + Wait + Sync>(
+    rt: &R,
+    alloc: Global,
+    job: &Job,
+    mut source: TestSource,
+    mut sink: TestSink,
+) -> (Result<(), RunError>, TestSink)
+    requires unread { source.has_failed ≡ false }
+    requires unwritten { sink.has_failed ≡ false }
+{
+    let answer = run(rt, alloc, job, &mut source, &mut sink, &OpenGate);
+    (answer, sink)
+}
+
+/// The memory of the trace after all writes and before tick 2000, and the number of its writes.
+fn replayed(alloc: Global) -> Result<(Image, Image, u32), Fail> {
+    let trace = decode(alloc, &TRACE)?;
+    let before = replay_before(alloc, &trace, 2000)?;
+    Ok((replay(alloc, &trace)?, before, trace.shape().writes))
+}
+
+#[test]
+fn replays_memory(rt: HostRuntime) -> Result<(), Fail> {
+    let (memory, before, writes) = replayed(rt.alloc())?;
+    assert!(rt; memory.bytes() == MEMORY.as_slice() && before.bytes() == MEMORY_AT_2000.as_slice());
+    assert_eq!(rt; writes, 5);
+    Ok(())
+}
+
 #[test]
 fn writes_memory(rt: HostRuntime) -> Result<(), Fail> {
     let alloc = rt.alloc();
-    let bytes = changed(alloc, 102, 0, &[], &[])?;
-    let trace = decode(alloc, &bytes).ok().ok_or("a trace")?;
-    assert_eq!(rt; trace.shape().writes, 5);
-    let image = replay(alloc, &trace).ok().ok_or("memory")?;
-    assert_eq!(rt; image.bytes(), MEMORY.as_slice());
-    let image = replay_before(alloc, &trace, 2000).ok().ok_or("memory")?;
-    assert_eq!(rt; image.bytes(), MEMORY_AT_2000.as_slice());
-    let mut source = TestSource::new(bytes, 7, None);
-    let mut sink = TestSink::new(Vec::new(alloc), 10, None, false);
-    assert_eq!(rt;
-        run(&rt, alloc, &Job::Image, &mut source, &mut sink, &OpenGate),
-        Ok(())
-    );
-    assert_eq!(rt; sink.bytes(), MEMORY.as_slice());
+    let source = TestSource::new(whole(alloc)?, 7, None);
+    let sink = TestSink::new(Vec::new(alloc), 10, None, false);
+    let (answer, sink) = ran(&rt, alloc, &Job::Image, source, sink);
+    assert!(rt; answer == Ok(()) && sink.bytes() == MEMORY.as_slice());
     Ok(())
 }
 
 #[test]
 fn writes_nothing_of_an_empty_trace(rt: HostRuntime) -> Result<(), Fail> {
     let alloc = rt.alloc();
-    let bytes = changed(alloc, 16, 12, &[0], &[])?;
-    let mut source = TestSource::new(bytes, 16, None);
-    let mut sink = sink(alloc);
-    assert_eq!(rt;
-        run(&rt, alloc, &Job::Image, &mut source, &mut sink, &OpenGate),
-        Ok(())
-    );
-    assert_eq!(rt; sink.bytes(), [0; 64].as_slice());
+    let source = TestSource::new(changed(alloc, 16, 12, &[0], &[])?, 16, None);
+    let (answer, sink) = ran(&rt, alloc, &Job::Image, source, sink(alloc));
+    assert!(rt; answer == Ok(()) && sink.bytes() == [0; 64].as_slice());
     Ok(())
 }
 
@@ -125,33 +145,27 @@ fn refusal(
 #[test]
 fn refuses_headers(rt: HostRuntime) -> Result<(), Fail> {
     let alloc = rt.alloc();
-    assert_eq!(rt;
-        refusal(alloc, 0, 0, &[], &[])?,
-        Some(TraceError::ShortHeader)
-    );
-    assert_eq!(rt;
-        refusal(alloc, 15, 0, &[], &[])?,
-        Some(TraceError::ShortHeader)
-    );
-    let changes: [(usize, &[u8], TraceError); 12] = [
-        (0, &[0x51], TraceError::BadMagic),
-        (4, &[2], TraceError::BadVersion),
-        (5, &[3], TraceError::BadShift),
-        (5, &[13], TraceError::BadShift),
-        (6, &[1], TraceError::BadReserved),
-        (8, &[0, 0, 0, 0], TraceError::BadPages),
-        (8, &[1, 0, 1, 0], TraceError::BadPages),
-        (12, &[1, 0, 16, 0], TraceError::TooManyWrites),
-        (12, &[6, 0, 0, 0], TraceError::ShortRecord(5)),
-        (12, &[4, 0, 0, 0], TraceError::TrailingBytes),
-        (0, &[0x51, 0x43, 0x57, 0x54, 2], TraceError::BadMagic),
-        (12, &[0, 0, 16, 0], TraceError::ShortRecord(5)),
+    let changes: [(usize, usize, &[u8], TraceError); 14] = [
+        (0, 0, &[], TraceError::ShortHeader),
+        (15, 0, &[], TraceError::ShortHeader),
+        (102, 0, &[0x51], TraceError::BadMagic),
+        (102, 4, &[2], TraceError::BadVersion),
+        (102, 5, &[3], TraceError::BadShift),
+        (102, 5, &[13], TraceError::BadShift),
+        (102, 6, &[1], TraceError::BadReserved),
+        (102, 8, &[0, 0, 0, 0], TraceError::BadPages),
+        (102, 8, &[1, 0, 1, 0], TraceError::BadPages),
+        (102, 12, &[1, 0, 16, 0], TraceError::TooManyWrites),
+        (102, 12, &[6, 0, 0, 0], TraceError::ShortRecord(5)),
+        (102, 12, &[4, 0, 0, 0], TraceError::TrailingBytes),
+        (102, 0, &[0x51, 0x43, 0x57, 0x54, 2], TraceError::BadMagic),
+        (102, 12, &[0, 0, 16, 0], TraceError::ShortRecord(5)),
     ];
-    for (place, patch, error) in changes {
+    for (len, place, patch, error) in changes {
         assert_eq!(rt;
-            refusal(alloc, 102, place, patch, &[])?,
+            refusal(alloc, len, place, patch, &[])?,
             Some(error),
-            "at {place}"
+            "{len} bytes, at {place}"
         );
     }
     Ok(())
@@ -160,74 +174,82 @@ fn refuses_headers(rt: HostRuntime) -> Result<(), Fail> {
 #[test]
 fn refuses_records(rt: HostRuntime) -> Result<(), Fail> {
     let alloc = rt.alloc();
-    // The trace without its last byte, and with one byte more.
-    assert_eq!(rt;
-        refusal(alloc, 101, 0, &[], &[])?,
-        Some(TraceError::ShortRecord(4))
-    );
-    assert_eq!(rt;
-        refusal(alloc, 102, 0, &[], &[0])?,
-        Some(TraceError::TrailingBytes)
-    );
-    let changes: [(usize, &[u8], TraceError); 7] = [
-        (99, &[255, 255], TraceError::ShortRecord(4)),
-        (67, &[0xaf, 4], TraceError::TickOrder(3)),
-        (85, &[0, 0, 0, 0, 0, 1, 0, 0], TraceError::TickTooLarge(4)),
-        (75, &[4, 0, 0, 0], TraceError::PageOutOfRange(3)),
-        (30, &[0, 0], TraceError::EmptyWrite(0)),
-        (45, &[16, 0], TraceError::OutOfPage(1)),
-        (31, &[9], TraceError::ShortRecord(0)),
+    // First the trace without its last byte, and with one byte more.
+    let changes: [(usize, usize, &[u8], &[u8], TraceError); 9] = [
+        (101, 0, &[], &[], TraceError::ShortRecord(4)),
+        (102, 0, &[], &[0], TraceError::TrailingBytes),
+        (102, 99, &[255, 255], &[], TraceError::ShortRecord(4)),
+        (102, 67, &[0xaf, 4], &[], TraceError::TickOrder(3)),
+        (
+            102,
+            85,
+            &[0, 0, 0, 0, 0, 1, 0, 0],
+            &[],
+            TraceError::TickTooLarge(4),
+        ),
+        (102, 75, &[4, 0, 0, 0], &[], TraceError::PageOutOfRange(3)),
+        (102, 30, &[0, 0], &[], TraceError::EmptyWrite(0)),
+        (102, 45, &[16, 0], &[], TraceError::OutOfPage(1)),
+        (102, 31, &[9], &[], TraceError::ShortRecord(0)),
     ];
-    for (place, patch, error) in changes {
+    for (len, place, patch, more, error) in changes {
         assert_eq!(rt;
-            refusal(alloc, 102, place, patch, &[])?,
+            refusal(alloc, len, place, patch, more)?,
             Some(error),
-            "at {place}"
+            "{len} bytes, at {place}"
         );
     }
     Ok(())
 }
 
+/// The trace from a source of pieces of at most so many bytes, one of whose reads may fail.
+fn read_in_pieces(
+    alloc: Global,
+    greatest: usize,
+    failing_call: Option<u64>,
+) -> Result<Trace, TraceError> {
+    let bytes = changed(alloc, 102, 0, &[], &[])?;
+    let mut source = TestSource::new(bytes, greatest.max(1), failing_call);
+    read_trace(alloc, &mut source)
+}
+
 #[test]
 fn reads_to_the_end(rt: HostRuntime) -> Result<(), Fail> {
     let alloc = rt.alloc();
-    let bytes = changed(alloc, 102, 0, &[], &[])?;
-    let mut source = TestSource::new(bytes, 1, None);
-    let trace = read_trace(alloc, &mut source).ok().ok_or("a trace")?;
-    assert_eq!(rt; (trace.shift, trace.pages, trace.writes.len()), (4, 4, 5));
-    let bytes = changed(alloc, 102, 0, &[], &[])?;
-    let mut source = TestSource::new(bytes, 50, Some(2));
-    assert!(rt; matches!(read_trace(alloc, &mut source), Err(TraceError::ReadFault)));
-    let bytes = changed(alloc, 102, 0, &[], &[])?;
-    let mut source = TestSource::new(bytes, 50, Some(2));
-    let mut sink = sink(alloc);
+    let trace = read_in_pieces(alloc, 1, None)?;
+    let found = (trace.shift, trace.pages, trace.writes.len());
+    let failed = read_in_pieces(alloc, 50, Some(2)).err();
+    assert_eq!(rt; (found, failed), ((4, 4, 5), Some(TraceError::ReadFault)));
+    Ok(())
+}
+
+#[test]
+fn writes_nothing_where_a_read_fails(rt: HostRuntime) -> Result<(), Fail> {
+    let alloc = rt.alloc();
+    let source = TestSource::new(whole(alloc)?, 50, Some(2));
+    let (answer, sink) = ran(&rt, alloc, &Job::Image, source, sink(alloc));
     let fault = Err(RunError::Trace(TraceError::ReadFault));
-    assert_eq!(rt;
-        run(&rt, alloc, &Job::Image, &mut source, &mut sink, &OpenGate),
-        fault
-    );
-    assert!(rt; sink.bytes().is_empty());
+    assert!(rt; answer == fault && sink.bytes().is_empty());
     Ok(())
 }
 
 #[test]
 fn leaves_a_beginning_where_a_write_fails(rt: HostRuntime) -> Result<(), Fail> {
     let alloc = rt.alloc();
-    let bytes = changed(alloc, 102, 0, &[], &[])?;
-    let mut source = TestSource::new(bytes, 102, None);
-    let mut sink = TestSink::new(Vec::new(alloc), 10, Some(2), false);
-    assert_eq!(rt;
-        run(&rt, alloc, &Job::Image, &mut source, &mut sink, &OpenGate),
-        Err(RunError::Write)
-    );
-    assert_eq!(rt; sink.bytes(), [1, 0, 0, 0, 0, 0, 0, 0, 0, 0].as_slice());
-    let bytes = changed(alloc, 102, 0, &[], &[])?;
-    let mut source = TestSource::new(bytes, 102, None);
-    let mut sink = TestSink::new(Vec::new(alloc), 64, None, true);
-    assert_eq!(rt;
-        run(&rt, alloc, &Job::Image, &mut source, &mut sink, &OpenGate),
-        Err(RunError::Write)
-    );
+    let source = TestSource::new(whole(alloc)?, 102, None);
+    let sink = TestSink::new(Vec::new(alloc), 10, Some(2), false);
+    let (answer, sink) = ran(&rt, alloc, &Job::Image, source, sink);
+    assert!(rt; answer == Err(RunError::Write) && sink.bytes() == &MEMORY[..10]);
+    Ok(())
+}
+
+#[test]
+fn tells_that_a_flush_failed(rt: HostRuntime) -> Result<(), Fail> {
+    let alloc = rt.alloc();
+    let source = TestSource::new(whole(alloc)?, 102, None);
+    let sink = TestSink::new(Vec::new(alloc), 64, None, true);
+    let (answer, _) = ran(&rt, alloc, &Job::Image, source, sink);
+    assert_eq!(rt; answer, Err(RunError::Write));
     Ok(())
 }
 
@@ -250,30 +272,40 @@ pub(crate) fn told<R: Threads + Wait + Sync>(
     Ok((status, output, faults))
 }
 
+/// What the writes of the trace are refused for in a guest of so many pages of this size.
+fn refusal_of_writes(alloc: Global, shift: u8, pages: u32) -> Result<Option<TraceError>, Fail> {
+    let Trace { writes, .. } = decode(alloc, &TRACE)?;
+    Ok(Trace::new(shift, pages, writes).err())
+}
+
 #[test]
 fn traces_from_writes(rt: HostRuntime) -> Result<(), Fail> {
     let alloc = rt.alloc();
-    let trace = decode(alloc, &TRACE).ok().ok_or("a trace")?;
-    let text = encode(alloc, &trace).ok().ok_or("a spelling")?;
-    assert_eq!(rt; text.as_slice(), TRACE.as_slice());
-    let Trace {
-        shift,
-        pages,
-        writes,
-    } = trace;
     assert_eq!(rt;
-        Trace::new(shift, 3, writes).err(),
-        Some(TraceError::PageOutOfRange(3))
+        (
+            refusal_of_writes(alloc, 4, 4)?,
+            refusal_of_writes(alloc, 4, 3)?,
+            Trace::new(13, 4, Vec::new(alloc)).err(),
+            Trace::new(4, 0, Vec::new(alloc)).err(),
+            Trace::new(4, 1, Vec::new(alloc)).err()
+        ),
+        (
+            None,
+            Some(TraceError::PageOutOfRange(3)),
+            Some(TraceError::BadShift),
+            Some(TraceError::BadPages),
+            None
+        )
     );
-    assert_eq!(rt;
-        Trace::new(13, pages, Vec::new(alloc)).err(),
-        Some(TraceError::BadShift)
-    );
-    assert_eq!(rt;
-        Trace::new(4, 0, Vec::new(alloc)).err(),
-        Some(TraceError::BadPages)
-    );
-    assert!(rt; Trace::new(4, 1, Vec::new(alloc)).is_ok());
+    Ok(())
+}
+
+#[test]
+fn encodes_what_it_decodes(rt: HostRuntime) -> Result<(), Fail> {
+    let alloc = rt.alloc();
+    let trace = decode(alloc, &TRACE)?;
+    let bytes = encode(alloc, &trace)?;
+    assert_eq!(rt; bytes.as_slice(), TRACE.as_slice());
     Ok(())
 }
 
@@ -286,50 +318,68 @@ fn says_why_it_ends(rt: HostRuntime) -> Result<(), Fail> {
         ("image", 101, &[], 1, "precopy: trace E8 record 4\n"),
         ("--help", 102, &[], 0, ""),
     ];
-    for (command, len, more, status, line) in cases {
-        let mut source = TestSource::new(changed(alloc, len, 0, &[], more)?, 102, None);
-        let mut output = sink(alloc);
-        let mut faults = sink(alloc);
-        let words = words(alloc, command)?;
-        let ended = start(&rt, alloc, words, &mut source, &mut output, &mut faults);
-        assert_eq!(rt; ended, status, "{command}");
-        assert_eq!(rt; faults.bytes(), line.as_bytes(), "{command}");
-        assert_eq!(rt; output.bytes().is_empty(), status != 0, "{command}");
+    for (command, len, more, expected, line) in cases {
+        let bytes = changed(alloc, len, 0, &[], more)?;
+        let (status, output, faults) = told(&rt, alloc, command, bytes, &[])?;
+        let is_written = !output.bytes().is_empty();
+        let is_told = faults.bytes() == line.as_bytes();
+        assert_eq!(rt;
+            (status, is_written, is_told),
+            (expected, expected == 0, true),
+            "{command}"
+        );
     }
-    let mut source = TestSource::new(changed(alloc, 102, 0, &[], &[])?, 102, None);
-    let mut output = sink(alloc);
-    let mut faults = sink(alloc);
-    let words = words(alloc, "memory")?;
-    assert_eq!(rt;
-        start(&rt, alloc, words, &mut source, &mut output, &mut faults),
-        2
-    );
-    assert!(rt; output.bytes().is_empty() && !faults.bytes().is_empty());
     Ok(())
 }
 
 #[test]
-fn views_and_pages(rt: HostRuntime) -> Result<(), Fail> {
+fn unknown_words_are_told(rt: HostRuntime) -> Result<(), Fail> {
     let alloc = rt.alloc();
-    let bytes = changed(alloc, 102, 0, &[], &[])?;
-    let view = TraceView::parse(&bytes).ok().ok_or("a trace")?;
+    let (status, output, faults) = told(&rt, alloc, "memory", whole(alloc)?, &[])?;
+    assert!(rt; status == 2 && output.bytes().is_empty() && !faults.bytes().is_empty());
+    Ok(())
+}
+
+/// The memory of the trace, made of its records where they stand and of its bytes.
+fn replayed_in_place(alloc: Global) -> Result<(Image, Image), Fail> {
+    let view = TraceView::parse(&TRACE)?;
+    Ok((replay_view(alloc, &view)?, replay_bytes(alloc, &TRACE)?))
+}
+
+#[test]
+fn memory_of_bytes_where_they_stand(rt: HostRuntime) -> Result<(), Fail> {
+    let (image, of_bytes) = replayed_in_place(rt.alloc())?;
+    let bytes = of_bytes.into_bytes();
+    assert!(rt; image.bytes() == MEMORY.as_slice() && bytes.as_slice() == MEMORY.as_slice());
+    Ok(())
+}
+
+#[test]
+fn pages_of_an_image(rt: HostRuntime) -> Result<(), Fail> {
+    let alloc = rt.alloc();
+    let trace = decode(alloc, &TRACE)?;
+    let shape = trace.shape();
+    let image = replay(alloc, &trace)?;
+    if !image.fits(&shape) || shape.pages != 4 {
+        return Err(Fail::from("an image of 4 pages"));
+    }
+    assert_eq!(rt; image.page(3), &MEMORY[48..]);
+    Ok(())
+}
+
+#[test]
+fn views_and_traces(rt: HostRuntime) -> Result<(), Fail> {
+    let alloc = rt.alloc();
+    let view = TraceView::parse(&TRACE)?;
     let mut pages = Vec::new(alloc);
     for write in view.records() {
         pages.push(write.page)?;
     }
-    assert_eq!(rt; pages.as_slice(), [0, 1, 1, 3, 1].as_slice());
-    let image = replay_view(alloc, &view).ok().ok_or("memory")?;
-    assert_eq!(rt; image.bytes(), MEMORY.as_slice());
-    let image = replay_bytes(alloc, &bytes).ok().ok_or("memory")?;
-    assert_eq!(rt; image.into_bytes().as_slice(), MEMORY.as_slice());
     let trace = view.to_trace(alloc)?;
     let write = trace.writes.get(3).ok_or("a fourth write")?;
-    assert_eq!(rt; (write.tick, write.offset), (2500, 2));
-    assert_eq!(rt; write.bytes.as_slice(), [4, 5].as_slice());
-    let shape = trace.shape();
-    let image = replay(alloc, &trace).ok().ok_or("memory")?;
-    assert_eq!(rt; shape.pages, 4);
-    assert!(rt; image.fits(&shape));
-    assert_eq!(rt; image.page(3), &MEMORY[48..]);
+    let is_fourth = write.tick == 2500
+        && write.offset == 2
+        && write.bytes.as_slice() == [4, 5].as_slice();
+    assert!(rt; is_fourth && pages.as_slice() == [0, 1, 1, 3, 1].as_slice());
     Ok(())
 }
