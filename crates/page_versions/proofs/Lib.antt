@@ -1,7 +1,8 @@
 pub mod Places
 pub mod Searches
 pub mod Pages
-pub mod Counted
-pub mod Laid
+pub mod Orders
 pub mod Stamps
+pub mod Keyed
+pub mod Laid
 pub mod Later

@@ -7,6 +7,7 @@ mod index;
 mod laying;
 mod making;
 mod searching;
+mod sorting;
 
 pub use error::IndexError;
 pub use index::{PageIndex, Reached};

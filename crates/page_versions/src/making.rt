@@ -1,8 +1,13 @@
 //! What an index is made of.
 
 ghost use Rattle.std.specs.Prelude.{◌≡◌, ◌↔◌, IfOk, IsTrue};
+ghost use Rattle.page_versions.specs.Layout.{IsLaidOut};
 
+use crate::error::IndexError;
+use crate::laying::{Parts, lay_out};
+use crate::sorting::{keys_of, sort_keys};
 use std::alloc::{AllocError, Global};
+use std::thread::Threads;
 use trace_codec::{Timeline, Touch};
 
 /// All touches in order.
@@ -15,6 +20,21 @@ pub(crate) fn touches_in<T: Timeline>(alloc: Global, timeline: &T) -> Result<Vec
         touches.push(timeline.touch(index))?;
     }
     Ok(touches)
+}
+
+/// The places of all touches, page by page.
+pub(crate) fn parts_of<T: Timeline>(
+    rt: &(impl Threads + Sync),
+    alloc: Global,
+    pages: u32,
+    timeline: &T,
+) -> Result<Parts, IndexError>
+    requires { pages ≡ T.pages timeline.now }
+    ensures { IfOk result (λ parts. IsLaidOut pages (T.touches timeline.now) parts.starts.items parts.places.items) }
+{
+    let mut keys = keys_of(alloc, timeline)?;
+    sort_keys(rt, &mut keys);
+    Ok(lay_out(alloc, pages, &keys)?)
 }
 
 /// Whether these are all touches that are told.
