@@ -3,6 +3,8 @@ pub mod Searches
 pub mod Pages
 pub mod Orders
 pub mod Stamps
-pub mod Keyed
+pub mod Counted
+pub mod Ranked
+pub mod Sorted
 pub mod Laid
 pub mod Later

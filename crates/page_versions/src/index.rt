@@ -44,7 +44,7 @@ impl Model for PageIndex {
 }
 
 impl PageIndex {
-    /// The index of a trace. Its touches, and pairs of page and place that are sorted in several threads, are made at once.
+    /// The index of a trace. Its touches, and runs of touches that are sorted by page in several threads, are made at once.
     pub fn build<W: WriteLog + Sync>(
         rt: &(impl Threads + Sync),
         alloc: Global,
@@ -57,9 +57,8 @@ impl PageIndex {
             ensures { IfOk result (λ v. v.items ≡ W.touches trace.entry.now) }
         { touches_in(alloc, trace) };
         let parts = || -> Result<Parts, IndexError>
-            requires { pages ≡ W.pages trace.now }
-            ensures { IfOk result (λ parts. IsLaidOut pages (W.touches trace.entry.now) parts.starts.items parts.places.items) }
-        { parts_of(rt, alloc, pages, trace) };
+            ensures { IfOk result (λ parts. IsLaidOut (W.pages trace.entry.now) (W.touches trace.entry.now) parts.starts.items parts.places.items) }
+        { parts_of(rt, alloc, trace) };
         let (touches, parts) = thread::join(rt, touches, parts);
         let touches = touches?;
         let Parts { starts, places } = parts?;

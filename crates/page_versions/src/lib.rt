@@ -6,8 +6,8 @@ mod error;
 mod index;
 mod laying;
 mod making;
+mod runs;
 mod searching;
-mod sorting;
 
 pub use error::IndexError;
 pub use index::{PageIndex, Reached};

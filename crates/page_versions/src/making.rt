@@ -5,7 +5,7 @@ ghost use Rattle.page_versions.specs.Layout.{IsLaidOut};
 
 use crate::error::IndexError;
 use crate::laying::{Parts, lay_out};
-use crate::sorting::{keys_of, sort_keys};
+use crate::runs::{runs_of, sort_runs};
 use std::alloc::{AllocError, Global};
 use std::thread::Threads;
 use trace_codec::{Timeline, Touch};
@@ -22,19 +22,17 @@ pub(crate) fn touches_in<T: Timeline>(alloc: Global, timeline: &T) -> Result<Vec
     Ok(touches)
 }
 
-/// The places of all touches, page by page.
+/// The places of all touches, page by page: runs of touches are sorted by page in several threads.
 pub(crate) fn parts_of<T: Timeline>(
     rt: &(impl Threads + Sync),
     alloc: Global,
-    pages: u32,
     timeline: &T,
 ) -> Result<Parts, IndexError>
-    requires { pages ≡ T.pages timeline.now }
-    ensures { IfOk result (λ parts. IsLaidOut pages (T.touches timeline.now) parts.starts.items parts.places.items) }
+    ensures { IfOk result (λ parts. IsLaidOut (T.pages timeline.now) (T.touches timeline.now) parts.starts.items parts.places.items) }
 {
-    let mut keys = keys_of(alloc, timeline)?;
-    sort_keys(rt, &mut keys);
-    Ok(lay_out(alloc, pages, &keys)?)
+    let mut runs = runs_of(alloc, timeline)?;
+    sort_runs(rt, &mut runs);
+    Ok(lay_out(alloc, timeline.page_count(), timeline.touch_count(), &runs)?)
 }
 
 /// Whether these are all touches that are told.
