@@ -1,7 +1,10 @@
 pub mod Places
 pub mod Searches
 pub mod Pages
-pub mod Counted
-pub mod Laid
+pub mod Orders
 pub mod Stamps
+pub mod Counted
+pub mod Ranked
+pub mod Sorted
+pub mod Laid
 pub mod Later

@@ -40,7 +40,7 @@ bounds q s (x ∷ xs) =
     cond_both (q x) (s ∷ from q (s + 1) xs) (from q (s + 1) xs) (λ (l : List ℕ). All (λ (v : ℕ). (s ≤ v) × (v < s + suc (length xs))) l)
     (λ _. All-cons (λ (v : ℕ). (s ≤ v) × (v < s + suc (length xs))) s (from q (s + 1) xs) (omega arith, omega arith) rest) (λ _. rest)
 
-pub rises-cons : (m : ℕ → ℕ) (x : ℕ) (xs : List ℕ) → All (λ y. m x ≤ m y) xs → IsNonDecreasingBy m xs → IsNonDecreasingBy m (x ∷ xs)
+pub rises-cons : {X : Type 0} (m : X → ℕ) (x : X) (xs : List X) → All (λ y. m x ≤ m y) xs → IsNonDecreasingBy m xs → IsNonDecreasingBy m (x ∷ xs)
 rises-cons m x xs above order zero zero d le low = omega arith
 rises-cons m x xs above order zero (suc j) d le low = above j d (omega arith)
 rises-cons m x xs above order (suc i) zero d le low = absurd (omega arith)

@@ -1,3 +1,4 @@
 pub mod Index
 pub mod Layout
 pub mod Pages
+pub mod Runs

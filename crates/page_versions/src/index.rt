@@ -9,8 +9,8 @@ ghost use Rattle.page_versions.specs.Layout.{IsLaidOut};
 
 use crate::bytes::{put_bytes, put_writes};
 use crate::error::IndexError;
-use crate::laying::{Parts, lay_out};
-use crate::making::{are_touches, touches_in};
+use crate::laying::Parts;
+use crate::making::{are_touches, parts_of, touches_in};
 use crate::searching::{greatest_before, places_after, places_between, places_to};
 use std::alloc::{AllocError, Global};
 use std::marker::Model;
@@ -44,7 +44,7 @@ impl Model for PageIndex {
 }
 
 impl PageIndex {
-    /// The index of a trace. Its touches, and the places of each page, are made at once, in two threads.
+    /// The index of a trace. Its touches, and runs of touches that are sorted by page in several threads, are made at once.
     pub fn build<W: WriteLog + Sync>(
         rt: &(impl Threads + Sync),
         alloc: Global,
@@ -56,9 +56,9 @@ impl PageIndex {
         let touches = || -> Result<Vec<Touch>, AllocError>
             ensures { IfOk result (λ v. v.items ≡ W.touches trace.entry.now) }
         { touches_in(alloc, trace) };
-        let parts = || -> Result<Parts, AllocError>
+        let parts = || -> Result<Parts, IndexError>
             ensures { IfOk result (λ parts. IsLaidOut (W.pages trace.entry.now) (W.touches trace.entry.now) parts.starts.items parts.places.items) }
-        { lay_out(alloc, trace) };
+        { parts_of(rt, alloc, trace) };
         let (touches, parts) = thread::join(rt, touches, parts);
         let touches = touches?;
         let Parts { starts, places } = parts?;

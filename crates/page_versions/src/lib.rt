@@ -6,6 +6,7 @@ mod error;
 mod index;
 mod laying;
 mod making;
+mod runs;
 mod searching;
 
 pub use error::IndexError;

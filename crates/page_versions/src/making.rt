@@ -1,8 +1,13 @@
 //! What an index is made of.
 
 ghost use Rattle.std.specs.Prelude.{◌≡◌, ◌↔◌, IfOk, IsTrue};
+ghost use Rattle.page_versions.specs.Layout.{IsLaidOut};
 
+use crate::error::IndexError;
+use crate::laying::{Parts, lay_out};
+use crate::runs::{runs_of, sort_runs};
 use std::alloc::{AllocError, Global};
+use std::thread::Threads;
 use trace_codec::{Timeline, Touch};
 
 /// All touches in order.
@@ -15,6 +20,19 @@ pub(crate) fn touches_in<T: Timeline>(alloc: Global, timeline: &T) -> Result<Vec
         touches.push(timeline.touch(index))?;
     }
     Ok(touches)
+}
+
+/// The places of all touches, page by page: runs of touches are sorted by page in several threads.
+pub(crate) fn parts_of<T: Timeline>(
+    rt: &(impl Threads + Sync),
+    alloc: Global,
+    timeline: &T,
+) -> Result<Parts, IndexError>
+    ensures { IfOk result (λ parts. IsLaidOut (T.pages timeline.now) (T.touches timeline.now) parts.starts.items parts.places.items) }
+{
+    let mut runs = runs_of(alloc, timeline)?;
+    sort_runs(rt, &mut runs);
+    Ok(lay_out(alloc, timeline.page_count(), timeline.touch_count(), &runs)?)
 }
 
 /// Whether these are all touches that are told.
