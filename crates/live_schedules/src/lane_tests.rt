@@ -1,8 +1,8 @@
 //! Runs over lanes that are full, or that their receivers empty beside the rounds.
 
 use crate::gates::{Counts, SlowFirstReceiver, SlowReceivers, TakenBeside, TakenInTurn};
-use crate::tests::{AT_END, asked, is_image, round, run, run_sixteen, times};
-use live_engine::{Live, LiveRound};
+use crate::tests::{AT_END, asked, first_sent, has_images, run, run_sixteen, times};
+use live_engine::Live;
 use rate_limit::Asked;
 use std::test::Fail;
 
@@ -17,17 +17,23 @@ fn asked_with(streams: u64, lane: u64) -> Asked {
 
 /// Whether both memories are the ones that every run of the worked example makes.
 fn has_both_images(live: &Live) -> bool {
-    is_image(&live.at_stop, &AT_END) && is_image(&live.at_end, &AT_END)
+    has_images(live, &AT_END, &AT_END)
 }
 
-/// Whether these pages were sent, whatever their stamps.
-fn has_sent_pages(round: &LiveRound, pages: &[u32]) -> bool {
-    round.sent.len() == pages.len()
-        && round
-            .sent
-            .iter()
-            .map(|sent| sent.0)
-            .eq(pages.iter().copied())
+/// Whether the first round sent these pages, whatever their stamps, and deferred those.
+fn begins_with(live: &Live, sent: &[u32], deferred: &[u32]) -> bool {
+    match live.rounds.first() {
+        Some(round) => {
+            round.sent.len() == sent.len()
+                && round.deferred.as_slice() == deferred
+                && round
+                    .sent
+                    .iter()
+                    .map(|page| page.0)
+                    .eq(sent.iter().copied())
+        }
+        None => false,
+    }
 }
 
 /// Whether the rounds after the first send nothing.
@@ -42,13 +48,10 @@ fn sends_no_more(live: &Live) -> bool {
 fn what_a_full_lane_does_not_hold_is_deferred(rt: HostRuntime) -> Result<(), Fail> {
     let gate = SlowReceivers(Counts::new());
     let live = run(&rt, rt.alloc(), asked_with(1, 1), &gate)?;
-    assert_eq!(rt; times(&gate.0.late), 0);
-    assert_eq!(rt; live.rounds.len(), 3);
-    let first = round(&live, 0)?;
-    assert!(rt; has_sent_pages(first, &[0]));
-    assert!(rt; first.deferred.as_slice() == [1u32, 2, 3].as_slice());
-    assert!(rt; sends_no_more(&live));
-    assert!(rt; has_both_images(&live));
+    assert_eq!(rt; (times(&gate.0.late), live.rounds.len()), (0, 3));
+    assert!(rt;
+        begins_with(&live, &[0], &[1, 2, 3]) && sends_no_more(&live) && has_both_images(&live)
+    );
     Ok(())
 }
 
@@ -56,13 +59,10 @@ fn what_a_full_lane_does_not_hold_is_deferred(rt: HostRuntime) -> Result<(), Fai
 fn each_stream_has_a_lane_of_its_own(rt: HostRuntime) -> Result<(), Fail> {
     let gate = SlowReceivers(Counts::new());
     let live = run(&rt, rt.alloc(), asked_with(2, 1), &gate)?;
-    assert_eq!(rt; times(&gate.0.late), 0);
-    assert_eq!(rt; live.rounds.len(), 3);
-    let first = round(&live, 0)?;
-    assert!(rt; has_sent_pages(first, &[0, 1]));
-    assert!(rt; first.deferred.as_slice() == [2u32, 3].as_slice());
-    assert!(rt; sends_no_more(&live));
-    assert!(rt; has_both_images(&live));
+    assert_eq!(rt; (times(&gate.0.late), live.rounds.len()), (0, 3));
+    assert!(rt;
+        begins_with(&live, &[0, 1], &[2, 3]) && sends_no_more(&live) && has_both_images(&live)
+    );
     Ok(())
 }
 
@@ -70,22 +70,28 @@ fn each_stream_has_a_lane_of_its_own(rt: HostRuntime) -> Result<(), Fail> {
 fn frames_are_taken_beside_the_rounds(rt: HostRuntime) -> Result<(), Fail> {
     let gate = TakenBeside(Counts::new());
     let live = run(&rt, rt.alloc(), asked(), &gate)?;
-    assert_eq!(rt; times(&gate.0.late), 0);
-    assert!(rt; times(&gate.0.taken) >= 1);
-    assert!(rt; has_both_images(&live));
+    let is_taken = times(&gate.0.taken) >= 1;
+    assert_eq!(rt;
+        (times(&gate.0.late), is_taken, has_both_images(&live)),
+        (0, true, true)
+    );
     Ok(())
+}
+
+/// The first page that a round deferred.
+fn first_deferred(live: &Live, number: usize) -> Option<u32> {
+    live.rounds.get(number)?.deferred.first().copied()
 }
 
 #[test]
 fn a_page_whose_turn_meets_a_full_lane_is_deferred(rt: HostRuntime) -> Result<(), Fail> {
     let gate = SlowFirstReceiver(Counts::new());
     let live = run(&rt, rt.alloc(), asked_with(2, 2), &gate)?;
-    assert_eq!(rt; times(&gate.0.late), 0);
-    let first = round(&live, 0)?;
-    assert!(rt; has_sent_pages(first, &[0, 1, 2, 3]));
-    assert!(rt; first.deferred.is_empty());
-    assert_eq!(rt; round(&live, 1)?.deferred.first().copied(), Some(0));
-    assert!(rt; has_both_images(&live));
+    assert_eq!(rt;
+        (times(&gate.0.late), first_deferred(&live, 1)),
+        (0, Some(0))
+    );
+    assert!(rt; begins_with(&live, &[0, 1, 2, 3], &[]) && has_both_images(&live));
     Ok(())
 }
 
@@ -93,9 +99,11 @@ fn a_page_whose_turn_meets_a_full_lane_is_deferred(rt: HostRuntime) -> Result<()
 fn a_lane_has_room_again_when_its_frames_were_taken(rt: HostRuntime) -> Result<(), Fail> {
     let gate = TakenInTurn(Counts::new());
     let live = run(&rt, rt.alloc(), asked_with(1, 1), &gate)?;
-    assert_eq!(rt; times(&gate.0.late), 0);
-    assert_eq!(rt; times(&gate.0.taken), times(&gate.0.read));
-    assert_eq!(rt; round(&live, 1)?.sent.first().copied(), Some((0, 1)));
+    assert_eq!(rt;
+        (times(&gate.0.late), times(&gate.0.taken)),
+        (0, times(&gate.0.read))
+    );
+    assert_eq!(rt; first_sent(&live, 1), Some((0, 1)));
     assert!(rt; has_both_images(&live));
     Ok(())
 }

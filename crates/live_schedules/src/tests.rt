@@ -5,8 +5,8 @@ ghost use Rattle.image_build.specs.Joins.{memory_by};
 ghost use Rattle.live_engine.specs.Runs.{IsStoppedAt};
 
 use crate::gates::{Counts, MarkedEarly, MarkedInTurn, MarkedLate, Meeting};
-use image_build::{Image, replay, replay_before};
-use live_engine::{Gate, Live, LiveError, LiveRound, OpenGate, Stopped, live_run, migrate};
+use image_build::{replay, replay_before};
+use live_engine::{Gate, Live, OpenGate, Stopped, live_run, migrate};
 use rate_limit::{Asked, Settings};
 use std::alloc::Global;
 use std::sync::Wait;
@@ -80,21 +80,19 @@ pub(crate) fn run(
     Ok(live_run(rt, alloc, &trace, &settings, gate)?)
 }
 
-pub(crate) fn is_image(image: &Image, bytes: &[u8]) -> bool {
-    image.bytes() == bytes
+/// Whether the run made these memories: where the guest stopped, and after all writes.
+pub(crate) fn has_images(live: &Live, at_stop: &[u8], at_end: &[u8]) -> bool {
+    live.at_stop.bytes() == at_stop && live.at_end.bytes() == at_end
 }
 
-pub(crate) fn round(live: &Live, number: usize) -> Result<&LiveRound, Fail> {
-    Ok(live.rounds.get(number).ok_or("a round")?)
+/// What a round sent, with the stamps.
+pub(crate) fn sent(live: &Live, number: usize) -> Option<&[(u32, u32)]> {
+    Some(live.rounds.get(number)?.sent.as_slice())
 }
 
-fn has_sent(round: &LiveRound, sent: &[(u32, u32)]) -> bool {
-    round.sent.as_slice() == sent
-}
-
-/// Whether page 0 is the first page sent, with stamp 1.
-fn begins_with_page_0(round: &LiveRound) -> bool {
-    round.sent.first() == Some(&(0, 1))
+/// The first page that a round sent, and its stamp.
+pub(crate) fn first_sent(live: &Live, number: usize) -> Option<(u32, u32)> {
+    sent(live, number)?.first().copied()
 }
 
 pub(crate) fn times(count: &AtomicU64) -> u64 {
@@ -104,10 +102,8 @@ pub(crate) fn times(count: &AtomicU64) -> u64 {
 #[test]
 fn a_live_run_ends_where_the_plan_does(rt: HostRuntime) -> Result<(), Fail> {
     let live = run(&rt, rt.alloc(), asked(), &OpenGate)?;
-    assert_eq!(rt; live.stop, 3667);
-    assert_eq!(rt; live.rounds.len(), 3);
-    assert!(rt; is_image(&live.at_stop, &AT_END));
-    assert!(rt; is_image(&live.at_end, &AT_END));
+    let is_right = has_images(&live, &AT_END, &AT_END);
+    assert_eq!(rt; (live.stop, live.rounds.len(), is_right), (3667, 3, true));
     Ok(())
 }
 
@@ -121,9 +117,10 @@ fn many_threads_and_streams_make_the_same_memory(rt: HostRuntime) -> Result<(), 
         ..asked()
     };
     let live = run(&rt, rt.alloc(), many, &OpenGate)?;
-    assert_eq!(rt; live.stop, 3000);
-    assert!(rt; is_image(&live.at_stop, &AT_END));
-    assert!(rt; is_image(&live.at_end, &AT_END));
+    assert_eq!(rt;
+        (live.stop, has_images(&live, &AT_END, &AT_END)),
+        (3000, true)
+    );
     Ok(())
 }
 
@@ -135,46 +132,48 @@ fn the_guest_resumes_from_where_it_stopped(rt: HostRuntime) -> Result<(), Fail> 
         ..asked()
     };
     let live = run(&rt, rt.alloc(), early, &OpenGate)?;
-    assert_eq!(rt; live.stop, 2000);
-    assert!(rt; is_image(&live.at_stop, &AT_2000));
-    assert!(rt; is_image(&live.at_end, &AT_END));
+    assert_eq!(rt;
+        (live.stop, has_images(&live, &AT_2000, &AT_END)),
+        (2000, true)
+    );
     Ok(())
 }
 
-/// Puts a page of the guest's memory after all its writes into a room.
-fn resume_into(stopped: &Stopped, trace: &Trace, page: u32, room: &mut Vec<u8>) -> Result<(), Fail>
+/// The memory after all writes of the trace, page by page; none where the guest is another one.
+fn resumed(alloc: Global, stopped: &Stopped, trace: &Trace) -> Option<Vec<u8>>
     requires { IsStoppedAt trace.now stopped.now.versions.items stopped.now.index (memory_by stopped.now.memory) }
 {
-    if page >= trace.pages || room.len() != trace.shape().page_size() {
-        return Err(Fail::from("a page of the guest"));
+    let mut memory = Vec::new(alloc);
+    let mut room = Vec::from_elem(alloc, 7u8, trace.shape().page_size()).ok()?;
+    for page in 0..trace.pages {
+        if room.len() != trace.shape().page_size() {
+            return None;
+        }
+        stopped.resumed_page(trace, page, &mut room);
+        memory.extend_from_slice(&room).ok()?;
     }
-    stopped.resumed_page(trace, page, room);
-    Ok(())
+    Some(memory)
 }
 
 #[test]
 fn the_guest_resumes_in_the_memory_in_which_it_stopped(rt: HostRuntime) -> Result<(), Fail> {
-    let trace = guest(rt.alloc())?;
+    let alloc = rt.alloc();
+    let trace = guest(alloc)?;
     let settings = Settings::new(Asked {
         max: 2,
         rounds: 1,
         ..asked()
     })?;
-    let stopped = migrate(&rt, rt.alloc(), &trace, &settings, &OpenGate)?;
-    assert_eq!(rt; stopped.stop, 2000);
-    let at_stop = stopped.memory.image(rt.alloc())?;
-    assert!(rt; is_image(&at_stop, &AT_2000));
-    let mut room = Vec::from_elem(rt.alloc(), 7u8, 16)?;
-    for (page, bytes) in AT_END.chunks(16).enumerate() {
-        resume_into(&stopped, &trace, page as u32, &mut room)?;
-        assert!(rt; room.as_slice() == bytes);
-    }
+    let stopped = migrate(&rt, alloc, &trace, &settings, &OpenGate)?;
+    let at_stop = stopped.memory.image(alloc)?;
+    let at_end = resumed(alloc, &stopped, &trace).ok_or("the pages of the guest")?;
+    let is_right = at_stop.bytes() == AT_2000.as_slice() && at_end.as_slice() == AT_END.as_slice();
+    assert_eq!(rt; (stopped.stop, is_right), (2000, true));
     Ok(())
 }
 
-#[test]
-fn a_last_word_of_one_page_is_copied(rt: HostRuntime) -> Result<(), Fail> {
-    let alloc = rt.alloc();
+/// A guest of 65 pages of 16 bytes, which writes byte 7 to its last page.
+fn guest_of_65_pages(alloc: Global) -> Result<Trace, Fail> {
     let mut writes = Vec::new(alloc);
     writes.push(Write {
         tick: 10,
@@ -182,7 +181,13 @@ fn a_last_word_of_one_page_is_copied(rt: HostRuntime) -> Result<(), Fail> {
         offset: 0,
         bytes: Vec::from_slice(alloc, &[7])?,
     })?;
-    let trace = Trace::new(4, 65, writes)?;
+    Ok(Trace::new(4, 65, writes)?)
+}
+
+#[test]
+fn a_last_word_of_one_page_is_copied(rt: HostRuntime) -> Result<(), Fail> {
+    let alloc = rt.alloc();
+    let trace = guest_of_65_pages(alloc)?;
     let settings = Settings::new(Asked {
         min: 10,
         max: 10,
@@ -191,45 +196,62 @@ fn a_last_word_of_one_page_is_copied(rt: HostRuntime) -> Result<(), Fail> {
         ..asked()
     })?;
     let live = live_run(&rt, alloc, &trace, &settings, &OpenGate)?;
-    assert_eq!(rt; live.stop, 6500);
     let image = replay(alloc, &trace)?;
-    assert!(rt; is_image(&live.at_stop, image.bytes()));
-    assert!(rt; is_image(&live.at_end, image.bytes()));
+    let is_right = has_images(&live, image.bytes(), image.bytes());
+    assert_eq!(rt; (live.stop, is_right), (6500, true));
     assert_eq!(rt; image.page(64).first().copied(), Some(7));
     Ok(())
+}
+
+/// How many pages all rounds sent.
+fn total_sent(live: &Live) -> u64 {
+    let mut total = 0u64;
+    for round in &live.rounds {
+        total = total.saturating_add(round.sent.len() as u64);
+    }
+    total
 }
 
 #[test]
 fn replayers_and_copiers_meet(rt: HostRuntime) -> Result<(), Fail> {
     let gate = Meeting(Counts::new());
     let live = run(&rt, rt.alloc(), asked(), &gate)?;
-    assert_eq!(rt; times(&gate.0.late), 0);
-    let first = round(&live, 0)?;
-    assert_eq!(rt; first.sent.len(), 4);
-    assert!(rt; begins_with_page_0(first));
-    assert!(rt; begins_with_page_0(round(&live, 1)?));
-    assert_eq!(rt; times(&gate.0.stored), 5);
-    assert_eq!(rt; times(&gate.0.marked), 5);
-    assert_eq!(rt; times(&gate.0.harvested), 3);
-    let mut sent = 0u64;
-    for round in &live.rounds {
-        sent = sent.saturating_add(round.sent.len() as u64);
-    }
-    assert_eq!(rt; times(&gate.0.read), sent);
-    assert!(rt; is_image(&live.at_stop, &AT_END));
-    assert!(rt; is_image(&live.at_end, &AT_END));
+    let Counts {
+        late,
+        stored,
+        marked,
+        harvested,
+        read,
+        ..
+    } = &gate.0;
+    let steps = [
+        times(late),
+        times(stored),
+        times(marked),
+        times(harvested),
+        times(read),
+    ];
+    let firsts = [first_sent(&live, 0), first_sent(&live, 1)];
+    let count = sent(&live, 0).map(|sent| sent.len());
+    assert_eq!(rt; steps, [0, 5, 5, 3, total_sent(&live)]);
+    assert_eq!(rt; (firsts, count), ([Some((0, 1)), Some((0, 1))], Some(4)));
+    assert!(rt; has_images(&live, &AT_END, &AT_END));
     Ok(())
+}
+
+/// Whether the first round sent these pages, the second began with page 0, and both memories are right.
+fn has_rounds(live: &Live, first: &[(u32, u32)]) -> bool {
+    sent(live, 0) == Some(first)
+        && first_sent(live, 1) == Some((0, 1))
+        && has_images(live, &AT_END, &AT_END)
 }
 
 #[test]
 fn a_store_is_read_before_its_mark(rt: HostRuntime) -> Result<(), Fail> {
     let gate = MarkedLate(Counts::new());
     let live = run(&rt, rt.alloc(), asked(), &gate)?;
-    assert_eq!(rt; times(&gate.0.late), 0);
-    assert!(rt; has_sent(round(&live, 0)?, &[(0, 1), (1, 0), (2, 0), (3, 0)]));
-    assert!(rt; begins_with_page_0(round(&live, 1)?));
-    assert!(rt; is_image(&live.at_stop, &AT_END));
-    assert!(rt; is_image(&live.at_end, &AT_END));
+    let is_right = has_rounds(&live, &[(0, 1), (1, 0), (2, 0), (3, 0)]);
+    assert_eq!(rt; (times(&gate.0.late), is_right), (0, true));
     Ok(())
 }
 
@@ -237,12 +259,21 @@ fn a_store_is_read_before_its_mark(rt: HostRuntime) -> Result<(), Fail> {
 fn all_stores_of_a_round_are_read(rt: HostRuntime) -> Result<(), Fail> {
     let gate = MarkedEarly(Counts::new());
     let live = run(&rt, rt.alloc(), asked(), &gate)?;
-    assert_eq!(rt; times(&gate.0.late), 0);
-    assert!(rt; has_sent(round(&live, 0)?, &[(0, 1), (1, 3), (2, 0), (3, 0)]));
-    assert!(rt; begins_with_page_0(round(&live, 1)?));
-    assert!(rt; is_image(&live.at_stop, &AT_END));
-    assert!(rt; is_image(&live.at_end, &AT_END));
+    let is_right = has_rounds(&live, &[(0, 1), (1, 3), (2, 0), (3, 0)]);
+    assert_eq!(rt; (times(&gate.0.late), is_right), (0, true));
     Ok(())
+}
+
+/// Whether a round sent and skipped these pages, and deferred none.
+fn has_round(live: &Live, number: usize, sent: &[(u32, u32)], skipped: &[u32]) -> bool {
+    match live.rounds.get(number) {
+        Some(round) => {
+            round.sent.as_slice() == sent
+                && round.skipped.as_slice() == skipped
+                && round.deferred.is_empty()
+        }
+        None => false,
+    }
 }
 
 #[test]
@@ -253,18 +284,14 @@ fn a_page_that_is_marked_again_is_skipped(rt: HostRuntime) -> Result<(), Fail> {
         ..asked()
     };
     let live = run(&rt, rt.alloc(), skipping, &gate)?;
+    let rounds = [
+        has_round(&live, 0, &[(0, 1), (1, 3), (2, 0), (3, 0)], &[]),
+        has_round(&live, 1, &[(0, 1)], &[1]),
+        has_round(&live, 2, &[(1, 5), (3, 4)], &[]),
+    ];
+    let is_right = has_images(&live, &AT_END, &AT_END);
+    assert_eq!(rt; (rounds, live.rounds.len(), is_right), ([true; 3], 3, true));
     assert_eq!(rt; times(&gate.0.late), 0);
-    assert_eq!(rt; live.rounds.len(), 3);
-    let second = round(&live, 1)?;
-    assert!(rt; has_sent(round(&live, 0)?, &[(0, 1), (1, 3), (2, 0), (3, 0)]));
-    assert!(rt; has_sent(second, &[(0, 1)]));
-    assert!(rt; second.skipped.as_slice() == [1u32].as_slice());
-    assert!(rt; has_sent(round(&live, 2)?, &[(1, 5), (3, 4)]));
-    for round in &live.rounds {
-        assert!(rt; round.deferred.is_empty());
-    }
-    assert!(rt; is_image(&live.at_stop, &AT_END));
-    assert!(rt; is_image(&live.at_end, &AT_END));
     Ok(())
 }
 
@@ -311,7 +338,7 @@ pub(crate) fn run_sixteen(
     let live = live_run(rt, alloc, &trace, &settings, &OpenGate)?;
     let at_stop = replay_before(alloc, &trace, live.stop)?;
     let at_end = replay(alloc, &trace)?;
-    if !is_image(&live.at_stop, at_stop.bytes()) || !is_image(&live.at_end, at_end.bytes()) {
+    if !has_images(&live, at_stop.bytes(), at_end.bytes()) {
         return Err(Fail::from("another memory"));
     }
     Ok(())
@@ -349,7 +376,6 @@ fn three_streams_of_many_pages_make_the_same_memory(rt: HostRuntime) -> Result<(
     })?;
     let live = live_run(&rt, alloc, &trace, &settings, &OpenGate)?;
     let image = replay(alloc, &trace)?;
-    assert!(rt; is_image(&live.at_stop, image.bytes()));
-    assert!(rt; is_image(&live.at_end, image.bytes()));
+    assert!(rt; has_images(&live, image.bytes(), image.bytes()));
     Ok(())
 }
