@@ -7,6 +7,7 @@ use clap::{ArgMatches, Command};
 use job_kinds::{Job, Show};
 use rate_limit::SettingsError;
 use std::alloc::{AllocError, AllocFailed, Global};
+use std::env::Args;
 use std::rt::Env;
 use std::{env, io};
 use thiserror::Error;
@@ -53,10 +54,19 @@ impl<T: Drop> From<AllocFailed<T>> for WordsError {
     }
 }
 
+/// The arguments in a list. Room for all of them is asked for at once, and a refusal of it is one of the words.
+fn gathered(alloc: Global, args: Args<Global>) -> Result<Vec<String>, AllocError> {
+    let mut words = Vec::with_capacity(alloc, args.len())?;
+    for word in args {
+        words.push(word)?;
+    }
+    Ok(words)
+}
+
 /// The program's words, its name being the first.
 pub fn words<R: Env + AllocGlobal>(rt: &R) -> Result<Vec<String>, WordsError> {
     match env::args(rt) {
-        Ok(args) => Ok(args.collect(rt.alloc())?),
+        Ok(args) => Ok(gathered(rt.alloc(), args)?),
         Err(error) if error.kind() == io::ErrorKind::OutOfMemory => Err(WordsError::Memory),
         Err(_) => Err(WordsError::Usage(String::from_str(
             rt.alloc(),
