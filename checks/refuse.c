@@ -53,10 +53,10 @@ struct growth {
     uint64_t size, moves, callers[ADDRESSES];
 };
 
-/* The first growth that was refused, and the next one of the same thread, where there was one. */
+/* The first growth that was refused, how many starts of threads came before it, and the thread's next growth. */
 struct told {
     _Atomic uint64_t is_told;
-    uint64_t is_next, is_granted;
+    uint64_t started, is_next, is_granted;
     struct growth refused, next;
     char program[1024];
 };
@@ -165,6 +165,7 @@ static int refuses_growth(const uintptr_t *frame, size_t size, int moves) {
     }
     if (is_refused && !atomic_exchange(&told->is_told, 1)) {
         tells_next = 1;
+        told->started = atomic_load(&counts[THREAD]);
         tell(&told->refused, frame, size, moves);
         syscall(SYS_readlink, "/proc/self/exe", told->program, sizeof told->program - 1);
     }
