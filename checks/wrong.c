@@ -35,7 +35,7 @@ enum wrong {
     CARELESS,        /* a growth of its own, without which it goes on */
 };
 
-static char output[1 << 20], faults[1 << 16];
+static char output[1 << 20], faults[1 << 18];
 static size_t output_size, fault_size;
 static int status; /* as `wait` gives it */
 
