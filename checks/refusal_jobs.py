@@ -1,5 +1,5 @@
-"""What checks/refusals runs, and what it has to write. All of it is from docs/FORMATS.md and the rules of the plan by
-hand, none of it from the program."""
+"""What checks/refusals runs, and what it has to write. That is from docs/FORMATS.md and the rules of the plan by hand,
+and not from the program; but for help, which is what the program writes where nothing is refused."""
 
 import struct
 
@@ -86,6 +86,8 @@ WRITE_FAILED = b"precopy: write\n"
 class Job:
     """A command over a trace, what it has to write, and how many of its threads only save time."""
 
+    status, faults = 0, b""
+
     def __init__(self, name, words, output, trace="a", is_live=False, savers=0):
         self.name = name
         self.words = words
@@ -93,6 +95,17 @@ class Job:
         self.trace = trace
         self.is_live = is_live
         self.savers = 2 if is_live else savers
+
+
+class Misuse(Job):
+    """Words that the command line does not have, and what is said of them."""
+
+    status = 2
+
+    def __init__(self, words, message, usage=""):
+        super().__init__(words, words.split(), b"")
+        usage = f"\n\nUsage: precopy {usage}" if usage else ""
+        self.faults = f"error: {message}{usage}\n\nFor more information, try '--help'.\n".encode()
 
 
 IMAGE = Job("image", ["image"], A_IMAGE)
@@ -112,4 +125,15 @@ WIDE_WORDS = ["--workers", "2", *MANY_CASES.split()]
 WIDE_REPORT = Job(f"report, {WIDE}", ["report", *PLAN, *TABLES, "--workers", "2"], MANY_REPORT, "many", savers=1)
 WIDE_SWEEP = Job(f"sweep, {WIDE}", ["sweep", *WIDE_WORDS], MANY_SWEEP, "many", savers=1)
 
+# What help has to write is None here: checks/words looks at it.
+HELPS = [Job("--help", ["--help"], None), Job("live --help", ["live", "--help"], None)]
+MISUSES = [
+    Misuse("guess", "unrecognized subcommand 'guess'", "<COMMAND>"),
+    Misuse("report --min x", "invalid value 'x' for '--min <N>': invalid digit found in string"),
+    Misuse(
+        "report --ski",
+        "unexpected argument '--ski' found\n\n  tip: a similar argument exists: '--skip'",
+        "report --skip",
+    ),
+]
 JOBS = [IMAGE, REPORT, SWEEP, LIVE, AT_STOP, EARLY]
