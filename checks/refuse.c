@@ -7,7 +7,7 @@
  *
  *     REFUSE_GROWTH=N   the Nth growth of memory: NULL, or ENOMEM
  *     REFUSE_THREAD=N   the Nth start of a thread: EAGAIN
- *     REFUSE_INNER=N    the Nth growth that the C library asks for itself once the program asked for one, as for a thread
+ *     REFUSE_INNER=N    the Nth growth that the C library asks for itself, as for a thread, behind the program's first
  *     REFUSE_READ=N     the Nth read of standard input: -1 with EIO
  *     REFUSE_WRITE=N    the Nth write to standard output: -1 with EIO
  *     ZERO_WRITE=N      the Nth write to standard output takes no byte: 0
@@ -15,12 +15,15 @@
  *     BREAK_READ=N      the Nth read of standard input: -1 with EINTR; so for BREAK_WRITE
  *     REFUSE_ON=1       what is refused is refused from then on, and not once
  *     ONE_BYTE=1        reads of standard input and writes to standard output move one byte a call
- *     REFUSE_COUNTS=F   the counts stand in the file F, of 64 bytes at least, as numbers of 8 bytes: growths, threads,
- *                       inner growths, reads, writes, writes to standard error, refusals. They are right at each
- *                       moment, so also where the program dies.
+ *     REFUSE_COUNTS=F   the counts stand in the file F, of 4096 bytes at least, as numbers of 8 bytes: growths,
+ *                       threads, inner growths, reads, writes, writes to standard error, refusals, 0. They are right
+ *                       at each moment, so also where the program dies. Behind them stands who asked, `struct told`.
  *
- * Growths and starts of threads are counted where the program's own code calls: what the C library asks for at its start,
- * or for itself, is no growth of the program. Calls are counted over all threads together.
+ * Growths and starts of threads are counted where the program's own code calls: what the C library asks for at its
+ * start, or for itself, is no growth of the program. Calls are counted over all threads together.
+ *
+ * Who asked is read off the stack: the addresses there that a call may have left, as the program's code has no tables
+ * to walk it by. The first is where the call returns to. Behind the callers of small frames, others may be left over.
  */
 #define _GNU_SOURCE
 #include <dlfcn.h>
@@ -43,12 +46,33 @@ extern void *__libc_realloc(void *, size_t);
 extern void *__libc_memalign(size_t, size_t);
 
 enum { GROWTH, THREAD, INNER, READ, WRITE, FAULTS, REFUSED, COUNTS };
+enum { ADDRESSES = 6, STACK_WORDS = 64 };
 
-static _Atomic uint64_t own_counts[COUNTS];
-static _Atomic uint64_t *counts = own_counts;
+/* A growth: its size, whether it moves an older room, and who asked, in bytes from the program's first byte. */
+struct growth {
+    uint64_t size, moves, callers[ADDRESSES];
+};
+
+/* The first growth that was refused, how many starts of threads came before it, and the thread's next growth. */
+struct told {
+    _Atomic uint64_t is_told;
+    uint64_t started, is_next, is_granted;
+    struct growth refused, next;
+    char program[1024];
+};
+
+struct room {
+    _Atomic uint64_t counts[COUNTS + 1];
+    struct told told;
+};
+
+static struct room own_room;
+static struct told *told = &own_room.told;
+static _Atomic uint64_t *counts = own_room.counts;
+static __thread __attribute__((tls_model("initial-exec"))) int tells_next;
 static uint64_t refuse[COUNTS], zero_write, break_read, break_write;
 static int refuse_on, one_byte;
-static uintptr_t low, high; /* the program's own code */
+static uintptr_t first, low, high; /* the program's first byte, and its own code */
 static int (*start_thread)(pthread_t *, const pthread_attr_t *, void *(*)(void *), void *);
 
 static uint64_t number(const char *name) {
@@ -59,6 +83,7 @@ static uint64_t number(const char *name) {
 /* The first object that is told is the program itself. */
 static int find_program(struct dl_phdr_info *info, size_t size, void *data) {
     (void)size, (void)data;
+    first = info->dlpi_addr;
     for (int i = 0; i < info->dlpi_phnum; i++) {
         const ElfW(Phdr) *part = &info->dlpi_phdr[i];
         if (part->p_type == PT_LOAD && (part->p_flags & PF_X)) {
@@ -86,9 +111,10 @@ __attribute__((constructor)) static void begin(void) {
     const char *path = getenv("REFUSE_COUNTS");
     if (path && *path) {
         int file = open(path, O_RDWR | O_CLOEXEC);
-        void *at = file < 0 ? MAP_FAILED : mmap(NULL, sizeof own_counts, PROT_READ | PROT_WRITE, MAP_SHARED, file, 0);
+        void *at = file < 0 ? MAP_FAILED : mmap(NULL, sizeof own_room, PROT_READ | PROT_WRITE, MAP_SHARED, file, 0);
         if (at == MAP_FAILED) _exit(125); /* a run whose counts nobody sees would tell nothing */
-        counts = at;
+        counts = ((struct room *)at)->counts;
+        told = &((struct room *)at)->told;
         close(file);
     }
     dl_iterate_phdr(find_program, NULL);
@@ -103,29 +129,70 @@ static int refuses(int kind) {
     return 1;
 }
 
-static int refuses_growth(const void *caller) {
-    if (!low) return 0;
-    if ((uintptr_t)caller >= low && (uintptr_t)caller < high) return refuses(GROWTH);
-    return atomic_load(&counts[GROWTH]) ? refuses(INNER) : 0;
+static int is_own(uintptr_t address) { return address >= low && address < high; }
+
+/* Whether a call may stand right before an address. */
+static int follows_call(uintptr_t address) {
+    if (!is_own(address) || address < low + 7) return 0;
+#ifdef __x86_64__
+    const unsigned char *code = (const unsigned char *)address;
+    if (code[-5] == 0xe8) return 1;
+    for (int back = 2; back <= 7; back++)
+        if (code[-back] == 0xff && (code[1 - back] & 0x38) == 0x10) return 1;
+    return 0;
+#else
+    return 1;
+#endif
 }
 
-#define CALLER __builtin_extract_return_addr(__builtin_return_address(0))
+/* `frame` is the frame of the function that was called: its caller's address is the second word there. */
+static void tell(struct growth *growth, const uintptr_t *frame, size_t size, int moves) {
+    growth->size = size;
+    growth->moves = moves;
+    for (int word = 1, at = 0; word < STACK_WORDS && at < ADDRESSES; word++)
+        if (follows_call(frame[word])) growth->callers[at++] = frame[word] - first;
+}
+
+static int refuses_growth(const uintptr_t *frame, size_t size, int moves) {
+    if (!low) return 0;
+    if (!is_own(frame[1])) return atomic_load(&counts[GROWTH]) ? refuses(INNER) : 0;
+    int is_refused = refuses(GROWTH);
+    if (tells_next) {
+        tells_next = 0;
+        tell(&told->next, frame, size, moves);
+        told->is_granted = !is_refused;
+        told->is_next = 1;
+    }
+    if (is_refused && !atomic_exchange(&told->is_told, 1)) {
+        tells_next = 1;
+        told->started = atomic_load(&counts[THREAD]);
+        tell(&told->refused, frame, size, moves);
+        syscall(SYS_readlink, "/proc/self/exe", told->program, sizeof told->program - 1);
+    }
+    return is_refused;
+}
+
+#define REFUSES(size, moves) refuses_growth(__builtin_frame_address(0), size, moves)
 #define OUT_OF_MEMORY (errno = ENOMEM, NULL)
 
-void *malloc(size_t size) { return refuses_growth(CALLER) ? OUT_OF_MEMORY : __libc_malloc(size); }
+void *malloc(size_t size) { return REFUSES(size, 0) ? OUT_OF_MEMORY : __libc_malloc(size); }
 
-void *calloc(size_t count, size_t size) { return refuses_growth(CALLER) ? OUT_OF_MEMORY : __libc_calloc(count, size); }
+void *calloc(size_t count, size_t size) {
+    return REFUSES(count * size, 0) ? OUT_OF_MEMORY : __libc_calloc(count, size);
+}
 
-void *realloc(void *old, size_t size) { return refuses_growth(CALLER) ? OUT_OF_MEMORY : __libc_realloc(old, size); }
+void *realloc(void *old, size_t size) {
+    return REFUSES(size, old != NULL) ? OUT_OF_MEMORY : __libc_realloc(old, size);
+}
 
-void *memalign(size_t step, size_t size) { return refuses_growth(CALLER) ? OUT_OF_MEMORY : __libc_memalign(step, size); }
+void *memalign(size_t step, size_t size) { return REFUSES(size, 0) ? OUT_OF_MEMORY : __libc_memalign(step, size); }
 
 void *aligned_alloc(size_t step, size_t size) {
-    return refuses_growth(CALLER) ? OUT_OF_MEMORY : __libc_memalign(step, size);
+    return REFUSES(size, 0) ? OUT_OF_MEMORY : __libc_memalign(step, size);
 }
 
 int posix_memalign(void **place, size_t step, size_t size) {
-    void *room = refuses_growth(CALLER) ? NULL : __libc_memalign(step, size);
+    void *room = REFUSES(size, 0) ? NULL : __libc_memalign(step, size);
     if (!room) return ENOMEM;
     *place = room;
     return 0;

@@ -1,0 +1,139 @@
+"""What checks/refusals runs, and what it has to write. That is from docs/FORMATS.md and the rules of the plan by hand,
+and not from the program; but for help, which is what the program writes where nothing is refused."""
+
+import struct
+
+
+def header(pages, writes):
+    return b"PCWT" + bytes([1, 4, 0, 0]) + struct.pack("<II", pages, writes)
+
+
+def record(tick, page, offset, data):
+    return struct.pack("<QIHH", tick, page, offset, len(data)) + data
+
+
+A = header(4, 5) + b"".join(
+    [
+        record(0, 0, 0, b"\x01"),
+        record(5, 1, 15, b"\x02"),
+        record(1200, 1, 0, b"\x03"),
+        record(2500, 3, 2, b"\x04\x05"),
+        record(2500, 1, 0, b"\x00"),
+    ]
+)
+assert len(A) == 102
+
+ZEROS = bytes(16)
+A_IMAGE = b"\x01" + bytes(15) + bytes(15) + b"\x02" + ZEROS + b"\x00\x00\x04\x05" + bytes(12)
+A_AT_2000 = b"\x01" + bytes(15) + b"\x03" + bytes(14) + b"\x02" + ZEROS + ZEROS
+A_REPORT = b"""\
+trace pages 4 size 16 writes 5
+window 0 writes 2 pages 2 again 0 fresh 2
+window 1 writes 1 pages 1 again 1 fresh 0
+window 2 writes 2 pages 2 again 1 fresh 1
+hot 2 pages 1
+page 1
+round 0 from 0 to 2000 rate 2 pages 4 sent 4 dirtied 2
+round 1 from 2000 to 3000 rate 2 pages 2 sent 2 dirtied 2
+round 2 from 3000 to 3667 rate 3 pages 2 sent 2 dirtied 0
+stop few at 3667 pages 0 down 0 total 8
+"""
+A_SWEEP = b"""\
+case 0 min 2 max 4 inc 1 threshold 1 limit 8 skip 0 rounds 3 stop few at 3667 down 0 total 8
+case 1 min 2 max 2 inc 1 threshold 1 limit 8 skip 0 rounds 2 stop fast at 3000 down 1000 total 8
+case 2 min 2 max 4 inc 1 threshold 3 limit 8 skip 0 rounds 1 stop few at 2000 down 500 total 6
+best 0
+"""
+
+# 2^18 writes of one byte to page 1 at tick 7: so many that a report, and a sweep of eight cases, use a second thread.
+MANY_WRITES = 1 << 18
+MANY = header(4, MANY_WRITES) + record(7, 1, 0, b"\x09") * MANY_WRITES
+MANY_REPORT = b"""\
+trace pages 4 size 16 writes 262144
+window 0 writes 262144 pages 1 again 0 fresh 1
+hot 2 pages 0
+round 0 from 0 to 2000 rate 2 pages 4 sent 4 dirtied 1
+round 1 from 2000 to 2500 rate 2 pages 1 sent 1 dirtied 0
+stop few at 2500 pages 0 down 0 total 5
+"""
+
+MANY_CASES = "2,4,1,1,8,0 2,4,1,2,8,0 2,2,1,1,8,0 2,4,1,1,1,0 1,1,5,1,8,0 2,4,1,1,8,1 4,4,1,1,8,0 2,4,2,1,8,0"
+MANY_SWEEP = b"""\
+case 0 min 2 max 4 inc 1 threshold 1 limit 8 skip 0 rounds 2 stop few at 2500 down 0 total 5
+case 1 min 2 max 4 inc 1 threshold 2 limit 8 skip 0 rounds 1 stop few at 2000 down 250 total 5
+case 2 min 2 max 2 inc 1 threshold 1 limit 8 skip 0 rounds 2 stop few at 2500 down 0 total 5
+case 3 min 2 max 4 inc 1 threshold 1 limit 1 skip 0 rounds 1 stop rounds at 2000 down 250 total 5
+case 4 min 1 max 1 inc 5 threshold 1 limit 8 skip 0 rounds 1 stop fast at 4000 down 1000 total 5
+case 5 min 2 max 4 inc 1 threshold 1 limit 8 skip 1 rounds 2 stop few at 2500 down 0 total 5
+case 6 min 4 max 4 inc 1 threshold 1 limit 8 skip 0 rounds 2 stop few at 1250 down 0 total 5
+case 7 min 2 max 4 inc 2 threshold 1 limit 8 skip 0 rounds 2 stop few at 2334 down 0 total 5
+best 0
+"""
+
+PLAN = "--min 2 --max 4 --inc 1 --threshold 1 --rounds 8".split()
+TABLES = "--window 1000 --hot 2".split()
+THREADS = "--workers 2 --streams 2 --replayers 2".split()
+CASES = "2,4,1,1,8,0 2,2,1,1,8,0 2,4,1,3,8,0".split()
+
+MEMORY = b"precopy: memory\n"
+NO_ROOM_FOR_TRACE = b"precopy: trace E16\n"
+READ_FAILED = b"precopy: trace E17\n"
+LIVE_MEMORY = b"precopy: live L1\n"
+LIVE_THREAD = b"precopy: live L2\n"
+WRITE_FAILED = b"precopy: write\n"
+
+
+class Job:
+    """A command over a trace, what it has to write, and how many of its threads only save time."""
+
+    status, faults = 0, b""
+
+    def __init__(self, name, words, output, trace="a", is_live=False, savers=0):
+        self.name = name
+        self.words = words
+        self.output = output
+        self.trace = trace
+        self.is_live = is_live
+        self.savers = 2 if is_live else savers
+
+
+class Misuse(Job):
+    """Words that the command line does not have, and what is said of them."""
+
+    status = 2
+
+    def __init__(self, words, message, usage=""):
+        super().__init__(words, words.split(), b"")
+        usage = f"\n\nUsage: precopy {usage}" if usage else ""
+        self.faults = f"error: {message}{usage}\n\nFor more information, try '--help'.\n".encode()
+
+
+IMAGE = Job("image", ["image"], A_IMAGE)
+REPORT = Job("report", ["report", *PLAN, *TABLES], A_REPORT)
+SWEEP = Job("sweep", ["sweep", *CASES], A_SWEEP)
+LIVE = Job("live", ["live", *PLAN, *THREADS], A_IMAGE, is_live=True)
+AT_STOP = Job("live --at-stop", ["live", *PLAN, *THREADS, "--at-stop"], A_IMAGE, is_live=True)
+# Of these settings the guest stops at tick 2000, so that its memory is another one than at the end.
+EARLY = Job(
+    "live --at-stop, stop at 2000",
+    ["live", *"--min 2 --max 2 --inc 1 --threshold 1 --rounds 1".split(), *THREADS, "--at-stop"],
+    A_AT_2000,
+    is_live=True,
+)
+WIDE = "2 workers, 2^18 writes"
+WIDE_WORDS = ["--workers", "2", *MANY_CASES.split()]
+WIDE_REPORT = Job(f"report, {WIDE}", ["report", *PLAN, *TABLES, "--workers", "2"], MANY_REPORT, "many", savers=1)
+WIDE_SWEEP = Job(f"sweep, {WIDE}", ["sweep", *WIDE_WORDS], MANY_SWEEP, "many", savers=1)
+
+# What help has to write is None here: checks/words looks at it.
+HELPS = [Job("--help", ["--help"], None), Job("live --help", ["live", "--help"], None)]
+MISUSES = [
+    Misuse("guess", "unrecognized subcommand 'guess'", "<COMMAND>"),
+    Misuse("report --min x", "invalid value 'x' for '--min <N>': invalid digit found in string"),
+    Misuse(
+        "report --ski",
+        "unexpected argument '--ski' found\n\n  tip: a similar argument exists: '--skip'",
+        "report --skip",
+    ),
+]
+JOBS = [IMAGE, REPORT, SWEEP, LIVE, AT_STOP, EARLY]

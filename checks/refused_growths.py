@@ -1,0 +1,100 @@
+"""Which growths were refused, as checks/refuse.c tells it, and which of them may be refused and the output come."""
+
+import bisect
+import re
+import subprocess
+from collections import Counter
+
+
+class Growth:
+    """A growth that the program asked for: its size, whether it moves an older room, and the functions that asked."""
+
+    def __init__(self, numbers, functions):
+        self.size, self.moves, *addresses = numbers
+        self.callers = [functions.at(address) for address in addresses if address]
+
+    def __str__(self):
+        return f"{self.size} bytes for {' in '.join(self.callers[:3])}"
+
+
+class Functions:
+    """The names of a program's functions, by address. Where there are no names, all are unknown."""
+
+    def __init__(self, program):
+        done = subprocess.run(["nm", "-n", program], stdout=subprocess.PIPE, stderr=subprocess.DEVNULL)
+        lines = [line.split(" ", 2) for line in done.stdout.decode("utf-8", "replace").splitlines()]
+        found = [(int(line[0], 16), line[2]) for line in lines if line[0] and line[1] in "tTwW"]
+        self.starts, self.names = [start for start, _ in found], [name for _, name in found]
+
+    def at(self, address):
+        # A call may be a function's last instruction, and its return address the next one's first.
+        place = bisect.bisect_right(self.starts, address - 1)
+        return self.names[place - 1] if place else "?"
+
+
+# Where the program's words are gathered: `words` of the crate command_line, and what it may be compiled into.
+GATHERING = re.compile(
+    r"\+\w+::entry|main|precopy::main\b.*|command_line::command::words\b.*|.*\b(collect|from_iter|extend_items)\b.*"
+)
+GROWING = re.compile(r"std_alloc::vec::Vec::grow_amortized\b.*")
+# Where the characters of a word are gathered, to look for a word like one that the command line does not have.
+LIKENING = re.compile(r"strsim::.*|clap::parser::suggestions::.*")
+ROOM_OF_A_WORD = 24
+LEAST_ROOM = 4 * ROOM_OF_A_WORD
+
+
+def is_hint(job, run):
+    """Whether what was refused is room for all items of a list at once, and what was granted next, room for one more.
+
+    `Vec::from_iter` asks for room for as many items as an iterator says that it may have. That may be too much, so
+    where it is refused it asks for room for one more, as a list grows then. Where that is refused it ends."""
+    first, again = run.refused, run.again
+    if not first or not again or again.size > first.size or again.moves != first.moves:
+        return False
+    allocating, growing, gathering = (*first.callers[:3], "", "", "")[:3]
+    if again.callers[:3] != [allocating, growing, gathering] or not GROWING.fullmatch(growing):
+        return False
+    if allocating != ("rattle_realloc" if first.moves else "rattle_alloc"):
+        return False
+    if GATHERING.fullmatch(gathering):
+        wanted = max(LEAST_ROOM, ROOM_OF_A_WORD * (1 + len(job.words)))
+        return (first.size, again.size, first.moves) == (wanted, LEAST_ROOM, 0)
+    return bool(LIKENING.fullmatch(gathering))
+
+
+def is_for_saver(job, run, whole):
+    """Whether what was refused is room to start a thread that only saves time: one thread less was started than of a
+    run that is refused nothing. Such threads come before all others. Room to start a thread is asked of the C library
+    in place, and not through `rattle_alloc`."""
+    first = run.refused
+    if not first or first.moves or not first.callers or run.started >= job.savers:
+        return False
+    return not first.callers[0].startswith("rattle_") and run.counts["threads"] == whole.counts["threads"] - 1
+
+
+AGAIN, SAVED = "asked again", "done by the caller"
+
+
+class Harmless:
+    """Tells which growths of a job may be refused and the output come all the same, and from how many places."""
+
+    def __init__(self, runner, job):
+        self.job = job
+        self.whole = runner.run(job, REFUSE_GROWTH=1 << 62)
+        self.places = {AGAIN: {}, SAVED: {}}
+
+    def kind(self, run):
+        """Why the whole output may come, or None. There is one place that gathers words and, for words that are
+        refused, one that gathers characters; and one place for each thread that saves time."""
+        if is_hint(self.job, run):
+            kind, most, place = AGAIN, 1 + (self.job.status == 2), run.refused.callers[2]
+        elif is_for_saver(self.job, run, self.whole):
+            kind, most, place = SAVED, self.job.savers, str(run.refused)
+        else:
+            return None
+        self.places[kind].setdefault(place, Counter())[str(run.refused)] += 1
+        return kind if len(self.places[kind]) <= most else None
+
+    def told(self):
+        found = [(kind, told) for kind, places in self.places.items() for told in places.values()]
+        return [f"{kind}, {count} times: {growth}" for kind, told in found for growth, count in sorted(told.items())]
