@@ -32,18 +32,12 @@ class Functions:
         return self.names[place - 1] if place else "?"
 
 
-# Where the program's words are gathered: `words` of the crate command_line, and what it may be compiled into.
-GATHERING = re.compile(
-    r"\+\w+::entry|main|precopy::main\b.*|command_line::command::words\b.*|.*\b(collect|from_iter|extend_items)\b.*"
-)
 GROWING = re.compile(r"std_alloc::vec::Vec::grow_amortized\b.*")
 # Where the characters of a word are gathered, to look for a word like one that the command line does not have.
 LIKENING = re.compile(r"strsim::.*|clap::parser::suggestions::.*")
-ROOM_OF_A_WORD = 24
-LEAST_ROOM = 4 * ROOM_OF_A_WORD
 
 
-def is_hint(job, run):
+def is_hint(run):
     """Whether what was refused is room for all items of a list at once, and what was granted next, room for one more.
 
     `Vec::from_iter` asks for room for as many items as an iterator says that it may have. That may be too much, so
@@ -56,9 +50,6 @@ def is_hint(job, run):
         return False
     if allocating != ("rattle_realloc" if first.moves else "rattle_alloc"):
         return False
-    if GATHERING.fullmatch(gathering):
-        wanted = max(LEAST_ROOM, ROOM_OF_A_WORD * (1 + len(job.words)))
-        return (first.size, again.size, first.moves) == (wanted, LEAST_ROOM, 0)
     return bool(LIKENING.fullmatch(gathering))
 
 
@@ -84,10 +75,10 @@ class Harmless:
         self.places = {AGAIN: {}, SAVED: {}}
 
     def kind(self, run):
-        """Why the whole output may come, or None. There is one place that gathers words and, for words that are
-        refused, one that gathers characters; and one place for each thread that saves time."""
-        if is_hint(self.job, run):
-            kind, most, place = AGAIN, 1 + (self.job.status == 2), run.refused.callers[2]
+        """Why the whole output may come, or None. For words that are refused there is one place that gathers
+        characters; and there is one place for each thread that saves time."""
+        if is_hint(run):
+            kind, most, place = AGAIN, int(self.job.status == 2), run.refused.callers[2]
         elif is_for_saver(self.job, run, self.whole):
             kind, most, place = SAVED, self.job.savers, str(run.refused)
         else:
