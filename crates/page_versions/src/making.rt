@@ -30,9 +30,10 @@ pub(crate) fn parts_of<T: Timeline>(
 ) -> Result<Parts, IndexError>
     ensures { IfOk result (λ parts. IsLaidOut (T.pages timeline.now) (T.touches timeline.now) parts.starts.items parts.places.items) }
 {
+    let pages = timeline.page_count();
     let mut runs = runs_of(alloc, timeline)?;
     sort_runs(rt, &mut runs);
-    Ok(lay_out(alloc, timeline.page_count(), timeline.touch_count(), &runs)?)
+    Ok(lay_out(alloc, pages, timeline.touch_count(), &runs)?)
 }
 
 /// Whether these are all touches that are told.

@@ -27,7 +27,7 @@ lay_out-requires-clause-each g c =
     let sorted : List Run = c.sort_runs.new.runs in
     let same : IsPermutation made sorted = rw c.deref_mut.ensures.value at c.sort_runs.ensures.same in
     let len : length sorted ≡ c.in_ok-runs.runs.len = omega (arith, length_permutation made sorted same, c.in_ok-runs.runs.ok.0) in
-    rw (c.deref.ensures.value ∙ take_at sorted _ c.in_ok-runs.runs.len len, c.page_count.ensures.pages)
+    rw (c.deref.ensures.value ∙ take_at sorted _ c.in_ok-runs.runs.len len, c.page_count-pages.ensures.pages)
     (All-permutation (IsRun pages) made sorted same c.in_ok-runs.ensures.runs.each)
 
 pub returns : goal.returns
@@ -40,7 +40,7 @@ returns g c =
     let len : length sorted ≡ c.in_ok-runs.runs.len = omega (arith, length_permutation made sorted same, c.in_ok-runs.runs.ok.0) in
     let all = c.deref.ensures.value ∙ take_at sorted _ c.in_ok-runs.runs.len len in
     let parts = c.in_ok-lay_out.field-0 in
-    let starts : AreStarts pages (places_through sorted) parts.starts.items = rw (all, c.page_count.ensures.pages) at c.in_ok-lay_out.ensures.starts in
+    let starts : AreStarts pages (places_through sorted) parts.starts.items = rw (all, c.page_count-pages.ensures.pages) at c.in_ok-lay_out.ensures.starts in
     let places : parts.places.items ≡ map (λ (p : GuestPlace). p.place) (places_through sorted) = rw all at c.in_ok-lay_out.ensures.places in
     laid_out pages touches (places_through sorted) parts.starts.items parts.places.items c.in_ok-runs.ensures.fits
     (same_places pages touches made sorted c.in_ok-runs.ensures.runs same c.sort_runs.ensures.by_page) starts places
