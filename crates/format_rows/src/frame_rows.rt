@@ -3,9 +3,10 @@
 ghost use Rattle.std.specs.Prelude.{◌≡◌};
 
 use page_message::{
-    Body, Frame, FrameError, append_frame, decode_frame, encode_frame, frame_of, view_frame,
+    Body, Frame, FrameError, FrameView, append_frame, decode_frame, encode_frame, frame_of,
+    view_frame,
 };
-use std::alloc::AllocError;
+use std::alloc::{AllocError, Global};
 use std::test::Fail;
 use trace_codec::Shape;
 
@@ -46,16 +47,30 @@ fn refusal(rt: &impl AllocGlobal, bytes: &[u8]) -> Option<FrameError> {
     decode_frame(rt.alloc(), &shape(), bytes).err()
 }
 
-#[test]
-fn frames_are_appended(rt: HostRuntime) -> Result<(), Fail> {
+/// Both frames, one behind the other.
+fn both_appended(rt: &impl AllocGlobal) -> Result<Vec<u8>, FrameError> {
     let shape = shape();
     let mut stream = Vec::new(rt.alloc());
     append_frame(&mut stream, &shape, 2, 0, &[0; 16])?;
     append_frame(&mut stream, &shape, 3, 4, &DATA_FRAME[9..])?;
+    Ok(stream)
+}
+
+#[test]
+fn frames_are_appended(rt: HostRuntime) -> Result<(), Fail> {
+    let stream = both_appended(&rt)?;
     assert_eq!(rt; stream.len(), 34);
-    assert!(rt; &stream[..9] == ZEROS_FRAME.as_slice());
-    assert!(rt; &stream[9..] == DATA_FRAME.as_slice());
+    assert!(rt; &stream[..9] == ZEROS_FRAME.as_slice() && &stream[9..] == DATA_FRAME.as_slice());
     Ok(())
+}
+
+/// A frame's page and stamp, and its bytes where they are not zeros.
+fn parts_of(frame: &Frame) -> (u32, u32, Option<&[u8]>) {
+    let bytes = match &frame.body {
+        Body::Zero => None,
+        Body::Data(bytes) => Some(bytes.as_slice()),
+    };
+    (frame.page, frame.stamp, bytes)
 }
 
 #[test]
@@ -63,13 +78,13 @@ fn zeros_are_sent_without_their_bytes(rt: HostRuntime) -> Result<(), Fail> {
     let shape = shape();
     let bytes = vec![in rt.alloc(); 0u8; shape.page_size()]?;
     let frame = frame_of(&shape, 2, 0, bytes);
-    assert!(rt; matches!(&frame.body, Body::Zero));
-    assert!(rt; frame.fits(&shape));
+    assert!(rt; matches!(&frame.body, Body::Zero) && frame.fits(&shape));
     let text = encode_frame(rt.alloc(), &shape, &frame)?;
+    drop(frame);
     assert!(rt; text.as_slice() == ZEROS_FRAME.as_slice());
     let (read, size) = decode_frame(rt.alloc(), &shape, &text)?;
-    assert_eq!(rt; (read.page, read.stamp, size), (2, 0, 9));
-    assert!(rt; matches!(&read.body, Body::Zero));
+    drop(text);
+    assert_eq!(rt; (parts_of(&read), size), ((2, 0, None), 9));
     Ok(())
 }
 
@@ -86,63 +101,71 @@ fn bytes_of_a_page_come_back(rt: HostRuntime) -> Result<(), Fail> {
 
 #[test]
 fn frames_are_viewed_where_they_stand(rt: HostRuntime) -> Result<(), Fail> {
-    let shape = shape();
-    let (zeros, size) = view_frame(&shape, &ZEROS_FRAME)?;
-    assert_eq!(rt; (zeros.page, zeros.stamp, size), (2, 0, 9));
-    assert!(rt; zeros.body.is_none());
-    let (data, size) = view_frame(&shape, &DATA_FRAME)?;
-    assert_eq!(rt; (data.page, data.stamp, size), (3, 4, 25));
-    assert!(rt; data.body == Some(&DATA_FRAME[9..]));
+    let rows: [(&[u8], (u32, u32, Option<&[u8]>), usize); 2] = [
+        (&ZEROS_FRAME, (2, 0, None), 9),
+        (&DATA_FRAME, (3, 4, Some(&DATA_FRAME[9..])), 25),
+    ];
+    for (bytes, wanted, wanted_size) in rows {
+        let (view, size) = view_frame(&shape(), bytes)?;
+        assert_eq!(rt;
+            ((view.page, view.stamp, view.body), size),
+            (wanted, wanted_size)
+        );
+    }
     Ok(())
+}
+
+/// Makes the frame the one that is viewed, and tells whether it then has this page, this stamp and these bytes.
+fn becomes(
+    alloc: Global,
+    frame: &mut Frame,
+    view: &FrameView<'_>,
+    wanted: (u32, u32, Option<&[u8]>),
+) -> bool {
+    frame.copy_from(alloc, view).is_ok() && parts_of(frame) == wanted
 }
 
 #[test]
 fn frames_are_overwritten(rt: HostRuntime) -> Result<(), Fail> {
     let shape = shape();
-    let other = changed(&rt, 10, 8, 25)?;
+    let mut changed = DATA_FRAME;
+    changed[10] = 8;
     let (zeros, _) = view_frame(&shape, &ZEROS_FRAME)?;
     let (data, _) = view_frame(&shape, &DATA_FRAME)?;
-    let (other, _) = view_frame(&shape, &other)?;
+    let (other, _) = view_frame(&shape, &changed)?;
     let mut frame = zeros.to_frame(rt.alloc())?;
-    frame.copy_from(rt.alloc(), &data)?;
-    assert_eq!(rt; (frame.page, frame.stamp), (3, 4));
-    assert!(rt; matches!(&frame.body, Body::Data(bytes) if bytes.as_slice() == &DATA_FRAME[9..]));
-    frame.copy_from(rt.alloc(), &other)?;
-    assert!(rt;
-        matches!(&frame.body, Body::Data(bytes) if bytes.first() == Some(&0) && bytes.get(1) == Some(&8))
-    );
-    frame.copy_from(rt.alloc(), &zeros)?;
-    assert_eq!(rt; (frame.page, frame.stamp), (2, 0));
-    assert!(rt; matches!(&frame.body, Body::Zero));
+    let steps = [
+        becomes(
+            rt.alloc(),
+            &mut frame,
+            &data,
+            (3, 4, Some(&DATA_FRAME[9..])),
+        ),
+        becomes(rt.alloc(), &mut frame, &other, (3, 4, Some(&changed[9..]))),
+        becomes(rt.alloc(), &mut frame, &zeros, (2, 0, None)),
+    ];
+    assert_eq!(rt; steps, [true; 3]);
     Ok(())
 }
 
 #[test]
 fn first_cause_is_answered(rt: HostRuntime) -> Result<(), Fail> {
-    assert_eq!(rt;
-        refusal(&rt, &changed(&rt, 0, 4, 25)?),
-        Some(FrameError::Page)
-    );
-    assert_eq!(rt;
-        refusal(&rt, &changed(&rt, 4, 6, 25)?),
-        Some(FrameError::Stamp)
-    );
-    assert_eq!(rt;
-        refusal(&rt, &changed(&rt, 8, 2, 25)?),
-        Some(FrameError::Kind)
-    );
-    assert_eq!(rt;
-        refusal(&rt, &changed(&rt, 8, 1, 24)?),
-        Some(FrameError::Short)
-    );
-    assert_eq!(rt;
-        refusal(&rt, &changed(&rt, 8, 0, 8)?),
-        Some(FrameError::Short)
-    );
-    assert_eq!(rt;
-        refusal(&rt, &changed(&rt, 0, 4, 10)?),
-        Some(FrameError::Page)
-    );
+    let rows = [
+        (0, 4, 25, FrameError::Page),
+        (4, 6, 25, FrameError::Stamp),
+        (8, 2, 25, FrameError::Kind),
+        (8, 1, 24, FrameError::Short),
+        (8, 0, 8, FrameError::Short),
+        (0, 4, 10, FrameError::Page),
+    ];
+    for (place, byte, len, cause) in rows {
+        let bytes = changed(&rt, place, byte, len)?;
+        assert_eq!(rt;
+            refusal(&rt, &bytes),
+            Some(cause),
+            "{len} bytes, {byte} at {place}"
+        );
+    }
     let mut zeros = changed(&rt, 8, 1, 11)?;
     zeros.resize(25, 0)?;
     assert_eq!(rt; refusal(&rt, &zeros), Some(FrameError::ZeroData));

@@ -3,9 +3,9 @@
 ghost use Rattle.std.specs.Prelude.{◌≡◌, ◌<◌, ◌≤◌};
 ghost use Rattle.page_message.specs.Shapes.{shape_of};
 
-use collector::{Fate, Part, merge};
+use collector::{Fate, Part, PartError, merge};
 use page_message::{Body, FrameError, append_frame, frame_of};
-use std::alloc::Global;
+use std::alloc::{AllocError, Global};
 use std::test::Fail;
 use trace_codec::Shape;
 
@@ -27,7 +27,7 @@ fn shape() -> Shape
     }
 }
 
-/// Gives the part a page whose bytes are all this one.
+/// What the part answers to a page whose bytes are all this one, if memory lasts.
 fn give(
     alloc: Global,
     part: &mut Part,
@@ -35,43 +35,61 @@ fn give(
     page: u32,
     stamp: u32,
     byte: u8,
-) -> Result<Fate, Fail>
+) -> Option<Fate>
     requires part { part.old.shape ≡ shape_of shape.now }
     requires page { page < shape.now.pages }
     requires stamp { stamp ≤ shape.now.writes }
     ensures { part.new.shape ≡ part.old.shape }
 {
-    let bytes = vec![in alloc; byte; shape.page_size()]?;
-    Ok(part.accept(frame_of(shape, page, stamp, bytes))?)
+    let bytes = vec![in alloc; byte; shape.page_size()].ok()?;
+    part.accept(frame_of(shape, page, stamp, bytes)).ok()
+}
+
+/// A part to which page 1 came with these stamps in turn, and what it answered to each.
+fn given(alloc: Global, first: u32, second: u32, third: u32) -> (Part, [Option<Fate>; 3])
+    requires first { first ≤ 5 }
+    requires second { second ≤ 5 }
+    requires third { third ≤ 5 }
+{
+    let shape = shape();
+    let mut part = Part::new(alloc, shape);
+    let fates = [
+        give(alloc, &mut part, &shape, 1, first, 7),
+        give(alloc, &mut part, &shape, 1, second, 8),
+        give(alloc, &mut part, &shape, 1, third, 9),
+    ];
+    (part, fates)
 }
 
 #[test]
-fn greatest_stamp_is_kept(rt: HostRuntime) -> Result<(), Fail> {
-    let shape = shape();
-    let mut part = Part::new(rt.alloc(), shape);
-    assert_eq!(rt; part.stamp(1), None);
-    assert_eq!(rt; give(rt.alloc(), &mut part, &shape, 1, 5, 7)?, Fate::New);
-    assert_eq!(rt; give(rt.alloc(), &mut part, &shape, 1, 2, 8)?, Fate::Old);
-    assert_eq!(rt; give(rt.alloc(), &mut part, &shape, 1, 5, 9)?, Fate::Old);
-    assert_eq!(rt; part.stamp(1), Some(5));
-    let mut other = Part::new(rt.alloc(), shape);
-    assert_eq!(rt; give(rt.alloc(), &mut other, &shape, 1, 2, 7)?, Fate::New);
-    assert_eq!(rt; give(rt.alloc(), &mut other, &shape, 1, 5, 8)?, Fate::Newer);
-    assert_eq!(rt; give(rt.alloc(), &mut other, &shape, 1, 2, 9)?, Fate::Old);
-    assert_eq!(rt; other.stamp(1), Some(5));
-    assert_eq!(rt; other.stamp(65_536), None);
-    assert_eq!(rt; other.shape(), shape);
-    Ok(())
+fn greatest_stamp_is_kept(rt: HostRuntime) {
+    assert_eq!(rt; Part::new(rt.alloc(), shape()).stamp(1), None);
+    let (part, fates) = given(rt.alloc(), 5, 2, 5);
+    assert_eq!(rt;
+        (fates, part.stamp(1)),
+        ([Some(Fate::New), Some(Fate::Old), Some(Fate::Old)], Some(5))
+    );
+    drop(part);
+    let (other, fates) = given(rt.alloc(), 2, 5, 2);
+    assert_eq!(rt;
+        (fates, other.stamp(1), other.stamp(65_536), other.shape()),
+        (
+            [Some(Fate::New), Some(Fate::Newer), Some(Fate::Old)],
+            Some(5),
+            None,
+            shape()
+        )
+    );
 }
 
-/// What goes for a page whose bytes are all this one: its stamp and its first byte.
+/// What goes for page 1, whose bytes are all this one: its stamp and its first byte.
 fn swap(
     alloc: Global,
     part: &mut Part,
     shape: &Shape,
     stamp: u32,
     byte: u8,
-) -> Result<Option<(u32, u8)>, Fail>
+) -> Result<Option<(u32, u8)>, PartError>
     requires part { part.old.shape ≡ shape_of shape.now }
     requires pages { 1 < shape.now.pages }
     requires stamp { stamp ≤ shape.now.writes }
@@ -89,100 +107,146 @@ fn swap(
 }
 
 #[test]
-fn older_frame_goes(rt: HostRuntime) -> Result<(), Fail> {
+fn older_frame_goes(rt: HostRuntime) {
     let shape = shape();
     let mut part = Part::new(rt.alloc(), shape);
-    assert_eq!(rt; swap(rt.alloc(), &mut part, &shape, 2, 7)?, None);
-    assert_eq!(rt; swap(rt.alloc(), &mut part, &shape, 4, 8)?, Some((2, 7)));
-    assert_eq!(rt; swap(rt.alloc(), &mut part, &shape, 3, 9)?, Some((3, 9)));
-    assert_eq!(rt; swap(rt.alloc(), &mut part, &shape, 4, 6)?, Some((4, 6)));
-    assert_eq!(rt; swap(rt.alloc(), &mut part, &shape, 5, 0)?, Some((4, 8)));
-    assert_eq!(rt; part.stamp(1), Some(5));
-    Ok(())
+    let gone = [
+        swap(rt.alloc(), &mut part, &shape, 2, 7),
+        swap(rt.alloc(), &mut part, &shape, 4, 8),
+        swap(rt.alloc(), &mut part, &shape, 3, 9),
+        swap(rt.alloc(), &mut part, &shape, 4, 6),
+        swap(rt.alloc(), &mut part, &shape, 5, 0),
+    ];
+    assert_eq!(rt;
+        (gone, part.stamp(1)),
+        (
+            [
+                Ok(None),
+                Ok(Some((2, 7))),
+                Ok(Some((3, 9))),
+                Ok(Some((4, 6))),
+                Ok(Some((4, 8)))
+            ],
+            Some(5)
+        )
+    );
+}
+
+/// The frame of zeros, and another frame behind it.
+fn behind_zeros(alloc: Global, frame: &[u8]) -> Result<Vec<u8>, AllocError> {
+    let mut bytes = Vec::from_slice(alloc, &ZEROS_FRAME)?;
+    bytes.extend_from_slice(frame)?;
+    Ok(bytes)
 }
 
 #[test]
 fn frames_in_front_of_a_refused_one_are_taken(rt: HostRuntime) -> Result<(), Fail> {
-    let mut bytes = Vec::from_slice(rt.alloc(), &ZEROS_FRAME)?;
-    bytes.extend_from_slice(&DATA_FRAME)?;
-    let mut part = Part::new(rt.alloc(), shape());
+    let mut bytes = behind_zeros(rt.alloc(), &DATA_FRAME)?;
     bytes.truncate(33);
-    assert_eq!(rt; part.accept_bytes(&bytes), Err((1, FrameError::Short)));
-    assert_eq!(rt; (part.stamp(2), part.stamp(3)), (Some(0), None));
+    let mut part = Part::new(rt.alloc(), shape());
+    let taken = part.accept_bytes(&bytes);
+    drop(bytes);
+    assert_eq!(rt;
+        (taken, part.stamp(2), part.stamp(3)),
+        (Err((1, FrameError::Short)), Some(0), None)
+    );
     Ok(())
 }
 
 #[test]
 fn frames_are_taken_to_the_end(rt: HostRuntime) -> Result<(), Fail> {
-    let mut bytes = Vec::from_slice(rt.alloc(), &ZEROS_FRAME)?;
-    bytes.extend_from_slice(&ZEROS_FRAME)?;
+    let bytes = behind_zeros(rt.alloc(), &ZEROS_FRAME)?;
     let mut part = Part::new(rt.alloc(), shape());
-    assert_eq!(rt; part.accept_bytes(&bytes), Ok(2));
-    assert_eq!(rt; part.accept_bytes(&DATA_FRAME), Ok(1));
-    assert_eq!(rt; part.accept_bytes(b""), Ok(0));
+    let taken = [
+        part.accept_bytes(&bytes),
+        part.accept_bytes(&DATA_FRAME),
+        part.accept_bytes(b""),
+    ];
+    drop(bytes);
     assert_eq!(rt;
-        (part.stamp(0), part.stamp(2), part.stamp(3)),
-        (None, Some(0), Some(4))
+        (taken, [part.stamp(0), part.stamp(2), part.stamp(3)]),
+        ([Ok(2), Ok(1), Ok(0)], [None, Some(0), Some(4)])
     );
     Ok(())
 }
 
-/// The spelling of page 1, each of whose bytes is this one.
-fn spelled(alloc: Global, stamp: u32, byte: u8) -> Result<Vec<u8>, Fail>
-    requires { stamp ≤ 5 }
-{
-    let mut stream = Vec::new(alloc);
-    append_frame(&mut stream, &shape(), 1, stamp, &[byte; 16])?;
-    Ok(stream)
-}
-
-/// Whether the part has page 1, and each of its bytes is this one.
-fn is_filled(part: &Part, byte: u8) -> bool {
-    match part.frame(1).map(|frame| &frame.body) {
-        Some(Body::Zero) => byte == 0,
-        Some(Body::Data(bytes)) => bytes.as_slice() == [byte; 16].as_slice(),
-        None => false,
+/// The byte that each of page 1's bytes is, where the part has the page and they are the same.
+fn filling(part: &Part) -> Option<u8> {
+    match &part.frame(1)?.body {
+        Body::Zero => Some(0),
+        Body::Data(bytes) => {
+            let byte = *bytes.first()?;
+            (bytes.as_slice() == [byte; 16].as_slice()).then_some(byte)
+        }
     }
 }
 
+/// What comes of the spelling of page 1, each of whose bytes is this one: how many frames the part takes, and then its
+/// stamp of the page and what the page is filled with.
+fn copy(
+    alloc: Global,
+    part: &mut Part,
+    stamp: u32,
+    byte: u8,
+) -> (Option<usize>, Option<u32>, Option<u8>)
+    requires { stamp ≤ 5 }
+{
+    let mut stream = Vec::new(alloc);
+    let spelled = append_frame(&mut stream, &shape(), 1, stamp, &[byte; 16]);
+    let taken = match spelled {
+        Ok(()) => part.accept_bytes(&stream).ok(),
+        Err(_) => None,
+    };
+    (taken, part.stamp(1), filling(part))
+}
+
 #[test]
-fn newer_frames_are_copied_over_older_ones(rt: HostRuntime) -> Result<(), Fail> {
+fn newer_frames_are_copied_over_older_ones(rt: HostRuntime) {
     let mut part = Part::new(rt.alloc(), shape());
-    let first = spelled(rt.alloc(), 1, 7)?;
-    assert_eq!(rt; part.accept_bytes(&first), Ok(1));
-    assert!(rt; part.stamp(1) == Some(1) && is_filled(&part, 7));
-    let newer = spelled(rt.alloc(), 2, 8)?;
-    assert_eq!(rt; part.accept_bytes(&newer), Ok(1));
-    assert!(rt; part.stamp(1) == Some(2) && is_filled(&part, 8));
-    let zeros = spelled(rt.alloc(), 3, 0)?;
-    assert_eq!(rt; part.accept_bytes(&zeros), Ok(1));
-    assert!(rt; part.stamp(1) == Some(3) && is_filled(&part, 0));
-    let last = spelled(rt.alloc(), 5, 9)?;
-    assert_eq!(rt; part.accept_bytes(&last), Ok(1));
-    assert!(rt; part.stamp(1) == Some(5) && is_filled(&part, 9));
-    let older = spelled(rt.alloc(), 4, 6)?;
-    assert_eq!(rt; part.accept_bytes(&older), Ok(1));
-    assert!(rt; part.stamp(1) == Some(5) && is_filled(&part, 9));
-    Ok(())
+    let copies = [
+        copy(rt.alloc(), &mut part, 1, 7),
+        copy(rt.alloc(), &mut part, 2, 8),
+        copy(rt.alloc(), &mut part, 3, 0),
+        copy(rt.alloc(), &mut part, 5, 9),
+        copy(rt.alloc(), &mut part, 4, 6),
+    ];
+    assert_eq!(rt;
+        copies,
+        [
+            (Some(1), Some(1), Some(7)),
+            (Some(1), Some(2), Some(8)),
+            (Some(1), Some(3), Some(0)),
+            (Some(1), Some(5), Some(9)),
+            (Some(1), Some(5), Some(9)),
+        ]
+    );
+}
+
+/// What two parts come to, the first with pages 1 and 2, the second with pages 1, 2 and 3.
+fn merged(alloc: Global) -> Option<Part> {
+    let shape = shape();
+    let mut first = Part::new(alloc, shape);
+    let mut second = Part::new(alloc, shape);
+    let fates = [
+        give(alloc, &mut first, &shape, 1, 3, 7),
+        give(alloc, &mut first, &shape, 2, 0, 0),
+        give(alloc, &mut second, &shape, 1, 3, 9),
+        give(alloc, &mut second, &shape, 2, 4, 8),
+        give(alloc, &mut second, &shape, 3, 1, 6),
+    ];
+    if fates != [Some(Fate::New); 5] {
+        return None;
+    }
+    merge(first, second).ok()
 }
 
 #[test]
 fn first_part_stays_where_stamps_are_equal(rt: HostRuntime) -> Result<(), Fail> {
-    let shape = shape();
-    let mut first = Part::new(rt.alloc(), shape);
-    let mut second = Part::new(rt.alloc(), shape);
-    give(rt.alloc(), &mut first, &shape, 1, 3, 7)?;
-    give(rt.alloc(), &mut first, &shape, 2, 0, 0)?;
-    give(rt.alloc(), &mut second, &shape, 1, 3, 9)?;
-    give(rt.alloc(), &mut second, &shape, 2, 4, 8)?;
-    give(rt.alloc(), &mut second, &shape, 3, 1, 6)?;
-    let both = merge(first, second)?;
+    let both = merged(rt.alloc()).ok_or("a part")?;
+    let stamps = [both.stamp(0), both.stamp(1), both.stamp(2), both.stamp(3)];
     assert_eq!(rt;
-        (both.stamp(0), both.stamp(1), both.stamp(2), both.stamp(3)),
-        (None, Some(3), Some(4), Some(1))
+        (stamps, filling(&both), both.frame(0).is_none()),
+        ([None, Some(3), Some(4), Some(1)], Some(7), true)
     );
-    let kept = both.frame(1).ok_or("page 1")?;
-    assert!(rt; matches!(&kept.body, Body::Data(bytes) if bytes.first() == Some(&7)));
-    assert!(rt; both.frame(0).is_none());
     Ok(())
 }

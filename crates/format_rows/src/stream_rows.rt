@@ -6,6 +6,7 @@ ghost use Rattle.migration_model.specs.Frames.{IsFrame};
 ghost use Rattle.page_message.specs.Shapes.{shape_of};
 
 use page_message::{Frame, frame_of};
+use std::alloc::Global;
 use std::test::Fail;
 use stream_split::{Dealer, split};
 use trace_codec::Shape;
@@ -33,32 +34,34 @@ fn add_frame(shape: &Shape, frames: &mut Vec<Frame>, frame: Frame) -> Result<(),
     Ok(())
 }
 
-#[test]
-fn frames_go_to_streams_in_turn(rt: HostRuntime) -> Result<(), Fail> {
+/// The streams of three frames: of page 2, which is zeros, of page 3, and of page 2 again.
+fn two_streams(alloc: Global) -> Result<Vec<Vec<u8>>, Fail> {
     let shape = shape();
-    let zeros = vec![in rt.alloc(); 0u8; shape.page_size()]?;
-    let more = vec![in rt.alloc(); 0u8; shape.page_size()]?;
-    let mut bytes = vec![in rt.alloc(); 0u8; shape.page_size()]?;
+    let zeros = vec![in alloc; 0u8; shape.page_size()]?;
+    let more = vec![in alloc; 0u8; shape.page_size()]?;
+    let mut bytes = vec![in alloc; 0u8; shape.page_size()]?;
     bytes[2] = 4;
     bytes[3] = 5;
-    let mut frames = Vec::new(rt.alloc());
+    let mut frames = Vec::new(alloc);
     add_frame(&shape, &mut frames, frame_of(&shape, 2, 0, zeros))?;
     add_frame(&shape, &mut frames, frame_of(&shape, 3, 4, bytes))?;
     add_frame(&shape, &mut frames, frame_of(&shape, 2, 0, more))?;
-    let streams = split(rt.alloc(), &shape, frames, 2)?;
+    Ok(split(alloc, &shape, frames, 2)?)
+}
+
+#[test]
+fn frames_go_to_streams_in_turn(rt: HostRuntime) -> Result<(), Fail> {
+    let streams = two_streams(rt.alloc())?;
     assert_eq!(rt; streams.len(), 2);
-    let first = streams.get(0).ok_or("a first stream")?;
-    let second = streams.get(1).ok_or("a second stream")?;
-    assert!(rt; first.as_slice() == TWO_FRAMES.as_slice());
-    assert_eq!(rt; second.len(), 25);
+    let first = streams.get(0).map(Vec::as_slice);
+    let second = streams.get(1).map(Vec::len);
+    assert_eq!(rt; (first, second), (Some(TWO_FRAMES.as_slice()), Some(25)));
     Ok(())
 }
 
 #[test]
 fn streams_are_dealt_in_turn(rt: HostRuntime) {
     let mut dealer = Dealer::new(3);
-    assert_eq!(rt; dealer.deal(), 0);
-    assert_eq!(rt; dealer.deal(), 1);
-    assert_eq!(rt; dealer.deal(), 2);
-    assert_eq!(rt; dealer.deal(), 0);
+    let turns = [dealer.deal(), dealer.deal(), dealer.deal(), dealer.deal()];
+    assert_eq!(rt; turns, [0, 1, 2, 0]);
 }

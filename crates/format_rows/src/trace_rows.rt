@@ -1,8 +1,10 @@
 //! Worked examples of a trace that is held as its bytes.
 
+ghost use Rattle.std.specs.Prelude.{◌≤◌};
+
 use std::alloc::{AllocError, Global};
 use std::test::Fail;
-use trace_codec::{TestSource, Timeline, TraceError, TraceText, WriteLog, decode};
+use trace_codec::{Shape, TestSource, Timeline, TraceError, TraceText, WriteLog, decode};
 
 /// A guest of 4 pages of 16 bytes, which writes pages 0 and 1 at ticks 0 and 5, page 1 at tick 1200, and pages 3 and 1
 /// at tick 2500.
@@ -34,27 +36,39 @@ fn changed(
     Ok(bytes)
 }
 
-/// Ticks, pages, offsets and bytes in order.
-fn writes<L: WriteLog>(
+/// The shape, and ticks, pages, offsets and bytes in order.
+fn told<L: WriteLog>(
     alloc: Global,
     log: &L,
-) -> Result<Vec<(u64, u32, u16, Vec<u8>)>, AllocError> {
+) -> Result<(Shape, Vec<(u64, u32, u16, Vec<u8>)>), AllocError> {
     let mut writes = Vec::new(alloc);
     for index in 0..log.shape().writes as usize {
         let write = log.write(index);
         let bytes = Vec::from_slice(alloc, write.bytes)?;
         writes.push((write.tick, write.page, write.offset, bytes))?;
     }
-    Ok(writes)
+    Ok((log.shape(), writes))
+}
+
+/// The trace of these bytes, held as they are.
+fn held(alloc: Global, bytes: &[u8]) -> Result<TraceText, Fail> {
+    Ok(TraceText::parse(alloc, Vec::from_slice(alloc, bytes)?)?)
 }
 
 #[test]
 fn holds_each_write(rt: HostRuntime) -> Result<(), Fail> {
-    let alloc = rt.alloc();
-    let text = TraceText::parse(alloc, Vec::from_slice(alloc, &TRACE)?)?;
+    let text = held(rt.alloc(), &TRACE)?;
     let shape = text.shape();
-    assert_eq!(rt; (shape.shift, shape.pages, shape.writes), (4, 4, 5));
-    assert_eq!(rt; (text.page_count(), text.touch_count()), (4, 5));
+    assert_eq!(rt;
+        (
+            shape.shift,
+            shape.pages,
+            shape.writes,
+            text.page_count(),
+            text.touch_count()
+        ),
+        (4, 4, 5, 4, 5)
+    );
     let expected: [(u64, u32, u16, &[u8]); 5] = [
         (0, 0, 0, &[1]),
         (5, 1, 15, &[2]),
@@ -64,54 +78,83 @@ fn holds_each_write(rt: HostRuntime) -> Result<(), Fail> {
     ];
     for (index, (tick, page, offset, bytes)) in expected.into_iter().enumerate() {
         let write = text.write(index);
-        assert_eq!(rt;
-            (write.tick, write.page, write.offset),
-            (tick, page, offset)
-        );
-        assert_eq!(rt; write.bytes, bytes);
         let touch = text.touch(index);
-        assert_eq!(rt; (touch.tick, touch.page), (tick, page));
+        assert_eq!(rt;
+            (
+                (write.tick, write.page, write.offset, write.bytes),
+                (touch.tick, touch.page)
+            ),
+            ((tick, page, offset, bytes), (tick, page))
+        );
     }
     Ok(())
 }
 
 #[test]
 fn counts_the_touches_before_a_tick(rt: HostRuntime) -> Result<(), Fail> {
-    let alloc = rt.alloc();
-    let text = TraceText::parse(alloc, Vec::from_slice(alloc, &TRACE)?)?;
-    let counts: [(u64, usize); 9] = [
-        (0, 0),
-        (1, 1),
-        (5, 1),
-        (6, 2),
-        (1200, 2),
-        (1201, 3),
-        (2500, 3),
-        (2501, 5),
-        (1 << 40, 5),
-    ];
-    for (tick, count) in counts {
-        assert_eq!(rt; text.before(tick), count);
-    }
-    let empty = TraceText::parse(alloc, Vec::from_slice(alloc, &NO_WRITES)?)?;
+    let empty = held(rt.alloc(), &NO_WRITES)?;
     assert_eq!(rt;
         (empty.page_count(), empty.touch_count(), empty.before(1)),
         (4, 0, 0)
     );
+    drop(empty);
+    let text = held(rt.alloc(), &TRACE)?;
+    let ticks = [0, 1, 5, 6, 1200, 1201, 2500, 2501, 1 << 40];
+    let counts = ticks.map(|tick| text.before(tick));
+    assert_eq!(rt; counts, [0, 1, 1, 2, 2, 3, 3, 5, 5]);
     Ok(())
+}
+
+/// What the trace tells where each read gives so many of its bytes at most.
+fn told_by_reads(
+    alloc: Global,
+    greatest: usize,
+) -> Result<(Shape, Vec<(u64, u32, u16, Vec<u8>)>), Fail>
+    requires { 1 ≤ greatest }
+{
+    let mut source = TestSource::new(Vec::from_slice(alloc, &TRACE)?, greatest, None);
+    let read = TraceText::read(alloc, &mut source)?;
+    Ok(told(alloc, &read)?)
 }
 
 #[test]
 fn is_the_same_as_a_trace_with_writes_of_its_own(rt: HostRuntime) -> Result<(), Fail> {
     let alloc = rt.alloc();
-    let trace = decode(alloc, &TRACE)?;
+    let wanted = told(alloc, &decode(alloc, &TRACE)?)?;
     for greatest in [1, 17, 102, 1000] {
-        let mut source = TestSource::new(Vec::from_slice(alloc, &TRACE)?, greatest, None);
-        let read = TraceText::read(alloc, &mut source)?;
-        assert_eq!(rt; read.shape(), trace.shape());
-        assert_eq!(rt; writes(alloc, &read)?, writes(alloc, &trace)?);
+        assert_eq!(rt;
+            told_by_reads(alloc, greatest)?,
+            wanted,
+            "{greatest} bytes a read"
+        );
     }
     Ok(())
+}
+
+/// Why a text is refused, if it is, where each read gives so many of its bytes at most, and the one of this number
+/// fails.
+fn read_refusal(
+    alloc: Global,
+    bytes: Vec<u8>,
+    greatest: usize,
+    fault: Option<u64>,
+) -> Option<TraceError>
+    requires { 1 ≤ greatest }
+{
+    TraceText::read(alloc, &mut TestSource::new(bytes, greatest, fault)).err()
+}
+
+/// Why the changed trace is refused as a whole, and where each read gives 20 of its bytes at most.
+fn refusals(
+    alloc: Global,
+    len: usize,
+    place: usize,
+    patch: &[u8],
+    more: &[u8],
+) -> Result<[Option<TraceError>; 2], AllocError> {
+    let parsed = TraceText::parse(alloc, changed(alloc, len, place, patch, more)?).err();
+    let read = read_refusal(alloc, changed(alloc, len, place, patch, more)?, 20, None);
+    Ok([parsed, read])
 }
 
 #[test]
@@ -132,16 +175,11 @@ fn refuses_the_first_cause(rt: HostRuntime) -> Result<(), Fail> {
         (102, 0, &[], &[0], TraceError::TrailingBytes),
     ];
     for (len, place, patch, more, cause) in refused {
-        let bytes = changed(alloc, len, place, patch, more)?;
-        let text = TraceText::parse(alloc, bytes);
-        assert!(rt; matches!(text, Err(error) if error == cause));
-        let bytes = changed(alloc, len, place, patch, more)?;
-        let read = TraceText::read(alloc, &mut TestSource::new(bytes, 20, None));
-        assert!(rt; matches!(read, Err(error) if error == cause));
+        let causes = refusals(alloc, len, place, patch, more)?;
+        assert_eq!(rt; causes, [Some(cause); 2]);
     }
-    let mut source = TestSource::new(Vec::from_slice(alloc, &TRACE)?, 20, Some(6));
-    let read = TraceText::read(alloc, &mut source);
-    assert!(rt; matches!(read, Err(TraceError::ReadFault)));
+    let fault = read_refusal(alloc, Vec::from_slice(alloc, &TRACE)?, 20, Some(6));
+    assert_eq!(rt; fault, Some(TraceError::ReadFault));
     Ok(())
 }
 
@@ -160,26 +198,44 @@ fn long_text(alloc: Global) -> Result<Vec<u8>, AllocError> {
     Ok(bytes)
 }
 
+/// The length of the long text, and the trace that comes of it where each read gives so many bytes at most.
+fn long_trace(alloc: Global, greatest: usize) -> Result<(usize, TraceText), Fail>
+    requires { 1 ≤ greatest }
+{
+    let bytes = long_text(alloc)?;
+    let length = bytes.len();
+    let read = TraceText::read(alloc, &mut TestSource::new(bytes, greatest, None))?;
+    Ok((length, read))
+}
+
 #[test]
 fn tests_a_text_while_it_comes(rt: HostRuntime) -> Result<(), Fail> {
-    let alloc = rt.alloc();
     for greatest in [100_003, 1_000_000] {
-        let bytes = long_text(alloc)?;
-        assert_eq!(rt; bytes.len(), 1_190_016);
-        let read = TraceText::read(alloc, &mut TestSource::new(bytes, greatest, None))?;
+        let (length, read) = long_trace(rt.alloc(), greatest)?;
         let shape = read.shape();
-        assert_eq!(rt; (shape.shift, shape.pages, shape.writes), (4, 2, 70_000));
+        assert_eq!(rt;
+            (length, (shape.shift, shape.pages, shape.writes)),
+            (1_190_016, (4, 2, 70_000))
+        );
         assert_eq!(rt; (read.touch_count(), read.before(65_536)), (70_000, 65_536));
         for place in [0, 61_679, 69_999] {
             let write = read.write(place);
             assert_eq!(rt;
-                (write.tick, write.page, write.offset),
-                (place as u64, 1, 0)
+                (write.tick, write.page, write.offset, write.bytes),
+                (place as u64, 1, 0, &[7][..])
             );
-            assert_eq!(rt; write.bytes, &[7][..]);
         }
     }
     Ok(())
+}
+
+/// The long text with one of its bytes changed.
+fn changed_long(alloc: Global, place: usize, byte: u8) -> Result<Vec<u8>, AllocError> {
+    let mut bytes = long_text(alloc)?;
+    if place < bytes.len() {
+        bytes[place] = byte;
+    }
+    Ok(bytes)
 }
 
 #[test]
@@ -196,17 +252,10 @@ fn refuses_behind_what_was_tested(rt: HostRuntime) -> Result<(), Fail> {
         (12, 0x6f, TraceError::TrailingBytes),
     ];
     for (place, byte, cause) in refused {
-        let mut bytes = long_text(alloc)?;
-        for old in bytes.iter_mut().skip(place).take(1) {
-            *old = byte;
-        }
-        let read = TraceText::read(alloc, &mut TestSource::new(bytes, 100_003, None));
-        assert!(rt; matches!(read, Err(error) if error == cause));
+        let read = read_refusal(alloc, changed_long(alloc, place, byte)?, 100_003, None);
+        assert_eq!(rt; read, Some(cause), "at {place}");
     }
-    let read = TraceText::read(
-        alloc,
-        &mut TestSource::new(long_text(alloc)?, 100_003, Some(12)),
-    );
-    assert!(rt; matches!(read, Err(TraceError::ReadFault)));
+    let fault = read_refusal(alloc, long_text(alloc)?, 100_003, Some(12));
+    assert_eq!(rt; fault, Some(TraceError::ReadFault));
     Ok(())
 }
