@@ -1,4 +1,4 @@
-"""The memory of a running guest, read from outside: sources of pages, and a private copy that finds what has changed."""
+"""The memory of a running guest, read from outside: sources of pages, and a copy that finds what has changed."""
 
 import os
 from typing import NamedTuple
