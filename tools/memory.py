@@ -7,6 +7,7 @@ SHIFT = 12
 PAGE = 1 << SHIFT
 # So many bytes are read and compared at once. Larger buffers come from the kernel anew each time, and cost more.
 CHUNK = 16 * PAGE
+ZEROS = bytes(CHUNK)
 
 
 class Gone(Exception):
@@ -83,8 +84,14 @@ class Change(NamedTuple):
     data: bytes
 
 
+def any_set(page):
+    return page != ZEROS[: len(page)]
+
+
 def changed_range(old, new):
     """The least range of bytes that holds all differences of two pages that are not equal: its offset and new bytes."""
+    if not any_set(old):
+        return len(new) - len(new.lstrip(b"\0")), new.strip(b"\0")
     differs = int.from_bytes(old, "little") ^ int.from_bytes(new, "little")
     first = ((differs & -differs).bit_length() - 1) // 8
     return first, new[first : (differs.bit_length() + 7) // 8]
@@ -137,7 +144,7 @@ class Copy:
                 page += length // PAGE
         return chunks
 
-    def look(self, chunk):
+    def _bytes(self, chunk):
         """The bytes of a chunk as they are now, with those last seen where there are none to read."""
         new = self.source.read(chunk.place, len(chunk.seen))
         if new is not None and len(new) == len(chunk.seen):
@@ -148,22 +155,19 @@ class Copy:
             pages.append(page if page is not None and len(page) == PAGE else chunk.seen[at : at + PAGE])
         return b"".join(pages)
 
-    def sample(self, added, light=False):
-        """Looks once at all memory, with chunks that added() gave behind it.
+    def look(self, added):
+        """Looks once at all memory, with chunks that added() gave behind it: chunks that have changed, and their bytes."""
+        looked = ((chunk, self._bytes(chunk)) for chunk in self.chunks + added)
+        return [(chunk, new) for chunk, new in looked if new != chunk.seen]
 
-        Yields a chunk, its new bytes and its changes for each chunk that has changed. A light change is one byte, 1.
-        """
-        for chunk in self.chunks + added:
-            new = self.look(chunk)
-            if new == chunk.seen:
-                continue
-            changes = []
-            for at in range(0, len(new), PAGE):
-                old_page, new_page = chunk.seen[at : at + PAGE], new[at : at + PAGE]
-                if old_page != new_page:
-                    least = (0, b"\x01") if light else changed_range(old_page, new_page)
-                    changes.append(Change(chunk.first + at // PAGE, *least))
-            yield chunk, new, changes
+    @staticmethod
+    def changes(chunk, new, light=False):
+        """Yields what has changed in a chunk, page by page. A light change is one byte, 1."""
+        for at in range(0, len(new), PAGE):
+            old_page, new_page = chunk.seen[at : at + PAGE], new[at : at + PAGE]
+            if old_page != new_page:
+                least = (0, b"\x01") if light else changed_range(old_page, new_page)
+                yield Change(chunk.first + at // PAGE, *least)
 
     def grow(self, chunks):
         """Takes chunks that added() gave."""
@@ -180,6 +184,3 @@ class Copy:
         chunk = self.chunks[low]
         at = (number - chunk.first) * PAGE
         return chunk.place + at, chunk.seen[at : at + PAGE]
-
-
-ZEROS = bytes(CHUNK)
