@@ -1,0 +1,130 @@
+"""A small guest in QEMU: its initial file system, made here, and its processes."""
+
+import glob
+import os
+import shutil
+import subprocess
+import time
+
+import qmp
+
+# 128 KiB less than 128 MiB: where memory is a multiple of 256 KiB, QEMU 7.2 loses pages in migrations under TCG.
+MEMORY = 130_944 << 10
+SECONDS_TO_BOOT = 120
+SECONDS_TO_END = 10
+INIT = """\
+#!/bin/busybox sh
+/bin/busybox mount -t proc proc /proc
+/bin/busybox mount -t devtmpfs dev /dev
+/bin/busybox mount -t tmpfs -o size=16m tmp /tmp
+/bin/busybox --install -s /bin
+exec /bin/busybox sh /workload
+"""
+
+
+class Missing(Exception):
+    """Something that a guest needs is not here; the text says what, and which package has it."""
+
+
+class Failed(Exception):
+    """A guest does not boot, or a process ended."""
+
+
+def found(path, what, package):
+    if not path or not os.path.exists(path):
+        raise Missing(f"there is no {what}: the package {package} has it")
+    return path
+
+
+def kernel():
+    paths = sorted(glob.glob("/boot/vmlinuz-*"), key=os.path.getmtime)
+    return found(paths[-1] if paths else None, "kernel in /boot", "linux-image-amd64")
+
+
+def qemu():
+    return found(shutil.which("qemu-system-x86_64"), "qemu-system-x86_64", "qemu-system-x86")
+
+
+def entry(name, mode, data=b"", device=(0, 0)):
+    """One entry of a cpio archive, in the form that kernels read."""
+    name = name.encode() + b"\0"
+    fields = [0, mode, 0, 0, 1, 0, len(data), 0, 0, *device, len(name), 0]
+    head = b"070701" + b"".join(b"%08X" % field for field in fields) + name
+    return head + bytes(-len(head) % 4) + data + bytes(-len(data) % 4)
+
+
+def file_system(path, workload, folder):
+    """Writes an initial file system with busybox, the program that writes, and a shell script of the workload."""
+    busybox = found(shutil.which("busybox"), "busybox", "busybox-static")
+    program = os.path.join(folder, "guest-writer")
+    source = os.path.join(os.path.dirname(os.path.abspath(__file__)), "guest-writer.c")
+    subprocess.run(["cc", "-O2", "-Wall", "-static", "-o", program, source], check=True)
+    with open(path, "wb") as archive:
+        for name in ("bin", "dev", "proc", "tmp"):
+            archive.write(entry(name, 0o040755))
+        archive.write(entry("dev/console", 0o020600, device=(5, 1)))
+        for name, source in (("bin/busybox", busybox), ("bin/guest-writer", program)):
+            with open(source, "rb") as file:
+                archive.write(entry(name, 0o100755, file.read()))
+        archive.write(entry("init", 0o100755, INIT.encode()))
+        archive.write(entry("workload", 0o100644, workload.encode()))
+        archive.write(entry("TRAILER!!!", 0))
+
+
+class Guest:
+    """One process of QEMU. Its memory is a file, and its console another one."""
+
+    def __init__(self, name, folder, memory_folder, accelerator, file_system_path, incoming=None):
+        self.name = name
+        self.memory = os.path.join(memory_folder, f"{name}.memory")
+        self.console = os.path.join(folder, f"{name}.console")
+        self.socket = os.path.join(folder, f"{name}.qmp")
+        self.errors = open(os.path.join(folder, f"{name}.errors"), "w+b")
+        backend = f"memory-backend-file,id=mem,size={MEMORY},mem-path={self.memory},share=on"
+        command = [qemu(), "-nodefaults", "-no-user-config", "-no-reboot", "-display", "none", "-smp", "1"]
+        command += ["-accel", accelerator, "-m", f"{MEMORY >> 10}K", "-object", backend]
+        command += ["-machine", "pc,memory-backend=mem", "-serial", f"file:{self.console}"]
+        command += ["-qmp", f"unix:{self.socket},server=on,wait=off", "-kernel", kernel(), "-initrd", file_system_path]
+        command += ["-append", "console=ttyS0 quiet panic=-1"]
+        if incoming:
+            command += ["-S", "-incoming", incoming]
+        self.process = subprocess.Popen(command, stdin=subprocess.DEVNULL, stdout=self.errors, stderr=self.errors)
+
+    def _wait(self, seconds, holds, what):
+        end = time.monotonic() + seconds
+        while not holds():
+            if self.process.poll() is not None:
+                self.errors.seek(0)
+                raise Failed(f"{self.name}: QEMU ended: {self.errors.read().decode(errors='replace').strip()}")
+            if time.monotonic() > end:
+                raise Failed(f"{self.name}: {what} after {seconds} s")
+            time.sleep(0.05)
+
+    def wait_for_socket(self):
+        self._wait(SECONDS_TO_BOOT, lambda: os.path.exists(self.socket), "there is no socket")
+
+    def wait_until_ready(self):
+        self.wait_for_socket()
+        self._wait(SECONDS_TO_BOOT, self._is_ready, "the guest does not say READY")
+
+    def _is_ready(self):
+        if not os.path.exists(self.console):
+            return False
+        with open(self.console, "rb") as file:
+            return b"READY" in file.read()
+
+    def client(self):
+        return qmp.Client(self.socket)
+
+    def end(self):
+        if self.process.poll() is None:
+            self.process.terminate()
+            try:
+                self.process.wait(SECONDS_TO_END)
+            except subprocess.TimeoutExpired:
+                self.process.kill()
+                self.process.wait()
+        self.errors.close()
+        for path in (self.memory, self.socket):
+            if os.path.exists(path):
+                os.unlink(path)

@@ -1,0 +1,194 @@
+"""Traces of version 1, as docs/FORMATS.md defines them: their limits, reading with all refusals, and writing."""
+
+import errno
+import os
+import shutil
+import struct
+import sys
+import tempfile
+from typing import NamedTuple
+
+MAGIC = b"PCWT\x01"
+HEADER = 16
+RECORD = struct.Struct("<QIHH")
+TICKS = 1 << 40
+LEAST_SHIFT, GREATEST_SHIFT = 4, 12
+
+
+class Limits(NamedTuple):
+    """What a trace has at most."""
+
+    writes: int = 1 << 20
+    bytes: int = 1 << 28
+    pages: int = 1 << 16
+
+
+class Refused(Exception):
+    """A trace is refused; the text is the name of the cause, as the program prints it."""
+
+
+class Full(Exception):
+    """Some writes do not fit the trace any more; the text says which limit they pass."""
+
+
+def told(fault):
+    """The text of a fault; of one of the system the file and the cause."""
+    if isinstance(fault, OSError) and fault.filename:
+        return f"{fault.filename}: {fault.strerror}"
+    return str(fault)
+
+
+class Trace(NamedTuple):
+    """What a header says, and the bytes that it stands in."""
+
+    shift: int
+    pages: int
+    writes: int
+    text: bytes
+
+    @property
+    def size(self):
+        return 1 << self.shift
+
+    def records(self):
+        """Yields tick, page, offset and data of each write, or raises the first cause of a refusal."""
+        at, last, end = HEADER, 0, len(self.text)
+        for number in range(self.writes):
+            if end - at < RECORD.size:
+                raise Refused(f"E8 record {number}")
+            tick, page, offset, length = RECORD.unpack_from(self.text, at)
+            at += RECORD.size
+            if end - at < length:
+                raise Refused(f"E8 record {number}")
+            wrong = self._wrong(tick, last, page, offset, length)
+            if wrong:
+                raise Refused(f"{wrong} record {number}")
+            yield tick, page, offset, self.text[at : at + length]
+            at, last = at + length, tick
+        if at != end:
+            raise Refused("E14")
+
+    def _wrong(self, tick, last, page, offset, length):
+        if tick < last:
+            return "E9"
+        if tick >= TICKS:
+            return "E10"
+        if page >= self.pages:
+            return "E11"
+        if length == 0:
+            return "E12"
+        return "E13" if offset + length > self.size else None
+
+    def memory(self):
+        """The bytes of all pages after all writes."""
+        memory = bytearray(self.pages << self.shift)
+        for _, page, offset, data in self.records():
+            at = (page << self.shift) + offset
+            memory[at : at + len(data)] = data
+        return memory
+
+
+def read(text):
+    """Reads the header of a trace. Its records are tested where they are read."""
+    if len(text) > Limits().bytes:
+        raise Refused("E15")
+    if len(text) < HEADER:
+        raise Refused("E1")
+    pages, writes = struct.unpack_from("<II", text, 8)
+    for name, holds in (
+        ("E2", text[:4] == MAGIC[:4]),
+        ("E3", text[4] == 1),
+        ("E4", LEAST_SHIFT <= text[5] <= GREATEST_SHIFT),
+        ("E5", text[6:8] == b"\0\0"),
+        ("E6", 1 <= pages <= Limits().pages),
+        ("E7", writes <= Limits().writes),
+    ):
+        if not holds:
+            raise Refused(name)
+    return Trace(text[5], pages, writes, text)
+
+
+class Pending:
+    """A file that is written under another name, for its owner alone, and takes its own name when it is whole.
+
+    The path - is standard output, to which all is copied when it is whole.
+    """
+
+    def __init__(self, path):
+        if os.path.isdir(path):
+            raise IsADirectoryError(errno.EISDIR, os.strerror(errno.EISDIR), path)
+        self.path = path
+        folder, name = os.path.split(os.path.abspath(path)) if path != "-" else (None, "trace")
+        self.descriptor, self.hidden = tempfile.mkstemp(prefix=f".{name}.", suffix=".part", dir=folder)
+
+    def write(self, data):
+        left = memoryview(data)
+        while left:
+            left = left[os.write(self.descriptor, left) :]
+
+    def finish(self):
+        if self.path == "-":
+            with open(self.hidden, "rb") as file:
+                shutil.copyfileobj(file, sys.stdout.buffer)
+            sys.stdout.buffer.flush()
+        else:
+            os.close(self.descriptor)
+            self.descriptor = None
+            os.rename(self.hidden, self.path)
+
+    def discard(self):
+        """Takes the unfinished file away. After finish() it does nothing."""
+        if self.descriptor is not None:
+            os.close(self.descriptor)
+            self.descriptor = None
+        if os.path.exists(self.hidden):
+            os.unlink(self.hidden)
+
+    def __enter__(self):
+        return self
+
+    def __exit__(self, *_):
+        self.discard()
+
+
+class Writer(Pending):
+    """Writes a trace. Some writes are taken together, or none of them is; so the trace is valid after each call."""
+
+    def __init__(self, path, limits=Limits()):
+        super().__init__(path)
+        self.limits = limits
+        self.writes = 0
+        self.size = HEADER
+        try:
+            self.write(bytes(HEADER))
+        except OSError:
+            self.discard()
+            raise
+
+    def room(self):
+        """How many more writes and bytes of records the trace takes."""
+        return self.limits.writes - self.writes, self.limits.bytes - self.size
+
+    def append(self, records):
+        """Appends (tick, page, offset, data) in this order; raises Full, and appends none, where they do not fit."""
+        parts = []
+        for tick, page, offset, data in records:
+            parts += RECORD.pack(tick, page, offset, len(data)), data
+        text, (writes, room) = b"".join(parts), self.room()
+        if len(parts) // 2 > writes:
+            raise Full(f"a trace has at most {self.limits.writes:,} writes")
+        if len(text) > room:
+            raise Full(f"a trace has at most {self.limits.bytes:,} bytes")
+        try:
+            self.write(text)
+        except OSError as fault:
+            os.ftruncate(self.descriptor, self.size)
+            os.lseek(self.descriptor, self.size, os.SEEK_SET)
+            raise Full(f"{self.path}: {fault.strerror}") from fault
+        self.writes += len(parts) // 2
+        self.size += len(text)
+
+    def finish(self, shift, pages):
+        header = MAGIC + bytes([shift, 0, 0]) + struct.pack("<II", pages, self.writes)
+        os.pwrite(self.descriptor, header, 0)
+        super().finish()
