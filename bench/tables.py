@@ -38,7 +38,7 @@ class Tables:
     def memory(self, trace, job, program):
         def show(taken):
             memory = taken.memory()
-            sign = "" if memory > self.least_memory else "at most "
+            sign = "" if memory > self.least_memory * 1.03 else "at most "
             return f"{sign}{memory / 1e6:.0f}"
 
         return self.cell(trace, job, program, show)
@@ -59,7 +59,9 @@ class Tables:
         traces = [it for it in traces if self.has(it, job)]
         if not traces:
             return
-        print(f"### {title}\n\n{notes}")
+        print(f"### {title}\n")
+        if notes:
+            print(f"{notes}\n")
         names = [TITLES[it] for it in programs]
         head = ["Trace", *(f"{it}, ms" for it in names), "Precopy / fast"]
         head += ["Plain / precopy"] if "plain" in programs else []
