@@ -1,0 +1,289 @@
+//! `live`: a pre-copy migration by threads, all of which run from the first round to the last and meet between rounds.
+//!
+//! Replayers store the version of a page and then set its dirty bit. Copiers take the dirty bits of 64 pages at once,
+//! read the version of each page, make its bytes and hand them to the streams in turn. Each stream has a thread that
+//! keeps the newest version of each page. Bytes change hands by pointer: a body is written by its copier alone, and
+//! comes back over a lane when a newer version has taken its place.
+
+use crate::lanes::{lane, Giver, Taker};
+use crate::pages::{fetch, Body, Index, Rooms, ZEROS};
+use crate::plan::{Plan, Planner, Touches};
+use crate::trace::{Reader, Refused, Sizes};
+use crate::words::Settings;
+use std::ops::Range;
+use std::sync::atomic::{AtomicBool, AtomicU32, AtomicU64, Ordering::*};
+use std::sync::Barrier;
+use std::thread::{scope, sleep};
+use std::time::Duration;
+
+/// A page at a version: the place of the last write that it has, from 1, or 0.
+#[derive(Clone, Copy)]
+struct Frame {
+    page: u32,
+    stamp: u32,
+    body: Body,
+}
+
+/// The guest, and what all threads share.
+pub struct Guest {
+    pub sizes: Sizes,
+    pub text: &'static [u8],
+    pub index: Index,
+    touches: Touches,
+    pub versions: Vec<AtomicU32>,
+    dirty: Vec<AtomicU64>,
+    /// The writes of each round.
+    rounds: Vec<Range<usize>>,
+}
+
+impl Guest {
+    /// Reads the trace and plans its rounds. Before the first one all pages are dirty.
+    fn read(settings: &Settings) -> Result<Guest, Refused> {
+        let open = |sizes: Sizes| (Touches::new(sizes), crate::memory::zeros::<u32>(sizes.writes));
+        let (sizes, text, (touches, positions)) = Reader::whole(open, |made, number, write| {
+            made.0.come(write);
+            made.1[number] = write.at as u32;
+        })?;
+        let (plan, index) = scope(|scope| {
+            let index = scope.spawn(|| Index::new(&touches, positions));
+            let plan = Planner::new(&touches, None).plan(settings);
+            (plan, index.join().expect("the index is made"))
+        });
+        let versions: Vec<AtomicU32> = (0..sizes.pages).map(|_| AtomicU32::new(0)).collect();
+        for number in 0..touches.at(settings.start) {
+            versions[touches.page[number] as usize].store(number as u32 + 1, Relaxed);
+        }
+        let pages_in = |word: usize| (sizes.pages - 64 * word).min(64);
+        let all = |word| AtomicU64::new(u64::MAX >> (64 - pages_in(word)));
+        let dirty = (0..sizes.pages.div_ceil(64)).map(all).collect();
+        let rounds = ranges(&plan, &touches);
+        Ok(Guest { sizes, text, index, touches, versions, dirty, rounds })
+    }
+
+    fn replay(&self, number: usize, replayers: usize, meeting: &Barrier) {
+        for round in &self.rounds {
+            for write in round.clone() {
+                let page = self.touches.page[write] as usize;
+                if replayers > 1 && page % replayers != number {
+                    continue;
+                }
+                self.versions[page].store(write as u32 + 1, Release);
+                self.dirty[page / 64].fetch_or(1 << (page % 64), Release);
+            }
+            meeting.wait();
+        }
+    }
+}
+
+fn ranges(plan: &Plan, touches: &Touches) -> Vec<Range<usize>> {
+    plan.rounds.iter().map(|round| touches.at(round.from)..touches.at(round.to)).collect()
+}
+
+/// What a copier made last of one of its pages, and how many of the page's writes are in it.
+#[derive(Clone, Copy)]
+struct Newest {
+    body: Body,
+    writes: usize,
+}
+
+/// A copier has the dirty words whose number leaves its own by the number of copiers.
+struct Copier<'a> {
+    guest: &'a Guest,
+    number: usize,
+    copiers: usize,
+    newest: Vec<Newest>,
+    rooms: Rooms,
+    turn: usize,
+    /// For each stream the lane to it, and the one on which bodies come back.
+    lanes: Vec<(Giver<Frame>, Taker<Body>)>,
+}
+
+impl Copier<'_> {
+    fn new(guest: &Guest, number: usize, copiers: usize, lanes: Vec<(Giver<Frame>, Taker<Body>)>) -> Copier<'_> {
+        let own = guest.dirty.len().div_ceil(copiers) * 64;
+        let newest = vec![Newest { body: ZEROS, writes: 0 }; own];
+        let rooms = Rooms::new(guest.sizes.page_size(), guest.sizes.pages);
+        Copier { guest, number, copiers, newest, rooms, turn: 0, lanes }
+    }
+
+    fn words(&self) -> impl Iterator<Item = usize> {
+        (self.number..self.guest.dirty.len()).step_by(self.copiers)
+    }
+
+    fn newest(&mut self, page: usize) -> &mut Newest {
+        &mut self.newest[page / 64 / self.copiers * 64 + page % 64]
+    }
+
+    /// Takes all rounds, and then makes the frames of the pages that are dirty still.
+    fn work(mut self, skip: bool, meeting: &Barrier) -> Vec<Frame> {
+        for round in 0..self.guest.rounds.len() {
+            self.round(skip && round > 0);
+            meeting.wait();
+        }
+        let mut last = Vec::new();
+        for word in self.words() {
+            let mut left = self.guest.dirty[word].swap(0, AcqRel);
+            while left != 0 {
+                let page = 64 * word + left.trailing_zeros() as usize;
+                left &= left - 1;
+                self.ahead(word, left);
+                last.push(self.frame(page));
+            }
+        }
+        last
+    }
+
+    fn round(&mut self, skip: bool) {
+        for word in self.words() {
+            let dirty = &self.guest.dirty[word];
+            let mut left = if dirty.load(Relaxed) == 0 { 0 } else { dirty.swap(0, AcqRel) };
+            let mut returned = 0;
+            while left != 0 {
+                let bit = left & left.wrapping_neg();
+                left -= bit;
+                if skip && dirty.load(Relaxed) & bit != 0 {
+                    continue; // it is written again, so its bit is set again
+                }
+                let stream = self.turn;
+                self.turn = (self.turn + 1) % self.lanes.len();
+                if !self.lanes[stream].0.has_room() {
+                    returned |= bit;
+                    continue;
+                }
+                self.ahead(word, left);
+                let frame = self.frame(64 * word + bit.trailing_zeros() as usize);
+                self.lanes[stream].0.give(frame);
+            }
+            if returned != 0 {
+                dirty.fetch_or(returned, Release);
+            }
+            self.lanes.iter().for_each(|(lane, _)| lane.publish());
+        }
+    }
+
+    /// Fetches what the next page of a word needs.
+    fn ahead(&mut self, word: usize, left: u64) {
+        if left != 0 {
+            let page = 64 * word + left.trailing_zeros() as usize;
+            let Newest { body, writes } = *self.newest(page);
+            crate::memory::prefetch(body.0);
+            fetch(self.guest.text, &self.guest.index.of(page)[writes..]);
+        }
+    }
+
+    /// The frame of a page as it is now.
+    fn frame(&mut self, page: usize) -> Frame {
+        let guest = self.guest;
+        let stamp = guest.versions[page].load(Acquire);
+        let (old, writes) = (*self.newest(page), guest.index.of(page));
+        let new = writes[old.writes..].iter().take_while(|(place, _)| *place <= stamp).count();
+        if !self.rooms.has_free() {
+            self.fetch_back();
+        }
+        let body = self.rooms.with_writes(guest.text, old.body, &writes[old.writes..old.writes + new]);
+        *self.newest(page) = Newest { body, writes: old.writes + new };
+        Frame { page: page as u32, stamp, body }
+    }
+
+    /// Takes back the bodies that streams have let go of.
+    fn fetch_back(&mut self) {
+        for (_, back) in &mut self.lanes {
+            while let Some(body) = back.take() {
+                self.rooms.give_back(body);
+            }
+            back.publish();
+        }
+    }
+}
+
+/// What a stream has of each page: one more than the stamp, or 0, and the bytes.
+type Part = Vec<(u32, Body)>;
+
+/// Puts a frame into a part, and tells which body is needed no more. Of equal versions the later one stays: it is the
+/// one that its copier goes on from.
+fn accept(part: &mut Part, frame: Frame) -> Body {
+    let kept = &mut part[frame.page as usize];
+    if frame.stamp + 1 < kept.0 {
+        return frame.body;
+    }
+    std::mem::replace(kept, (frame.stamp + 1, frame.body)).1
+}
+
+/// For each copier the lane from it, the one back to it, and bodies for which that had no room yet.
+type Stream = Vec<(Taker<Frame>, Giver<Body>, Vec<Body>)>;
+
+fn receive(mut stream: Stream, pages: usize, over: &AtomicBool) -> Part {
+    let (mut part, mut idle) = (vec![(0, ZEROS); pages], 0);
+    loop {
+        let is_last = over.load(Acquire);
+        let mut came = false;
+        for (lane, back, old) in &mut stream {
+            while let Some(frame) = lane.take() {
+                came = true;
+                let body = accept(&mut part, frame);
+                if !body.is_zeros() {
+                    old.push(body);
+                }
+            }
+            lane.publish();
+            while !old.is_empty() && back.has_room() {
+                back.give(old.pop().expect("there is one"));
+            }
+            back.publish();
+        }
+        idle = if came { 0 } else { idle + 1 };
+        if is_last && !came {
+            return part;
+        }
+        match idle {
+            0 => {}
+            1..=100 => std::hint::spin_loop(),
+            _ => sleep(Duration::from_micros(20)),
+        }
+    }
+}
+
+/// Performs the migration. Answers the parts of all streams.
+fn migrate(guest: &Guest, settings: &Settings) -> Vec<Part> {
+    let mut streams: Vec<Stream> = (0..settings.streams).map(|_| Vec::new()).collect();
+    let mut copiers = Vec::new();
+    for number in 0..settings.workers {
+        let mut lanes = Vec::new();
+        for stream in &mut streams {
+            let ((giver, taker), (back, free)) = (lane(settings.lane), lane(settings.lane));
+            stream.push((taker, back, Vec::new()));
+            lanes.push((giver, free));
+        }
+        copiers.push(Copier::new(guest, number, settings.workers, lanes));
+    }
+    let (over, meeting) = (AtomicBool::new(false), Barrier::new(settings.replayers + settings.workers));
+    let (over, meeting, pages) = (&over, &meeting, guest.sizes.pages);
+    scope(|scope| {
+        let receivers: Vec<_> = streams.into_iter().map(|it| scope.spawn(move || receive(it, pages, over))).collect();
+        for number in 0..settings.replayers {
+            scope.spawn(move || guest.replay(number, settings.replayers, meeting));
+        }
+        let copying = copiers.into_iter().map(|it| scope.spawn(move || it.work(settings.skip, meeting)));
+        let copiers: Vec<_> = copying.collect();
+        let last: Vec<_> = copiers.into_iter().map(|it| it.join().expect("a copier ends")).collect();
+        over.store(true, Release);
+        let mut parts: Vec<_> = receivers.into_iter().map(|it| it.join().expect("a receiver ends")).collect();
+        for frame in last.into_iter().flatten() {
+            accept(&mut parts[0], frame);
+        }
+        parts
+    })
+}
+
+/// The newest body of each page.
+fn join(parts: &[Part], pages: usize) -> Vec<Body> {
+    let newest = |page: usize| parts.iter().map(|part| part[page]).max_by_key(|(stamp, _)| *stamp);
+    (0..pages).map(|page| newest(page).expect("there is a stream").1).collect()
+}
+
+pub fn live(settings: &Settings) -> Result<(), Refused> {
+    let guest = Guest::read(settings)?;
+    let mut pages = join(&migrate(&guest, settings), guest.sizes.pages);
+    let workers = if settings.at_stop { 0 } else { settings.workers };
+    crate::output::write(&guest, &mut pages, workers)
+}

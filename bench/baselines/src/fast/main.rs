@@ -1,0 +1,63 @@
+//! The baseline "fast": the four commands of precopy, written for speed alone. What it writes for a valid trace has to
+//! be what precopy writes, byte for byte. Nothing of it is proved, and memory is handled by hand.
+
+mod image;
+mod lanes;
+mod live;
+mod memory;
+mod output;
+mod pages;
+mod plan;
+mod sweep;
+mod tables;
+mod text;
+mod trace;
+#[path = "../words.rs"]
+mod words;
+
+use plan::{Planner, Touches};
+use std::io::Write;
+use tables::Tables;
+use trace::{file, Reader, Refused};
+use words::{Job, Settings};
+
+fn put(bytes: &[u8]) -> Result<(), Refused> {
+    file(1).write_all(bytes).map_err(|fault| fault.to_string())
+}
+
+fn report(settings: &Settings) -> Result<(), Refused> {
+    let open = |sizes| (Tables::new(sizes, settings), Touches::new(sizes));
+    let each = |made: &mut (Tables, Touches), _: &[u8], write| {
+        made.0.come(write);
+        made.1.come(write);
+    };
+    let (_, (tables, touches)) = Reader::stream(open, each, |_, _| ())?;
+    let mut text = tables.end();
+    Planner::new(&touches, None).plan(settings).lines(&mut text);
+    put(&text.0)
+}
+
+fn sweep(cases: &[Settings], workers: usize) -> Result<(), Refused> {
+    let (_, touches) = Reader::stream(Touches::new, |touches, _, write| touches.come(write), |_, _| ())?;
+    put(&sweep::sweep(&touches, cases, workers).0)
+}
+
+fn run() -> Result<(), Refused> {
+    match words::job(std::env::args().skip(1))? {
+        Job::Image => put(image::image()?),
+        Job::Report(settings) => report(&settings),
+        Job::Sweep(cases, workers) => sweep(&cases, workers),
+        Job::Live(settings) => live::live(&settings),
+    }
+}
+
+fn main() {
+    let status = match run() {
+        Ok(()) => 0,
+        Err(what) => {
+            eprintln!("fast: {what}");
+            1
+        }
+    };
+    std::process::exit(status);
+}

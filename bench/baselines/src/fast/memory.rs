@@ -1,0 +1,54 @@
+//! Memory straight from the system: zeroed, in large pages where it is large, and kept until the process ends.
+
+use std::ffi::c_void;
+use std::ptr::null_mut;
+
+extern "C" {
+    fn mmap(at: *mut c_void, size: usize, protection: i32, flags: i32, file: i32, offset: i64) -> *mut c_void;
+    fn madvise(at: *mut c_void, size: usize, advice: i32) -> i32;
+}
+
+const READ_AND_WRITE: i32 = 1 | 2;
+const PRIVATE_AND_ANONYMOUS: i32 = 0x02 | 0x20;
+const MAP_FAILED: isize = -1;
+const HUGE_PAGES: i32 = 14;
+const HUGE: usize = 2 << 20;
+
+/// So many zeroed bytes, at a place that is a multiple of 4,096.
+pub fn zeroed(size: usize) -> *mut u8 {
+    let spare = if size < HUGE { 0 } else { HUGE };
+    let at = unsafe { mmap(null_mut(), size.max(1) + spare, READ_AND_WRITE, PRIVATE_AND_ANONYMOUS, -1, 0) };
+    if at as isize == MAP_FAILED {
+        eprintln!("fast: no memory");
+        std::process::exit(1);
+    }
+    if spare == 0 {
+        return at as *mut u8;
+    }
+    let at = (at as usize).next_multiple_of(HUGE) as *mut c_void;
+    unsafe { madvise(at, size, HUGE_PAGES) };
+    at as *mut u8
+}
+
+/// Types of which zeros are a value.
+pub trait Plain: Copy {}
+impl Plain for u8 {}
+impl Plain for u32 {}
+impl Plain for u64 {}
+impl Plain for (u32, u32) {}
+
+/// A list of so many zeros.
+pub fn zeros<T: Plain>(count: usize) -> &'static mut [T] {
+    unsafe { std::slice::from_raw_parts_mut(zeroed(count * size_of::<T>()) as *mut T, count) }
+}
+
+#[inline(always)]
+pub fn prefetch(at: *const u8) {
+    #[cfg(target_arch = "x86_64")]
+    unsafe {
+        use std::arch::x86_64::{_mm_prefetch, _MM_HINT_T0};
+        _mm_prefetch(at as *const i8, _MM_HINT_T0)
+    }
+    #[cfg(not(target_arch = "x86_64"))]
+    let _ = at;
+}

@@ -1,0 +1,193 @@
+//! The rounds of a plan, over the columns of ticks and pages.
+//!
+//! A round that skips nothing only counts the pages that are written in it. With an index that is the number of writes
+//! whose page was not written before them in the round: one comparison a write. Else bits are set and counted. A round
+//! that skips sets the bits of pages as its scan comes to their ticks, so one test of a bit decides for each page.
+
+use crate::memory::zeros;
+use crate::text::Text;
+use crate::trace::{Sizes, Write};
+use crate::words::Settings;
+
+/// Ticks and pages of all writes.
+pub struct Touches {
+    pub pages: usize,
+    pub tick: &'static mut [u64],
+    pub page: &'static mut [u32],
+    count: usize,
+}
+
+impl Touches {
+    pub fn new(sizes: Sizes) -> Touches {
+        Touches { pages: sizes.pages, tick: zeros(sizes.writes), page: zeros(sizes.writes), count: 0 }
+    }
+
+    #[inline(always)]
+    pub fn come(&mut self, write: Write) {
+        unsafe {
+            *self.tick.get_unchecked_mut(self.count) = write.tick;
+            *self.page.get_unchecked_mut(self.count) = write.page;
+        }
+        self.count += 1;
+    }
+
+    /// The number of the first write at this tick or later.
+    pub fn at(&self, tick: u64) -> usize {
+        self.tick.partition_point(|it| *it < tick)
+    }
+
+    /// For each write the number, from 1, of the write to its page before it, or 0.
+    pub fn index(&self) -> &'static [u32] {
+        let (last, index) = (zeros::<u32>(self.pages), zeros::<u32>(self.page.len()));
+        for (number, page) in self.page.iter().enumerate() {
+            let last = &mut last[*page as usize];
+            index[number] = *last;
+            *last = number as u32 + 1;
+        }
+        index
+    }
+}
+
+pub struct Round {
+    pub from: u64,
+    pub to: u64,
+    pub rate: u64,
+    pub pages: u64,
+    pub sent: u64,
+    pub dirtied: u64,
+}
+
+pub struct Plan {
+    pub rounds: Vec<Round>,
+    pub why: &'static str,
+    pub stop: u64,
+    pub left: u64,
+    pub down: u64,
+    pub total: u64,
+}
+
+fn mark(bits: &mut [u64], pages: &[u32]) {
+    for page in pages {
+        unsafe { *bits.get_unchecked_mut(*page as usize / 64) |= 1 << (page % 64) }
+    }
+}
+
+fn count(bits: &[u64]) -> u64 {
+    bits.iter().map(|word| word.count_ones() as u64).sum()
+}
+
+/// How a plan goes through the touches.
+pub struct Planner<'a> {
+    touches: &'a Touches,
+    index: Option<&'a [u32]>,
+    /// The pages that are due, where that matters, and those written in the round.
+    due: Vec<u64>,
+    written: Vec<u64>,
+}
+
+impl Planner<'_> {
+    pub fn new<'a>(touches: &'a Touches, index: Option<&'a [u32]>) -> Planner<'a> {
+        let words = touches.pages.div_ceil(64);
+        Planner { touches, index, due: vec![0; words], written: vec![0; words] }
+    }
+
+    /// How many different pages these writes go to.
+    fn dirtied(&mut self, from: usize, to: usize) -> u64 {
+        match self.index {
+            Some(index) => index[from..to].iter().map(|before| (*before as usize <= from) as u32).sum::<u32>() as u64,
+            None => {
+                self.written.fill(0);
+                mark(&mut self.written, &self.touches.page[from..to]);
+                count(&self.written)
+            }
+        }
+    }
+
+    /// Goes over the due pages from a tick on, leaves out those that are written before their turn, and sets the bits
+    /// of the pages written until then. Tells how many are sent, and the first write that is not looked at.
+    fn scan(&mut self, from: u64, rate: u64) -> (u64, usize) {
+        let (tick, page) = (&self.touches.tick[..], &self.touches.page[..]);
+        self.written.fill(0);
+        let (mut sent, mut turn, mut part, mut next) = (0, from, 0, self.touches.at(from));
+        let (step, rest) = (1000 / rate, 1000 % rate);
+        for (number, word) in self.due.iter().enumerate() {
+            let mut left = *word;
+            while left != 0 {
+                while next < tick.len() && tick[next] < turn {
+                    mark(&mut self.written, &page[next..next + 1]);
+                    next += 1;
+                }
+                let is_sent = !self.written[number] >> left.trailing_zeros() & 1;
+                left &= left - 1;
+                sent += is_sent;
+                part += rest * is_sent;
+                let full = (part >= rate) as u64;
+                part -= rate * full;
+                turn += step * is_sent + full;
+            }
+        }
+        (sent, next)
+    }
+
+    pub fn plan(&mut self, settings: &Settings) -> Plan {
+        let (mut from, mut rate, mut pages) = (settings.start, settings.min, self.touches.pages as u64);
+        let mut rounds = Vec::new();
+        loop {
+            let (sent, dirtied, to);
+            if settings.skip {
+                let next;
+                (sent, next) = if rounds.is_empty() {
+                    self.written.fill(0);
+                    (pages, self.touches.at(from))
+                } else {
+                    self.scan(from, rate)
+                };
+                to = from + (1000 * sent).div_ceil(rate);
+                mark(&mut self.written, &self.touches.page[next..self.touches.at(to)]);
+                dirtied = count(&self.written);
+                std::mem::swap(&mut self.due, &mut self.written);
+            } else {
+                sent = pages;
+                to = from + (1000 * sent).div_ceil(rate);
+                dirtied = self.dirtied(self.touches.at(from), self.touches.at(to));
+            }
+            rounds.push(Round { from, to, rate, pages, sent, dirtied });
+            let next = (1000 * dirtied).div_ceil(to - from) + settings.inc;
+            let why = if dirtied < settings.threshold {
+                "few"
+            } else if next > settings.max {
+                "fast"
+            } else if rounds.len() as u64 == settings.rounds {
+                "rounds"
+            } else {
+                (from, rate, pages) = (to, next.max(settings.min), dirtied);
+                continue;
+            };
+            let total = rounds.iter().map(|round| round.sent).sum::<u64>() + dirtied;
+            return Plan { rounds, why, stop: to, left: dirtied, down: (1000 * dirtied).div_ceil(settings.max), total };
+        }
+    }
+}
+
+impl Plan {
+    pub fn lines(&self, text: &mut Text) {
+        for (number, round) in self.rounds.iter().enumerate() {
+            text.word("round ").number(number as u64).word(" from ").number(round.from).word(" to ").number(round.to);
+            let pages = [(" pages ", round.pages), (" sent ", round.sent), (" dirtied ", round.dirtied)];
+            text.word(" rate ").number(round.rate).line(&pages);
+        }
+        let pages = [(" pages ", self.left), (" down ", self.down), (" total ", self.total)];
+        text.word("stop ").word(self.why).word(" at ").number(self.stop).line(&pages);
+    }
+
+    /// The line of a sweep's case.
+    pub fn case(&self, number: usize, case: &Settings, text: &mut Text) {
+        let rates = [("case ", number as u64), (" min ", case.min), (" max ", case.max), (" inc ", case.inc)];
+        let ends = [(" threshold ", case.threshold), (" limit ", case.rounds), (" skip ", case.skip as u64)];
+        for (word, number) in rates.iter().chain(&ends) {
+            text.word(word).number(*number);
+        }
+        text.word(" rounds ").number(self.rounds.len() as u64).word(" stop ").word(self.why);
+        text.line(&[(" at ", self.stop), (" down ", self.down), (" total ", self.total)]);
+    }
+}

@@ -1,0 +1,39 @@
+//! `sweep`: the plans of many cases. Workers take the next case as they come.
+
+use crate::plan::{Plan, Planner, Touches};
+use crate::text::Text;
+use crate::words::Settings;
+use std::sync::atomic::{AtomicUsize, Ordering::Relaxed};
+
+/// From so many cases on that skip nothing the index saves more than it takes.
+const WORTH_AN_INDEX: usize = 3;
+
+pub fn sweep(touches: &Touches, cases: &[Settings], workers: usize) -> Text {
+    let is_worth = cases.iter().filter(|case| !case.skip).count() >= WORTH_AN_INDEX;
+    let index = is_worth.then(|| touches.index());
+    let next = AtomicUsize::new(0);
+    let work = || {
+        let (mut planner, mut plans) = (Planner::new(touches, index), Vec::new());
+        loop {
+            let number = next.fetch_add(1, Relaxed);
+            let Some(case) = cases.get(number) else { return plans };
+            plans.push((number, planner.plan(case)));
+        }
+    };
+    let mut plans: Vec<(usize, Plan)> = std::thread::scope(|scope| {
+        let others: Vec<_> = (1..workers.min(cases.len())).map(|_| scope.spawn(work)).collect();
+        let mut plans = work();
+        for other in others {
+            plans.extend(other.join().expect("a worker ends"));
+        }
+        plans
+    });
+    plans.sort_by_key(|(number, _)| *number);
+    let mut text = Text::new();
+    for (number, plan) in &plans {
+        plan.case(*number, &cases[*number], &mut text);
+    }
+    let best = plans.iter().min_by_key(|(number, plan)| (plan.down, plan.total, *number));
+    text.line(&[("best ", best.map_or(0, |it| it.0) as u64)]);
+    text
+}

@@ -1,0 +1,188 @@
+//! Traces from standard input (`docs/FORMATS.md`): header and records, each looked at once.
+//!
+//! `Reader::stream` goes through one small buffer that is filled again and again, so that the bytes of a large trace
+//! are never memory of their own. `Reader::whole` keeps all of them, for a live run.
+
+use crate::memory::zeros;
+use std::fs::File;
+use std::io::Read;
+use std::mem::ManuallyDrop;
+use std::os::fd::FromRawFd;
+
+pub const LONGEST: usize = 1 << 28;
+const HEADER: usize = 16;
+const RECORD: usize = 16;
+const CHUNK: usize = 1 << 18;
+/// Bytes behind a buffer that may be read, and are never looked at.
+pub const SLACK: usize = 64;
+
+pub type Refused = String;
+
+/// Standard input or standard output, without a buffer and never closed.
+pub fn file(number: i32) -> ManuallyDrop<File> {
+    ManuallyDrop::new(unsafe { File::from_raw_fd(number) })
+}
+
+#[derive(Clone, Copy)]
+pub struct Sizes {
+    pub shift: u32,
+    pub pages: usize,
+    pub writes: usize,
+}
+
+impl Sizes {
+    fn read(header: &[u8]) -> Result<Sizes, Refused> {
+        let word = |at| unsafe { number::<u32>(header, at) } as usize;
+        if header.len() < HEADER || header[..5] != *b"PCWT\x01" || header[6..8] != [0, 0] {
+            return Err("the header of the trace is refused".into());
+        }
+        let sizes = Sizes { shift: header[5] as u32, pages: word(8), writes: word(12) };
+        let fits = (4..=12).contains(&sizes.shift) && (1..=65_536).contains(&sizes.pages) && sizes.writes <= 1 << 20;
+        fits.then_some(sizes).ok_or("the sizes of the trace are refused".into())
+    }
+
+    pub fn page_size(&self) -> usize {
+        1 << self.shift
+    }
+}
+
+/// One write. Its bytes stand in the buffer from `at` on.
+#[derive(Clone, Copy)]
+pub struct Write {
+    pub tick: u64,
+    pub page: u32,
+    pub offset: usize,
+    pub length: usize,
+    pub at: usize,
+}
+
+#[inline(always)]
+pub unsafe fn number<T: Copy>(bytes: &[u8], at: usize) -> T {
+    (bytes.as_ptr().add(at) as *const T).read_unaligned()
+}
+
+/// Where the records stand that are tested so far.
+pub struct Reader {
+    pub sizes: Sizes,
+    done: usize,
+    tick: u64,
+}
+
+impl Reader {
+    fn new(sizes: Sizes) -> Reader {
+        Reader { sizes, done: 0, tick: 0 }
+    }
+
+    /// Takes records from the front of the bytes, until none is left or the next one is cut. Tells where it ended.
+    #[inline(always)]
+    fn take(&mut self, bytes: &[u8], mut each: impl FnMut(&[u8], Write)) -> Result<usize, Refused> {
+        let (size, pages) = (self.sizes.page_size(), self.sizes.pages);
+        let (mut at, mut done, mut tick) = (0, self.done, self.tick);
+        while done < self.sizes.writes && bytes.len() - at >= RECORD {
+            let (next, page) = unsafe { (number::<u64>(bytes, at), number::<u32>(bytes, at + 8)) };
+            let place = unsafe { number::<u32>(bytes, at + 12) } as usize;
+            let (offset, length) = (place & 0xffff, place >> 16);
+            let bad = (next < tick) | (next >= 1 << 40) | (page as usize >= pages);
+            if bad | (length == 0) | (offset + length > size) {
+                return Err(format!("record {done} of the trace is refused"));
+            }
+            let end = at + RECORD + length;
+            if end > bytes.len() {
+                break;
+            }
+            each(bytes, Write { tick: next, page, offset, length, at: at + RECORD });
+            (at, tick, done) = (end, next, done + 1);
+        }
+        (self.done, self.tick) = (done, tick);
+        Ok(at)
+    }
+
+    fn end(&self, left: usize) -> Result<(), Refused> {
+        let ended = self.done == self.sizes.writes && left == 0;
+        ended.then_some(()).ok_or("the trace ends too early or too late".into())
+    }
+
+    /// Reads all of standard input through one buffer. What `open` makes of the sizes is given to `each` for each
+    /// write, and to `passed` before the buffer is filled again.
+    #[inline(always)]
+    pub fn stream<T>(
+        open: impl FnOnce(Sizes) -> T,
+        mut each: impl FnMut(&mut T, &[u8], Write),
+        mut passed: impl FnMut(&mut T, &[u8]),
+    ) -> Result<(Sizes, T), Refused> {
+        let buffer = zeros::<u8>(CHUNK + SLACK);
+        let (mut held, mut total) = (fill(buffer, 0)?, 0);
+        let mut reader = Reader::new(Sizes::read(&buffer[..held.min(HEADER)])?);
+        let mut made = open(reader.sizes);
+        let mut front = HEADER;
+        loop {
+            let taken = reader.take(&buffer[front..held], |_, write| {
+                each(&mut made, buffer, Write { at: write.at + front, ..write })
+            })?;
+            passed(&mut made, buffer);
+            let left = front + taken;
+            total += left;
+            buffer.copy_within(left..held, 0);
+            let kept = held - left;
+            held = fill(buffer, kept)?;
+            front = 0;
+            if total + held > LONGEST {
+                return Err("the trace is too long".into());
+            }
+            if held == kept {
+                reader.end(held)?;
+                return Ok((reader.sizes, made));
+            }
+        }
+    }
+
+    /// Reads all of standard input and keeps it. `each` is given each write's number and the write; its bytes stand in
+    /// the text.
+    #[inline(always)]
+    pub fn whole<T>(
+        open: impl FnOnce(Sizes) -> T,
+        mut each: impl FnMut(&mut T, usize, Write),
+    ) -> Result<(Sizes, &'static [u8], T), Refused> {
+        let text = text()?;
+        let mut reader = Reader::new(Sizes::read(&text[..text.len().min(HEADER)])?);
+        let (mut made, mut number) = (open(reader.sizes), 0);
+        let body = &text[HEADER..];
+        let taken = reader.take(body, |_, write| {
+            each(&mut made, number, Write { at: write.at + HEADER, ..write });
+            number += 1;
+        })?;
+        reader.end(body.len() - taken)?;
+        Ok((reader.sizes, text, made))
+    }
+}
+
+/// Fills a buffer behind the bytes that it has, and tells how many it has then.
+fn fill(buffer: &mut [u8], mut held: usize) -> Result<usize, Refused> {
+    let end = buffer.len() - SLACK;
+    while held < end {
+        match file(0).read(&mut buffer[held..end]) {
+            Ok(0) => break,
+            Ok(count) => held += count,
+            Err(fault) if fault.kind() == std::io::ErrorKind::Interrupted => {}
+            Err(fault) => return Err(fault.to_string()),
+        }
+    }
+    Ok(held)
+}
+
+/// All bytes of standard input; some more may be read behind them.
+fn text() -> Result<&'static [u8], Refused> {
+    let known = file(0).metadata().map_err(|fault| fault.to_string())?;
+    let mut room = if known.is_file() { known.len() as usize + 1 } else { 1 << 20 }.min(LONGEST + 1);
+    let mut buffer = zeros::<u8>(room + SLACK);
+    let mut held = fill(buffer, 0)?;
+    while held == room && room <= LONGEST {
+        room = (2 * room).min(LONGEST + 1);
+        let larger = zeros::<u8>(room + SLACK);
+        larger[..held].copy_from_slice(&buffer[..held]);
+        buffer = larger;
+        held = fill(buffer, held)?;
+    }
+    let fits = held <= LONGEST;
+    fits.then_some(&buffer[..held]).ok_or("the trace is too long".into())
+}

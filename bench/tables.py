@@ -1,0 +1,119 @@
+"""The tables in Markdown, of what was measured."""
+
+import math
+
+TITLES = {"precopy": "Precopy", "fast": "Fast", "plain": "Plain"}
+
+
+def ms(seconds):
+    value = 1000 * seconds
+    return f"{value:,.0f}" if value >= 100 else f"{value:.1f}" if value >= 10 else f"{value:.2f}"
+
+
+def table(head, rows):
+    print("| " + " | ".join(head) + " |")
+    print("|" + "---|" * len(head))
+    for row in rows:
+        print("| " + " | ".join(str(it) for it in row) + " |")
+    print(flush=True)
+
+
+class Tables:
+    """`taken` has, by names of trace, job and program, what the runs took."""
+
+    def __init__(self, taken, least_memory):
+        self.taken = taken
+        self.least_memory = least_memory
+
+    def cell(self, trace, job, program, show):
+        taken = self.taken.get((trace, job, program))
+        return show(taken) if taken else "-"
+
+    def time(self, trace, job, program):
+        return self.cell(trace, job, program, lambda it: f"{ms(it.least())} ({ms(it.median())})")
+
+    def processor(self, trace, job, program):
+        return self.cell(trace, job, program, lambda it: ms(it.processor()))
+
+    def memory(self, trace, job, program):
+        def show(taken):
+            memory = taken.memory()
+            sign = "" if memory > self.least_memory * 1.03 else "at most "
+            return f"{sign}{memory / 1e6:.0f}"
+
+        return self.cell(trace, job, program, show)
+
+    def least(self, trace, job, program):
+        taken = self.taken.get((trace, job, program))
+        return taken.least() if taken else math.nan
+
+    def ratio(self, trace, job, above, below):
+        value = self.least(trace, job, above) / self.least(trace, job, below)
+        return "-" if math.isnan(value) else f"{value:.1f}"
+
+    def has(self, trace, job):
+        return (trace, job, "precopy") in self.taken
+
+    def of_command(self, title, job, traces, programs, notes=""):
+        """One row a trace: times, ratios, processor time and memory of each program."""
+        traces = [it for it in traces if self.has(it, job)]
+        if not traces:
+            return
+        print(f"### {title}\n")
+        if notes:
+            print(f"{notes}\n")
+        names = [TITLES[it] for it in programs]
+        head = ["Trace", *(f"{it}, ms" for it in names), "Precopy / fast"]
+        head += ["Plain / precopy"] if "plain" in programs else []
+        head += [f"{it}, processor" for it in names] + [f"{it}, MB" for it in names]
+        rows = []
+        for trace in traces:
+            row = [trace, *(self.time(trace, job, it) for it in programs), self.ratio(trace, job, "precopy", "fast")]
+            row += [self.ratio(trace, job, "plain", "precopy")] if "plain" in programs else []
+            row += [self.processor(trace, job, it) for it in programs]
+            rows.append(row + [self.memory(trace, job, it) for it in programs])
+        table(head, rows)
+
+    def of_sweeps(self, jobs, alone, traces):
+        """One row for each trace and sweep. The last ratio leaves out what a sweep of one short case takes."""
+        rows = []
+        for trace in traces:
+            for (cases, workers), job in jobs.items():
+                if not self.has(trace, job.name):
+                    continue
+                least = {it: self.least(trace, job.name, it) for it in TITLES}
+                beside = {it: least[it] - self.least(trace, alone.name, it) for it in ("precopy", "fast")}
+                is_known = beside["fast"] > 0 and beside["precopy"] > 0
+                row = [trace, cases, workers, *(self.time(trace, job.name, it) for it in TITLES)]
+                row += [self.ratio(trace, job.name, "precopy", "fast")]
+                row += [f"{beside['precopy'] / beside['fast']:.1f}" if is_known else "-"]
+                row += [self.ratio(trace, job.name, "plain", "precopy")]
+                rows.append(row + [self.memory(trace, job.name, it) for it in TITLES])
+        if rows:
+            print("### `precopy sweep`\n")
+            times = [f"{it}, ms" for it in TITLES.values()]
+            ratios = ["Precopy / fast", "Beside one case", "Plain / precopy"]
+            table(["Trace", "Cases", "Workers", *times, *ratios, *(f"{it}, MB" for it in TITLES.values())], rows)
+
+    def of_growth(self, title, series, jobs, unit):
+        """`series` is a list of traces and counts. One row for each command and program."""
+        rows = []
+        for job in jobs:
+            for program in job.programs:
+                times = [self.least(trace, job.name, program) for trace, _ in series]
+                if any(math.isnan(it) for it in times):
+                    continue
+                counts = [count for _, count in series]
+                more = (times[-1] - times[-2]) / (counts[-1] - counts[-2])
+                shown = [ms(it) for it in times]
+                rows.append([job.name, TITLES[program], *shown, f"{exponent(counts, times):.2f}", f"{more * 1e9:.0f}"])
+        if rows:
+            print(f"### {title}\n")
+            table(["Command", "Program", *(f"{it:,}" for _, it in series), "Exponent", f"ns a {unit}"], rows)
+
+
+def exponent(counts, times):
+    """The k of the line `time = c * count ** k` with the least squares of logarithms."""
+    xs, ys = [math.log(it) for it in counts], [math.log(it) for it in times]
+    x, y = sum(xs) / len(xs), sum(ys) / len(ys)
+    return sum((a - x) * (b - y) for a, b in zip(xs, ys)) / sum((a - x) ** 2 for a in xs)
