@@ -1,0 +1,32 @@
+//! What the final copy and the receivers leave, in the words of the join of parts.
+//!
+//! A law is a function with an empty body: its contract is the law, and a call brings it into the caller's proof.
+#![tactic(auto)]
+
+ghost use Rattle.std.specs.Prelude.{◌≡◌, ℕ, Bool, List, map};
+ghost use Rattle.std.specs.List.{All, Contains};
+ghost use Rattle.migration_model.specs.Final.{IsFinalCopy};
+ghost use Rattle.migration_model.specs.Frames.{GuestShape, IsGuestShape, IsFrame, PageFrame, frame_text};
+ghost use Rattle.migration_model.specs.Parts.{Agree, FramesAgree, GuestPart, IsPart, join, join_all, part_of};
+ghost use Rattle.migration_model.specs.Trace.{GuestTrace};
+ghost use Rattle.stream_lanes.specs.Ends.{IsSentOn, OutView};
+ghost use Rattle.stream_receivers.specs.Receivers.{HasFrames};
+ghost use Rattle.part_laws.specs.Current.{current_part};
+
+/// The parts that a final copy leaves, joined, are the join of the parts that it was given and of the current copies of
+/// the marked pages, where these agree.
+pub fn final_copy_is_a_join()
+    ensures { (trace : GuestTrace) (shape : GuestShape) (versions : List ℕ) (marked : ℕ → Bool) (old new : List GuestPart)
+        → All IsPart old → All (λ part. Agree part (current_part trace shape versions marked)) old
+        → IsFinalCopy trace versions marked old new
+        → join_all shape new ≡ join (join_all shape old) (current_part trace shape versions marked) }
+{}
+
+/// The part that a receiver answers is the join of the frames whose spellings were sent on its lanes, where these agree.
+pub fn received_part_is_a_join()
+    ensures { (shape : GuestShape) (outs : List OutView) (frames : List PageFrame) (part : GuestPart)
+        → IsGuestShape shape → All (IsFrame shape) frames → FramesAgree shape frames
+        → ((text : List ℕ) → IsSentOn outs text → Contains (map frame_text frames) text)
+        → ((text : List ℕ) → Contains (map frame_text frames) text → IsSentOn outs text)
+        → HasFrames shape (IsSentOn outs) part → part ≡ join_all shape (map (part_of shape) frames) }
+{}
