@@ -54,6 +54,19 @@ fn opening_of(
     Ok(Opening::new(places, words, guests, copiers))
 }
 
+/// A core that is opened so.
+fn core_of(
+    alloc: Global,
+    pages: usize,
+    dirty: u64,
+    last: Option<u64>,
+    guests: usize,
+    copiers: usize,
+) -> Result<Core, Fail> {
+    let opening = opening_of(alloc, pages, dirty, last, guests, copiers)?.ok_or("an opening")?;
+    Ok(Core::open(alloc, &opening)?)
+}
+
 /// Steps through the events, and compares each answer.
 fn follow(rt: &impl Abort, core: &mut Core, steps: &[Step]) {
     for (event, wanted) in steps {
@@ -82,6 +95,11 @@ fn two_clean_pages(rt: HostRuntime) -> Result<(), Fail> {
     Ok(())
 }
 
+/// Whether page 0 is marked, whether copier 0 holds it, and what is pending for guest 0.
+fn page_zero(core: &Core) -> (bool, bool, Option<u32>) {
+    (core.marked(0), core.held(0, 0), core.pending(0))
+}
+
 #[test]
 fn marked_again_though_not_behind(rt: HostRuntime) -> Result<(), Fail> {
     let opening = opening_of(rt.alloc(), 1, 1, None, 1, 1)?.ok_or("an opening")?;
@@ -94,21 +112,20 @@ fn marked_again_though_not_behind(rt: HostRuntime) -> Result<(), Fail> {
     ];
     follow(&rt, &mut core, &steps);
     let events = [store(0, 1), harvest(0, 0), read(0), MARK];
-    let after = run(rt.alloc(), &opening, &events).ok().ok_or("a core")?;
-    for core in [&core, &after] {
-        assert!(rt; core.marked(0));
-        assert!(rt; !core.held(0, 0));
-        assert_eq!(rt; core.pending(0), None);
-    }
+    let after = run(rt.alloc(), &opening, &events).ok();
     let refused = run(rt.alloc(), &opening, &[store(0, 1), MARK, MARK]).err();
-    assert_eq!(rt; refused, Some((2, CoreRefusal::NothingPending)));
+    drop(opening);
+    let wanted = (true, false, None);
+    assert_eq!(rt;
+        (page_zero(&core), after.as_ref().map(page_zero), refused),
+        (wanted, Some(wanted), Some((2, CoreRefusal::NothingPending)))
+    );
     Ok(())
 }
 
 #[test]
 fn restored_while_stored_again(rt: HostRuntime) -> Result<(), Fail> {
-    let opening = opening_of(rt.alloc(), 2, 3, None, 1, 1)?.ok_or("an opening")?;
-    let mut core = Core::open(rt.alloc(), &opening)?;
+    let mut core = core_of(rt.alloc(), 2, 3, None, 1, 1)?;
     let steps = [
         (harvest(0, 0), Ok(Answer::Pages(3))),
         (store(1, 1), Ok(Answer::Done)),
@@ -119,15 +136,21 @@ fn restored_while_stored_again(rt: HostRuntime) -> Result<(), Fail> {
         (read(0), Ok(Answer::Place(0))),
     ];
     follow(&rt, &mut core, &steps);
-    assert!(rt; core.marked(1) && !core.marked(0));
-    assert!(rt; !core.held(0, 0) && !core.held(0, 1));
+    assert_eq!(rt;
+        [
+            core.marked(0),
+            core.marked(1),
+            core.held(0, 0),
+            core.held(0, 1)
+        ],
+        [false, true, false, false]
+    );
     Ok(())
 }
 
 #[test]
 fn restored_after_a_read(rt: HostRuntime) -> Result<(), Fail> {
-    let opening = opening_of(rt.alloc(), 2, 3, None, 1, 1)?.ok_or("an opening")?;
-    let mut core = Core::open(rt.alloc(), &opening)?;
+    let mut core = core_of(rt.alloc(), 2, 3, None, 1, 1)?;
     let steps = [
         (harvest(0, 0), Ok(Answer::Pages(3))),
         (read(1), Ok(Answer::Place(0))),
@@ -141,8 +164,7 @@ fn restored_after_a_read(rt: HostRuntime) -> Result<(), Fail> {
 
 #[test]
 fn words_of_two_copiers(rt: HostRuntime) -> Result<(), Fail> {
-    let opening = opening_of(rt.alloc(), 65, 0, Some(1), 1, 2)?.ok_or("an opening")?;
-    let mut core = Core::open(rt.alloc(), &opening)?;
+    let mut core = core_of(rt.alloc(), 65, 0, Some(1), 1, 2)?;
     let steps = [
         (harvest(0, 1), Err(CoreRefusal::NotOwner)),
         (harvest(1, 2), Err(CoreRefusal::NotOwner)),
@@ -156,13 +178,22 @@ fn words_of_two_copiers(rt: HostRuntime) -> Result<(), Fail> {
 
 #[test]
 fn no_such_opening(rt: HostRuntime) -> Result<(), Fail> {
-    assert!(rt; opening_of(rt.alloc(), 4, 16, None, 1, 1)?.is_none());
-    assert!(rt; opening_of(rt.alloc(), 4, 15, None, 17, 1)?.is_none());
-    assert!(rt; opening_of(rt.alloc(), 0, 0, None, 1, 1)?.is_none());
+    let refused = [
+        opening_of(rt.alloc(), 4, 16, None, 1, 1)?.is_none(),
+        opening_of(rt.alloc(), 4, 15, None, 17, 1)?.is_none(),
+        opening_of(rt.alloc(), 0, 0, None, 1, 1)?.is_none(),
+    ];
+    assert_eq!(rt; refused, [true; 3]);
     let opening = opening_of(rt.alloc(), 4, 15, None, 16, 2)?.ok_or("an opening")?;
-    assert_eq!(rt; opening.dirty(), [15].as_slice());
-    assert_eq!(rt; opening.places(), [0, 0, 0, 0].as_slice());
-    assert_eq!(rt; (opening.guests(), opening.copiers()), (16, 2));
+    assert_eq!(rt;
+        (
+            opening.dirty(),
+            opening.places(),
+            opening.guests(),
+            opening.copiers()
+        ),
+        (&[15][..], &[0, 0, 0, 0][..], 16, 2)
+    );
     Ok(())
 }
 

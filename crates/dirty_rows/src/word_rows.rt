@@ -169,20 +169,41 @@ fn one_table_on_one_thread(rt: HostRuntime) -> Result<(), Fail> {
         mut guest,
         mut copier,
     } = open_four(rt.alloc(), 8).ok_or("a table")?;
-    assert_eq!(rt; harvest_word(&table, &mut copier, 0), Some(8));
-    assert_eq!(rt; harvest_word(&table, &mut copier, 0), Some(0));
-    assert!(rt; store_page(&table, &mut guest, 1, 1));
-    assert!(rt; mark_page(&table, &mut guest));
-    assert_eq!(rt; peek_word(&table, &mut copier, 0), Some(2));
-    assert_eq!(rt; harvest_word(&table, &mut copier, 0), Some(2));
-    assert_eq!(rt; read_page(&table, &mut copier, 1), Some(1));
-    assert!(rt; restore_pages(&table, &mut copier, 0, 8));
-    assert_eq!(rt; peek_word(&table, &mut copier, 0), Some(8));
+    let first = [
+        harvest_word(&table, &mut copier, 0),
+        harvest_word(&table, &mut copier, 0),
+    ];
+    let stored = [
+        store_page(&table, &mut guest, 1, 1),
+        mark_page(&table, &mut guest),
+    ];
+    let second = [
+        peek_word(&table, &mut copier, 0),
+        harvest_word(&table, &mut copier, 0),
+    ];
+    let place = read_page(&table, &mut copier, 1);
+    let restored = restore_pages(&table, &mut copier, 0, 8);
+    let left = peek_word(&table, &mut copier, 0);
     let closed = close_pair(rt.alloc(), table, guest, copier).ok_or("closed")?;
-    assert_eq!(rt; closed.versions.as_slice(), [0, 1, 0, 0].as_slice());
-    assert_eq!(rt; closed.dirty.as_slice(), [8].as_slice());
-    assert!(rt; closed.fits(4, 1));
-    assert!(rt; !closed.fits(4, 0) && !closed.fits(5, 1) && !closed.fits(3, 1));
+    assert_eq!(rt;
+        (first, stored, second, (place, restored, left)),
+        (
+            [Some(8), Some(0)],
+            [true; 2],
+            [Some(2); 2],
+            (Some(1), true, Some(8))
+        )
+    );
+    let fits = [
+        closed.fits(4, 1),
+        closed.fits(4, 0),
+        closed.fits(5, 1),
+        closed.fits(3, 1),
+    ];
+    assert_eq!(rt;
+        (closed.versions.as_slice(), closed.dirty.as_slice(), fits),
+        (&[0, 1, 0, 0][..], &[8][..], [true, false, false, false])
+    );
     Ok(())
 }
 
@@ -265,13 +286,18 @@ fn harvest_and_read(table: &RoundTable, mut copier: CopySeat, flags: &Flags) -> 
     }
 }
 
-/// Four marked pages: one thread stores page 0 at place 1 and marks it, the other harvests and reads. What page 0's read
-/// answered, and what is left.
-fn on_two_threads(
-    rt: &(impl Threads + Abort),
-    alloc: Global,
-    tied: bool,
-) -> Result<(Option<u32>, Closed), Fail> {
+/// What came of a round of two threads: whether all went as it should, what the copier harvested, what it read of
+/// page 0, and what is left.
+#[derive(Drop)]
+struct Round {
+    done: bool,
+    harvested: Option<u64>,
+    place: Option<u32>,
+    closed: Closed,
+}
+
+/// Four marked pages: one thread stores page 0 at place 1 and marks it, the other harvests and reads.
+fn on_two_threads(rt: &(impl Threads + Abort), alloc: Global, tied: bool) -> Result<Round, Fail> {
     let Pair {
         table,
         guest,
@@ -285,35 +311,53 @@ fn on_two_threads(
         move || store_and_mark(shared, guest, watched),
         move || harvest_and_read(shared, copier, watched),
     );
-    assert!(rt; stored.done && copied.done);
-    assert_eq!(rt; copied.harvested, Some(15));
-    let Stored { guest, done: _ } = stored;
     let Copied {
         copier,
-        harvested: _,
+        harvested,
         place,
-        done: _,
+        done,
     } = copied;
-    let closed = close_pair(alloc, table, guest, copier).ok_or("closed")?;
-    Ok((place, closed))
+    let done = stored.done && done;
+    let closed = close_pair(alloc, table, stored.guest, copier).ok_or("closed")?;
+    Ok(Round {
+        done,
+        harvested,
+        place,
+        closed,
+    })
 }
 
 #[test]
 fn two_free_threads(rt: HostRuntime) -> Result<(), Fail> {
-    let (place, closed) = on_two_threads(&rt, rt.alloc(), false)?;
-    assert_eq!(rt; closed.versions.as_slice(), [1, 0, 0, 0].as_slice());
-    let marked = closed.dirty.as_slice() == [1].as_slice();
-    let clean = closed.dirty.as_slice() == [0].as_slice();
-    assert!(rt; marked || (clean && place == Some(1)));
+    let round = on_two_threads(&rt, rt.alloc(), false)?;
+    assert_eq!(rt;
+        (
+            round.done,
+            round.harvested,
+            round.closed.versions.as_slice()
+        ),
+        (true, Some(15), &[1, 0, 0, 0][..])
+    );
+    let marked = round.closed.dirty.as_slice() == [1].as_slice();
+    let clean = round.closed.dirty.as_slice() == [0].as_slice();
+    assert!(rt; marked || (clean && round.place == Some(1)));
     Ok(())
 }
 
 #[test]
 fn two_tied_threads(rt: HostRuntime) -> Result<(), Fail> {
-    let (place, closed) = on_two_threads(&rt, rt.alloc(), true)?;
-    assert_eq!(rt; place, Some(1));
-    assert_eq!(rt; closed.versions.as_slice(), [1, 0, 0, 0].as_slice());
-    assert_eq!(rt; closed.dirty.as_slice(), [1].as_slice());
+    let round = on_two_threads(&rt, rt.alloc(), true)?;
+    assert_eq!(rt;
+        (round.done, round.harvested, round.place),
+        (true, Some(15), Some(1))
+    );
+    assert_eq!(rt;
+        (
+            round.closed.versions.as_slice(),
+            round.closed.dirty.as_slice()
+        ),
+        (&[1, 0, 0, 0][..], &[1][..])
+    );
     Ok(())
 }
 
@@ -345,15 +389,21 @@ fn round_of_one_page(
     Some((read, closed))
 }
 
+/// Two marked pages, the first at place 7.
+fn two_pages(alloc: Global) -> Option<Opening> {
+    let places = vec![in alloc; 7u32, 0u32].ok()?;
+    let dirty = vec![in alloc; 3u64].ok()?;
+    Opening::new(places, dirty, 1, 1)
+}
+
 #[test]
 fn one_page_of_a_round(rt: HostRuntime) -> Result<(), Fail> {
-    let places = vec![in rt.alloc(); 7u32, 0u32]?;
-    let dirty = vec![in rt.alloc(); 3u64]?;
-    let opening = Opening::new(places, dirty, 1, 1).ok_or("an opening")?;
+    let opening = two_pages(rt.alloc()).ok_or("an opening")?;
     let (read, closed) = round_of_one_page(rt.alloc(), opening, 0, 9).ok_or("a round")?;
-    assert_eq!(rt; read, Some(9));
-    assert_eq!(rt; closed.versions.as_slice(), [9, 0].as_slice());
-    assert_eq!(rt; closed.dirty.as_slice(), [3].as_slice());
+    assert_eq!(rt;
+        (read, closed.versions.as_slice(), closed.dirty.as_slice()),
+        (Some(9), &[9, 0][..], &[3][..])
+    );
     Ok(())
 }
 
@@ -384,21 +434,59 @@ fn many_pages(alloc: Global) -> Option<Opening> {
     Opening::new(places, dirty, 3, 2)
 }
 
+/// Whether the guest has number 1 and nothing is pending, and which of some pages it owns.
+fn told_of_guest(guest: &GuestSeat) -> (bool, [bool; 4]) {
+    let owned = [
+        guest.owns(4),
+        guest.owns(127),
+        guest.owns(5),
+        guest.owns(130),
+    ];
+    (guest.number() == 1 && guest.pending().is_none(), owned)
+}
+
+/// Whether the copier has number 1 and holds nothing, and which of the words it owns.
+fn told_of_copier(copier: &CopySeat) -> (bool, [bool; 4]) {
+    let owned = [
+        copier.owns(0),
+        copier.owns(1),
+        copier.owns(2),
+        copier.owns(3),
+    ];
+    (copier.number() == 1 && !copier.holds(), owned)
+}
+
 #[test]
 fn many_seats(rt: HostRuntime) -> Result<(), Fail> {
     let opening = many_pages(rt.alloc()).ok_or("an opening")?;
     let opened = RoundTable::open(rt.alloc(), opening)?;
-    assert_eq!(rt; (opened.guests.len(), opened.copiers.len()), (3, 2));
-    let guest = opened.guests.get(1).ok_or("a guest")?;
-    assert!(rt; guest.number() == 1 && guest.pending().is_none());
-    assert!(rt; guest.owns(4) && guest.owns(127) && !guest.owns(5) && !guest.owns(130));
-    let copier = opened.copiers.get(1).ok_or("a copier")?;
-    assert!(rt; copier.number() == 1 && !copier.holds());
-    assert!(rt; copier.owns(1) && !copier.owns(0) && !copier.owns(2) && !copier.owns(3));
+    assert_eq!(rt;
+        (
+            (opened.guests.len(), opened.copiers.len()),
+            opened.guests.get(1).map(told_of_guest),
+            opened.copiers.get(1).map(told_of_copier)
+        ),
+        (
+            (3, 2),
+            Some((true, [true, true, false, false])),
+            Some((true, [false, true, false, false]))
+        )
+    );
+    drop(opened);
     let opening = many_pages(rt.alloc()).ok_or("an opening")?;
     let closed = opened_and_closed(rt.alloc(), opening).ok_or("closed")?;
-    assert!(rt; closed.fits(130, 5) && !closed.fits(130, 4) && !closed.fits(129, 5));
-    assert_eq!(rt; closed.dirty.as_slice(), [1, 0, 2].as_slice());
-    assert!(rt; closed.versions.iter().all(|version| *version == 5));
+    let fits = [
+        closed.fits(130, 5),
+        closed.fits(130, 4),
+        closed.fits(129, 5),
+    ];
+    assert_eq!(rt;
+        (
+            fits,
+            closed.dirty.as_slice(),
+            closed.versions.iter().all(|version| *version == 5)
+        ),
+        ([true, false, false], &[1, 0, 2][..], true)
+    );
     Ok(())
 }

@@ -35,15 +35,27 @@ fn one_lane(alloc: Global, capacity: usize) -> Result<(LaneOut, LaneIn), Fail>
     Ok((out, end))
 }
 
-/// Sends one byte, where there is room.
-fn send_byte(alloc: Global, out: &mut LaneOut, byte: u8) -> Result<(), Fail>
+/// Sends one byte, where there is room; false where there is none, or no memory.
+fn send_byte(alloc: Global, out: &mut LaneOut, byte: u8) -> bool
     ensures { SameOut out.old out.new }
 {
     if !out.has_room() {
-        return Err(Fail::from("no room"));
+        return false;
     }
-    out.send(vec![in alloc; byte]?);
-    Ok(())
+    let Ok(frame) = vec![in alloc; byte] else {
+        return false;
+    };
+    out.send(frame);
+    true
+}
+
+/// Gives a text back, where there is one.
+fn give_back(end: &mut LaneIn, text: Option<Vec<u8>>) -> bool {
+    let Some(text) = text else {
+        return false;
+    };
+    end.give_back(text);
+    true
 }
 
 /// The first byte of a frame, or 0 where there is none.
@@ -57,13 +69,18 @@ fn first_byte(frame: Option<Vec<u8>>) -> u8 {
 #[test]
 fn a_lane_of_two(rt: HostRuntime) -> Result<(), Fail> {
     let (mut out, mut end) = one_lane(rt.alloc(), 2)?;
-    send_byte(rt.alloc(), &mut out, 0x61)?;
-    send_byte(rt.alloc(), &mut out, 0x62)?;
-    assert!(rt; !out.has_room());
-    assert_eq!(rt; first_byte(end.take()), 0x61);
+    let steps = [
+        send_byte(rt.alloc(), &mut out, 0x61),
+        send_byte(rt.alloc(), &mut out, 0x62),
+        !out.has_room(),
+    ];
+    let first = first_byte(end.take());
     let mut rest = drain(out, end);
-    assert_eq!(rt; first_byte(rest.take()), 0x62);
-    assert!(rt; rest.take().is_none());
+    let second = first_byte(rest.take());
+    assert_eq!(rt;
+        (steps, first, second, rest.take().is_none()),
+        ([true; 3], 0x61, 0x62, true)
+    );
     Ok(())
 }
 
@@ -71,12 +88,17 @@ fn a_lane_of_two(rt: HostRuntime) -> Result<(), Fail> {
 fn room_comes_back_as_frames_are_taken(rt: HostRuntime) -> Result<(), Fail> {
     let (mut out, mut end) = one_lane(rt.alloc(), 2)?;
     for byte in 1..=10u8 {
-        send_byte(rt.alloc(), &mut out, byte)?;
-        send_byte(rt.alloc(), &mut out, byte + 100)?;
-        assert!(rt; !out.has_room());
-        assert_eq!(rt; first_byte(end.take()), byte);
-        assert_eq!(rt; first_byte(end.take()), byte + 100);
-        assert!(rt; end.take().is_none());
+        let other = byte + 100;
+        let steps = [
+            send_byte(rt.alloc(), &mut out, byte),
+            send_byte(rt.alloc(), &mut out, other),
+            !out.has_room(),
+        ];
+        let taken = [first_byte(end.take()), first_byte(end.take())];
+        assert_eq!(rt;
+            (steps, taken, end.take().is_none()),
+            ([true; 3], [byte, other], true)
+        );
     }
     Ok(())
 }
@@ -84,34 +106,43 @@ fn room_comes_back_as_frames_are_taken(rt: HostRuntime) -> Result<(), Fail> {
 #[test]
 fn texts_go_back_in_order(rt: HostRuntime) -> Result<(), Fail> {
     let (mut out, mut end) = one_lane(rt.alloc(), 2)?;
-    assert!(rt; out.spare().is_none());
-    send_byte(rt.alloc(), &mut out, 0x61)?;
-    send_byte(rt.alloc(), &mut out, 0x62)?;
-    let first = end.take().ok_or("a frame")?;
-    end.give_back(first);
-    assert!(rt; end.take().is_some());
-    end.give_back(vec![in rt.alloc(); 0x63]?);
-    assert_eq!(rt; first_byte(out.spare()), 0x61);
-    assert_eq!(rt; first_byte(out.spare()), 0x63);
-    assert!(rt; out.spare().is_none());
+    let sent = [
+        out.spare().is_none(),
+        send_byte(rt.alloc(), &mut out, 0x61),
+        send_byte(rt.alloc(), &mut out, 0x62),
+    ];
+    let first = end.take();
+    let given = [
+        give_back(&mut end, first),
+        end.take().is_some(),
+        give_back(&mut end, vec![in rt.alloc(); 0x63].ok()),
+    ];
+    let spares = [first_byte(out.spare()), first_byte(out.spare())];
+    assert_eq!(rt;
+        (sent, given, spares, out.spare().is_none()),
+        ([true; 3], [true; 3], [0x61, 0x63], true)
+    );
     Ok(())
 }
 
 #[test]
 fn no_more_than_1024_texts_wait(rt: HostRuntime) -> Result<(), Fail> {
     let (mut out, mut end) = one_lane(rt.alloc(), 2_000)?;
-    send_byte(rt.alloc(), &mut out, 0x61)?;
+    let first = send_byte(rt.alloc(), &mut out, 0x61);
     for _ in 0..1_030 {
         end.give_back(Vec::new(rt.alloc()));
     }
-    send_byte(rt.alloc(), &mut out, 0x62)?;
+    let second = send_byte(rt.alloc(), &mut out, 0x62);
+    let mut all = true;
     for _ in 0..1_024 {
-        assert!(rt; out.spare().is_some());
+        all &= out.spare().is_some();
     }
-    assert!(rt; out.spare().is_none());
-    assert_eq!(rt; first_byte(end.take()), 0x61);
-    assert_eq!(rt; first_byte(end.take()), 0x62);
-    assert!(rt; end.take().is_none());
+    let steps = [first, second, all, out.spare().is_none()];
+    let taken = [first_byte(end.take()), first_byte(end.take())];
+    assert_eq!(rt;
+        (steps, taken, end.take().is_none()),
+        ([true; 4], [0x61, 0x62], true)
+    );
     Ok(())
 }
 
@@ -122,7 +153,9 @@ fn send_each(alloc: Global, outs: Vec<Vec<LaneOut>>) -> Result<(), Fail> {
         for out in row {
             let mut out = out;
             byte = byte.wrapping_add(1);
-            send_byte(alloc, &mut out, byte)?;
+            if !send_byte(alloc, &mut out, byte) {
+                return Err(Fail::from("no room"));
+            }
         }
     }
     Ok(())
@@ -262,6 +295,14 @@ fn start_taking(rt: &impl Threads, end: LaneIn) -> Result<PromisedHandle<Taken, 
     Ok(handle)
 }
 
+/// Whether there is a frame, and it is this number.
+fn is_number(frame: Option<Vec<u8>>, number: u16) -> bool {
+    match frame {
+        Some(frame) => frame.as_slice() == number.to_le_bytes().as_slice(),
+        None => false,
+    }
+}
+
 #[test]
 fn one_thread_sends_and_one_takes(rt: HostRuntime) -> Result<(), Fail> {
     let (out, end) = one_lane(rt.alloc(), 16)?;
@@ -269,12 +310,14 @@ fn one_thread_sends_and_one_takes(rt: HostRuntime) -> Result<(), Fail> {
     let sending = start_sending(&rt, rt.alloc(), out)?;
     let out = sending.join(&rt);
     let Taken { end, count } = taking.join(&rt);
-    assert_eq!(rt; count, FRAMES - 10);
     let mut rest = drain(out, end);
+    let mut in_order = true;
     for number in FRAMES - 10..FRAMES {
-        let frame = rest.take().ok_or("a frame")?;
-        assert!(rt; frame.as_slice() == number.to_le_bytes().as_slice());
+        in_order &= is_number(rest.take(), number);
     }
-    assert!(rt; rest.take().is_none());
+    assert_eq!(rt;
+        (count, in_order, rest.take().is_none()),
+        (FRAMES - 10, true, true)
+    );
     Ok(())
 }

@@ -4,7 +4,7 @@ ghost use Rattle.std.specs.Prelude.{◌≡◌, ◌≤◌, ◌<◌, IfOk, IfSome,
 ghost use Rattle.stream_receivers.specs.Receivers.{AreEnds, AreNewEnds};
 
 use collector::Part;
-use page_message::{Body, append_frame};
+use page_message::{Body, FrameError, append_frame};
 use std::alloc::Global;
 use std::test::Fail;
 use stream_lanes::{LaneIn, LaneOut, Lanes, by_stream, lanes};
@@ -56,23 +56,44 @@ fn new_stream(alloc: Global) -> Result<Stream, Fail> {
     Ok(Stream { outs, receiver })
 }
 
-/// Sends a text on one of the lanes.
-fn send(outs: &mut Vec<LaneOut>, worker: usize, text: Vec<u8>) -> Result<(), Fail>
+/// Sends a text on one of the lanes; false where there is no such lane, or no room.
+fn send(outs: &mut Vec<LaneOut>, worker: usize, text: Vec<u8>) -> bool
     ensures { map (λ out. out.lane) outs.new.items ≡ map (λ out. out.lane) outs.old.items }
 {
     if worker >= outs.len() {
-        return Err(Fail::from("no worker"));
+        return false;
     }
     if !outs[worker].has_room() {
-        return Err(Fail::from("no room"));
+        return false;
     }
     outs[worker].send(text);
-    Ok(())
+    true
 }
 
 impl Stream {
-    fn send(&mut self, worker: usize, text: Vec<u8>) -> Result<(), Fail> {
+    ghost use Rattle.std.specs.Prelude.{◌<◌, ◌≤◌};
+
+    fn send(&mut self, worker: usize, text: Vec<u8>) -> bool {
         send(&mut self.outs, worker, text)
+    }
+
+    /// Sends a copy of a text; false where that takes more memory than there is, too.
+    fn send_text(&mut self, alloc: Global, worker: usize, text: &[u8]) -> bool {
+        match Vec::from_slice(alloc, text) {
+            Ok(text) => self.send(worker, text),
+            Err(_) => false,
+        }
+    }
+
+    /// Sends the spelling of a page, each of whose bytes is this one.
+    fn send_page(&mut self, alloc: Global, worker: usize, page: u32, stamp: u32, byte: u8) -> bool
+        requires page { page < 4 }
+        requires stamp { stamp ≤ 5 }
+    {
+        match spelled(alloc, page, stamp, byte) {
+            Ok(text) => self.send(worker, text),
+            Err(_) => false,
+        }
     }
 
     fn take(&mut self, worker: usize) -> bool {
@@ -86,7 +107,7 @@ impl Stream {
 }
 
 /// The spelling of a page, each of whose bytes is this one.
-fn spelled(alloc: Global, page: u32, stamp: u32, byte: u8) -> Result<Vec<u8>, Fail>
+fn spelled(alloc: Global, page: u32, stamp: u32, byte: u8) -> Result<Vec<u8>, FrameError>
     requires page { page < 4 }
     requires stamp { stamp ≤ 5 }
 {
@@ -107,112 +128,164 @@ fn is_filled(part: &Part, page: u32, byte: u8) -> bool {
 #[test]
 fn frames_of_two_workers_come_in_any_order(rt: HostRuntime) -> Result<(), Fail> {
     let mut stream = new_stream(rt.alloc())?;
-    stream.send(0, spelled(rt.alloc(), 1, 5, 7)?)?;
-    stream.send(1, spelled(rt.alloc(), 1, 2, 8)?)?;
-    stream.send(1, spelled(rt.alloc(), 2, 0, 0)?)?;
-    assert!(rt; stream.take(0));
-    assert!(rt; stream.take(1));
-    assert!(rt; !stream.take(0));
-    stream.send(0, spelled(rt.alloc(), 3, 4, 9)?)?;
+    let steps = [
+        stream.send_page(rt.alloc(), 0, 1, 5, 7),
+        stream.send_page(rt.alloc(), 1, 1, 2, 8),
+        stream.send_page(rt.alloc(), 1, 2, 0, 0),
+        stream.take(0),
+        stream.take(1),
+        !stream.take(0),
+        stream.send_page(rt.alloc(), 0, 3, 4, 9),
+    ];
     let part = stream.finish()?;
-    assert_eq!(rt; (part.stamp(0), part.stamp(1)), (None, Some(5)));
-    assert_eq!(rt; (part.stamp(2), part.stamp(3)), (Some(0), Some(4)));
-    assert!(rt; is_filled(&part, 1, 7) && is_filled(&part, 2, 0) && is_filled(&part, 3, 9));
+    let stamps = [part.stamp(0), part.stamp(1), part.stamp(2), part.stamp(3)];
+    let filled = [
+        is_filled(&part, 1, 7),
+        is_filled(&part, 2, 0),
+        is_filled(&part, 3, 9),
+    ];
+    assert_eq!(rt;
+        (steps, stamps, filled),
+        ([true; 7], [None, Some(5), Some(0), Some(4)], [true; 3])
+    );
     Ok(())
 }
 
 #[test]
 fn nothing_comes_where_nothing_is_sent(rt: HostRuntime) -> Result<(), Fail> {
     let mut stream = new_stream(rt.alloc())?;
-    assert_eq!(rt; stream.receiver.lanes(), 2);
-    assert!(rt; !stream.take(0) && !stream.take(1));
+    let lanes = stream.receiver.lanes();
+    let taken = [stream.take(0), stream.take(1)];
     let part = stream.finish()?;
-    assert_eq!(rt; part.shape(), shape());
-    for page in 0..4 {
-        assert!(rt; part.frame(page).is_none());
-    }
+    let missing = [
+        part.frame(0).is_none(),
+        part.frame(1).is_none(),
+        part.frame(2).is_none(),
+        part.frame(3).is_none(),
+    ];
+    assert_eq!(rt;
+        (lanes, taken, part.shape(), missing),
+        (2, [false; 2], shape(), [true; 4])
+    );
     Ok(())
 }
 
 #[test]
 fn a_refusal_is_kept_and_frames_are_taken_behind_it(rt: HostRuntime) -> Result<(), Fail> {
     let mut stream = new_stream(rt.alloc())?;
-    stream.send(0, vec![in rt.alloc(); 0]?)?;
-    stream.send(0, spelled(rt.alloc(), 1, 5, 7)?)?;
-    assert!(rt; stream.take(0));
-    assert!(rt; stream.take(0));
-    assert_eq!(rt; stream.finish().err(), Some(ReceiverError::Frame));
+    let steps = [
+        stream.send_text(rt.alloc(), 0, &[0]),
+        stream.send_page(rt.alloc(), 0, 1, 5, 7),
+        stream.take(0),
+        stream.take(0),
+    ];
+    let refusal = stream.finish().err();
+    assert_eq!(rt; (steps, refusal), ([true; 4], Some(ReceiverError::Frame)));
     Ok(())
 }
 
 #[test]
 fn what_is_left_may_be_refused(rt: HostRuntime) -> Result<(), Fail> {
     let mut stream = new_stream(rt.alloc())?;
-    stream.send(0, spelled(rt.alloc(), 1, 5, 7)?)?;
-    stream.send(1, vec![in rt.alloc(); 0]?)?;
-    assert!(rt; stream.take(0));
-    assert_eq!(rt; stream.finish().err(), Some(ReceiverError::Frame));
+    let steps = [
+        stream.send_page(rt.alloc(), 0, 1, 5, 7),
+        stream.send_text(rt.alloc(), 1, &[0]),
+        stream.take(0),
+    ];
+    let refusal = stream.finish().err();
+    assert_eq!(rt; (steps, refusal), ([true; 3], Some(ReceiverError::Frame)));
     Ok(())
+}
+
+/// The spellings of pages 1 and 2 as one text.
+fn two_pages(alloc: Global) -> Result<Vec<u8>, Fail> {
+    let mut two = spelled(alloc, 1, 5, 7)?;
+    two.extend_from_slice(&spelled(alloc, 2, 5, 7)?)?;
+    Ok(two)
 }
 
 #[test]
 fn a_text_is_of_one_frame(rt: HostRuntime) -> Result<(), Fail> {
-    let mut two = spelled(rt.alloc(), 1, 5, 7)?;
-    two.extend_from_slice(&spelled(rt.alloc(), 2, 5, 7)?)?;
-    for text in [Vec::new(rt.alloc()), two] {
+    let two = two_pages(rt.alloc())?;
+    for text in [&[][..], two.as_slice()] {
         let mut stream = new_stream(rt.alloc())?;
-        stream.send(0, text)?;
-        assert_eq!(rt; stream.finish().err(), Some(ReceiverError::Frame));
+        let sent = stream.send_text(rt.alloc(), 0, text);
+        let refusal = stream.finish().err();
+        assert_eq!(rt; (sent, refusal), (true, Some(ReceiverError::Frame)));
     }
     Ok(())
 }
 
-/// Sends page 1 and takes it, and answers the room of the text that came back, if one did.
+/// An end of a lane, and a receiver that takes from the other.
+fn one_out(alloc: Global) -> Result<(LaneOut, Receiver), Fail> {
+    let (outs, ends) = new_ends(alloc)?;
+    let out = first_of(outs).ok_or("an end that sends")?;
+    Ok((out, Receiver::new(alloc, shape(), ends)))
+}
+
+/// Sends a text and takes it, and answers the room of the text that came back, if one did.
+fn pass_text(
+    out: &mut LaneOut,
+    receiver: &mut Receiver,
+    text: Vec<u8>,
+) -> Result<Option<usize>, &'static str> {
+    if receiver.lanes() == 0 || !out.has_room() {
+        return Err("no room");
+    }
+    out.send(text);
+    if !receiver.take(0) {
+        return Err("nothing came");
+    }
+    Ok(out.spare().map(|text| text.capacity()))
+}
+
+/// The same with the spelling of page 1.
 fn pass(
     alloc: Global,
     out: &mut LaneOut,
     receiver: &mut Receiver,
     stamp: u32,
     byte: u8,
-) -> Result<Option<usize>, Fail>
+) -> Result<Option<usize>, &'static str>
     requires { stamp ≤ 5 }
 {
-    let text = spelled(alloc, 1, stamp, byte)?;
-    if receiver.lanes() == 0 || !out.has_room() {
-        return Err(Fail::from("no room"));
+    match spelled(alloc, 1, stamp, byte) {
+        Ok(text) => pass_text(out, receiver, text),
+        Err(_) => Err("no memory"),
     }
-    out.send(text);
-    if !receiver.take(0) {
-        return Err(Fail::from("nothing came"));
-    }
-    Ok(out.spare().map(|text| text.capacity()))
 }
 
 #[test]
 fn texts_of_older_frames_go_back(rt: HostRuntime) -> Result<(), Fail> {
-    let (outs, ends) = new_ends(rt.alloc())?;
-    let mut receiver = Receiver::new(rt.alloc(), shape(), ends);
-    let mut out = first_of(outs).ok_or("an end that sends")?;
-    assert_eq!(rt; pass(rt.alloc(), &mut out, &mut receiver, 2, 7)?, None);
-    assert!(rt; pass(rt.alloc(), &mut out, &mut receiver, 4, 8)? >= Some(25));
-    assert!(rt; pass(rt.alloc(), &mut out, &mut receiver, 3, 9)? >= Some(25));
-    assert!(rt; pass(rt.alloc(), &mut out, &mut receiver, 5, 0)? >= Some(25));
-    assert_eq!(rt; pass(rt.alloc(), &mut out, &mut receiver, 5, 0)?, None);
+    let (mut out, mut receiver) = one_out(rt.alloc())?;
+    let rooms = [
+        pass(rt.alloc(), &mut out, &mut receiver, 2, 7),
+        pass(rt.alloc(), &mut out, &mut receiver, 4, 8),
+        pass(rt.alloc(), &mut out, &mut receiver, 3, 9),
+        pass(rt.alloc(), &mut out, &mut receiver, 5, 0),
+        pass(rt.alloc(), &mut out, &mut receiver, 5, 0),
+    ];
+    let whole = rooms.map(|room| room.map(|room| room.map(|room| room >= 25)));
+    assert_eq!(rt;
+        whole,
+        [
+            Ok(None),
+            Ok(Some(true)),
+            Ok(Some(true)),
+            Ok(Some(true)),
+            Ok(None)
+        ]
+    );
     Ok(())
 }
 
 #[test]
 fn no_text_goes_back_after_a_refusal(rt: HostRuntime) -> Result<(), Fail> {
-    let (outs, ends) = new_ends(rt.alloc())?;
-    let mut receiver = Receiver::new(rt.alloc(), shape(), ends);
-    let mut out = first_of(outs).ok_or("an end that sends")?;
-    assert_eq!(rt; pass(rt.alloc(), &mut out, &mut receiver, 2, 7)?, None);
-    if !out.has_room() || receiver.lanes() == 0 {
-        return Err(Fail::from("no room"));
-    }
-    out.send(Vec::new(rt.alloc()));
-    assert!(rt; receiver.take(0));
-    assert!(rt; receiver.is_refused());
-    assert_eq!(rt; pass(rt.alloc(), &mut out, &mut receiver, 4, 8)?, None);
+    let (mut out, mut receiver) = one_out(rt.alloc())?;
+    let first = pass(rt.alloc(), &mut out, &mut receiver, 2, 7);
+    let empty = pass_text(&mut out, &mut receiver, Vec::new(rt.alloc()));
+    let refused = receiver.is_refused();
+    let last = pass(rt.alloc(), &mut out, &mut receiver, 4, 8);
+    assert_eq!(rt; ([first, empty, last], refused), ([Ok(None); 3], true));
     Ok(())
 }
