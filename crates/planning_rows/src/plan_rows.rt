@@ -4,6 +4,7 @@ use rate_limit::{Asked, Reason, Settings};
 use round_planner::{Outcome, Plan, Planner, RoundIndex, par_plan, plan};
 use std::alloc::{AllocError, Global};
 use std::test::Fail;
+use std::thread::Threads;
 use trace_codec::{Trace, Write};
 
 /// A guest whose writes are of one byte, at these ticks and to these pages.
@@ -55,12 +56,48 @@ fn numbers(alloc: Global, plan: &Plan) -> Result<Vec<u64>, AllocError> {
     Ok(numbers)
 }
 
+/// Rounds, reason, stop, downtime and total.
+type Told = (u64, Reason, u64, u64, u64);
+
+fn told_of_plan(plan: &Plan) -> Told {
+    let rounds = plan.rounds.len() as u64;
+    (rounds, plan.reason, plan.stop, plan.down, plan.total())
+}
+
+fn told(outcome: &Outcome) -> Told {
+    (
+        outcome.rounds,
+        outcome.reason,
+        outcome.stop,
+        outcome.down,
+        outcome.total,
+    )
+}
+
+/// What a plan comes to, and its numbers.
+fn planned(alloc: Global, trace: &Trace, settings: &Settings) -> Result<(Told, Vec<u64>), Fail> {
+    let made = plan(alloc, trace, settings)?;
+    Ok((told_of_plan(&made), numbers(alloc, &made)?))
+}
+
+/// The same of a plan by so many workers.
+fn par_planned<R: Threads + Sync>(
+    rt: &R,
+    alloc: Global,
+    trace: &Trace,
+    settings: &Settings,
+    workers: usize,
+) -> Result<(Told, Vec<u64>), Fail> {
+    let made = par_plan(rt, alloc, trace, settings, workers)?;
+    Ok((told_of_plan(&made), numbers(alloc, &made)?))
+}
+
 /// What a plan comes to, told twice by one planner.
-fn second_outcome(alloc: Global, trace: &Trace, settings: &Settings) -> Result<Outcome, Fail> {
+fn second_outcome(alloc: Global, trace: &Trace, settings: &Settings) -> Result<Told, Fail> {
     let index = RoundIndex::build(alloc, trace)?;
     let mut planner = Planner::new(alloc, trace)?;
     planner.outcome(trace, &index, settings);
-    Ok(planner.outcome(trace, &index, settings))
+    Ok(told(&planner.outcome(trace, &index, settings)))
 }
 
 #[test]
@@ -126,22 +163,17 @@ fn worked_plans(rt: HostRuntime) -> Result<(), Fail> {
     ];
     for (touches, asked, reason, expected) in cases {
         let trace = guest(alloc, 4, touches)?;
-        let made = plan(alloc, &trace, &Settings::new(asked)?)?;
-        assert_eq!(rt; made.reason, reason);
-        assert_eq!(rt; numbers(alloc, &made)?.as_slice(), expected);
-        let outcome = second_outcome(alloc, &trace, &Settings::new(asked)?)?;
+        let settings = Settings::new(asked)?;
+        let (told, numbers) = planned(alloc, &trace, &settings)?;
+        let second = second_outcome(alloc, &trace, &settings)?;
         assert_eq!(rt;
-            (outcome.rounds, outcome.reason),
-            (made.rounds.len() as u64, reason)
+            (told.1, second, numbers.as_slice()),
+            (reason, told, expected)
         );
-        assert_eq!(rt;
-            (outcome.stop, outcome.down, outcome.total),
-            (made.stop, made.down, made.total())
-        );
+        drop(numbers);
         for workers in [1, 3, 16] {
-            let made = par_plan(&rt, alloc, &trace, &Settings::new(asked)?, workers)?;
-            assert_eq!(rt; made.reason, reason);
-            assert_eq!(rt; numbers(alloc, &made)?.as_slice(), expected);
+            let (told, numbers) = par_planned(&rt, alloc, &trace, &settings, workers)?;
+            assert_eq!(rt; (told.1, numbers.as_slice()), (reason, expected));
         }
     }
     Ok(())
@@ -150,37 +182,49 @@ fn worked_plans(rt: HostRuntime) -> Result<(), Fail> {
 #[test]
 fn a_page_of_the_last_word(rt: HostRuntime) -> Result<(), Fail> {
     let alloc = rt.alloc();
-    let trace = guest(alloc, 65, &[(10, 64)])?;
     let mut asked = asked(10, 1, 0, false);
     asked.min = 10;
     asked.rounds = 1;
-    let made = plan(alloc, &trace, &Settings::new(asked)?)?;
-    assert_eq!(rt; made.reason, Reason::Rounds);
+    let settings = Settings::new(asked)?;
+    let trace = guest(alloc, 65, &[(10, 64)])?;
+    let (_, numbers) = planned(alloc, &trace, &settings)?;
     assert_eq!(rt;
-        numbers(alloc, &made)?.as_slice(),
+        numbers.as_slice(),
         [0, 6500, 10, 65, 65, 1, 6500, 1, 100, 66].as_slice()
     );
-    assert_eq!(rt; made.last.as_slice(), [64].as_slice());
-    let outcome = made.outcome();
-    assert_eq!(rt; (outcome.rounds, outcome.reason), (1, Reason::Rounds));
+    drop(numbers);
+    let made = plan(alloc, &trace, &settings)?;
+    let by_workers = par_plan(&rt, alloc, &trace, &settings, 2)?;
+    let wanted = (1, Reason::Rounds, 6500, 100, 66);
     assert_eq!(rt;
-        (outcome.stop, outcome.down, outcome.total),
-        (6500, 100, 66)
+        (
+            made.reason,
+            made.last.as_slice(),
+            told(&made.outcome()),
+            told_of_plan(&by_workers)
+        ),
+        (Reason::Rounds, [64].as_slice(), wanted, wanted)
     );
-    let made = par_plan(&rt, alloc, &trace, &Settings::new(asked)?, 2)?;
-    assert_eq!(rt; (made.stop, made.down, made.total()), (6500, 100, 66));
     Ok(())
+}
+
+/// The pages of a plan's second round and those of them that it sends, if there is one, and the pages that are left.
+fn skips(plan: &Plan) -> (Option<(&[u32], &[u32])>, &[u32]) {
+    let second = plan
+        .rounds
+        .get(1)
+        .map(|round| (round.pages.as_slice(), round.sent.as_slice()));
+    (second, plan.last.as_slice())
 }
 
 #[test]
 fn pages_that_are_skipped(rt: HostRuntime) -> Result<(), Fail> {
     let alloc = rt.alloc();
+    let settings = Settings::new(asked(4, 1, 0, true))?;
     let trace = guest(alloc, 4, &EARLIER)?;
-    let made = plan(alloc, &trace, &Settings::new(asked(4, 1, 0, true))?)?;
-    let second = made.rounds.get(1).ok_or("a second round")?;
-    assert_eq!(rt; second.pages.as_slice(), [0, 1].as_slice());
-    assert_eq!(rt; second.sent.as_slice(), [0].as_slice());
-    assert_eq!(rt; made.last.as_slice(), [1, 3].as_slice());
+    let made = plan(alloc, &trace, &settings)?;
+    drop(trace);
+    assert_eq!(rt; skips(&made), (Some((&[0, 1][..], &[0][..])), &[1, 3][..]));
     Ok(())
 }
 
@@ -199,24 +243,31 @@ fn pages_of_three_words(rt: HostRuntime) -> Result<(), Fail> {
         (1007, 64),
         (1014, 129),
     ];
-    let trace = guest(alloc, 130, &touches)?;
     let mut asked = asked(200, 1, 0, true);
     asked.min = 130;
-    let made = plan(alloc, &trace, &Settings::new(asked)?)?;
-    assert_eq!(rt; made.reason, Reason::Few);
+    let settings = Settings::new(asked)?;
+    let trace = guest(alloc, 130, &touches)?;
+    let (told, numbers) = planned(alloc, &trace, &settings)?;
     assert_eq!(rt;
-        numbers(alloc, &made)?.as_slice(),
-        [
-            0, 1000, 130, 130, 130, 4, 1000, 1016, 130, 4, 2, 3, 1016, 1032, 189, 3, 3, 0, 1032, 0,
-            0, 135,
-        ]
-        .as_slice()
+        (told.1, numbers.as_slice()),
+        (
+            Reason::Few,
+            [
+                0, 1000, 130, 130, 130, 4, 1000, 1016, 130, 4, 2, 3, 1016, 1032, 189, 3, 3, 0,
+                1032, 0, 0, 135,
+            ]
+            .as_slice()
+        )
     );
-    let second = made.rounds.get(1).ok_or("a second round")?;
-    assert_eq!(rt; second.pages.as_slice(), [0, 63, 64, 129].as_slice());
-    assert_eq!(rt; second.sent.as_slice(), [0, 64].as_slice());
-    let outcome = second_outcome(alloc, &trace, &Settings::new(asked)?)?;
-    assert_eq!(rt; (outcome.rounds, outcome.reason), (3, Reason::Few));
-    assert_eq!(rt; (outcome.stop, outcome.down, outcome.total), (1032, 0, 135));
+    drop(numbers);
+    let second = second_outcome(alloc, &trace, &settings)?;
+    let made = plan(alloc, &trace, &settings)?;
+    assert_eq!(rt;
+        (second, skips(&made).0),
+        (
+            (3, Reason::Few, 1032, 0, 135),
+            Some((&[0, 63, 64, 129][..], &[0, 64][..]))
+        )
+    );
     Ok(())
 }

@@ -28,34 +28,30 @@ fn refusal(asked: Asked) -> Option<SettingsError> {
 #[test]
 fn first_setting_out_of_range_is_named(rt: HostRuntime) {
     let good = asked();
-    assert_eq!(rt; refusal(good), None);
-    assert_eq!(rt;
-        refusal(Asked { min: 0, ..good }),
-        Some(SettingsError::MinRate)
-    );
-    assert_eq!(rt;
-        refusal(Asked { max: 1, ..good }),
-        Some(SettingsError::MaxRate)
-    );
-    assert_eq!(rt;
-        refusal(Asked { rounds: 65, ..good }),
-        Some(SettingsError::Rounds)
-    );
-    assert_eq!(rt;
-        refusal(Asked {
-            workers: 17,
-            ..good
-        }),
-        Some(SettingsError::Parallelism)
-    );
-    assert_eq!(rt;
-        refusal(Asked {
-            min: 0,
-            workers: 17,
-            ..good
-        }),
-        Some(SettingsError::MinRate)
-    );
+    let rows = [
+        (good, None),
+        (Asked { min: 0, ..good }, Some(SettingsError::MinRate)),
+        (Asked { max: 1, ..good }, Some(SettingsError::MaxRate)),
+        (Asked { rounds: 65, ..good }, Some(SettingsError::Rounds)),
+        (
+            Asked {
+                workers: 17,
+                ..good
+            },
+            Some(SettingsError::Parallelism),
+        ),
+        (
+            Asked {
+                min: 0,
+                workers: 17,
+                ..good
+            },
+            Some(SettingsError::MinRate),
+        ),
+    ];
+    for (asked, cause) in rows {
+        assert_eq!(rt; refusal(asked), cause, "{asked:?}");
+    }
 }
 
 #[test]
@@ -80,28 +76,38 @@ fn refusals_have_their_names(rt: HostRuntime) -> Result<(), Fail> {
 
 #[test]
 fn durations_and_rates_are_rounded_up(rt: HostRuntime) {
-    assert_eq!(rt; duration(2, 3), 667);
-    assert_eq!(rt; duration(65_536, 1), 65_536_000);
-    assert_eq!(rt; duration(1, u64::MAX), 1);
-    assert_eq!(rt; dirty_rate(1, 2000), 1);
-    assert_eq!(rt; dirty_rate(2, 500), 4);
-    assert_eq!(rt; dirty_rate(0, 7), 0);
+    let durations = [duration(2, 3), duration(65_536, 1), duration(1, u64::MAX)];
+    assert_eq!(rt; durations, [667, 65_536_000, 1]);
+    let rates = [dirty_rate(1, 2000), dirty_rate(2, 500), dirty_rate(0, 7)];
+    assert_eq!(rt; rates, [1, 4, 0]);
 }
 
 #[test]
 fn stop_tests_come_in_order(rt: HostRuntime) -> Result<(), Fail> {
     let settings = Settings::new(asked())?;
     assert_eq!(rt; *settings.asked(), asked());
-    assert_eq!(rt; next(&settings, 0, 1000, 8), Next::Stop(Reason::Few));
-    assert_eq!(rt; next(&settings, 4, 1000, 8), Next::Stop(Reason::Fast));
-    assert_eq!(rt; next(&settings, 3, 1000, 8), Next::Stop(Reason::Rounds));
-    assert_eq!(rt; next(&settings, 3, 1000, 7), Next::Go(4));
     let steady = Settings::new(Asked {
         min: 10,
         max: 10,
         increment: 0,
         ..asked()
     })?;
-    assert_eq!(rt; next(&steady, 1, 1000, 1), Next::Go(10));
+    let answers = [
+        next(&settings, 0, 1000, 8),
+        next(&settings, 4, 1000, 8),
+        next(&settings, 3, 1000, 8),
+        next(&settings, 3, 1000, 7),
+        next(&steady, 1, 1000, 1),
+    ];
+    assert_eq!(rt;
+        answers,
+        [
+            Next::Stop(Reason::Few),
+            Next::Stop(Reason::Fast),
+            Next::Stop(Reason::Rounds),
+            Next::Go(4),
+            Next::Go(10)
+        ]
+    );
     Ok(())
 }

@@ -65,14 +65,17 @@ fn both(alloc: Global, bytes: &[u8], window: u64, hot: u64) -> Result<(Tables, T
     Ok((owned, touched))
 }
 
+/// The windows and the hot pages.
+fn parts(tables: &Tables) -> (&[Window], &[u32]) {
+    (tables.windows.as_slice(), tables.hot.as_slice())
+}
+
 #[test]
 fn windows_of_a_thousand_ticks(rt: HostRuntime) -> Result<(), Fail> {
     let rows = [row(0, 2, 2, 0, 2), row(1, 1, 1, 1, 0), row(2, 2, 2, 1, 1)];
     let (owned, touched) = both(rt.alloc(), &TRACE, 1000, 2)?;
-    assert_eq!(rt; owned.windows.as_slice(), rows.as_slice());
-    assert_eq!(rt; owned.hot.as_slice(), [1].as_slice());
-    assert_eq!(rt; touched.windows.as_slice(), rows.as_slice());
-    assert_eq!(rt; touched.hot.as_slice(), [1].as_slice());
+    let wanted = (rows.as_slice(), [1].as_slice());
+    assert_eq!(rt; [parts(&owned), parts(&touched)], [wanted; 2]);
     Ok(())
 }
 
@@ -80,10 +83,8 @@ fn windows_of_a_thousand_ticks(rt: HostRuntime) -> Result<(), Fail> {
 fn one_long_window(rt: HostRuntime) -> Result<(), Fail> {
     let rows = [row(0, 5, 3, 0, 3)];
     let (owned, touched) = both(rt.alloc(), &TRACE, 5000, 1)?;
-    assert_eq!(rt; owned.windows.as_slice(), rows.as_slice());
-    assert_eq!(rt; owned.hot.as_slice(), [0, 1, 3].as_slice());
-    assert_eq!(rt; touched.windows.as_slice(), rows.as_slice());
-    assert_eq!(rt; touched.hot.as_slice(), [0, 1, 3].as_slice());
+    let wanted = (rows.as_slice(), [0, 1, 3].as_slice());
+    assert_eq!(rt; [parts(&owned), parts(&touched)], [wanted; 2]);
     Ok(())
 }
 
@@ -91,16 +92,17 @@ fn one_long_window(rt: HostRuntime) -> Result<(), Fail> {
 fn any_number_of_workers(rt: HostRuntime) -> Result<(), Fail> {
     let alloc = rt.alloc();
     let log = TouchLog::parse(alloc, &TRACE)?;
+    let (long_rows, short_rows) = (
+        [row(0, 5, 3, 0, 3)],
+        [row(0, 2, 2, 0, 2), row(1, 1, 1, 1, 0), row(2, 2, 2, 1, 1)],
+    );
+    let (one_window, three_windows) = (settings(5000, 1)?, settings(1000, 2)?);
     for workers in [1, 2, 16] {
-        let long = par_tables(&rt, alloc, &log, &settings(5000, 1)?, workers)?;
-        assert_eq!(rt; long.windows.as_slice(), [row(0, 5, 3, 0, 3)].as_slice());
-        assert_eq!(rt; long.hot.as_slice(), [0, 1, 3].as_slice());
-        let short = par_tables(&rt, alloc, &log, &settings(1000, 2)?, workers)?;
-        assert_eq!(rt;
-            short.windows.as_slice(),
-            [row(0, 2, 2, 0, 2), row(1, 1, 1, 1, 0), row(2, 2, 2, 1, 1)].as_slice()
-        );
-        assert_eq!(rt; short.hot.as_slice(), [1].as_slice());
+        let long = par_tables(&rt, alloc, &log, &one_window, workers)?;
+        assert_eq!(rt; parts(&long), (long_rows.as_slice(), [0, 1, 3].as_slice()));
+        drop(long);
+        let short = par_tables(&rt, alloc, &log, &three_windows, workers)?;
+        assert_eq!(rt; parts(&short), (short_rows.as_slice(), [1].as_slice()));
     }
     Ok(())
 }
@@ -108,10 +110,8 @@ fn any_number_of_workers(rt: HostRuntime) -> Result<(), Fail> {
 #[test]
 fn no_writes_no_rows(rt: HostRuntime) -> Result<(), Fail> {
     let (owned, touched) = both(rt.alloc(), &NO_WRITES, 1000, 2)?;
-    assert_eq!(rt; owned.windows.len(), 0);
-    assert_eq!(rt; owned.hot.len(), 0);
-    assert_eq!(rt; touched.windows.len(), 0);
-    assert_eq!(rt; touched.hot.len(), 0);
+    let lengths = [&owned, &touched].map(|tables| (tables.windows.len(), tables.hot.len()));
+    assert_eq!(rt; lengths, [(0, 0); 2]);
     Ok(())
 }
 
@@ -119,9 +119,7 @@ fn no_writes_no_rows(rt: HostRuntime) -> Result<(), Fail> {
 fn one_tick_windows_have_rows_only_where_writes_are(rt: HostRuntime) -> Result<(), Fail> {
     let rows = [row(0, 1, 1, 0, 1), row(1_099_511_627_775, 1, 1, 0, 0)];
     let (owned, touched) = both(rt.alloc(), &FAR_APART, 1, 2)?;
-    assert_eq!(rt; owned.windows.as_slice(), rows.as_slice());
-    assert_eq!(rt; owned.hot.as_slice(), [0].as_slice());
-    assert_eq!(rt; touched.windows.as_slice(), rows.as_slice());
-    assert_eq!(rt; touched.hot.as_slice(), [0].as_slice());
+    let wanted = (rows.as_slice(), [0].as_slice());
+    assert_eq!(rt; [parts(&owned), parts(&touched)], [wanted; 2]);
     Ok(())
 }

@@ -32,8 +32,8 @@ fn one_round(alloc: Global) -> Result<Plan, Fail> {
     })
 }
 
-/// The report over these tables, with so many windows for a hot page.
-fn text(alloc: Global, tables: &Tables, hot: u64) -> Result<Vec<u8>, Fail> {
+/// The report over these windows and hot pages, with so many windows for a hot page.
+fn text(alloc: Global, windows: &[Window], pages: &[u32], hot: u64) -> Result<Vec<u8>, Fail> {
     let settings = Settings::new(Asked {
         min: 2,
         max: 4,
@@ -50,49 +50,53 @@ fn text(alloc: Global, tables: &Tables, hot: u64) -> Result<Vec<u8>, Fail> {
         skip: false,
     })?;
     let trace = TraceView::parse(&NO_WRITES)?;
+    let tables = Tables {
+        windows: Vec::from_slice(alloc, windows)?,
+        hot: Vec::from_slice(alloc, pages)?,
+    };
     let plan = one_round(alloc)?;
-    Ok(report_text(alloc, &trace.shape(), &settings, tables, &plan)?)
+    Ok(report_text(alloc, &trace.shape(), &settings, &tables, &plan)?)
 }
+
+const WINDOW: Window = Window {
+    number: 1_099_511_627_775,
+    writes: 1_048_576,
+    pages: 65_536,
+    again: 10,
+    fresh: 0,
+};
 
 #[test]
 fn a_line_for_each_window_and_hot_page(rt: HostRuntime) -> Result<(), Fail> {
-    let alloc = rt.alloc();
-    let mut tables = Tables {
-        windows: Vec::new(alloc),
-        hot: Vec::new(alloc),
-    };
-    let empty = text(alloc, &tables, 2)?;
-    assert_eq!(rt;
-        empty.as_slice(),
-        "trace pages 4 size 16 writes 0
+    let cases: [(&[Window], &[u32], u64, &str); 2] = [
+        (
+            &[],
+            &[],
+            2,
+            "trace pages 4 size 16 writes 0
 hot 2 pages 0
 round 0 from 1099511627775 to 1099577163775 rate 1000000 pages 3 sent 2 dirtied 65536
 stop fast at 1099577163775 pages 1 down 65536000 total 3
-"
-            .as_bytes()
-    );
-    tables.windows.push(Window {
-        number: 1_099_511_627_775,
-        writes: 1_048_576,
-        pages: 65_536,
-        again: 10,
-        fresh: 0,
-    })?;
-    tables.hot.push(0)?;
-    tables.hot.push(65_535)?;
-    let full = text(alloc, &tables, 1_048_576)?;
-    assert_eq!(rt;
-        full.as_slice(),
-        "trace pages 4 size 16 writes 0
+",
+        ),
+        (
+            &[WINDOW],
+            &[0, 65_535],
+            1_048_576,
+            "trace pages 4 size 16 writes 0
 window 1099511627775 writes 1048576 pages 65536 again 10 fresh 0
 hot 1048576 pages 2
 page 0
 page 65535
 round 0 from 1099511627775 to 1099577163775 rate 1000000 pages 3 sent 2 dirtied 65536
 stop fast at 1099577163775 pages 1 down 65536000 total 3
-"
-            .as_bytes()
-    );
+",
+        ),
+    ];
+    for (windows, pages, hot, wanted) in cases {
+        let report = text(rt.alloc(), windows, pages, hot)?;
+        assert_eq!(rt; report.as_slice(), wanted.as_bytes());
+    }
     Ok(())
 }
 
@@ -144,17 +148,20 @@ fn sweeps_of_any_number_of_workers(rt: HostRuntime) -> Result<(), Fail> {
     let alloc = rt.alloc();
     let cases = [case(4, 1)?, case(2, 1)?, case(4, 3)?];
     for workers in [1, 2, 16] {
+        let of_none = swept(&rt, alloc, &[], workers)?.len();
         let text = swept(&rt, alloc, &cases, workers)?;
         assert_eq!(rt;
-            text.as_slice(),
-            "case 0 min 2 max 4 inc 1 threshold 1 limit 8 skip 0 rounds 3 stop few at 3667 down 0 total 8
+            (of_none, text.as_slice()),
+            (
+                0,
+                "case 0 min 2 max 4 inc 1 threshold 1 limit 8 skip 0 rounds 3 stop few at 3667 down 0 total 8
 case 1 min 2 max 2 inc 1 threshold 1 limit 8 skip 0 rounds 2 stop fast at 3000 down 1000 total 8
 case 2 min 2 max 4 inc 1 threshold 3 limit 8 skip 0 rounds 1 stop few at 2000 down 500 total 6
 best 0
 "
-                .as_bytes()
+                    .as_bytes()
+            )
         );
-        assert!(rt; swept(&rt, alloc, &[], workers)?.is_empty());
     }
     Ok(())
 }
@@ -209,10 +216,8 @@ fn busy_guest(alloc: Global) -> Result<Trace, Fail> {
     Ok(Trace::new(4, 64, writes)?)
 }
 
-#[test]
-fn many_cases_side_by_side(rt: HostRuntime) -> Result<(), Fail> {
-    let alloc = rt.alloc();
-    let guest = busy_guest(alloc)?;
+/// Cases of different rates, half of them with skips.
+fn many_cases(alloc: Global) -> Result<Vec<Settings>, Fail> {
     let mut cases = Vec::new(alloc);
     for number in 0..256u64 {
         let mut asked = *case(4, 1)?.asked();
@@ -221,19 +226,33 @@ fn many_cases_side_by_side(rt: HostRuntime) -> Result<(), Fail> {
         asked.skip = number % 2 == 1;
         cases.push(Settings::new(asked)?)?;
     }
+    Ok(cases)
+}
+
+/// The rounds, the reason, the stop, the downtime and the total of a case's plan.
+fn told_of_plan(
+    alloc: Global,
+    guest: &Trace,
+    case: &Settings,
+) -> Result<(u64, Reason, u64, u64, u64), Fail> {
+    let made = plan(alloc, guest, case)?;
+    let rounds = made.rounds.len() as u64;
+    Ok((rounds, made.reason, made.stop, made.down, made.total()))
+}
+
+#[test]
+fn many_cases_side_by_side(rt: HostRuntime) -> Result<(), Fail> {
+    let alloc = rt.alloc();
+    let guest = busy_guest(alloc)?;
+    let cases = many_cases(alloc)?;
     let alone = sweep_text(alloc, &sweep(&rt, alloc, &guest, &cases, 1)?)?;
     for workers in [2, 16] {
         let lines = sweep(&rt, alloc, &guest, &cases, workers)?;
         assert_eq!(rt; sweep_text(alloc, &lines)?.as_slice(), alone.as_slice());
         for (line, case) in lines.iter().zip(&cases) {
-            let made = plan(alloc, &guest, case)?;
             assert_eq!(rt;
-                (line.rounds, line.reason),
-                (made.rounds.len() as u64, made.reason)
-            );
-            assert_eq!(rt;
-                (line.stop, line.down, line.total),
-                (made.stop, made.down, made.total())
+                (line.rounds, line.reason, line.stop, line.down, line.total),
+                told_of_plan(alloc, &guest, case)?
             );
         }
     }
