@@ -14,6 +14,8 @@
  *     REFUSE_FAULTS=N   the Nth write to standard error: -1 with EIO
  *     BREAK_READ=N      the Nth read of standard input: -1 with EINTR; so for BREAK_WRITE
  *     REFUSE_ON=1       what is refused is refused from then on, and not once
+ *     REFUSE_WITHIN=1   growths and starts of threads count only behind the first write to standard output, and until
+ *                       the second one begins: for a program that prints a line, makes a call, and prints the next
  *     ONE_BYTE=1        reads of standard input and writes to standard output move one byte a call
  *     REFUSE_COUNTS=F   the counts stand in the file F, of 4096 bytes at least, as numbers of 8 bytes: growths,
  *                       threads, inner growths, reads, writes, writes to standard error, refusals, 0. They are right
@@ -71,7 +73,7 @@ static struct told *told = &own_room.told;
 static _Atomic uint64_t *counts = own_room.counts;
 static __thread __attribute__((tls_model("initial-exec"))) int tells_next;
 static uint64_t refuse[COUNTS], zero_write, break_read, break_write;
-static int refuse_on, one_byte;
+static int refuse_on, refuse_within, one_byte;
 static uintptr_t first, low, high; /* the program's first byte, and its own code */
 static int (*start_thread)(pthread_t *, const pthread_attr_t *, void *(*)(void *), void *);
 
@@ -107,6 +109,7 @@ __attribute__((constructor)) static void begin(void) {
     break_read = number("BREAK_READ");
     break_write = number("BREAK_WRITE");
     refuse_on = number("REFUSE_ON") != 0;
+    refuse_within = number("REFUSE_WITHIN") != 0;
     one_byte = number("ONE_BYTE") != 0;
     const char *path = getenv("REFUSE_COUNTS");
     if (path && *path) {
@@ -128,6 +131,9 @@ static int refuses(int kind) {
     atomic_fetch_add(&counts[REFUSED], 1);
     return 1;
 }
+
+/* Whether growths and starts of threads count now. */
+static int is_within(void) { return !refuse_within || atomic_load(&counts[WRITE]) == 1; }
 
 static int is_own(uintptr_t address) { return address >= low && address < high; }
 
@@ -154,7 +160,7 @@ static void tell(struct growth *growth, const uintptr_t *frame, size_t size, int
 }
 
 static int refuses_growth(const uintptr_t *frame, size_t size, int moves) {
-    if (!low) return 0;
+    if (!low || !is_within()) return 0;
     if (!is_own(frame[1])) return atomic_load(&counts[GROWTH]) ? refuses(INNER) : 0;
     int is_refused = refuses(GROWTH);
     if (tells_next) {
@@ -199,7 +205,7 @@ int posix_memalign(void **place, size_t step, size_t size) {
 }
 
 int pthread_create(pthread_t *thread, const pthread_attr_t *attributes, void *(*body)(void *), void *argument) {
-    return refuses(THREAD) ? EAGAIN : start_thread(thread, attributes, body, argument);
+    return is_within() && refuses(THREAD) ? EAGAIN : start_thread(thread, attributes, body, argument);
 }
 
 static ssize_t fail(int cause) {

@@ -1,4 +1,5 @@
-/* A wrong program round a right one. checks/wrongs compiles it once for each of the wrongs below, as by
+/* A wrong program round a right one: round the program, or for the wrongs of calls round that of crates/refused_calls.
+ * checks/wrongs compiles it once for each of the wrongs below, as by
  *
  *     cc -DPROGRAM='"/path/of/precopy"' -DWRONG=E16_ANSWERED -o wrong wrong.c
  *
@@ -33,6 +34,16 @@ enum wrong {
     TWICE,           /* the line of a refusal told twice */
     ASKING_AGAIN,    /* a growth of its own, which it asks for again where it is refused */
     CARELESS,        /* a growth of its own, without which it goes on */
+    CALL_NOTHING,    /* what the calls give, as it is */
+    CALL_REFUSING,   /* a call that is refused always */
+    CALL_ANSWERED,   /* the whole output in place of a call's refusal */
+    CALL_FORGETFUL,  /* nothing stands after a call's refusal, until it is made again */
+    CALL_STUCK,      /* a call that was refused is refused with ample memory too */
+    CALL_PAST,       /* a frame behind the refused one is named */
+    CALL_STALE,      /* after a refusal the cache gives other bytes of a page */
+    CALL_MEMORY,     /* want of memory in place of a thread that was not started */
+    CALL_THREAD,     /* a thread that was not started in place of want of memory */
+    CALL_SIGNALLED,  /* death by a signal in place of a call's refusal */
 };
 
 static char output[1 << 20], faults[1 << 18];
@@ -66,6 +77,9 @@ static void run(char **words, int is_plain) {
         char *none[] = {NULL};
         dup2(to[1], STDOUT_FILENO), dup2(told, STDERR_FILENO), close(to[0]), close(to[1]);
         if (is_plain) execve(PROGRAM, words, none);
+        /* What the child is refused, the counts that the check looks at do not tell. */
+        if (WRONG == CALL_REFUSING)
+            setenv("REFUSE_GROWTH", "1", 1), setenv("REFUSE_ON", "1", 1), unsetenv("REFUSE_COUNTS");
         execv(PROGRAM, words);
         _exit(98);
     }
@@ -85,6 +99,47 @@ static void refuse(const char *line) {
     memcpy(faults, line, fault_size);
 }
 
+/* Where a text stands in the output. */
+static char *place_of(const char *text) { return memmem(output, output_size, text, strlen(text)); }
+
+/* Whether a call was refused, as the output tells it. */
+static int is_refused_call(void) { return place_of("Memory") || place_of("Thread"); }
+
+/* Puts one text in the place of another, of the same length, once. */
+static void exchange(const char *old, const char *new) {
+    char *place = place_of(old);
+    if (place) memcpy(place, new, strlen(new));
+}
+
+/* Takes away all lines from the third on up to that which tells of the second call. */
+static void forget(void) {
+    char *again = place_of("\nagain"), *ready = memchr(output, '\n', output_size);
+    if (!again || !ready || ready == again) return;
+    char *first = memchr(ready + 1, '\n', again + 1 - ready);
+    memmove(first, again, output + output_size - again);
+    output_size -= again - first;
+}
+
+/* Ends the output by a refusal of the second call. */
+static void refuse_again(void) {
+    char *again = place_of("\nagain");
+    const char *line = "\nagain Err(Memory)\n";
+    if (!again) return;
+    memcpy(again, line, strlen(line));
+    output_size = again - output + strlen(line);
+}
+
+static void do_wrong_to_call(void) {
+    char *frame = place_of("Err((");
+    if (WRONG == CALL_FORGETFUL) forget();
+    if (WRONG == CALL_STUCK) refuse_again();
+    if (WRONG == CALL_PAST && frame) frame[strlen("Err((")]++;
+    if (WRONG == CALL_STALE) exchange("again page 1 version 3 [3", "again page 1 version 3 [0");
+    if (WRONG == CALL_MEMORY) exchange("final_copy Thread", "final_copy Memory");
+    if (WRONG == CALL_THREAD) exchange("final_copy Memory", "final_copy Thread");
+    if (WRONG == CALL_SIGNALLED) status = SIGKILL;
+}
+
 static int is_named(const char *name, int wanted) { return getenv(name) && atoi(getenv(name)) == wanted; }
 
 /* Whether the whole output is to come in place of what came. */
@@ -95,6 +150,7 @@ static int answers(int is_refused) {
     case LIVE_ANSWERED: return tells("precopy: live L1\n") || tells("precopy: live L2\n");
     case ONE_ANSWERED: return is_refused && is_named("REFUSE_GROWTH", 30) && !is_named("REFUSE_ON", 1);
     case READ_ANSWERED: return tells("precopy: trace E17\n");
+    case CALL_ANSWERED: return is_refused_call();
     default: return 0;
     }
 }
@@ -110,6 +166,7 @@ static void do_wrong(int is_refused) {
     if (WRONG == ONE_MORE && is_write) output[output_size++] = 'x';
     if (WRONG == ONE_LESS && is_write && output_size) output_size--;
     if (WRONG == TWICE && is_refused) memcpy(faults + fault_size, faults, fault_size), fault_size *= 2;
+    if (WRONG > CALL_NOTHING && is_refused_call()) do_wrong_to_call();
 }
 
 int main(int count, char **words) {

@@ -53,7 +53,7 @@ nothing_mapped : (shape : GuestShape) (n : ℕ) → map (option_map (copy_in sha
 nothing_mapped shape zero = refl
 nothing_mapped shape (suc n) = ap (λ (x : List (Option PageCopy)). None ∷ x) (nothing_mapped shape n)
 
--- places with nothing in them change nothing
+-- slots with nothing in them change nothing
 pub same_part-grown : (shape : GuestShape) (old new : List (Option PageFrame)) (page : ℕ) → Grows old new page → length new ≤ shape.pages
     → copies_of shape new ≡ copies_of shape old
 same_part-grown shape old new page grows few =
@@ -66,7 +66,7 @@ same_part-grown shape old new page grows few =
     ∙ ap (λ (x : List (Option PageCopy)). map f old ++ x) (replicate-append-replicate more (shape.pages - length new) none_copy)
     ∙ ap (λ (n : ℕ). map f old ++ replicate n none_copy) (omega (arith, len))
 
--- a frame put into its place
+-- a frame put into its slot
 copies_of-set : (shape : GuestShape) (table : List (Option PageFrame)) (page : ℕ) (frame : PageFrame) → page < length table
     → copies_of shape (set table page (Some frame)) ≡ set (copies_of shape table) page (Some (copy_in shape frame))
 copies_of-set shape table page frame low =
@@ -128,7 +128,7 @@ tabled_new shape old new put frame page tabled grows few own fits is =
       own = λ n. grind (arith, common_steps, tabled.own n, grows.items, is);
     }
 
--- ---- a frame that there is no room for, by what was kept of its page
+-- ---- a frame for which memory runs out, by what was kept of its page
 
 not_as_long : (size : ℕ) (own new : Option (List ℕ)) → IfSome own (λ bytes. (length bytes ≡ size) × ¬ IsZeros bytes) → IfSome new (λ bytes. (length bytes ≡ size) × ¬ IsZeros bytes)
     → IsSomeAnd new (λ bytes. option_map length own ≢ Some (length bytes)) → IsZeros (unwrap_or own (replicate size 0))

@@ -14,8 +14,8 @@ IsFate kept stamp New = kept ≡ None
 IsFate kept stamp Newer = IsSomeAnd kept (λ s. s < stamp)
 IsFate kept stamp Old = IsSomeAnd kept (λ s. stamp ≤ s)
 
--- of the copy that is kept of a page and one that comes, the one that goes: the first where the other is newer, and that one where it
--- is not; none where none was kept
+-- of the copy that is kept of a page and one that comes, the one that goes: the kept copy where the other is newer,
+-- and the one that comes where it is not; none where none was kept
 abbrev pub goes : Option PageCopy → PageCopy → Option PageCopy
 goes None new = None
 goes (Some kept) new = if nat_lt kept.stamp new.stamp then Some kept else Some new

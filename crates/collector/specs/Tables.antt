@@ -12,13 +12,13 @@ pub record IsTable (shape : GuestShape) (table : List (Option PageFrame)) : Type
   pub few : length table ≤ shape.pages
   pub own : (page : ℕ) → IfSome (slice_index_or table page None) (λ frame. (frame.page ≡ page) × IsFrame shape frame)
 
--- the table has more places than before, none of them past that of the page, and nothing in them
+-- the table has more slots than before, none of them past that of the page, and nothing in them
 pub record Grows (old new : List (Option PageFrame)) (page : ℕ) : Type 0 where
   pub more : ℕ
   pub items : new ≡ old ++ replicate more None
   pub bound : length new ≤ max (length old) (page + 1)
 
--- a part after one more place of a table
+-- a part after one more slot of a table
 abbrev pub with_slot : GuestPart → Option PageFrame → GuestPart
 with_slot part None = part
 with_slot part (Some frame) = with_frame part frame

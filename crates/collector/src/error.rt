@@ -6,10 +6,10 @@ ghost use Rattle.collector.specs.declared.error.PartError.TheVariants.{Memory};
 use std::alloc::{AllocError, AllocFailed};
 use thiserror::Error;
 
-/// A refusal.
+/// Why a part could not take a frame.
 #[derive(Clone, Copy, Debug, PartialEq, Eq, Error)]
 pub enum PartError {
-    /// A growth was refused.
+    /// Memory ran out.
     #[error("memory")]
     Memory,
 }

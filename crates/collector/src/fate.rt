@@ -7,13 +7,13 @@ ghost use Rattle.collector.specs.Fates.{IsFate};
 pub enum Fate {
     /// The part did not have the page, and has it now.
     New,
-    /// The frame's stamp is greater than that of the kept one, in whose place it stands now.
+    /// The frame's stamp is greater than that of the kept one, which it replaces.
     Newer,
     /// The frame's stamp is not greater than that of the kept one, which stays.
     Old,
 }
 
-/// The fate of a frame with this stamp, where that stamp of its page was kept, or none.
+/// Returns the fate of a frame with this stamp, where that stamp of its page was kept, or none.
 pub(crate) fn fate_of(kept: Option<u32>, stamp: u32) -> Fate
     ensures { IsFate kept stamp result }
 {

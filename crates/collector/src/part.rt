@@ -17,10 +17,10 @@ use std::alloc::Global;
 use std::marker::Model;
 use trace_codec::Shape;
 
-/// What came of a guest's memory: of each page the frame with the greatest stamp.
+/// A part of a guest's memory: of each page the frame with the greatest stamp, of the frames that came.
 ///
-/// The frames stand in a table by page, which has places up to the last page that came, so that one is found in a step
-/// however many there are. No place is made before a page comes.
+/// The frames stand in a table by page, which has slots up to the last page that came, so that one is found in a step
+/// however many there are. No slot is made before a page comes.
 #[derive(Debug, Drop)]
 pub struct Part {
     alloc: Global,
@@ -37,7 +37,7 @@ impl Model for Part {
 }
 
 impl Part {
-    /// A part that has no page. It takes no memory.
+    /// Returns a part that has no page. It allocates nothing.
     pub fn new(alloc: Global, shape: Shape) -> Part
         ensures { result ≡ empty_part (shape_of shape) }
     {
@@ -48,7 +48,7 @@ impl Part {
         }
     }
 
-    /// The shape of the trace that the part is of.
+    /// Returns the shape of the trace that the part is of.
     pub fn shape(&self) -> Shape
         ensures shape { shape_of result ≡ self.now.shape }
         ensures is_part { IsPart self.now }
@@ -56,14 +56,14 @@ impl Part {
         self.shape
     }
 
-    /// The stamp of a page, or None where the part does not have it.
+    /// Returns the stamp of a page, or None where the part does not have it.
     pub fn stamp(&self, page: u32) -> Option<u32>
         ensures { result ≡ stamp_at self.now page }
     {
         stamp_in(&self.frames, page as usize)
     }
 
-    /// The frame of a page, or None where the part does not have it.
+    /// Returns the frame of a page, or None where the part does not have it.
     pub fn frame(&self, page: u32) -> Option<&Frame>
         ensures copy { option_map (λ f. copy_in self.now.shape f.now) result ≡ copy_at self.now page }
         ensures own { IfSome result (λ f. f.now.page ≡ page) }
@@ -75,7 +75,7 @@ impl Part {
         }
     }
 
-    /// The table of the part, given away.
+    /// Returns the table of the part.
     fn into_frames(self) -> Vec<Option<Frame>>
         ensures copies { copies_of self.shape result.items ≡ self.copies }
         ensures table { IsTable self.shape result.items }
@@ -88,9 +88,9 @@ impl Part {
         frames
     }
 
-    /// Takes a frame, and answers the one that goes: that which the part had of the page, or this one where it is not newer, or none
-    /// where the page came for the first time. Memory is refused only for a page that the part does not have, and the part is then
-    /// as before.
+    /// Takes a frame, and returns the one that goes: the old frame of the page, or the new one where it is not newer,
+    /// or None where the page came for the first time. Memory can run out only for a page that the part does not have;
+    /// the part is then as before.
     pub fn exchange(&mut self, frame: Frame) -> Result<Option<Frame>, PartError>
         requires { IsFrame self.old.shape frame }
         ensures kept { OnOk result (self.new ≡ with_frame self.old frame) }
@@ -110,7 +110,8 @@ impl Part {
         }
     }
 
-    /// Takes a frame. Memory is refused only for a page that the part does not have, and the part is then as before.
+    /// Takes a frame, and returns its fate. Memory can run out only for a page that the part does not have; the part
+    /// is then as before.
     pub fn accept(&mut self, frame: Frame) -> Result<Fate, PartError>
         requires { IsFrame self.old.shape frame }
         ensures kept { OnOk result (self.new ≡ with_frame self.old frame) }
@@ -123,8 +124,8 @@ impl Part {
         Ok(fate)
     }
 
-    /// Takes a frame that stands in a stream. The bytes of a page are copied into the room of those that the part has of it, and
-    /// memory is refused only where it has none, or zeros.
+    /// Takes a frame that is borrowed from a stream. It copies the bytes of a page over those that the part has of it.
+    /// Memory can run out only where the part has none, or zeros.
     fn accept_view(&mut self, view: &FrameView<'_>) -> Result<(), PartError>
         requires { IsFrame self.old.shape view.now }
         ensures kept { OnOk result (self.new ≡ with_frame self.old view.now) }
@@ -146,7 +147,7 @@ impl Part {
         }
     }
 
-    /// Takes the frame at the front of some bytes, and answers how many of them it has.
+    /// Takes the frame at the front of some bytes. Returns how many bytes the frame has.
     fn accept_front(&mut self, bytes: &[u8]) -> Result<usize, FrameError>
         ensures taken { IfOk result (λ size. TakesFrames self.old self.new bytes.now 1 (drop size bytes.now)) }
         ensures some { IfOk result (λ size. 1 ≤ size) }
@@ -180,8 +181,9 @@ impl Part {
         Ok(count)
     }
 
-    /// Takes frame after frame to the end of the bytes, and answers how many. A refusal is that of the first frame that is
-    /// refused, with its index, from 0; the frames in front of it are taken. Want of memory is `F6`.
+    /// Takes frame after frame to the end of the bytes, and returns how many. An error is that of the first frame that
+    /// is refused, with its index, from 0; the frames in front of it are taken. Where memory runs out, the error is
+    /// `F6`.
     pub fn accept_bytes(&mut self, bytes: &[u8]) -> Result<usize, (usize, FrameError)>
         ensures taken { IfOk result (λ count. TakesFrames self.old self.new bytes.now count []) }
         ensures refused { IfErr result (RefusesStream self.old self.new bytes.now) }
@@ -206,8 +208,8 @@ fn accept_slot(part: &mut Part, slot: Option<Frame>) -> Result<(), PartError>
     Ok(())
 }
 
-/// Of each page the copy with the greater stamp, and that of the first part where the stamps are equal. Each frame of the
-/// second part is moved once. After a refusal both parts are gone.
+/// Returns the join of two parts: of each page the copy with the greater stamp, and that of the first part where the
+/// stamps are equal. It moves each frame of the second part once. After an error both parts are dropped.
 pub fn merge(first: Part, second: Part) -> Result<Part, PartError>
     requires { first.shape ≡ second.shape }
     ensures { IfOk result (λ part. part ≡ join first second) }

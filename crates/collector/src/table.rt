@@ -7,7 +7,7 @@ use page_message::{Frame, FrameView};
 use std::alloc::{AllocError, Global};
 use std::mem;
 
-/// The stamp of the frame that a table has of a page.
+/// Returns the stamp of the frame that a table has of a page.
 pub(crate) fn stamp_in(table: &[Option<Frame>], page: usize) -> Option<u32>
     ensures stamp { result ≡ option_map (λ f. f.stamp) (slice_index_or table.now page None) }
     ensures within { OnSome result (page < length table.now) }
@@ -18,7 +18,7 @@ pub(crate) fn stamp_in(table: &[Option<Frame>], page: usize) -> Option<u32>
     }
 }
 
-/// Makes places up to that of a page. After a refusal there may be more places than before, with nothing in them.
+/// Makes slots up to that of a page. After an error there may be more slots than before, with nothing in them.
 pub(crate) fn make_place(table: &mut Vec<Option<Frame>>, page: usize) -> Result<(), AllocError>
     requires { page < 2 ^ 32 }
     ensures grows { Grows table.old.items table.new.items page }
@@ -30,7 +30,7 @@ pub(crate) fn make_place(table: &mut Vec<Option<Frame>>, page: usize) -> Result<
     Ok(())
 }
 
-/// Puts a frame in its place, and what was there away.
+/// Puts a frame in its slot, and drops what was there.
 pub(crate) fn put_frame(table: &mut Vec<Option<Frame>>, page: usize, frame: Frame)
     requires { page < vec_len table.old }
     ensures { table.new.items ≡ slice_set table.old.items page (Some frame) }
@@ -38,7 +38,7 @@ pub(crate) fn put_frame(table: &mut Vec<Option<Frame>>, page: usize, frame: Fram
     table[page] = Some(frame);
 }
 
-/// Puts a frame in its place, and answers what was there.
+/// Puts a frame in its slot, and returns what was there.
 pub(crate) fn swap_frame(table: &mut Vec<Option<Frame>>, page: usize, frame: Frame) -> Option<Frame>
     requires { page < vec_len table.old }
     ensures put { table.new.items ≡ slice_set table.old.items page (Some frame) }
@@ -47,7 +47,7 @@ pub(crate) fn swap_frame(table: &mut Vec<Option<Frame>>, page: usize, frame: Fra
     mem::replace(&mut table[page], Some(frame))
 }
 
-/// Puts the frame that is viewed in its place, over the frame that stands there, if there is one.
+/// Puts the frame that is viewed in its slot, over the frame that stands there, if there is one.
 pub(crate) fn put_view(
     table: &mut Vec<Option<Frame>>,
     page: usize,

@@ -15,7 +15,7 @@ use trace_codec::{TestSource, TraceError};
 /// How many jobs there are.
 const JOBS: usize = 5;
 
-/// Slow rates, by which the plan has three rounds and stops at tick 3667.
+/// Returns slow rates, by which the plan has three rounds and stops at tick 3667.
 fn settings() -> Result<Settings, Fail> {
     Ok(Settings::new(Asked {
         min: 2,
@@ -34,7 +34,7 @@ fn settings() -> Result<Settings, Fail> {
     })?)
 }
 
-/// The jobs by their numbers: an image, a report, live runs to the end and to the stop, and a sweep.
+/// Returns the job of this number: an image, a report, live runs to the end and to the stop, or a sweep.
 fn job(alloc: Global, number: usize) -> Result<Job, Fail> {
     match number {
         0 => Ok(Job::Image),
@@ -49,7 +49,7 @@ fn job(alloc: Global, number: usize) -> Result<Job, Fail> {
     }
 }
 
-/// A source that gives one byte a call, and fails at a call.
+/// Returns a source that gives one byte a call, and fails at a call.
 fn source(alloc: Global, failing_call: Option<u64>) -> Result<TestSource, AllocError>
     ensures { IfOk result (λ s. s.has_failed ≡ false) }
 {
@@ -57,7 +57,7 @@ fn source(alloc: Global, failing_call: Option<u64>) -> Result<TestSource, AllocE
     Ok(TestSource::new(bytes, 1, failing_call))
 }
 
-/// What a job answers and leaves written, over these.
+/// Returns what `run` returns for a job over these, and what it leaves written.
 fn ran<R: Threads + Wait + Sync>(
     rt: &R,
     alloc: Global,
@@ -73,7 +73,7 @@ fn ran<R: Threads + Wait + Sync>(
     Ok((answer, sink))
 }
 
-/// The whole output of a job.
+/// Returns the whole output of a job.
 fn whole<R: Threads + Wait + Sync>(rt: &R, alloc: Global, number: usize) -> Result<Vec<u8>, Fail> {
     let sink = TestSink::new(Vec::new(alloc), usize::MAX, None, false);
     let (answer, sink) = ran(rt, alloc, number, None, sink)?;

@@ -5,7 +5,8 @@ ghost use Rattle.std.specs.Prelude.{None, false};
 use image_build::replay;
 use std::alloc::{AllocError, Global};
 use std::test::Fail;
-use trace_codec::{Source, TestSource, TouchLog, TraceError, TraceText, decode, read_trace};
+use trace_codec::{Source, TestSource, TraceError, decode, read_trace};
+use trace_readers::{HeldTrace, TouchLog};
 
 /// Pages of 16 bytes, 4 pages, 5 writes.
 pub(crate) static HEADER: [u8; 16] = [0x50, 0x43, 0x57, 0x54, 1, 4, 0, 0, 4, 0, 0, 0, 5, 0, 0, 0];
@@ -27,7 +28,7 @@ pub(crate) static MEMORY: [u8; 64] = [
     0, 0, 4, 5, 0, 0, 0, 0, 0, 0, 0, 0, 0, 0, 0, 0,
 ];
 
-/// A trace whose header counts so many writes, with these of the records above.
+/// Returns a trace whose header counts so many writes, with these of the records above.
 pub(crate) fn trace_of(
     alloc: Global,
     writes: u32,
@@ -44,7 +45,8 @@ pub(crate) fn trace_of(
     Ok(bytes)
 }
 
-/// What some bytes are refused for, as a slice, as an owned trace, as a trace that is held as its bytes, and as touches.
+/// Returns what some bytes are refused for: as a slice, as an owned trace, as a trace that is held as its bytes, and
+/// as touches.
 fn refusals(alloc: Global, bytes: &[u8]) -> Result<[Option<TraceError>; 4], AllocError> {
     let mut owned = TestSource::new(Vec::from_slice(alloc, bytes)?, 20, None);
     let mut held = TestSource::new(Vec::from_slice(alloc, bytes)?, 7, None);
@@ -52,12 +54,12 @@ fn refusals(alloc: Global, bytes: &[u8]) -> Result<[Option<TraceError>; 4], Allo
     Ok([
         decode(alloc, bytes).err(),
         read_trace(alloc, &mut owned).err(),
-        TraceText::read(alloc, &mut held).err(),
+        HeldTrace::read(alloc, &mut held).err(),
         TouchLog::read(alloc, &mut touched).err(),
     ])
 }
 
-/// Why the first `len` bytes of the trace are none.
+/// Returns why the first `len` bytes of the trace are none.
 fn cause_of_cut(len: usize) -> TraceError {
     match len {
         0..=15 => TraceError::ShortHeader,
@@ -158,7 +160,7 @@ fn more_than_the_longest_trace_is_refused(rt: HostRuntime) -> Result<(), Fail> {
     assert!(rt; owned.bytes > 1 << 28);
     let mut held = Zeros { bytes: 0 };
     assert_eq!(rt;
-        TraceText::read(alloc, &mut held).err(),
+        HeldTrace::read(alloc, &mut held).err(),
         Some(TraceError::TooLong)
     );
     assert!(rt; held.bytes > 1 << 28);

@@ -6,7 +6,7 @@ use Rattle.std.proofs.lemmas.Bool.{eqb-true, eq-eqb, ne_eqb, cases_eq, cases_Boo
 use Rattle.dirty_core.specs.declared.event.Event.{Event}
 use Rattle.dirty_core.specs.declared.event.Event.TheVariants.{Store, Mark, Harvest, Peek, Restore, Read}
 use Rattle.dirty_core.specs.declared.refusal.CoreRefusal.TheVariants.{NotOwner, Pending, NothingPending}
-use Rattle.dirty_core.specs.Pages.{PageSet, one_page, word_pages, bit_pages, union, common, minus}
+use Rattle.page_bitmap.specs.Pages.{PageSet, one_page, word_pages, bit_pages, union, common, minus}
 use Rattle.dirty_core.specs.Start.{Start, GuestOwns, CopierOwns, CopierOwnsPage, guest_of, copier_of}
 use Rattle.dirty_core.specs.Machine.{DirtyCore, Visits, last_visit, is_stored, put, with_pending, Needs, after}
 use Rattle.dirty_core.specs.Runs.{opened, core_after, IsLegalFrom, IsLegal, IsPending, IsRead, IsCaughtUp, IsOnlyDue, CaughtUp, OnlyDue, KnowsMark}
@@ -21,7 +21,7 @@ pub record IsSound (core : DirtyCore) : Type 0 where
   -- returned pages are marked, since their copier alone unmarks them
   pub returned : (page : ℕ) → IsTrue (core.returned page) → IsTrue (core.marked page)
 
--- ---- a function with another value at one place
+-- ---- a function with another value at one argument
 
 pub put_at : {V : Type 0} (f : ℕ → V) (i : ℕ) (v : V) (n : ℕ) → n ≡ i → put f i v n ≡ v
 put_at f i v n e = rw (eq-eqb n i e) refl

@@ -1,4 +1,3 @@
-pub mod Bits
 pub mod Moves
 pub mod EveryPage
 pub mod EveryPlace

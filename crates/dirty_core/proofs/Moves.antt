@@ -10,7 +10,7 @@ use Rattle.dirty_core.specs.declared.event.Event.TheVariants.{Store, Mark, Harve
 use Rattle.dirty_core.specs.declared.answer.Answer.{Answer}
 use Rattle.dirty_core.specs.declared.answer.Answer.TheVariants.{Done, Pages, Place}
 use Rattle.dirty_core.specs.declared.refusal.CoreRefusal.TheVariants.{NotOwner, Pending, NothingPending, NotHeld, OldPlace}
-use Rattle.dirty_core.specs.Pages.{PageSet, in_words, one_page, word_pages, bit_pages, union, common, minus, IsWithin, SamePages}
+use Rattle.page_bitmap.specs.Pages.{PageSet, in_words, one_page, word_pages, bit_pages, union, common, minus, IsWithin, SamePages}
 use Rattle.dirty_core.specs.Start.{Start, Sizes, GuestOwns, CopierOwns, CopierOwnsPage}
 use Rattle.dirty_core.specs.Machine.{DirtyCore, put, with_pending, Needs, Answers, after}
 use Rattle.dirty_core.specs.Runs.{opened}
@@ -54,7 +54,7 @@ Goes-from_moves old event answer new moves history =
       },
     )
 
--- ---- a function at one place
+-- ---- a function with another value at one argument
 
 put-set : {V : Type 0} (xs : List V) (i : ℕ) (v d : V) → i < length xs → (n : ℕ) → get_or (set xs i v) n d ≡ put (λ m. get_or xs m d) i v n
 put-set xs i v d within n = elim (cases_eq n i) [

@@ -4,7 +4,7 @@ use Rattle.std.specs.Prelude.{IfOk, IfErr, IsOk, OnErr, ◌↔◌, []}
 use Rattle.dirty_core.specs.declared.event.Event.{Event}
 use Rattle.dirty_core.specs.declared.answer.Answer.{Answer}
 use Rattle.dirty_core.specs.declared.refusal.CoreRefusal.{CoreRefusal}
-use Rattle.dirty_core.specs.Pages.{no_page}
+use Rattle.page_bitmap.specs.Pages.{no_page}
 use Rattle.dirty_core.proofs.RealPages.{sizes-after}
 use Rattle.dirty_core.specs.Kept.{Kept, kept_sizes, History, core_with, Goes, FindsNeeds, Refuses, Outcome}
 

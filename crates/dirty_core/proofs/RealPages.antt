@@ -6,7 +6,7 @@ use Rattle.std.proofs.lemmas.Bool.{cases_eq, eqb-true, and_parts, or_cases}
 use Rattle.dirty_core.specs.declared.event.Event.{Event}
 use Rattle.dirty_core.specs.declared.event.Event.TheVariants.{Store, Mark, Harvest, Peek, Restore, Read}
 use Rattle.dirty_core.specs.declared.refusal.CoreRefusal.TheVariants.{NotOwner, NothingPending, NotHeld}
-use Rattle.dirty_core.specs.Pages.{PageSet, in_words, one_page, word_pages, bit_pages, union, common, minus}
+use Rattle.page_bitmap.specs.Pages.{PageSet, in_words, one_page, word_pages, bit_pages, union, common, minus}
 use Rattle.dirty_core.specs.Start.{Start, IsStart, GuestOwns, sizes_of}
 use Rattle.dirty_core.specs.Machine.{DirtyCore, put, with_pending, Needs, after}
 use Rattle.dirty_core.specs.Runs.{opened, core_after, IsLegalFrom, IsLegal, IsReal}

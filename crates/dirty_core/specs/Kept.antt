@@ -3,7 +3,7 @@ use Rattle.std.specs.Prelude.{◌≡◌, ℕ, ◌+◌, ◌/◌, ◌<◌, ◌≤�
 use Rattle.dirty_core.specs.declared.event.Event.{Event}
 use Rattle.dirty_core.specs.declared.answer.Answer.{Answer}
 use Rattle.dirty_core.specs.declared.refusal.CoreRefusal.{CoreRefusal}
-use Rattle.dirty_core.specs.Pages.{PageSet, in_words}
+use Rattle.page_bitmap.specs.Pages.{PageSet, in_words}
 use Rattle.dirty_core.specs.Start.{Sizes, copier_of}
 use Rattle.dirty_core.specs.Machine.{DirtyCore, Visits, Step, Needs, IsFirstRefusal}
 
@@ -72,7 +72,7 @@ core_with kept history = record {
 abbrev pub Keeps : Kept → DirtyCore → Type 0
 Keeps kept core = core_with kept (history_of core) ≡ core
 
--- by an event with an answer, whatever the history was
+-- the kept value goes to another by an event with an answer, whatever the history was
 abbrev pub Goes : Kept → Event → Answer → Kept → Type 0
 Goes old event answer new = (history : History)
     → (later : History) × Step (core_with old history) event answer (core_with new later)
@@ -85,7 +85,7 @@ FindsNeeds kept event = (history : History) → Needs (core_with kept history) e
 abbrev pub Refuses : Kept → Event → CoreRefusal → Type 0
 Refuses kept event refusal = (history : History) → IsFirstRefusal (core_with kept history) event refusal
 
--- what a step from one kept value to another answers
+-- what a step from one kept value to another returns
 abbrev pub Outcome : Kept → Event → Result Answer CoreRefusal → Kept → Type 0
 Outcome old event (Ok answer) new = Goes old event answer new
 Outcome old event (Err refusal) new = (new ≡ old) × Refuses old event refusal

@@ -1,4 +1,3 @@
-pub mod Pages
 pub mod Start
 pub mod Machine
 pub mod Runs

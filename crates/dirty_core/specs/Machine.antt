@@ -1,6 +1,6 @@
 -- The dirty core: its state, and its six events as relations between two cores and an answer. Marks are the dirty
--- bitmap of Clark and others (2005), which is peeked at and cleared as a round's pages are scanned; places, seats,
--- pending, held and returned pages are this project's own.
+-- bitmap of Clark and others (2005), section 5.1, which is peeked at (section 5.4) and cleared as a round's pages are
+-- scanned. Places, seats, pending, held and returned pages are this project's own.
 use Rattle.std.specs.Prelude.{◌≡◌, ℕ, ◌<◌, ◌^◌, ◌==◌, IsTrue, if◌then◌else◌, List, [], ◌∷◌, Option, Some, None, IsSome, is_some}
 use Rattle.dirty_core.specs.declared.event.Event.{Event}
 use Rattle.dirty_core.specs.declared.event.Event.TheVariants.{Store, Mark, Harvest, Peek, Restore, Read}
@@ -8,7 +8,7 @@ use Rattle.dirty_core.specs.declared.answer.Answer.{Answer}
 use Rattle.dirty_core.specs.declared.answer.Answer.TheVariants.{Done, Pages, Place}
 use Rattle.dirty_core.specs.declared.refusal.CoreRefusal.{CoreRefusal}
 use Rattle.dirty_core.specs.declared.refusal.CoreRefusal.TheVariants.{NotOwner, Pending, NothingPending, NotHeld, OldPlace, Memory}
-use Rattle.dirty_core.specs.Pages.{PageSet, one_page, word_pages, bit_pages, union, common, minus, IsWithin, SamePages}
+use Rattle.page_bitmap.specs.Pages.{PageSet, one_page, word_pages, bit_pages, union, common, minus, IsWithin, SamePages}
 use Rattle.dirty_core.specs.Start.{Sizes, GuestOwns, CopierOwns, CopierOwnsPage, guest_of}
 
 -- Stores or reads of a seat: the page and its place, the last of them first.
@@ -79,7 +79,7 @@ pub record AreMarked (core : DirtyCore) (word bits : ℕ) : Type 0 where
   pub fits : bits < 2 ^ 64
   pub pages : SamePages (bit_pages word bits) (common (word_pages word) core.marked)
 
--- what an event answers
+-- what an event has as its answer
 abbrev pub Answers : DirtyCore → Event → Answer → Type 0
 Answers core (Store guest page place) Done = Unit {0}
 Answers core (Mark guest) Done = Unit {0}
@@ -89,7 +89,7 @@ Answers core (Restore copier word bits) Done = Unit {0}
 Answers core (Read copier page) (Place place) = place ≡ core.place page
 Answers core event answer = ⊥
 
--- what is marked once a guest has nothing pending: its pending page too
+-- the marked pages once a guest has nothing pending: its pending page too
 abbrev pub with_pending : PageSet → Option ℕ → PageSet
 with_pending marked None = marked
 with_pending marked (Some page) = union marked (one_page page)

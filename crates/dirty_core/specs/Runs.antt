@@ -4,7 +4,7 @@ use Rattle.std.specs.List.{fold}
 use Rattle.dirty_core.specs.declared.event.Event.{Event}
 use Rattle.dirty_core.specs.declared.refusal.CoreRefusal.{CoreRefusal}
 use Rattle.dirty_core.specs.declared.refusal.CoreRefusal.TheVariants.{Memory}
-use Rattle.dirty_core.specs.Pages.{in_words, no_page}
+use Rattle.page_bitmap.specs.Pages.{in_words, no_page}
 use Rattle.dirty_core.specs.Start.{Start, sizes_of, guest_of, copier_of}
 use Rattle.dirty_core.specs.Machine.{DirtyCore, Visits, last_visit, is_stored, Needs, IsFirstRefusal, after}
 
@@ -79,7 +79,7 @@ pub record KnowsPlace (start : Start) (core : DirtyCore) (page : ℕ) : Type 0 w
   pub read : (place : ℕ) → IsVisited (core.reads (copier_of core.sizes page)) page place
       → (place ≡ slice_index start.places page) ⊎ IsVisited (core.stores (guest_of core.sizes page)) page place
 
--- the place of a page is no less than the opening's, and than any at which its copier has read it
+-- the place of a page is no less than the opening's, and no less than any at which its copier has read it
 pub record IsOverReads (start : Start) (core : DirtyCore) (page : ℕ) : Type 0 where
   pub opening : slice_index start.places page ≤ core.place page
   pub read : (place : ℕ) → IsVisited (core.reads (copier_of core.sizes page)) page place → place ≤ core.place page
@@ -111,6 +111,6 @@ pub record Stops (start : Start) (events : List Event) (index : ℕ) (refusal : 
   pub before : IsLegal start (take index events)
   pub refused : IsFirstRefusal (core_after start (take index events)) event refusal
 
--- why a run is refused: no memory for its opening, or an event
+-- why a run is refused: memory ran out for its opening, or an event is refused
 abbrev pub RunRefuses : Start → List Event → ℕ × CoreRefusal → Type 0
 RunRefuses start events found = ((found.0 ≡ 0) × (found.1 ≡ Memory)) ⊎ Stops start events found.0 found.1

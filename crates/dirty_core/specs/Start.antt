@@ -1,6 +1,6 @@
 -- What a core opens with, and who owns which page. This project's own.
 use Rattle.std.specs.Prelude.{◌≡◌, ℕ, ◌+◌, ◌*◌, ◌/◌, ◌%◌, ◌<◌, ◌≤◌, IsTrue, List, length}
-use Rattle.dirty_core.specs.Pages.{in_words}
+use Rattle.page_bitmap.specs.Pages.{in_words}
 
 -- the place of each page, the marked pages by words, and how many guests and copiers there are
 pub record Start : Type 0 where

@@ -1,4 +1,4 @@
-//! What an event answers.
+//! What an event returns.
 
 /// The answer to an event.
 #[derive(Clone, Copy, Debug, PartialEq, Eq)]

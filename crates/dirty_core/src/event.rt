@@ -1,7 +1,7 @@
 //! What happens to a core.
 
-/// One event of a core. Guests and copiers are named by their numbers, a word by its index among the dirty words, and
-/// `bits` are pages of a word, the lowest bit first.
+/// One event of a core. Guests and copiers have numbers, a word has its index among the dirty words, and `bits` are
+/// pages of a word, the lowest bit first.
 #[derive(Clone, Copy, Debug, PartialEq, Eq)]
 pub enum Event {
     /// A guest stores one of its pages at a place.
@@ -14,17 +14,18 @@ pub enum Event {
     Mark {
         guest: usize,
     },
-    /// A copier takes the marked pages of a word, to be held until each is read or restored.
+    /// A copier takes the marked pages of a word, and holds each until it reads or restores it.
     Harvest {
         copier: usize,
         word: usize,
     },
-    /// A copier looks at the marked pages of a word.
+    /// A copier looks at the marked pages of a word and leaves them marked (the peek of Clark and others 2005, section
+    /// 5.4).
     Peek {
         copier: usize,
         word: usize,
     },
-    /// A copier gives held pages back.
+    /// A copier marks held pages again.
     Restore {
         copier: usize,
         word: usize,

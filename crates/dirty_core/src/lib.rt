@@ -8,7 +8,6 @@ mod machine;
 mod opening;
 mod refusal;
 mod running;
-mod words;
 
 pub use answer::Answer;
 pub use event::Event;
@@ -16,4 +15,3 @@ pub use machine::{Core, step};
 pub use opening::{MAX_PAGES, MAX_SEATS, Opening};
 pub use refusal::CoreRefusal;
 pub use running::{every_page, run};
-pub use words::{add_page, ends_before, has_page};

@@ -9,13 +9,13 @@ use crate::answer::Answer;
 use crate::event::Event;
 use crate::opening::Opening;
 use crate::refusal::CoreRefusal;
-use crate::words::{
+use page_bitmap::{
     add_bits, add_page, bits_of, clear_word, has_bits, has_page, remove_bits, remove_page,
 };
 use std::alloc::{AllocError, Global};
 use std::marker::Model;
 
-/// A core, without its history: the places of the pages, which pages are marked, which one each guest has stored and
+/// A core, without its history: the places of the pages, which pages are marked, which page each guest has stored and
 /// not yet marked, and which pages each copier holds.
 #[derive(Debug, Drop)]
 pub struct Core {
@@ -34,14 +34,14 @@ impl Model for Core {
     ghost invariant = { λ c. IsKept (kept_with c.places.items c.dirty.items c.held.items c.pending.items c.copiers) };
 }
 
-/// As many words of no pages.
+/// Returns so many words of no pages.
 fn empty_words(alloc: Global, count: usize) -> Result<Vec<u64>, AllocError>
     ensures { IfOk result (λ words. words.items ≡ replicate count 0) }
 {
     vec![in alloc; 0u64; count]
 }
 
-/// Nothing pending, for so many guests.
+/// Returns a list in which no guest, of so many, has a page pending.
 fn none_pending(alloc: Global, guests: usize) -> Result<Vec<Option<u32>>, AllocError>
     ensures { IfOk result (λ pending. pending.items ≡ replicate guests None) }
 {
@@ -49,7 +49,7 @@ fn none_pending(alloc: Global, guests: usize) -> Result<Vec<Option<u32>>, AllocE
 }
 
 impl Core {
-    /// The core that opens so.
+    /// Returns the core that opens with these parts. The only error is `C6`.
     pub fn open(alloc: Global, opening: &Opening) -> Result<Core, CoreRefusal>
         ensures opened { IfOk result (λ core. Keeps core (opened opening.now)) }
         ensures sizes { IfOk result (λ core. kept_sizes core ≡ sizes_of opening.now) }
@@ -68,7 +68,7 @@ impl Core {
         })
     }
 
-    /// The place of a page.
+    /// Returns the place of a page.
     pub fn place(&self, page: u32) -> u32
         requires { page < length self.now.places }
         ensures { result ≡ place_of self.now page }
@@ -77,14 +77,14 @@ impl Core {
         self.places[index]
     }
 
-    /// Whether a page is marked. None past the last page is.
+    /// Returns whether a page is marked. None past the last page is.
     pub fn marked(&self, page: u32) -> bool
         ensures { result ≡ is_marked self.now page }
     {
         has_page(&self.dirty, page)
     }
 
-    /// The page that a guest stored and has not marked yet. A guest that does not exist has none.
+    /// Returns the page that a guest stored and has not marked yet. A guest that does not exist has none.
     pub fn pending(&self, guest: usize) -> Option<u32>
         ensures { result ≡ pending_of self.now guest }
     {
@@ -95,7 +95,7 @@ impl Core {
         }
     }
 
-    /// Whether a copier holds a page. One that is not the page's copier does not.
+    /// Returns whether a copier holds a page. A copier that is not the page's own does not.
     pub fn held(&self, copier: usize, page: u32) -> bool
         ensures { result ≡ held_by self.now copier page }
     {
@@ -215,8 +215,8 @@ fn happen(core: &mut Core, event: Event) -> Result<Answer, CoreRefusal>
     }
 }
 
-/// One event. Of several causes to refuse it, the first in the order of their names is answered. It takes no memory, so
-/// `C6` is never answered.
+/// Takes one event. Where an event has several causes to be refused, the error is the first in the order of their
+/// names. A step allocates nothing, so it never returns `C6`.
 pub fn step(core: &mut Core, event: Event) -> Result<Answer, CoreRefusal>
     ensures done { IfOk result (λ answer. Goes core.old event answer core.new) }
     ensures accepted { IsOk result ↔ FindsNeeds core.old event }

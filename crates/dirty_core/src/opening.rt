@@ -3,7 +3,7 @@
 ghost use Rattle.std.specs.Prelude.{◌≡◌, ◌↔◌, IsSome, IfSome};
 ghost use Rattle.dirty_core.specs.Start.{Start, IsStart, start_with};
 
-use crate::words::ends_before;
+use page_bitmap::{ends_before, word_count};
 use std::marker::Model;
 
 /// The most pages that a guest may have.
@@ -12,8 +12,8 @@ pub const MAX_PAGES: usize = 65_536;
 /// The most guests and the most copiers that a core may have.
 pub const MAX_SEATS: usize = 16;
 
-/// What a core opens with: a place for each page, the dirty words, and how many guests and copiers there are. Each
-/// value is one that a core may open with.
+/// The parts that a core opens with: a place for each page, the dirty words, and how many guests and copiers there
+/// are. Each value is one that a core may open with.
 #[derive(Debug, Drop)]
 pub struct Opening {
     places: Vec<u32>,
@@ -31,8 +31,9 @@ impl Model for Opening {
 }
 
 impl Opening {
-    /// The opening with these parts: `places` has one for each page, and `dirty` a word for each 64 pages begun, page
-    /// `64 * w` being the lowest bit of word `w`. There are 1 to 65,536 pages, and 1 to 16 guests and copiers.
+    /// Returns the opening with these parts, or None where no core may open with them. `places` has one for each page.
+    /// `dirty` has a word for each 64 pages begun, page `64 * w` being the lowest bit of word `w`. There are 1 to
+    /// 65,536 pages, and 1 to 16 guests and copiers.
     pub fn new(places: Vec<u32>, dirty: Vec<u64>, guests: usize, copiers: usize) -> Option<Opening>
         ensures accepted { IsSome result ↔ IsStart (start_with places.items dirty.items guests copiers) }
         ensures given { IfSome result (λ opening. opening ≡ start_with places.items dirty.items guests copiers) }
@@ -40,7 +41,7 @@ impl Opening {
         if !(1 <= places.len() && places.len() <= MAX_PAGES) {
             return None;
         }
-        if dirty.len() != (places.len() + 63) / 64 {
+        if dirty.len() != word_count(places.len()) {
             return None;
         }
         if !ends_before(&dirty, places.len()) {
@@ -60,7 +61,7 @@ impl Opening {
         })
     }
 
-    /// The place of each page.
+    /// Returns the place of each page.
     pub fn places(&self) -> &[u32]
         ensures places { result.now ≡ self.now.places }
         ensures start { IsStart self.now }
@@ -68,7 +69,7 @@ impl Opening {
         &self.places
     }
 
-    /// The marked pages by words.
+    /// Returns the marked pages by words.
     pub fn dirty(&self) -> &[u64]
         ensures dirty { result.now ≡ self.now.dirty }
         ensures start { IsStart self.now }
@@ -76,7 +77,7 @@ impl Opening {
         &self.dirty
     }
 
-    /// How many guests there are.
+    /// Returns how many guests there are.
     pub fn guests(&self) -> usize
         ensures guests { result ≡ self.now.guests }
         ensures start { IsStart self.now }
@@ -84,7 +85,7 @@ impl Opening {
         self.guests
     }
 
-    /// How many copiers there are.
+    /// Returns how many copiers there are.
     pub fn copiers(&self) -> usize
         ensures copiers { result ≡ self.now.copiers }
         ensures start { IsStart self.now }
@@ -92,7 +93,7 @@ impl Opening {
         self.copiers
     }
 
-    /// The places and the marked pages, as they were given.
+    /// Returns the places and the marked pages, as they were given.
     pub fn into_parts(self) -> (Vec<u32>, Vec<u64>)
         ensures places { result.0.items ≡ self.places }
         ensures dirty { result.1.items ≡ self.dirty }

@@ -6,7 +6,8 @@ ghost use Rattle.dirty_core.specs.declared.refusal.CoreRefusal.TheVariants.{Memo
 use std::alloc::AllocError;
 use thiserror::Error;
 
-/// A refusal, shown by its name. Where several causes stand, the first in the order of the names is answered.
+/// Why an event is refused, written as its name. Where an event has several causes, the refusal is the first in the
+/// order of the names.
 #[derive(Clone, Copy, Debug, PartialEq, Eq, Error)]
 pub enum CoreRefusal {
     /// The page or word is not the guest's or copier's own, or there is no such guest, copier, page or word.
@@ -24,7 +25,7 @@ pub enum CoreRefusal {
     /// A place that is not above the page's.
     #[error("C5")]
     OldPlace,
-    /// A growth was refused.
+    /// Memory ran out.
     #[error("C6")]
     Memory,
 }

@@ -2,7 +2,7 @@
 
 ghost use Rattle.std.specs.Prelude.{◌≡◌, ℕ, List, IfOk, IfErr, OnOk};
 ghost use Rattle.dirty_core.specs.declared.event.Event.{Event as AnyEvent};
-ghost use Rattle.dirty_core.specs.Pages.{in_words};
+ghost use Rattle.page_bitmap.specs.Pages.{in_words};
 ghost use Rattle.dirty_core.specs.Start.{Start, IsStart, sizes_of};
 ghost use Rattle.dirty_core.specs.Kept.{Keeps, kept_sizes};
 ghost use Rattle.dirty_core.specs.Runs.{core_after, IsLegal, CaughtUp, OnlyDue, KnowsMark, KnowsPlace, IsOverReads, IsReal, RunRefuses};
@@ -13,8 +13,8 @@ use crate::opening::Opening;
 use crate::refusal::CoreRefusal;
 use std::alloc::Global;
 
-/// All events in order, from an opening on. A refusal names the index of the event that was refused, from 0, or index 0
-/// with `C6` where the opening was.
+/// Takes all events in order, from an opening on. An error has the index of the event that was refused, from 0, or
+/// index 0 with `C6` where memory ran out for the opening.
 pub fn run(alloc: Global, opening: &Opening, events: &[Event]) -> Result<Core, (usize, CoreRefusal)>
     ensures legal { OnOk result (IsLegal opening.now events.now) }
     ensures leads { IfOk result (λ core. Keeps core (core_after opening.now events.now)) }
@@ -35,8 +35,8 @@ pub fn run(alloc: Global, opening: &Opening, events: &[Event]) -> Result<Core, (
     Ok(core)
 }
 
-/// After any legal list of events no changed page is lost, and no other page is marked; and what the history tells of
-/// each page, for what keeps a core in words of its own.
+/// After any legal list of events no changed page is lost, and no other page is marked. The history also tells of each
+/// page what a caller needs that keeps a core in words of its own.
 pub fn every_page()
     ensures caught_up { (start : Start) (events : List AnyEvent) → IsLegal start events → CaughtUp (core_after start events) }
     ensures only_due { (start : Start) (events : List AnyEvent) → IsLegal start events → OnlyDue (core_after start events) }

@@ -37,7 +37,7 @@ const fn read(page: u32) -> Event {
     Event::Read { copier: 0, page }
 }
 
-/// An opening of pages at place 0, if there is one.
+/// Returns an opening of pages at place 0, if there is one.
 fn opening_of(
     alloc: Global,
     pages: usize,
@@ -54,7 +54,7 @@ fn opening_of(
     Ok(Opening::new(places, words, guests, copiers))
 }
 
-/// A core that is opened so.
+/// Returns a core that opens with these parts.
 fn core_of(
     alloc: Global,
     pages: usize,
@@ -95,7 +95,7 @@ fn two_clean_pages(rt: HostRuntime) -> Result<(), Fail> {
     Ok(())
 }
 
-/// Whether page 0 is marked, whether copier 0 holds it, and what is pending for guest 0.
+/// Returns whether page 0 is marked, whether copier 0 holds it, and what is pending for guest 0.
 fn page_zero(core: &Core) -> (bool, bool, Option<u32>) {
     (core.marked(0), core.held(0, 0), core.pending(0))
 }

@@ -45,7 +45,7 @@ fn open_pair(alloc: Global, opening: Opening) -> Option<Pair>
     })
 }
 
-/// Four pages at place 0, with these marked.
+/// Returns a table of four pages at place 0, with these marked.
 fn open_four(alloc: Global, dirty: u64) -> Option<Pair>
     ensures { IfSome result (λ pair. IsPairOf pair.table pair.guest pair.copier) }
 {
@@ -113,7 +113,7 @@ fn mark_page(table: &RoundTable, guest: &mut GuestSeat) -> bool
     true
 }
 
-/// Reads a page, where it is held.
+/// Reads a page, where it is held. Returns its place.
 fn read_page(table: &RoundTable, copier: &mut CopySeat, page: u32) -> Option<u32>
     requires { copy_table copier.old ≡ table.now }
     ensures table { copy_table copier.new ≡ copy_table copier.old }
@@ -139,7 +139,7 @@ fn restore_pages(table: &RoundTable, copier: &mut CopySeat, word: usize, bits: u
     true
 }
 
-/// Harvests a word, where the copier may.
+/// Harvests a word, where the copier may. Returns its pages.
 fn harvest_word(table: &RoundTable, copier: &mut CopySeat, word: usize) -> Option<u64>
     requires { copy_table copier.old ≡ table.now }
     ensures table { copy_table copier.new ≡ copy_table copier.old }
@@ -151,7 +151,7 @@ fn harvest_word(table: &RoundTable, copier: &mut CopySeat, word: usize) -> Optio
     Some(copier.harvest(table, word))
 }
 
-/// Peeks at a word, where the copier may.
+/// Peeks at a word, where the copier may. Returns its pages.
 fn peek_word(table: &RoundTable, copier: &mut CopySeat, word: usize) -> Option<u64>
     requires { copy_table copier.old ≡ table.now }
     ensures { copy_table copier.new ≡ copy_table copier.old }
@@ -223,7 +223,7 @@ const fn lowered(tied: bool) -> Flags {
     }
 }
 
-/// Waits where the threads are tied; false where the other came too late.
+/// Waits where the threads are tied. Returns false where the other thread came too late.
 fn reached(flags: &Flags, flag: &AtomicBool) -> bool {
     if !flags.tied {
         return true;
@@ -286,7 +286,7 @@ fn harvest_and_read(table: &RoundTable, mut copier: CopySeat, flags: &Flags) -> 
     }
 }
 
-/// What came of a round of two threads: whether all went as it should, what the copier harvested, what it read of
+/// The result of a round of two threads: whether all went as it should, what the copier harvested, what it read of
 /// page 0, and what is left.
 #[derive(Drop)]
 struct Round {
@@ -361,8 +361,8 @@ fn two_tied_threads(rt: HostRuntime) -> Result<(), Fail> {
     Ok(())
 }
 
-/// A round: the guest stores and marks a page while the copier harvests its word, reads that page and restores the
-/// others. What the copier read, and what is left.
+/// Runs a round: the guest stores and marks a page while the copier harvests its word, reads that page and restores
+/// the others. Returns what the copier read, and what is left.
 fn round_of_one_page(
     alloc: Global,
     opening: Opening,
@@ -389,7 +389,7 @@ fn round_of_one_page(
     Some((read, closed))
 }
 
-/// Two marked pages, the first at place 7.
+/// Returns an opening of two marked pages, the first at place 7.
 fn two_pages(alloc: Global) -> Option<Opening> {
     let places = vec![in alloc; 7u32, 0u32].ok()?;
     let dirty = vec![in alloc; 3u64].ok()?;
@@ -427,14 +427,14 @@ fn opened_and_closed(alloc: Global, opening: Opening) -> Option<Closed> {
     Some(table.close(guests, copiers))
 }
 
-/// 130 pages at place 5, with the first and the last marked, for three guests and two copiers.
+/// Returns an opening of 130 pages at place 5, with the first and the last marked, for three guests and two copiers.
 fn many_pages(alloc: Global) -> Option<Opening> {
     let places = vec![in alloc; 5u32; 130].ok()?;
     let dirty = vec![in alloc; 1u64, 0u64, 2u64].ok()?;
     Opening::new(places, dirty, 3, 2)
 }
 
-/// Whether the guest has number 1 and nothing is pending, and which of some pages it owns.
+/// Returns whether the guest has number 1 and nothing is pending, and which of some pages it owns.
 fn told_of_guest(guest: &GuestSeat) -> (bool, [bool; 4]) {
     let owned = [
         guest.owns(4),
@@ -445,7 +445,7 @@ fn told_of_guest(guest: &GuestSeat) -> (bool, [bool; 4]) {
     (guest.number() == 1 && guest.pending().is_none(), owned)
 }
 
-/// Whether the copier has number 1 and holds nothing, and which of the words it owns.
+/// Returns whether the copier has number 1 and holds nothing, and which of the words it owns.
 fn told_of_copier(copier: &CopySeat) -> (bool, [bool; 4]) {
     let owned = [
         copier.owns(0),

@@ -3,7 +3,7 @@ use Rattle.std.proofs.Common.{◌≡◌, ℕ, ◌+◌, ◌-◌, ◌*◌, ◌/◌
 use Rattle.std.specs.Prelude.{IsTrue}
 use mathlib.Core.Option.{none}
 use Rattle.atomic_table.specs.Table.{step, Allows}
-use Rattle.dirty_core.specs.Pages.{in_words, bit_pages, IsWithin}
+use Rattle.page_bitmap.specs.Pages.{in_words, bit_pages, IsWithin}
 use Rattle.dirty_core.specs.Start.{Start, IsStart}
 use Rattle.dirty_words.specs.Facts.{last_place, OwnsPage, OwnsWord, CopyFits, CopyFacts}
 use Rattle.dirty_words.specs.Plays.{stores, marks, harvests, peeks, restores, reads}
@@ -170,7 +170,7 @@ module _ (seat : CopyFields) (table : TableFields) (copier : CopyView) (of : Tab
             (read_allowed start table.table.shared.table_id.slots seat.seat.id seat.seat.me page call.seat_kept.alone held' call.seat_kept.fits),
       )
 
-  -- the page whose place the word is
+  -- the page whose place this word has
   pub word_page : (page word : ℕ) → word ≡ length table.dirty.items + page → word - length (copy_facts seat).start.dirty ≡ page
   word_page page word is =
       let dirty : length table.dirty.items ≡ length table.table.shared.key.dirty = ap length call.table_kept.dirty in

@@ -1,13 +1,13 @@
--- What each answer changes of a copier's facts, as sets of pages.
+-- What each answer of a step changes of a copier's facts, as sets of pages.
 use Rattle.std.proofs.Common.{◌≡◌, ◌⊎◌, ℕ, ◌+◌, ◌%◌, ◌/◌, ◌^◌, ◌<◌, min, ◌&&◌, not, eqb, length, get_or, bit_and, sym, ap, subst, ◌∙◌, arith, inl, inr}
 use Rattle.std.specs.Prelude.{IsTrue}
 use Rattle.std.specs.Int.{bit_at}
 use Rattle.std.proofs.lemmas.Bool.{eqb-true, eq-eqb, cases_eq, and_parts, and_from, or_left, or_right}
 use Rattle.std.proofs.lemmas.Nat.Bits.{bit_at_and, bit_at_xor, bit_at-lt}
-use Rattle.dirty_core.specs.Pages.{in_words, one_page, word_pages, bit_pages, union, minus, IsWithin, SamePages}
+use Rattle.page_bitmap.specs.Pages.{in_words, one_page, word_pages, bit_pages, union, minus, IsWithin, SamePages}
 use Rattle.dirty_core.specs.Start.{IsStart}
 use Rattle.dirty_core.proofs.EveryPage.{either}
-use Rattle.dirty_core.proofs.Bits.{added, removed, within, page_bit_pages}
+use Rattle.page_bitmap.proofs.Bits.{added, removed, within, page_bit_pages}
 use Rattle.dirty_words.specs.Facts.{CopyFacts, OwnsWord, CopyFits, page_bit, bits_less, fresh_after, after_harvest, after_peek, after_restore, after_read}
 use Rattle.dirty_words.specs.Plays.{IsShown}
 use Rattle.dirty_words.proofs.Words.{cleared}

@@ -3,10 +3,10 @@ use Rattle.std.proofs.Common.{◌≡◌, ℕ, ◌-◌, ◌/◌, ◌^◌, ◌<◌
 use Rattle.std.specs.Prelude.{IsTrue}
 use Rattle.std.proofs.lemmas.Bool.{eqb-true, and_parts, or_cases}
 use Rattle.std.proofs.lemmas.List.{length-set, get_or_default}
-use Rattle.dirty_core.specs.Pages.{in_words, bit_pages}
+use Rattle.page_bitmap.specs.Pages.{in_words, bit_pages}
 use Rattle.dirty_core.specs.Start.{IsStart, sizes_of, CopierOwns}
 use Rattle.dirty_core.proofs.EveryPage.{either, minus_part}
-use Rattle.dirty_core.proofs.Bits.{added, removed}
+use Rattle.page_bitmap.proofs.Bits.{added, removed}
 use Rattle.dirty_words.specs.Facts.{CopyFacts, OwnsWord, CopyFits, page_bit, after_harvest, after_restore, after_read}
 use Rattle.dirty_words.specs.Plays.{copier_in, lone_copier, IsAnswer}
 use Rattle.dirty_words.specs.Invariants.{copy_facts, IsCopySeat}

@@ -9,7 +9,7 @@ use Rattle.std.proofs.lemmas.Bool.{cases_lt, cases_Bool}
 use Rattle.std.proofs.lemmas.List.{get_or_past}
 use Rattle.std.proofs.lemmas.Nat.Bits.{bit_at-zero}
 use Rattle.atomic_table.specs.Table.{State, Final, Seen}
-use Rattle.dirty_core.specs.Pages.{in_words}
+use Rattle.page_bitmap.specs.Pages.{in_words}
 use Rattle.dirty_core.specs.Start.{Start, IsStart, start_with, sizes_of, guest_of, copier_of}
 use Rattle.dirty_core.specs.Machine.{DirtyCore, last_visit, is_stored}
 use Rattle.dirty_core.specs.Runs.{core_after, IsCaughtUp, IsOnlyDue, KnowsMark, KnowsPlace, IsOverReads, IsReal, place_after, Rises, IsVisited}

@@ -5,7 +5,7 @@ use Rattle.std.proofs.lemmas.Bool.{cases_eq, eq-eqb, ne_eqb}
 use Rattle.std.specs.List.{range_with_len}
 use Rattle.std.proofs.lemmas.List.FromFn.{length-map-range_with_len}
 use Rattle.dirty_core.proofs.Moves.{no_words}
-use Rattle.dirty_core.specs.Pages.{in_words}
+use Rattle.page_bitmap.specs.Pages.{in_words}
 use Rattle.dirty_core.specs.Start.{Start, sizes_of, guest_of, copier_of}
 use Rattle.dirty_core.specs.Machine.{last_visit}
 use Rattle.dirty_core.proofs.EveryPage.{either}

@@ -10,7 +10,7 @@ use Rattle.dirty_core.proofs.EveryPage.{put_at, put_else}
 use Rattle.dirty_words.specs.Facts.{Facts, of_guest, of_copier}
 use Rattle.dirty_words.specs.Shows.{Owners, owner_of, EachView}
 
--- the same guest, or the same copier
+-- two entries are of the same guest, or of the same copier
 abbrev pub IsSameSeat : Facts → Facts → Type 0
 IsSameSeat (of_guest one) (of_guest other) = one.number ≡ other.number
 IsSameSeat (of_copier one) (of_copier other) = one.number ≡ other.number

@@ -8,14 +8,14 @@ use Rattle.std.proofs.lemmas.List.{set-get_or}
 use Rattle.atomic_table.specs.Table.{State, Me, step, keeps, stepped, Allows}
 use Rattle.dirty_core.specs.declared.event.Event.{Event}
 use Rattle.dirty_core.specs.declared.event.Event.TheVariants.{Store, Mark, Harvest, Peek, Restore, Read}
-use Rattle.dirty_core.specs.Pages.{in_words, word_pages, bit_pages, common, IsWithin, SamePages}
+use Rattle.page_bitmap.specs.Pages.{in_words, word_pages, bit_pages, common, IsWithin, SamePages}
 use Rattle.dirty_core.specs.Start.{Start, IsStart, sizes_of, copier_of, word_copier, GuestOwns, CopierOwns, CopierOwnsPage}
 use Rattle.dirty_core.specs.Machine.{DirtyCore, with_pending, Needs, after}
 use Rattle.dirty_core.specs.Runs.{opened, core_after, place_after, IsVisited, KnowsMark, KnowsPlace, IsReal, IsOverReads}
 use Rattle.dirty_core.proofs.EveryPage.{core_after-push, IsLegalFrom-push, OnlyDue-run, KnowsMark-run}
 use Rattle.dirty_core.proofs.EveryPlace.{KnowsPlace-run, IsOverReads-run}
 use Rattle.dirty_core.proofs.RealPages.{IsReal-run, sizes-core_after}
-use Rattle.dirty_core.proofs.Bits.{added, one_bit, shifted_page_bit}
+use Rattle.page_bitmap.proofs.Bits.{added, one_bit, shifted_page_bit}
 use Rattle.dirty_core.proofs.Moves.{Needs-store, Needs-mark, Needs-harvest, Needs-peek, Needs-restore, Needs-read}
 use Rattle.dirty_words.specs.Facts.{Facts, of_guest, of_copier, GuestFacts, CopyFacts, last_place, OwnsPage, OwnsWord, CopyFits, page_bit, after_store, after_mark, after_harvest, after_peek, after_restore, after_read}
 use Rattle.dirty_words.specs.Plays.{guest_in, copier_in, lone_guest, lone_copier, IsAnswer, IsOver, stores, marks, harvests, peeks, restores, reads}
@@ -252,7 +252,7 @@ restore_allowed start slots id me word bits alone owns low small_bits held fits 
       refl,
     )
 
--- what a read answers is no less than what the seat knows
+-- the place that a read returns is no less than what the seat knows
 over_reads : (start : Start) (core : DirtyCore) (facts : CopyFacts) (page place : ℕ) → TellsCopier start core facts
     → copier_of core.sizes page ≡ facts.number → IsOverReads start core page → place ≡ core.place page → place < 2 ^ 32 → IsOver facts page place
 over_reads start core facts page place told own over is fits = record {

@@ -4,12 +4,12 @@ use Rattle.std.specs.Prelude.{IsTrue}
 use Rattle.std.specs.Int.{bit_at}
 use Rattle.std.proofs.lemmas.Bool.{eqb-true, eq-eqb, ne_eqb, and_parts, and_from, or_cases}
 use Rattle.dirty_core.specs.declared.event.Event.TheVariants.{Store, Mark, Harvest, Restore, Read}
-use Rattle.dirty_core.specs.Pages.{PageSet, in_words, one_page, word_pages, bit_pages, union, common, minus, IsWithin, SamePages}
+use Rattle.page_bitmap.specs.Pages.{PageSet, in_words, one_page, word_pages, bit_pages, union, common, minus, IsWithin, SamePages}
 use Rattle.dirty_core.specs.Start.{Start, GuestOwns, CopierOwns, copier_of, word_copier}
 use Rattle.dirty_core.specs.Machine.{DirtyCore, is_stored, after}
 use Rattle.dirty_core.specs.Runs.{IsOnlyDue}
 use Rattle.dirty_core.proofs.EveryPage.{put_at, put_else, set_at, set_else, stored_still, either}
-use Rattle.dirty_core.proofs.Bits.{added, removed, page_bit_pages}
+use Rattle.page_bitmap.proofs.Bits.{added, removed, page_bit_pages}
 use Rattle.dirty_words.specs.Facts.{Facts, of_guest, of_copier, GuestFacts, CopyFacts, page_bit, bits_less, fresh_after, after_store, after_mark, after_harvest, after_peek, after_restore, after_read}
 use Rattle.dirty_words.specs.Shows.{TellsGuest, TellsCopier, Tells}
 use Rattle.dirty_words.proofs.Seating.{IsSameSeat}

@@ -7,11 +7,11 @@ use Rattle.std.proofs.lemmas.List.{get_or-set_same, get_or-set_other, length-set
 use Rattle.std.proofs.lemmas.Nat.Bits.{bit_at_and, bit_at_xor, bit_at-lt, bit_at-zero, same_from_bits_below}
 use Rattle.std.proofs.lemmas.Nat.{div-mul-add, mod-mul-add, pow_pos}
 use Rattle.dirty_core.specs.declared.event.Event.TheVariants.{Store}
-use Rattle.dirty_core.specs.Pages.{PageSet, in_words, word_pages, bit_pages, common, minus, SamePages}
+use Rattle.page_bitmap.specs.Pages.{PageSet, in_words, word_pages, bit_pages, common, minus, SamePages}
 use Rattle.dirty_core.specs.Start.{Start}
 use Rattle.dirty_core.specs.Machine.{DirtyCore, after}
 use Rattle.dirty_core.proofs.EveryPage.{put_at, put_else}
-use Rattle.dirty_core.proofs.Bits.{here, elsewhere}
+use Rattle.page_bitmap.proofs.Bits.{here, elsewhere}
 use Rattle.dirty_words.specs.Facts.{bits_less}
 use Rattle.dirty_words.specs.Shows.{place_word, ShowWords}
 

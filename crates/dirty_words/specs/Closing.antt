@@ -2,7 +2,7 @@
 use Rattle.std.specs.Prelude.{◌≡◌, ◌⊎◌, ℕ, ◌+◌, ◌/◌, ◌<◌, ◌≤◌, IsTrue, is_some, List, length, map, Some, None, All, slice_index, slice_get}
 use Rattle.std.specs.List.{range_with_len}
 use Rattle.dirty_core.specs.declared.event.Event.{Event}
-use Rattle.dirty_core.specs.Pages.{in_words}
+use Rattle.page_bitmap.specs.Pages.{in_words}
 use Rattle.dirty_core.specs.Start.{Start, sizes_of, guest_of, copier_of}
 use Rattle.dirty_core.specs.Machine.{DirtyCore, last_visit}
 use Rattle.dirty_core.specs.Runs.{core_after, IsLegal, Rises, IsVisited}

@@ -1,23 +1,24 @@
--- What the seats of a table know. A seat knows its own facts alone: what it did, and what its own answers showed. This
+-- What the seats of a table know. A seat knows its own facts alone: what it did, and what its own steps returned. This
 -- project's own.
 use Rattle.std.specs.Prelude.{◌≡◌, ℕ, ◌-◌, ◌^◌, ◌/◌, ◌%◌, ◌<◌, List, [], ◌∷◌, ◌++◌, map, length, replicate, Option, Some, None, IsTrue, false, bit_and, bit_or, bit_xor, slice_index, slice_set}
 use Rattle.std.specs.List.{range_with_len}
-use Rattle.dirty_core.specs.Pages.{in_words}
+use Rattle.page_bitmap.specs.Pages.{in_words}
 use Rattle.dirty_core.specs.Start.{Start, sizes_of, GuestOwns, CopierOwns, CopierOwnsPage}
 use Rattle.dirty_core.specs.Machine.{Visits}
 use Rattle.dirty_core.specs.Runs.{place_after}
 
--- What a guest knows: what the table opened with, its own number, its stores, the last of them first, and the page that
--- it stored and has not marked yet.
+-- What a guest knows: what the table opened with, its own number, its stores, the last of them first, and the page
+-- that it stored and has not marked yet.
 pub record GuestFacts : Type 0 where
   pub start : Start
   pub number : ℕ
   pub stores : Visits
   pub pending : Option ℕ
 
--- What a copier knows: what the table opened with, its own number, the pages that it holds; of its own pages those that
--- are returned, so marked at opening or restored, and not harvested since; the fresh pages, which an answer showed while
--- they were not returned; and its reads, the last of them first. Sets of pages are kept by words.
+-- What a copier knows: what the table opened with, its own number, and the pages that it holds. Of its own pages it
+-- knows the returned ones, so marked at opening or restored, and not harvested since; and the fresh ones, which an
+-- answer showed while they were not returned. It knows its reads, the last of them first. Sets of pages are kept by
+-- words.
 pub record CopyFacts : Type 0 where
   pub start : Start
   pub number : ℕ
@@ -66,15 +67,15 @@ OwnsWord facts word = CopierOwns (sizes_of facts.start) facts.number word
 
 -- ---- sets of pages by words
 
--- these pages of a word too
+-- a set with these pages of a word too
 abbrev pub with_bits : List ℕ → ℕ → ℕ → List ℕ
 with_bits words word bits = slice_set words word (bit_or (slice_index words word) bits)
 
--- not these pages of a word
+-- a set without these pages of a word
 abbrev pub without_bits : List ℕ → ℕ → ℕ → List ℕ
 without_bits words word bits = slice_set words word (bit_and (slice_index words word) (18_446_744_073_709_551_615 - bits))
 
--- none of a word
+-- a set without all pages of a word
 abbrev pub without_word : List ℕ → ℕ → List ℕ
 without_word words word = slice_set words word 0
 

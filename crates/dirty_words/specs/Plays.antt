@@ -1,7 +1,7 @@
--- What each step tells its caller, how views are cut and joined.
+-- What each step tells its caller, and how views are cut and joined.
 use Rattle.std.specs.Prelude.{◌≡◌, ◌⊎◌, ℕ, ◌-◌, ◌^◌, ◌<◌, ◌≤◌, IsTrue, List, [], ◌∷◌, length, slice_index}
 use Rattle.atomic_table.specs.Table.{Step, Me}
-use Rattle.dirty_core.specs.Pages.{in_words, word_pages, bit_pages, common, IsWithin}
+use Rattle.page_bitmap.specs.Pages.{in_words, word_pages, bit_pages, common, IsWithin}
 use Rattle.dirty_core.specs.Start.{Start, start_with}
 use Rattle.dirty_core.specs.Runs.{IsVisited}
 use Rattle.dirty_words.specs.Facts.{Facts, of_guest, of_copier, GuestFacts, CopyFacts, first_guest, first_copier, after_store, after_mark, after_harvest, after_peek, after_restore, after_read}
@@ -22,7 +22,7 @@ lone_guest facts = of_guest facts ∷ []
 abbrev pub lone_copier : CopyFacts → List Facts
 lone_copier facts = of_copier facts ∷ []
 
--- ---- what an answer promises
+-- ---- what an answer of a harvest or a peek promises
 
 -- the answer has at least the returned pages of the word, and pages that exist alone
 pub record IsAnswer (facts : CopyFacts) (word answer : ℕ) : Type 0 where
@@ -35,7 +35,7 @@ pub record IsShown (old : CopyFacts) (word answer : ℕ) (new : CopyFacts) : Typ
   pub shown : (page : ℕ) → IsTrue (bit_pages word answer page) → IsTrue (in_words old.returned page) ⊎ IsTrue (in_words new.fresh page)
   pub kept : IsWithin (in_words old.fresh) (in_words new.fresh)
 
--- the place is no less than the opening's, and than each that the seat has read of the page
+-- the place is no less than the opening's, and no less than each that the seat has read of the page
 pub record IsOver (facts : CopyFacts) (page place : ℕ) : Type 0 where
   pub fits : place < 2 ^ 32
   pub opening : slice_index facts.start.places page ≤ place
@@ -44,7 +44,7 @@ pub record IsOver (facts : CopyFacts) (page place : ℕ) : Type 0 where
 -- ---- the steps
 
 module _ {S : Type 0} (step : Step S) (me : Me S (List Facts)) (found : ℕ) (after : Me S (List Facts)) where
-  -- the page whose place the word is
+  -- the page whose place this word has
   abbrev page_of : Start → ℕ
   page_of start = step.word - length start.dirty
 

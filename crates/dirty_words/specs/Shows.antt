@@ -5,13 +5,13 @@ use mathlib.Core.Option.{some}
 use lib.ListN.{get_elem?}
 use Rattle.atomic_table.specs.Table.{State}
 use Rattle.dirty_core.specs.declared.event.Event.{Event}
-use Rattle.dirty_core.specs.Pages.{in_words, IsWithin, SamePages}
+use Rattle.page_bitmap.specs.Pages.{in_words, IsWithin, SamePages}
 use Rattle.dirty_core.specs.Start.{Start, IsStart, copier_of}
 use Rattle.dirty_core.specs.Machine.{DirtyCore, is_stored}
 use Rattle.dirty_core.specs.Runs.{core_after, IsLegal}
 use Rattle.dirty_words.specs.Facts.{Facts, of_guest, of_copier, GuestFacts, CopyFacts}
 
--- the word that keeps a page's place: the dirty words come first
+-- the word that has a page's place: the dirty words come first
 abbrev pub place_word : Start → ℕ → ℕ
 place_word start page = length start.dirty + page
 

@@ -3,12 +3,13 @@
 ghost use Rattle.std.specs.Prelude.{◌↔◌, ◌≤◌, IsTrue, All};
 ghost use Rattle.dirty_words.specs.Closing.{FitsPages};
 
-use dirty_core::ends_before;
+use page_bitmap::{ends_before, word_count};
 use std::marker::Model;
 
 /// The place of each page and the marked pages by words, when all seats have come back.
 #[derive(Debug, Drop)]
 pub struct Closed {
+    /// The place of each page.
     pub versions: Vec<u32>,
     /// A word for each 64 pages begun, page `64 * w` being the lowest bit of word `w`.
     pub dirty: Vec<u64>,
@@ -24,7 +25,7 @@ impl Model for Closed {
     ghost view = { λ c. closed_view c.versions.items c.dirty.items };
 }
 
-/// Whether no version is above so many writes.
+/// Returns whether no version is above so many writes.
 fn none_above(versions: &[u32], writes: u32) -> bool
     ensures { IsTrue result ↔ All (λ version. version ≤ writes) versions.now }
 {
@@ -32,7 +33,7 @@ fn none_above(versions: &[u32], writes: u32) -> bool
 }
 
 impl Closed {
-    /// Whether this can be what a table of so many pages leaves after so many writes: a version for each page, none
+    /// Returns whether a table of so many pages may leave this after so many writes: a version for each page, none
     /// above `writes`, a dirty word for each 64 pages begun, and no bit past the last page.
     pub fn fits(&self, pages: u32, writes: u32) -> bool
         ensures { IsTrue result ↔ FitsPages self.now pages writes }
@@ -40,7 +41,7 @@ impl Closed {
         let pages = pages as usize;
         self.versions.len() == pages
             && none_above(&self.versions, writes)
-            && self.dirty.len() == (pages + 63) / 64
+            && self.dirty.len() == word_count(pages)
             && (pages == 0 || ends_before(&self.dirty, pages))
     }
 }

@@ -11,7 +11,7 @@ use atomic_table::{Closed as ClosedTable, Seat, Shared};
 use dirty_core::Opening;
 use std::alloc::Global;
 
-/// The guests' seats join this one.
+/// Joins the guests' seats to `seat`.
 pub(crate) fn join_guests(
     table: &Shared<u8, View, Opening, Shown>,
     seat: &mut Seat<u8, View>,
@@ -28,7 +28,7 @@ pub(crate) fn join_guests(
     }
 }
 
-/// The copiers' seats join this one.
+/// Joins the copiers' seats to `seat`.
 pub(crate) fn join_copiers(
     table: &Shared<u8, View, Opening, Shown>,
     seat: &mut Seat<u8, View>,
@@ -45,7 +45,7 @@ pub(crate) fn join_copiers(
     }
 }
 
-/// Writes the table's dirty words over these.
+/// Returns the table's dirty words, written over these.
 pub(crate) fn copy_dirty(closed: &ClosedTable<u8, Global>, mut dirty: Vec<u64>) -> Vec<u64>
     requires full { IsFull closed.now.words }
     requires words { length dirty.items ≤ slots_len closed.now.words }
@@ -58,7 +58,7 @@ pub(crate) fn copy_dirty(closed: &ClosedTable<u8, Global>, mut dirty: Vec<u64>) 
     dirty
 }
 
-/// Writes the table's places, which begin at word `first`, over these.
+/// Returns the table's places, which begin at word `first`, written over these.
 pub(crate) fn copy_places(
     closed: &ClosedTable<u8, Global>,
     first: usize,

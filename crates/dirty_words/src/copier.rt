@@ -1,7 +1,7 @@
 //! A copier's seat: it harvests the marks of its words, restores and reads the pages that it holds.
 
 ghost use Rattle.std.specs.Prelude.{◌≡◌, ◌↔◌, ◌<◌, ℕ, [], IsTrue, IsFalse, IfOk, false, replicate, slice_index, bit_and, ◌^◌};
-ghost use Rattle.dirty_core.specs.Pages.{in_words, word_pages, bit_pages, one_page, union, minus, IsWithin, SamePages};
+ghost use Rattle.page_bitmap.specs.Pages.{in_words, word_pages, bit_pages, one_page, union, minus, IsWithin, SamePages};
 ghost use Rattle.dirty_words.specs.Facts.{first_copier, OwnsWord, CopyFits, HoldsNone, after_harvest, after_peek, after_restore, after_read};
 ghost use Rattle.dirty_words.specs.Plays.{lone_copier, IsAnswer, IsShown, IsOver};
 ghost use Rattle.dirty_words.specs.Seats.{copy_view, copy_table};
@@ -37,14 +37,14 @@ impl Model for CopySeat {
     ghost invariant = { IsCopySeat };
 }
 
-/// As many words of no pages.
+/// Returns so many words of no pages.
 fn empty_words(alloc: Global, count: usize) -> Result<Vec<u64>, AllocError>
     ensures { IfOk result (λ words. words.items ≡ replicate count 0) }
 {
     vec![in alloc; 0u64; count]
 }
 
-/// Whether any bit of these words is set.
+/// Returns whether any bit of these words is set.
 fn has_bits(words: &[u64]) -> bool
     ensures { IsFalse result ↔ ((page : ℕ) → in_words words.now page ≡ false) }
 {
@@ -57,7 +57,7 @@ fn has_bits(words: &[u64]) -> bool
 }
 
 impl CopySeat {
-    /// The seat of a copier that did nothing yet.
+    /// Returns the seat of a copier that did nothing yet.
     pub(crate) fn first(
         alloc: Global,
         seat: Seat<u8, View>,
@@ -77,7 +77,7 @@ impl CopySeat {
         })
     }
 
-    /// What steps on the table.
+    /// Returns the seat that steps on the table.
     pub(crate) fn into_seat(self) -> Seat<u8, View>
         ensures table { result.table_id ≡ self.id }
         ensures alone { result.me ≡ (lone_copier self.facts, []) }
@@ -91,7 +91,7 @@ impl CopySeat {
         seat
     }
 
-    /// The copier's number, from 0.
+    /// Returns the copier's number, from 0.
     pub fn number(&self) -> usize
         ensures number { result ≡ self.now.facts.number }
         ensures fits { CopyFits self.now.facts }
@@ -99,14 +99,14 @@ impl CopySeat {
         self.number
     }
 
-    /// Whether the dirty word exists and is the copier's.
+    /// Returns whether the dirty word exists and is the copier's.
     pub fn owns(&self, word: usize) -> bool
         ensures { IsTrue result ↔ OwnsWord self.now.facts word }
     {
         word < self.held.len() && word % self.copiers == self.number
     }
 
-    /// The pages of a word that are held, the lowest bit first.
+    /// Returns the pages of a word that are held, the lowest bit first.
     pub fn held(&self, word: usize) -> u64
         requires { OwnsWord self.now.facts word }
         ensures bits { result ≡ slice_index self.now.facts.held word }
@@ -115,14 +115,15 @@ impl CopySeat {
         self.held[word]
     }
 
-    /// Whether any page is held.
+    /// Returns whether any page is held.
     pub fn holds(&self) -> bool
         ensures { IsFalse result ↔ HoldsNone self.now.facts }
     {
         has_bits(&self.held)
     }
 
-    /// Takes the word's marked pages, to be held until each is read or restored.
+    /// Takes the marked pages of a word, and holds each until it is read or restored: one swap of the word with 0.
+    /// Returns the pages, the lowest bit first.
     pub fn harvest(&mut self, table: &RoundTable, word: usize) -> u64
         requires table { copy_table self.old ≡ table.now }
         requires own { OwnsWord self.old.facts word }
@@ -138,7 +139,8 @@ impl CopySeat {
         bits
     }
 
-    /// The word's marked pages.
+    /// Returns the marked pages of a word, the lowest bit first, and leaves them marked: one load of the word. It is
+    /// the peek of Clark and others (2005), section 5.4.
     pub fn peek(&mut self, table: &RoundTable, word: usize) -> u64
         requires table { copy_table self.old ≡ table.now }
         requires own { OwnsWord self.old.facts word }
@@ -150,7 +152,7 @@ impl CopySeat {
         table.table.shared.load::<Peeks>(&mut self.seat, word)
     }
 
-    /// Marks held pages of a word again, which are then not held.
+    /// Marks held pages of a word again, and holds them no longer: one fetch-or of the word.
     pub fn restore(&mut self, table: &RoundTable, word: usize, bits: u64)
         requires table { copy_table self.old ≡ table.now }
         requires own { OwnsWord self.old.facts word }
@@ -165,7 +167,7 @@ impl CopySeat {
         self.held[word] &= !bits;
     }
 
-    /// Reads the place of a held page, which is then not held.
+    /// Returns the place of a held page, and holds it no longer: one load of the page's word.
     pub fn read(&mut self, table: &RoundTable, page: u32) -> u32
         requires table { copy_table self.old ≡ table.now }
         requires held { IsTrue (in_words self.old.facts.held page) }

@@ -6,10 +6,10 @@ ghost use Rattle.dirty_words.specs.declared.error.TableError.TheVariants.{Memory
 use std::alloc::{AllocError, AllocFailed};
 use thiserror::Error;
 
-/// A refusal.
+/// Why a table could not be opened.
 #[derive(Clone, Copy, Debug, PartialEq, Eq, Error)]
 pub enum TableError {
-    /// A growth was refused.
+    /// Memory ran out.
     #[error("memory")]
     Memory,
 }

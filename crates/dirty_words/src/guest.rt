@@ -38,7 +38,7 @@ impl Model for GuestSeat {
 }
 
 impl GuestSeat {
-    /// The seat of a guest that did nothing yet.
+    /// Returns the seat of a guest that did nothing yet.
     pub(crate) fn first(
         alloc: Global,
         seat: Seat<u8, View>,
@@ -59,7 +59,7 @@ impl GuestSeat {
         })
     }
 
-    /// What steps on the table.
+    /// Returns the seat that steps on the table.
     pub(crate) fn into_seat(self) -> Seat<u8, View>
         ensures table { result.table_id ≡ self.id }
         ensures alone { result.me ≡ (lone_guest self.facts, []) }
@@ -74,7 +74,7 @@ impl GuestSeat {
         seat
     }
 
-    /// The guest's number, from 0.
+    /// Returns the guest's number, from 0.
     pub fn number(&self) -> usize
         ensures number { result ≡ self.now.facts.number }
         ensures fits { GuestFits self.now.facts }
@@ -82,7 +82,7 @@ impl GuestSeat {
         self.number
     }
 
-    /// Whether the page exists and is the guest's.
+    /// Returns whether the page exists and is the guest's.
     pub fn owns(&self, page: u32) -> bool
         ensures { IsTrue result ↔ OwnsPage self.now.facts page }
     {
@@ -90,14 +90,14 @@ impl GuestSeat {
         page < self.last.len() && page % self.guests == self.number
     }
 
-    /// The page that was stored and is not marked yet.
+    /// Returns the page that was stored and is not marked yet.
     pub fn pending(&self) -> Option<u32>
         ensures { result ≡ self.now.facts.pending }
     {
         self.pending
     }
 
-    /// The place of the page's last store, or the opening's.
+    /// Returns the place of the page's last store, or the opening's.
     pub fn last(&self, page: u32) -> u32
         requires { OwnsPage self.now.facts page }
         ensures { result ≡ last_place self.now.facts page }
@@ -105,7 +105,8 @@ impl GuestSeat {
         self.last[page as usize]
     }
 
-    /// Stores a page's place. The page is then pending.
+    /// Stores a page's place, which has to be above the last one: one store to the page's word. The page is then
+    /// pending.
     pub fn advance(&mut self, table: &RoundTable, page: u32, place: u32)
         requires table { guest_table self.old ≡ table.now }
         requires own { OwnsPage self.old.facts page }
@@ -124,7 +125,7 @@ impl GuestSeat {
         self.pending = Some(page);
     }
 
-    /// Marks the pending page.
+    /// Marks the pending page: one fetch-or of its dirty word.
     pub fn mark(&mut self, table: &RoundTable)
         requires table { guest_table self.old ≡ table.now }
         requires pending { IsSome self.old.facts.pending }

@@ -1,5 +1,5 @@
-//! A lock-free dirty log: guests store the places of their pages and mark them while copiers harvest the marks, restore
-//! and read. Each step is one atomic operation on one word.
+//! A lock-free dirty log: guests store the places of their pages and mark them while copiers harvest the marks,
+//! restore and read. Each step is one atomic operation on one word.
 #![tactic(auto)]
 
 mod closed;

@@ -13,7 +13,7 @@ use atomic_table::{Seat, Shared};
 use dirty_core::Opening;
 use std::alloc::Global;
 
-/// The dirty words, and then a word for each place.
+/// Returns the words of a new table: the dirty words, and then a word for each place.
 pub(crate) fn opening_words(alloc: Global, opening: &Opening) -> Result<Vec<u64>, TableError>
     ensures words { IfOk result (λ words. words.items ≡ opening.now.dirty ++ opening.now.places) }
     ensures small { OnOk result ((page : ℕ) → slice_index opening.now.places page < 2 ^ 32) }

@@ -4,7 +4,7 @@ use atomic_table::{Join, Play, Split, TableRule};
 use dirty_core::Opening;
 use std::marker::Model;
 
-/// What a seat knows. No value of it is made.
+/// What a seat knows, as a list of facts. No value of it is made.
 pub struct View {
     nothing: (),
 }
@@ -18,7 +18,7 @@ impl Model for View {
     ghost view = { λ _. [] };
 }
 
-/// The words and the views show the core that a legal list of events leaves.
+/// The rule of a table: the words and the views show the core that a legal list of events leaves.
 pub struct Shown;
 
 impl TableRule<u8, View, Opening> for Shown {

@@ -16,8 +16,8 @@ use dirty_core::Opening;
 use std::alloc::Global;
 use std::marker::Model;
 
-/// The dirty words of one round, and the place of each page. Threads share it by a `&`. To a contract it is which table
-/// it is, and what it opened with.
+/// The dirty words of one round, and the place of each page. Threads share it by a `&`. To a contract it is which
+/// table it is, and what it opened with.
 #[derive(Drop)]
 pub struct RoundTable {
     /// The dirty words come first, then a word for the place of each page.
@@ -43,14 +43,17 @@ impl Model for RoundTable {
 /// A new table, with the seats of its guests and of its copiers in order of their numbers.
 #[derive(Drop)]
 pub struct Opened {
+    /// The table, for all threads of the round.
     pub table: RoundTable,
+    /// The seat of each guest, by its number.
     pub guests: Vec<GuestSeat>,
+    /// The seat of each copier, by its number.
     pub copiers: Vec<CopySeat>,
 }
 
 impl RoundTable {
-    /// A table with the opening's places and marks, on which nothing has happened. All memory that its seats and `close`
-    /// need is taken here.
+    /// Returns a table with the opening's places and marks, on which nothing has happened. It allocates all memory
+    /// that its seats and `close` need; the only error is that memory runs out.
     pub fn open(alloc: Global, opening: Opening) -> Result<Opened, TableError>
         ensures table { IfOk result (λ opened. opened.table.start ≡ opening) }
         ensures guests { IfOk result (λ opened. opened.guests.items ≡ first_guests opened.table) }
@@ -74,7 +77,7 @@ impl RoundTable {
         })
     }
 
-    /// What all seats have left, when all have come back. It takes no memory.
+    /// Returns what all seats have left, when all have come back. It allocates nothing.
     pub fn close(self, guests: Vec<GuestSeat>, copiers: Vec<CopySeat>) -> Closed
         requires guests { AllGuests self guests.items }
         requires copiers { AllCopiers self copiers.items }

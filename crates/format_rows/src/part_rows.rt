@@ -4,7 +4,7 @@ ghost use Rattle.std.specs.Prelude.{◌≡◌, ◌<◌, ◌≤◌};
 ghost use Rattle.page_message.specs.Shapes.{shape_of};
 
 use collector::{Fate, Part, PartError, merge};
-use page_message::{Body, FrameError, append_frame, frame_of};
+use page_message::{Body, FrameError, append_frame, decode_frame, frame_of};
 use std::alloc::{AllocError, Global};
 use std::test::Fail;
 use trace_codec::Shape;
@@ -27,7 +27,7 @@ fn shape() -> Shape
     }
 }
 
-/// What the part answers to a page whose bytes are all this one, if memory lasts.
+/// Gives the part a page whose bytes are all this one. Returns the page's fate, or None where memory ran out.
 fn give(
     alloc: Global,
     part: &mut Part,
@@ -45,7 +45,7 @@ fn give(
     part.accept(frame_of(shape, page, stamp, bytes)).ok()
 }
 
-/// A part to which page 1 came with these stamps in turn, and what it answered to each.
+/// Returns a part to which page 1 came with these stamps in turn, and the fate of each.
 fn given(alloc: Global, first: u32, second: u32, third: u32) -> (Part, [Option<Fate>; 3])
     requires first { first ≤ 5 }
     requires second { second ≤ 5 }
@@ -82,7 +82,7 @@ fn greatest_stamp_is_kept(rt: HostRuntime) {
     );
 }
 
-/// What goes for page 1, whose bytes are all this one: its stamp and its first byte.
+/// Exchanges page 1, whose bytes are all this one. Returns the stamp and the first byte of the frame that goes.
 fn swap(
     alloc: Global,
     part: &mut Part,
@@ -132,7 +132,7 @@ fn older_frame_goes(rt: HostRuntime) {
     );
 }
 
-/// The frame of zeros, and another frame behind it.
+/// Returns a frame of zeros, and these bytes behind it.
 fn behind_zeros(alloc: Global, frame: &[u8]) -> Result<Vec<u8>, AllocError> {
     let mut bytes = Vec::from_slice(alloc, &ZEROS_FRAME)?;
     bytes.extend_from_slice(frame)?;
@@ -147,8 +147,11 @@ fn frames_in_front_of_a_refused_one_are_taken(rt: HostRuntime) -> Result<(), Fai
     let taken = part.accept_bytes(&bytes);
     drop(bytes);
     assert_eq!(rt;
-        (taken, part.stamp(2), part.stamp(3)),
-        (Err((1, FrameError::Short)), Some(0), None)
+        (
+            taken,
+            [part.stamp(0), part.stamp(1), part.stamp(2), part.stamp(3)]
+        ),
+        (Err((1, FrameError::Short)), [None, None, Some(0), None])
     );
     Ok(())
 }
@@ -170,7 +173,30 @@ fn frames_are_taken_to_the_end(rt: HostRuntime) -> Result<(), Fail> {
     Ok(())
 }
 
-/// The byte that each of page 1's bytes is, where the part has the page and they are the same.
+/// What a part returns for the frame at the front of some bytes, if there is one and memory lasts.
+fn accept_front(alloc: Global, part: &mut Part, bytes: &[u8]) -> Option<Fate> {
+    let shape = part.shape();
+    let (frame, _) = decode_frame(alloc, &shape, bytes).ok()?;
+    if !frame.fits(&shape) {
+        return None;
+    }
+    part.accept(frame).ok()
+}
+
+#[test]
+fn frame_that_comes_twice_is_old(rt: HostRuntime) {
+    let mut part = Part::new(rt.alloc(), shape());
+    let fates = [
+        accept_front(rt.alloc(), &mut part, &ZEROS_FRAME),
+        accept_front(rt.alloc(), &mut part, &ZEROS_FRAME),
+    ];
+    assert_eq!(rt;
+        (fates, part.stamp(2)),
+        ([Some(Fate::New), Some(Fate::Old)], Some(0))
+    );
+}
+
+/// Returns the byte that each of page 1's bytes is, where the part has the page and they are equal.
 fn filling(part: &Part) -> Option<u8> {
     match &part.frame(1)?.body {
         Body::Zero => Some(0),
@@ -181,8 +207,8 @@ fn filling(part: &Part) -> Option<u8> {
     }
 }
 
-/// What comes of the spelling of page 1, each of whose bytes is this one: how many frames the part takes, and then its
-/// stamp of the page and what the page is filled with.
+/// Gives the part the encoding of page 1, each of whose bytes is this one. Returns how many frames the part takes, and
+/// then its stamp of the page and the byte that fills the page.
 fn copy(
     alloc: Global,
     part: &mut Part,
@@ -222,7 +248,7 @@ fn newer_frames_are_copied_over_older_ones(rt: HostRuntime) {
     );
 }
 
-/// What two parts come to, the first with pages 1 and 2, the second with pages 1, 2 and 3.
+/// Returns the join of two parts, the first with pages 1 and 2, the second with pages 1, 2 and 3.
 fn merged(alloc: Global) -> Option<Part> {
     let shape = shape();
     let mut first = Part::new(alloc, shape);

@@ -34,7 +34,7 @@ fn add_frame(shape: &Shape, frames: &mut Vec<Frame>, frame: Frame) -> Result<(),
     Ok(())
 }
 
-/// The streams of three frames: of page 2, which is zeros, of page 3, and of page 2 again.
+/// Returns the streams of three frames: of page 2, which is zeros, of page 3, and of page 2 again.
 fn two_streams(alloc: Global) -> Result<Vec<Vec<u8>>, Fail> {
     let shape = shape();
     let zeros = vec![in alloc; 0u8; shape.page_size()]?;

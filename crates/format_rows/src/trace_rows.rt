@@ -4,7 +4,10 @@ ghost use Rattle.std.specs.Prelude.{◌≤◌};
 
 use std::alloc::{AllocError, Global};
 use std::test::Fail;
-use trace_codec::{Shape, TestSource, Timeline, TraceError, TraceText, WriteLog, decode};
+use trace_codec::{
+    Shape, TestSource, Timeline, TraceError, WriteLog, checked_write, decode, shape_of,
+};
+use trace_readers::HeldTrace;
 
 /// A guest of 4 pages of 16 bytes, which writes pages 0 and 1 at ticks 0 and 5, page 1 at tick 1200, and pages 3 and 1
 /// at tick 2500.
@@ -19,7 +22,7 @@ const TRACE: [u8; 102] = [
 
 const NO_WRITES: [u8; 16] = [0x50, 0x43, 0x57, 0x54, 1, 4, 0, 0, 4, 0, 0, 0, 0, 0, 0, 0];
 
-/// The first bytes of the trace above, some of them changed, and more behind them.
+/// Returns the first bytes of the trace above, some of them changed, and more behind them.
 fn changed(
     alloc: Global,
     len: usize,
@@ -36,7 +39,7 @@ fn changed(
     Ok(bytes)
 }
 
-/// The shape, and ticks, pages, offsets and bytes in order.
+/// Returns the shape, and ticks, pages, offsets and bytes in order.
 fn told<L: WriteLog>(
     alloc: Global,
     log: &L,
@@ -50,9 +53,9 @@ fn told<L: WriteLog>(
     Ok((log.shape(), writes))
 }
 
-/// The trace of these bytes, held as they are.
-fn held(alloc: Global, bytes: &[u8]) -> Result<TraceText, Fail> {
-    Ok(TraceText::parse(alloc, Vec::from_slice(alloc, bytes)?)?)
+/// Returns the trace of these bytes, held as they are.
+fn held(alloc: Global, bytes: &[u8]) -> Result<HeldTrace, Fail> {
+    Ok(HeldTrace::parse(alloc, Vec::from_slice(alloc, bytes)?)?)
 }
 
 #[test]
@@ -91,6 +94,22 @@ fn holds_each_write(rt: HostRuntime) -> Result<(), Fail> {
 }
 
 #[test]
+fn header_and_first_record_are_tested(rt: HostRuntime) -> Result<(), Fail> {
+    let shape = shape_of(&TRACE)?;
+    let (tick, behind) = checked_write(shape, 0, 0, &TRACE[16..])?;
+    let late = checked_write(shape, 1, 7, &TRACE[16..]).err();
+    assert_eq!(rt;
+        (
+            (shape.shift, shape.pages, shape.writes),
+            (tick, behind.len()),
+            late
+        ),
+        ((4, 4, 5), (0, 69), Some(TraceError::TickOrder(7)))
+    );
+    Ok(())
+}
+
+#[test]
 fn counts_the_touches_before_a_tick(rt: HostRuntime) -> Result<(), Fail> {
     let empty = held(rt.alloc(), &NO_WRITES)?;
     assert_eq!(rt;
@@ -105,7 +124,7 @@ fn counts_the_touches_before_a_tick(rt: HostRuntime) -> Result<(), Fail> {
     Ok(())
 }
 
-/// What the trace tells where each read gives so many of its bytes at most.
+/// Returns the shape and the writes of the trace, where each read gives so many of its bytes at most.
 fn told_by_reads(
     alloc: Global,
     greatest: usize,
@@ -113,7 +132,7 @@ fn told_by_reads(
     requires { 1 ≤ greatest }
 {
     let mut source = TestSource::new(Vec::from_slice(alloc, &TRACE)?, greatest, None);
-    let read = TraceText::read(alloc, &mut source)?;
+    let read = HeldTrace::read(alloc, &mut source)?;
     Ok(told(alloc, &read)?)
 }
 
@@ -131,8 +150,8 @@ fn is_the_same_as_a_trace_with_writes_of_its_own(rt: HostRuntime) -> Result<(), 
     Ok(())
 }
 
-/// Why a text is refused, if it is, where each read gives so many of its bytes at most, and the one of this number
-/// fails.
+/// Returns why the bytes are refused, if they are, where each read gives so many of them at most, and the read of this
+/// number fails.
 fn read_refusal(
     alloc: Global,
     bytes: Vec<u8>,
@@ -141,10 +160,10 @@ fn read_refusal(
 ) -> Option<TraceError>
     requires { 1 ≤ greatest }
 {
-    TraceText::read(alloc, &mut TestSource::new(bytes, greatest, fault)).err()
+    HeldTrace::read(alloc, &mut TestSource::new(bytes, greatest, fault)).err()
 }
 
-/// Why the changed trace is refused as a whole, and where each read gives 20 of its bytes at most.
+/// Returns why the changed trace is refused, as a whole, and where each read gives 20 of its bytes at most.
 fn refusals(
     alloc: Global,
     len: usize,
@@ -152,7 +171,7 @@ fn refusals(
     patch: &[u8],
     more: &[u8],
 ) -> Result<[Option<TraceError>; 2], AllocError> {
-    let parsed = TraceText::parse(alloc, changed(alloc, len, place, patch, more)?).err();
+    let parsed = HeldTrace::parse(alloc, changed(alloc, len, place, patch, more)?).err();
     let read = read_refusal(alloc, changed(alloc, len, place, patch, more)?, 20, None);
     Ok([parsed, read])
 }
@@ -183,7 +202,8 @@ fn refuses_the_first_cause(rt: HostRuntime) -> Result<(), Fail> {
     Ok(())
 }
 
-/// The text of a guest of 2 pages of 16 bytes, which writes byte 7 to the start of page 1 at each of 70000 ticks.
+/// Returns the bytes of a trace of 2 pages of 16 bytes, which writes byte 7 to the start of page 1 at each of 70000
+/// ticks.
 fn long_text(alloc: Global) -> Result<Vec<u8>, AllocError> {
     let mut bytes = Vec::from_slice(
         alloc,
@@ -198,13 +218,14 @@ fn long_text(alloc: Global) -> Result<Vec<u8>, AllocError> {
     Ok(bytes)
 }
 
-/// The length of the long text, and the trace that comes of it where each read gives so many bytes at most.
-fn long_trace(alloc: Global, greatest: usize) -> Result<(usize, TraceText), Fail>
+/// Returns the length of the long trace's bytes, and the trace that is read where each read gives so many bytes at
+/// most.
+fn long_trace(alloc: Global, greatest: usize) -> Result<(usize, HeldTrace), Fail>
     requires { 1 ≤ greatest }
 {
     let bytes = long_text(alloc)?;
     let length = bytes.len();
-    let read = TraceText::read(alloc, &mut TestSource::new(bytes, greatest, None))?;
+    let read = HeldTrace::read(alloc, &mut TestSource::new(bytes, greatest, None))?;
     Ok((length, read))
 }
 
@@ -229,7 +250,7 @@ fn tests_a_text_while_it_comes(rt: HostRuntime) -> Result<(), Fail> {
     Ok(())
 }
 
-/// The long text with one of its bytes changed.
+/// Returns the long trace's bytes with one of them changed.
 fn changed_long(alloc: Global, place: usize, byte: u8) -> Result<Vec<u8>, AllocError> {
     let mut bytes = long_text(alloc)?;
     if place < bytes.len() {

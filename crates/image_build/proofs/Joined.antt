@@ -85,7 +85,7 @@ kept_none page (part ∷ parts) lacks =
     ap (λ (k : Option PageCopy). kept_of page k parts) (All-head (λ (p : GuestPart). copy_at p page ≡ None) part parts lacks)
     ∙ kept_none page parts (All-tail (λ (p : GuestPart). copy_at p page ≡ None) part parts lacks)
 
--- and the other way round
+-- and a page that is in no part is not in the join
 pub join-from_InNoPart : (shape : GuestShape) (parts : List GuestPart) (page : ℕ) → InNoPart parts page → copy_at (join_all shape parts) page ≡ None
 join-from_InNoPart shape parts page lacks = copy_at-join_all shape parts page ∙ kept_none page parts lacks
 
@@ -117,7 +117,7 @@ pub HasPage-from_frame : (whole : WholeParts) (page : ℕ) (frame : PageFrame) �
     → IsFrame whole.shape frame → HasPage whole page
 HasPage-from_frame whole page frame has fits = (copy_in whole.shape frame, has, size_in whole.shape frame fits)
 
--- they are in some part
+-- pages that the join has are in some part
 pub HaveFirst-from_join : (whole : WholeParts) (count : ℕ) → HasFirst whole count → HaveFirst whole.parts count
 HaveFirst-from_join whole count first page low lacks =
     cc (sym (join-from_InNoPart whole.shape whole.parts page lacks) ∙ (first page low).1)

@@ -41,7 +41,7 @@ pub replay-push : (shift pages : ℕ) (memory next : List ℕ) (writes : List Gu
 replay-push shift pages memory next writes write made is =
     fold-append apply (zeros shift pages) writes (write ∷ []) ∙ ap (λ (m : GuestMemory). apply m write) made ∙ ap (memory_with shift pages) (sym is)
 
--- a text that spells a trace is no other one, and is not refused
+-- bytes that encode a trace encode no other one, and are not refused
 pub only_replayed : (bytes : List ℕ) (r : Result GuestMemory ReplayError)
     → IfOk r (λ image. (trace : GuestTrace) × Spells bytes trace × (image ≡ image_of trace)) → IfErr r (RefusesReplay bytes)
     → (trace : GuestTrace) → Spells bytes trace → MatchResult r (λ image. image ≡ image_of trace) (λ e. e ≡ errors.Memory)

@@ -1,4 +1,4 @@
--- Memory that stands in parts.
+-- Memory that is left in parts.
 use Rattle.std.specs.Prelude.{◌≡◌, ℕ, ◌<◌, ◌^◌, List, length, ⊤, Some}
 use Rattle.std.specs.List.{All}
 use Rattle.migration_model.specs.Frames.{GuestShape}
@@ -16,11 +16,11 @@ pub record WholeParts : Type 0 where
 abbrev pub whole_with : GuestShape → List GuestPart → WholeParts
 whole_with shape parts = record { shape = shape; parts = parts }
 
--- the memory that they make together
+-- the memory that the parts make together
 abbrev pub memory_by : WholeParts → GuestMemory
 memory_by whole = memory_in (join_all whole.shape whole.parts)
 
--- they have all pages of the guest
+-- the parts have all pages of the guest
 pub record IsWhole (whole : WholeParts) : Type 0 where
   pub shapes : All (λ part. part.shape ≡ whole.shape) whole.parts
   pub each : (page : ℕ) → page < whole.shape.pages

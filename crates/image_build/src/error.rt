@@ -8,13 +8,13 @@ use std::alloc::{AllocError, AllocFailed};
 use thiserror::Error;
 use trace_codec::TraceError;
 
-/// A refusal.
+/// Why an image could not be made.
 #[derive(Clone, Copy, Debug, PartialEq, Eq, Error)]
 pub enum ImageError {
     /// The page is in no part.
     #[error("missing {0}")]
     Missing(u32),
-    /// A growth was refused.
+    /// Memory ran out.
     #[error("memory")]
     Memory,
 }
@@ -35,13 +35,13 @@ impl<T: Drop> From<AllocFailed<T>> for ImageError {
     }
 }
 
-/// Why memory could not be made of bytes that may spell a trace.
+/// Why memory could not be made of bytes that may encode a trace.
 #[derive(Clone, Copy, Debug, PartialEq, Eq, Error)]
 pub enum ReplayError {
     /// The bytes are no trace.
     #[error("trace {0}")]
     Trace(TraceError),
-    /// A growth was refused.
+    /// Memory ran out.
     #[error("memory")]
     Memory,
 }

@@ -25,7 +25,7 @@ impl Model for Image {
 }
 
 impl Image {
-    /// The memory of a guest of this size with these bytes.
+    /// Returns the memory of a guest of this size with these bytes.
     pub(crate) fn of(shift: u8, pages: u32, bytes: Vec<u8>) -> Image
         requires { IsMemory shift pages bytes.items }
         ensures { result ≡ memory_with shift pages bytes.items }
@@ -37,7 +37,7 @@ impl Image {
         }
     }
 
-    /// An equal image.
+    /// Returns an equal image. The only error is that memory runs out.
     pub fn copy(&self, alloc: Global) -> Result<Image, ImageError>
         ensures { MatchResult result (λ image. image ≡ self.now) (λ e. e ≡ ImageError.Memory) }
     {
@@ -48,14 +48,14 @@ impl Image {
         })
     }
 
-    /// The bytes of all pages.
+    /// Returns the bytes of all pages, page after page.
     pub fn bytes(&self) -> &[u8]
         ensures { result.now ≡ self.now.bytes }
     {
         &self.bytes
     }
 
-    /// The bytes of all pages, given away.
+    /// Returns the bytes of all pages, page after page, and takes the image apart.
     pub fn into_bytes(self) -> Vec<u8>
         ensures bytes { result.items ≡ self.bytes }
         ensures is_memory { IsMemory self.shift self.pages self.bytes }
@@ -68,14 +68,14 @@ impl Image {
         bytes
     }
 
-    /// Whether the image has as many pages as the shape says, and of that size.
+    /// Returns whether the image has as many pages as the shape says, and of that size.
     pub fn fits(&self, shape: &Shape) -> bool
         ensures { IsTrue result ↔ ((self.now.shift ≡ shape.now.shift) × (self.now.pages ≡ shape.now.pages)) }
     {
         self.shift == shape.shift && self.pages == shape.pages
     }
 
-    /// The bytes of one page.
+    /// Returns the bytes of one page.
     pub fn page(&self, page: u32) -> &[u8]
         requires { page < self.now.pages }
         ensures { result.now ≡ page_of self.now page }

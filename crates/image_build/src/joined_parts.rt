@@ -1,4 +1,4 @@
-//! All of a guest's memory as it stands in parts.
+//! All of a guest's memory, left in the parts that have it.
 
 ghost use Rattle.std.specs.Prelude.{◌≡◌, ◌<◌, ◌^◌, ◌++◌, IfErr, IfOk, MatchResult, OnOk, Some, length};
 ghost use Rattle.std.specs.List.{All};
@@ -18,8 +18,8 @@ use std::alloc::{AllocError, Global};
 use std::marker::Model;
 use trace_codec::Shape;
 
-/// All of a guest's memory where several parts have it together: of each page the bytes with the greatest stamp, and of those
-/// that have it the first part's. No page is copied.
+/// All of a guest's memory where several parts have it together: of each page the bytes with the greatest stamp, and
+/// the first part's where several have that stamp. No page is copied.
 #[derive(Debug, Drop)]
 pub struct JoinedParts {
     shape: Shape,
@@ -34,7 +34,7 @@ impl Model for JoinedParts {
     ghost invariant = { λ m. IsWhole (whole_with (shape_of m.shape) m.parts.items) };
 }
 
-/// Puts the bytes of a page behind those that are there.
+/// Appends the bytes of a page.
 fn push_body(memory: &mut Vec<u8>, shape: &Shape, frame: &Frame) -> Result<(), AllocError>
     ensures { OnOk result (memory.new.items ≡ memory.old.items ++ (copy_in (shape_of shape.now) frame.now).content) }
 {
@@ -45,7 +45,7 @@ fn push_body(memory: &mut Vec<u8>, shape: &Shape, frame: &Frame) -> Result<(), A
     Ok(())
 }
 
-/// Puts the bytes of a page in the place of those that are there.
+/// Copies the bytes of a page over those of a buffer.
 fn put_body(room: &mut Vec<u8>, shape: &Shape, frame: &Frame)
     requires room { length room.old.items ≡ 2 ^ shape.now.shift }
     requires fits { IsFrame (shape_of shape.now) frame.now }
@@ -58,8 +58,8 @@ fn put_body(room: &mut Vec<u8>, shape: &Shape, frame: &Frame)
 }
 
 impl JoinedParts {
-    /// The memory that the parts make together. It takes no memory. `Missing` alone is refused, and names the least page that
-    /// no part has; the parts are then gone.
+    /// Returns the memory that the parts make together. It allocates nothing. The only error is `Missing`, which names
+    /// the least page that no part has; the parts are then dropped.
     pub fn new(shape: Shape, parts: Vec<Part>) -> Result<JoinedParts, ImageError>
         requires { All (λ part. part.shape ≡ shape_of shape) parts.items }
         ensures made { IfOk result (λ m. m ≡ whole_with (shape_of shape) parts.items) }
@@ -74,7 +74,7 @@ impl JoinedParts {
         Ok(JoinedParts { shape, parts })
     }
 
-    /// The shape of the trace that the parts are of.
+    /// Returns the shape of the trace that the parts are of.
     pub fn shape(&self) -> Shape
         ensures shape { shape_of result ≡ self.now.shape }
         ensures shift { result.shift ≡ (memory_by self.now).shift }
@@ -83,7 +83,7 @@ impl JoinedParts {
         self.shape
     }
 
-    /// The frame of a page.
+    /// Returns the frame of a page.
     fn frame(&self, page: u32) -> &Frame
         requires { page < self.now.shape.pages }
         ensures copy { copy_at (join_all self.now.shape self.now.parts) page ≡ Some (copy_in self.now.shape result.now) }
@@ -95,7 +95,7 @@ impl JoinedParts {
         frame
     }
 
-    /// Puts the bytes of a page into a room of as many bytes.
+    /// Copies the bytes of a page into a buffer of as many bytes.
     pub fn page_into(&self, page: u32, room: &mut Vec<u8>)
         requires page { page < (memory_by self.now).pages }
         requires room { length room.old.items ≡ 2 ^ (memory_by self.now).shift }
@@ -104,7 +104,7 @@ impl JoinedParts {
         put_body(room, &self.shape, self.frame(page));
     }
 
-    /// The same memory, page after page in one flat run of bytes. Memory alone is refused.
+    /// Returns this memory, page after page in one flat run of bytes. The only error is that memory runs out.
     pub fn image(&self, alloc: Global) -> Result<Image, ImageError>
         ensures { MatchResult result (λ image. image ≡ memory_by self.now) (λ e. e ≡ ImageError.Memory) }
     {
@@ -117,8 +117,9 @@ impl JoinedParts {
     }
 }
 
-/// The memory that the parts make together: of each page the bytes with the greatest stamp, and of those that have it the
-/// first part's. `Missing` names the least page that no part has. After a refusal the parts are gone.
+/// Returns the memory that the parts make together: of each page the bytes with the greatest stamp, and the first
+/// part's where several have that stamp. `Missing` names the least page that no part has. After an error the parts are
+/// dropped.
 pub fn of_parts(alloc: Global, shape: &Shape, parts: Vec<Part>) -> Result<Image, ImageError>
     requires { All (λ part. part.shape ≡ shape_of shape.now) parts.items }
     ensures made { IfOk result (IsJoined (shape_of shape.now) parts.items) }

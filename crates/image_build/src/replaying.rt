@@ -10,21 +10,21 @@ use crate::image::Image;
 use std::alloc::{AllocError, Global};
 use trace_codec::{Shape, Trace, TraceReader, TraceView};
 
-/// Memory of this shape before any write.
+/// Returns memory of this shape before any write: zeros.
 fn blank(alloc: Global, shape: Shape) -> Result<Vec<u8>, AllocError>
     ensures { IfOk result (λ v. v.items ≡ (zeros shape.shift shape.pages).bytes) }
 {
     Vec::from_elem(alloc, 0, (shape.pages as usize) << shape.shift)
 }
 
-/// Where an offset of a page stands in memory.
+/// Returns the offset in memory of an offset of a page.
 pub(crate) fn place_of(shape: Shape, page: u32, offset: u16) -> usize
     ensures { result ≡ page * 2 ^ shape.shift + offset }
 {
     page as usize * shape.page_size() + offset as usize
 }
 
-/// Puts bytes over those that stand from a place on.
+/// Writes bytes over those that stand from an offset on.
 pub(crate) fn write_over(memory: &mut Vec<u8>, place: usize, bytes: &[u8])
     requires { place + length bytes.now ≤ vec_len memory.old }
     ensures { memory.new.items ≡ put memory.old.items place bytes.now }
@@ -32,7 +32,7 @@ pub(crate) fn write_over(memory: &mut Vec<u8>, place: usize, bytes: &[u8])
     memory[place..place + bytes.len()].copy_from_slice(bytes);
 }
 
-/// Memory after all writes of a trace.
+/// Returns the memory after all writes of a trace. The only error is that memory runs out.
 pub fn replay(alloc: Global, trace: &Trace) -> Result<Image, ImageError>
     ensures { MatchResult result (λ image. image ≡ image_of trace.now) (λ e. e ≡ ImageError.Memory) }
 {
@@ -45,7 +45,7 @@ pub fn replay(alloc: Global, trace: &Trace) -> Result<Image, ImageError>
     Ok(Image::of(shape.shift, shape.pages, memory))
 }
 
-/// Memory after the writes before a tick.
+/// Returns the memory after the writes before a tick. The only error is that memory runs out.
 pub fn replay_before(alloc: Global, trace: &Trace, tick: u64) -> Result<Image, ImageError>
     ensures { MatchResult result (λ image. image ≡ image_before trace.now tick) (λ e. e ≡ ImageError.Memory) }
 {
@@ -72,14 +72,14 @@ fn view_memory(alloc: Global, trace: &TraceView<'_>) -> Result<Image, AllocError
     Ok(Image::of(shape.shift, shape.pages, memory))
 }
 
-/// Memory after all writes of a trace that is left in its bytes.
+/// Returns the memory after all writes of a trace that is read in place. The only error is that memory runs out.
 pub fn replay_view(alloc: Global, trace: &TraceView<'_>) -> Result<Image, ImageError>
     ensures { MatchResult result (λ image. image ≡ image_of trace.now) (λ e. e ≡ ImageError.Memory) }
 {
     Ok(view_memory(alloc, trace)?)
 }
 
-/// Memory after all writes, each put there as it is read.
+/// Returns the memory after all writes, each put there as it is read.
 fn replay_reader(alloc: Global, reader: TraceReader<'_>) -> Result<Image, ReplayError>
     requires { reader.writes ≡ [] }
     ensures made { IfOk result (λ image. (trace : GuestTrace) × Spells reader.entry.bytes trace × (image ≡ image_of trace)) }
@@ -97,11 +97,12 @@ fn replay_reader(alloc: Global, reader: TraceReader<'_>) -> Result<Image, Replay
     Ok(Image::of(shape.shift, shape.pages, memory))
 }
 
-/// Memory that is no greater than the text, or than this, is made while the text is tested.
+/// Memory that is no greater than the trace's bytes, or than this, is made while the bytes are tested.
 const SMALL: usize = 1_048_576;
 
-/// Memory after all writes of the trace that the bytes spell, if they do. Where memory is greater than the text, the text
-/// is tested first, so that no text makes the program take more memory than it has bytes and then refuse it.
+/// Returns the memory after all writes of the trace that the bytes encode, if they do. Where memory is greater than
+/// the bytes and than `SMALL`, it tests the bytes first, so that bytes that are refused never make the program
+/// allocate it.
 fn replay_text(alloc: Global, bytes: &[u8]) -> Result<Image, ReplayError>
     ensures made { IfOk result (λ image. (trace : GuestTrace) × Spells bytes.now trace × (image ≡ image_of trace)) }
     ensures refused { IfErr result (RefusesReplay bytes.now) }
@@ -115,7 +116,8 @@ fn replay_text(alloc: Global, bytes: &[u8]) -> Result<Image, ReplayError>
     Ok(view_memory(alloc, &trace)?)
 }
 
-/// Memory after all writes of the trace that the bytes spell, in the fastest way: no write is copied but into memory.
+/// Returns the memory after all writes of the trace that the bytes encode, in the fastest way: it copies each write
+/// into memory alone. Errors are the refusals of the bytes, and that memory runs out.
 pub fn replay_bytes(alloc: Global, bytes: &[u8]) -> Result<Image, ReplayError>
     ensures made { IfOk result (λ image. (trace : GuestTrace) × Spells bytes.now trace × (image ≡ image_of trace)) }
     ensures refused { IfErr result (RefusesReplay bytes.now) }

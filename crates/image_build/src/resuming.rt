@@ -27,7 +27,8 @@ fn write_all<W: WriteLog>(memory: &mut Vec<u8>, trace: &W, places: &[u32])
     }
 }
 
-/// Puts over each page of memory the trace's writes to it that come after the page's version. It takes no memory.
+/// Returns this memory with the trace's writes to each page that come after the page's version put over it. It
+/// allocates nothing.
 pub fn resume<W: WriteLog>(image: Image, trace: &W, index: &PageIndex, versions: &[u32]) -> Image
     requires of { IsIndexOf index.now (W.trace trace.now) }
     requires shift { image.shift ≡ (W.trace trace.now).shift }

@@ -11,8 +11,8 @@ pub enum Job {
     Report(Settings),
     /// Performs a migration over the trace, and writes the memory that it leaves.
     Live(Settings, Show),
-    /// Writes what the plan of each case comes to, and the best of them; with no case it writes nothing. Up to so many
-    /// workers, 1 to 16, plan side by side.
+    /// Writes a line of sums for the plan of each case, and the best of them; with no case it writes nothing. Up to so
+    /// many workers, 1 to 16, plan side by side.
     Sweep {
         cases: Vec<Settings>,
         workers: usize,

@@ -1,4 +1,4 @@
-//! What a trace touches, read from sources that give it in pieces of many sizes.
+//! The touches of a trace, read from sources that give its bytes in pieces of many sizes.
 
 ghost use Rattle.std.specs.Prelude.{None, false};
 
@@ -6,7 +6,8 @@ use crate::tests::{changed, ran, sink, whole};
 use migration_jobs::{Job, RunError};
 use std::alloc::{AllocError, Global};
 use std::test::Fail;
-use trace_codec::{Source, TestSource, Timeline, TouchLog, TraceError};
+use trace_codec::{Source, TestSource, Timeline, TraceError};
+use trace_readers::TouchLog;
 
 /// A source of bytes without end, which leaves in the buffer what stands there.
 #[derive(Drop)]
@@ -29,7 +30,7 @@ impl Source for Endless {
     }
 }
 
-/// The log of some bytes that come at most so many in one read, of which one may fail.
+/// Returns the log of some bytes that come at most so many in one read, of which one may fail.
 fn log_of(
     alloc: Global,
     bytes: Vec<u8>,
@@ -40,7 +41,7 @@ fn log_of(
     TouchLog::read(alloc, &mut source)
 }
 
-/// Ticks and pages in order.
+/// Returns ticks and pages in order.
 fn touches(alloc: Global, log: &TouchLog) -> Result<Vec<(u64, u32)>, AllocError> {
     let mut touches = Vec::new(alloc);
     for index in 0..log.touch_count() {

@@ -1,8 +1,7 @@
-//! Worked examples, whose answers were made by hand.
+//! Worked examples, whose results were worked out by hand.
 
 ghost use Rattle.std.specs.Prelude.{◌≡◌, false};
 
-use command_line::start;
 use image_build::{Image, replay, replay_before, replay_bytes, replay_view};
 use live_engine::OpenGate;
 use migration_jobs::{Job, RunError, TestSink, run};
@@ -12,8 +11,8 @@ use std::test::Fail;
 use std::thread::Threads;
 use trace_codec::{TestSource, Trace, TraceError, TraceView, decode, encode, read_trace};
 
-/// Pages of 16 bytes, 4 pages, 5 writes: of pages 0 and 1 at ticks 0 and 5, of page 1 at tick 1200, of pages 3 and 1 at
-/// tick 2500.
+/// Pages of 16 bytes, 4 pages, 5 writes: of pages 0 and 1 at ticks 0 and 5, of page 1 at tick 1200, of pages 3 and 1
+/// at tick 2500.
 pub(crate) static TRACE: [u8; 102] = [
     0x50, 0x43, 0x57, 0x54, 1, 4, 0, 0, 4, 0, 0, 0, 5, 0, 0, 0, //
     0, 0, 0, 0, 0, 0, 0, 0, 0, 0, 0, 0, 0, 0, 1, 0, 1, //
@@ -39,7 +38,7 @@ pub(crate) static MEMORY_AT_2000: [u8; 64] = [
     0, 0, 0, 0, 0, 0, 0, 0, 0, 0, 0, 0, 0, 0, 0, 0,
 ];
 
-/// The first `len` bytes of the trace with `patch` over those from `place` on, and `more` behind them.
+/// Returns the first `len` bytes of the trace with `patch` over those from `place` on, and `more` behind them.
 pub(crate) fn changed(
     alloc: Global,
     len: usize,
@@ -63,25 +62,18 @@ pub(crate) fn changed(
     Ok(bytes)
 }
 
-fn words(alloc: Global, command: &str) -> Result<Vec<String>, AllocError> {
-    let mut words = Vec::new(alloc);
-    words.push("precopy".to_string(alloc)?)?;
-    words.push(command.to_string(alloc)?)?;
-    Ok(words)
-}
-
 pub(crate) fn sink(alloc: Global) -> TestSink
     ensures { result.has_failed ≡ false }
 {
     TestSink::new(Vec::new(alloc), usize::MAX, None, false)
 }
 
-/// The whole trace.
+/// Returns the whole trace.
 pub(crate) fn whole(alloc: Global) -> Result<Vec<u8>, AllocError> {
     Vec::from_slice(alloc, &TRACE)
 }
 
-/// What a job answers over a source, and the sink then.
+/// Returns what `run` returns for a job over a source, and the sink then.
 pub(crate) fn ran<R: Threads + Wait + Sync>(
     rt: &R,
     alloc: Global,
@@ -96,7 +88,7 @@ pub(crate) fn ran<R: Threads + Wait + Sync>(
     (answer, sink)
 }
 
-/// The memory of the trace after all writes and before tick 2000, and the number of its writes.
+/// Returns the memory of the trace after all writes and before tick 2000, and the number of its writes.
 fn replayed(alloc: Global) -> Result<(Image, Image, u32), Fail> {
     let trace = decode(alloc, &TRACE)?;
     let before = replay_before(alloc, &trace, 2000)?;
@@ -127,6 +119,29 @@ fn writes_nothing_of_an_empty_trace(rt: HostRuntime) -> Result<(), Fail> {
     let source = TestSource::new(changed(alloc, 16, 12, &[0], &[])?, 16, None);
     let (answer, sink) = ran(&rt, alloc, &Job::Image, source, sink(alloc));
     assert!(rt; answer == Ok(()) && sink.bytes() == [0; 64].as_slice());
+    Ok(())
+}
+
+/// Where bytes that are not 0 stand, and which they are.
+fn set_bytes(alloc: Global, memory: &[u8]) -> Result<Vec<(usize, u8)>, AllocError> {
+    let mut set = Vec::new(alloc);
+    for (offset, byte) in memory.iter().enumerate() {
+        if *byte != 0 {
+            set.push((offset, *byte))?;
+        }
+    }
+    Ok(set)
+}
+
+/// The same writes in a guest of 16,384 pages of 4,096 bytes.
+#[test]
+fn writes_large_memory(rt: HostRuntime) -> Result<(), Fail> {
+    let alloc = rt.alloc();
+    let source = TestSource::new(changed(alloc, 102, 5, &[12, 0, 0, 0, 0x40], &[])?, 50, None);
+    let (answer, sink) = ran(&rt, alloc, &Job::Image, source, sink(alloc));
+    let set = set_bytes(alloc, sink.bytes())?;
+    assert!(rt; answer == Ok(()) && sink.bytes().len() == 1 << 26);
+    assert!(rt; set.as_slice() == [(0, 1), (4_111, 2), (12_290, 4), (12_291, 5)].as_slice());
     Ok(())
 }
 
@@ -202,7 +217,7 @@ fn refuses_records(rt: HostRuntime) -> Result<(), Fail> {
     Ok(())
 }
 
-/// The trace from a source of pieces of at most so many bytes, one of whose reads may fail.
+/// Returns the trace from a source of pieces of at most so many bytes, one of whose reads may fail.
 fn read_in_pieces(
     alloc: Global,
     greatest: usize,
@@ -253,25 +268,6 @@ fn tells_that_a_flush_failed(rt: HostRuntime) -> Result<(), Fail> {
     Ok(())
 }
 
-/// What a command with these words does over some bytes: its status, its output and its faults.
-pub(crate) fn told<R: Threads + Wait + Sync>(
-    rt: &R,
-    alloc: Global,
-    command: &str,
-    bytes: Vec<u8>,
-    more: &[&str],
-) -> Result<(u8, TestSink, TestSink), AllocError> {
-    let mut words = words(alloc, command)?;
-    for word in more {
-        words.push(word.to_string(alloc)?)?;
-    }
-    let mut source = TestSource::new(bytes, 102, None);
-    let mut output = sink(alloc);
-    let mut faults = sink(alloc);
-    let status = start(rt, alloc, words, &mut source, &mut output, &mut faults);
-    Ok((status, output, faults))
-}
-
 /// What the writes of the trace are refused for in a guest of so many pages of this size.
 fn refusal_of_writes(alloc: Global, shift: u8, pages: u32) -> Result<Option<TraceError>, Fail> {
     let Trace { writes, .. } = decode(alloc, &TRACE)?;
@@ -306,37 +302,6 @@ fn encodes_what_it_decodes(rt: HostRuntime) -> Result<(), Fail> {
     let trace = decode(alloc, &TRACE)?;
     let bytes = encode(alloc, &trace)?;
     assert_eq!(rt; bytes.as_slice(), TRACE.as_slice());
-    Ok(())
-}
-
-#[test]
-fn says_why_it_ends(rt: HostRuntime) -> Result<(), Fail> {
-    let alloc = rt.alloc();
-    let cases: [(&str, usize, &[u8], u8, &str); 4] = [
-        ("image", 102, &[], 0, ""),
-        ("image", 102, &[0], 1, "precopy: trace E14\n"),
-        ("image", 101, &[], 1, "precopy: trace E8 record 4\n"),
-        ("--help", 102, &[], 0, ""),
-    ];
-    for (command, len, more, expected, line) in cases {
-        let bytes = changed(alloc, len, 0, &[], more)?;
-        let (status, output, faults) = told(&rt, alloc, command, bytes, &[])?;
-        let is_written = !output.bytes().is_empty();
-        let is_told = faults.bytes() == line.as_bytes();
-        assert_eq!(rt;
-            (status, is_written, is_told),
-            (expected, expected == 0, true),
-            "{command}"
-        );
-    }
-    Ok(())
-}
-
-#[test]
-fn unknown_words_are_told(rt: HostRuntime) -> Result<(), Fail> {
-    let alloc = rt.alloc();
-    let (status, output, faults) = told(&rt, alloc, "memory", whole(alloc)?, &[])?;
-    assert!(rt; status == 2 && output.bytes().is_empty() && !faults.bytes().is_empty());
     Ok(())
 }
 

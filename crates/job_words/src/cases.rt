@@ -6,13 +6,14 @@ use clap::{Arg, ArgAction, Command};
 use rate_limit::{Asked, Settings};
 use std::alloc::{AllocError, Global};
 
-/// The most cases.
+/// The most cases of a sweep.
 const MAX_CASES: usize = 256;
 
-/// The most digits of a number.
+/// The most digits of a number of a case.
 const MAX_DIGITS: usize = 13;
 
-/// The command with the options and the cases of a sweep. It takes any number of cases: too many are refused later.
+/// Returns the command with the options and the cases of a sweep. It takes any number of cases: too many are refused
+/// later.
 pub(crate) fn with_cases<'a>(
     alloc: Global,
     command: Command<'a>,
@@ -27,7 +28,7 @@ pub(crate) fn with_cases<'a>(
     command.arg(cases)
 }
 
-/// A number of 1 to 13 digits.
+/// Returns a number of 1 to 13 digits.
 fn number_of(word: &str) -> Option<u64> {
     let digits = word.as_bytes();
     if digits.is_empty() || digits.len() > MAX_DIGITS || !digits.iter().all(u8::is_ascii_digit) {
@@ -36,7 +37,7 @@ fn number_of(word: &str) -> Option<u64> {
     word.parse::<u64>().ok()
 }
 
-/// The six numbers of a case.
+/// Returns the six numbers of a case.
 fn numbers_of(word: &str) -> Option<[u64; 6]> {
     let mut numbers = [0; 6];
     let mut count = 0usize;
@@ -54,7 +55,7 @@ fn numbers_of(word: &str) -> Option<[u64; 6]> {
     }
 }
 
-/// What a case asks for, beside the options that all cases have.
+/// Returns what a case asks for, beside the options that all cases have.
 fn asked_of(options: &Asked, word: &str) -> Option<Asked> {
     let [min, max, increment, threshold, rounds, skip] = numbers_of(word)?;
     if skip > 1 {
@@ -71,7 +72,7 @@ fn asked_of(options: &Asked, word: &str) -> Option<Asked> {
     })
 }
 
-/// The settings of the case with this number, or why it has none.
+/// Returns the settings of the case with this number, or why it has none.
 fn case_of(options: &Asked, number: usize, word: &str) -> Result<Settings, WordsRefusal> {
     let asked = asked_of(options, word).ok_or(WordsRefusal::Case(number))?;
     match Settings::new(asked) {
@@ -80,7 +81,7 @@ fn case_of(options: &Asked, number: usize, word: &str) -> Result<Settings, Words
     }
 }
 
-/// The settings of all cases, in order, or why the first that is refused has none.
+/// Returns the settings of all cases, in order, or why the first that is refused has none.
 pub(crate) fn cases_of(
     alloc: Global,
     options: &Asked,

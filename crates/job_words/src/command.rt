@@ -25,7 +25,7 @@ pub enum WordsError {
     Refused(WordsRefusal),
 }
 
-/// A refusal of words that the command line has. Its text follows `precopy: ` in a fault line.
+/// Why words that the command line has are refused. It is written behind `precopy: ` in a fault line.
 #[derive(Clone, Copy, Debug, PartialEq, Eq, Error)]
 pub enum WordsRefusal {
     /// A setting is out of its range.
@@ -54,7 +54,8 @@ impl<T: Drop> From<AllocFailed<T>> for WordsError {
     }
 }
 
-/// The arguments in a list. Room for all of them is asked for at once, and a refusal of it is one of the words.
+/// Returns the arguments in a list. It allocates the list for all of them at once; where memory runs out for it, that
+/// is an error of the words.
 fn gathered(alloc: Global, args: Args<Global>) -> Result<Vec<String>, AllocError> {
     let mut words = Vec::with_capacity(alloc, args.len())?;
     for word in args {
@@ -63,7 +64,7 @@ fn gathered(alloc: Global, args: Args<Global>) -> Result<Vec<String>, AllocError
     Ok(words)
 }
 
-/// The program's words, its name being the first.
+/// Returns the program's words, its name being the first.
 pub fn words<R: Env + AllocGlobal>(rt: &R) -> Result<Vec<String>, WordsError> {
     match env::args(rt) {
         Ok(args) => Ok(gathered(rt.alloc(), args)?),
@@ -75,7 +76,7 @@ pub fn words<R: Env + AllocGlobal>(rt: &R) -> Result<Vec<String>, WordsError> {
     }
 }
 
-/// The program's commands.
+/// Returns the program's commands.
 fn commands<'a>(alloc: Global) -> Result<Command<'a>, AllocError> {
     let image = Command::new(alloc, "image").about(
         "Writes the memory after all writes of the trace on standard input",
@@ -98,7 +99,7 @@ fn commands<'a>(alloc: Global) -> Result<Command<'a>, AllocError> {
         .subcommand(with_cases(alloc, sweep)?)
 }
 
-/// The text that `clap` has for a refusal.
+/// Returns the error for a refusal by `clap`, with `clap`'s text.
 fn refusal_of(alloc: Global, error: &clap::Error) -> WordsError {
     if error.kind() == ErrorKind::OutOfMemory {
         return WordsError::Memory;
@@ -110,7 +111,7 @@ fn refusal_of(alloc: Global, error: &clap::Error) -> WordsError {
     }
 }
 
-/// The report that its options ask for.
+/// Returns the report that its options ask for.
 fn report_of(options: &ArgMatches) -> Result<Job, WordsError> {
     match settings_of(options) {
         Ok(settings) => Ok(Job::Report(settings)),
@@ -118,7 +119,7 @@ fn report_of(options: &ArgMatches) -> Result<Job, WordsError> {
     }
 }
 
-/// The live run that its options ask for.
+/// Returns the live run that its options ask for.
 fn live_of(options: &ArgMatches) -> Result<Job, WordsError> {
     let show = if options.get_flag("at-stop") {
         Show::Stop
@@ -131,7 +132,7 @@ fn live_of(options: &ArgMatches) -> Result<Job, WordsError> {
     }
 }
 
-/// The sweep that its options and cases ask for.
+/// Returns the sweep that its options and cases ask for.
 fn sweep_of(alloc: Global, options: &ArgMatches) -> Result<Job, WordsError> {
     let asked = sweep_options(options);
     let words = options.get_strs("case").unwrap_or(&[]);
@@ -142,7 +143,7 @@ fn sweep_of(alloc: Global, options: &ArgMatches) -> Result<Job, WordsError> {
     })
 }
 
-/// The job that the words ask for, the program's name being the first.
+/// Returns the job that the words ask for, the program's name being the first.
 pub fn job_of(alloc: Global, words: &[String]) -> Result<Job, WordsError> {
     let matches = match commands(alloc)?.try_get_matches_from(words) {
         Ok(matches) => matches,

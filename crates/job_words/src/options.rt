@@ -4,8 +4,8 @@ use clap::{Arg, ArgAction, ArgMatches, Command};
 use rate_limit::{Asked, Settings, SettingsError};
 use std::alloc::{AllocError, Global};
 
-/// What is not given, and what a command does not take. The threshold is 256 KiB where a page has 4,096 bytes, as in
-/// Clark and others (2005), section on ending the pre-copy; the others are this project's own.
+/// The values of options that are not given, and of those that a command does not take. The threshold is 256 KiB where
+/// a page has 4,096 bytes, as in Clark and others (2005), section 5.3; the others are this project's own.
 const DEFAULTS: Asked = Asked {
     min: 1000,
     max: 5000,
@@ -74,12 +74,12 @@ const LIVE: [Number<'static>; 4] = [
 /// What all cases of a sweep have in common.
 const SWEEP: [Number<'static>; 2] = [START, WORKERS];
 
-/// An option of this name.
+/// Returns an option of this name.
 fn option<'a>(alloc: Global, name: &'a str, help: &'a str) -> Arg<'a> {
     Arg::new(alloc, name).long(name).help(help)
 }
 
-/// An option that takes a whole number.
+/// Returns an option that takes a whole number.
 fn number<'a>(alloc: Global, name: &'a str, help: &'a str) -> Arg<'a> {
     option(alloc, name, help)
         .value_name("N")
@@ -87,12 +87,12 @@ fn number<'a>(alloc: Global, name: &'a str, help: &'a str) -> Arg<'a> {
         .value_parser(clap::value_parser!(u64))
 }
 
-/// An option that is there or is not.
+/// Returns an option that is there or is not.
 fn flag<'a>(alloc: Global, name: &'a str, help: &'a str) -> Arg<'a> {
     option(alloc, name, help).action(ArgAction::SetTrue)
 }
 
-/// The command with these options.
+/// Returns the command with these options.
 fn with_numbers<'a>(
     alloc: Global,
     command: Command<'a>,
@@ -105,7 +105,7 @@ fn with_numbers<'a>(
     Ok(command)
 }
 
-/// The command with the options that say how a migration is paced.
+/// Returns the command with the options that say how a migration is paced.
 fn with_pace<'a>(alloc: Global, command: Command<'a>) -> Result<Command<'a>, AllocError> {
     let command = with_numbers(alloc, command, &PACE)?;
     command.arg(flag(
@@ -115,7 +115,7 @@ fn with_pace<'a>(alloc: Global, command: Command<'a>) -> Result<Command<'a>, All
     ))
 }
 
-/// The command with the options of a report.
+/// Returns the command with the options of a report.
 pub(crate) fn with_report<'a>(
     alloc: Global,
     command: Command<'a>,
@@ -124,7 +124,7 @@ pub(crate) fn with_report<'a>(
     with_numbers(alloc, command, &REPORT)
 }
 
-/// The command with the options of a live run.
+/// Returns the command with the options of a live run.
 pub(crate) fn with_live<'a>(
     alloc: Global,
     command: Command<'a>,
@@ -138,7 +138,7 @@ pub(crate) fn with_live<'a>(
     ))
 }
 
-/// The command with the options of a sweep.
+/// Returns the command with the options of a sweep.
 pub(crate) fn with_sweep<'a>(
     alloc: Global,
     command: Command<'a>,
@@ -146,12 +146,12 @@ pub(crate) fn with_sweep<'a>(
     with_numbers(alloc, command, &SWEEP)
 }
 
-/// The number that was given for an option, or the default.
+/// Returns the number that was given for an option, or the default.
 fn given(matches: &ArgMatches, name: &str, default: u64) -> u64 {
     matches.get_one::<u64>(name).unwrap_or(default)
 }
 
-/// What the options of a sweep ask for in each of its cases.
+/// Returns what the options of a sweep ask for in each of its cases.
 pub(crate) fn sweep_options(matches: &ArgMatches) -> Asked {
     Asked {
         start: given(matches, "start", DEFAULTS.start),
@@ -160,7 +160,7 @@ pub(crate) fn sweep_options(matches: &ArgMatches) -> Asked {
     }
 }
 
-/// The settings that a command's options make, or the first that is out of its range.
+/// Returns the settings that a command's options make, or the first that is out of its range.
 pub(crate) fn settings_of(matches: &ArgMatches) -> Result<Settings, SettingsError> {
     Settings::new(Asked {
         min: given(matches, "min", DEFAULTS.min),

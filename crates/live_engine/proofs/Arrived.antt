@@ -6,12 +6,13 @@ use Rattle.std.proofs.lemmas.List.{length-map}
 use Rattle.std.proofs.lemmas.Option.{same_Some, slice_get_within, slice_get-get_or}
 use Rattle.migration_model.specs.Trace.{GuestTrace}
 use Rattle.migration_model.specs.Versions.{page_at}
-use Rattle.migration_model.specs.Rounds.{PlannedRound}
+use Rattle.migration_model.specs.Rates.{MigrationSettings}
+use Rattle.migration_model.specs.Rounds.{MigrationPlan, PlannedRound}
 use Rattle.migration_model.specs.Frames.{GuestShape, PageFrame, IsGuestShape, content_of}
 use Rattle.migration_model.specs.Parts.{GuestPart, PageCopy, IsPart, IsHonest, copy_at}
 use Rattle.migration_model.specs.Images.{AreNotBeyond, HaveCurrent}
 use Rattle.migration_model.specs.Final.{shape_of_trace}
-use Rattle.migration_model.specs.Live.{LiveRound}
+use Rattle.migration_model.specs.Live.{LiveRound, LiveRounds}
 use Rattle.migration_model.proofs.Frames.{one_frame_lem}
 use Rattle.dirty_words.specs.Seats.{ClosedView}
 use Rattle.stream_lanes.specs.Ends.{InView, IsSentOn, LaneId, OutView}
@@ -20,9 +21,13 @@ use Rattle.live_seats.specs.Desks.{DeskView, IsDesk}
 use Rattle.live_engine.specs.Lists.{rows_of}
 use Rattle.stream_receivers.specs.Receivers.{AreEnds, AreFrames, HasFrames, ReceiverView}
 use Rattle.stream_receivers.proofs.Had.{has_same}
-use Rattle.live_engine.specs.Joining.{AreJoined, IsMarked, IsSentBy, lanes_of}
+use Rattle.live_engine.specs.declared.opening.Team.{Team}
+use Rattle.live_engine.specs.Joining.{AreJoined, HaveCapacity, IsMarked, IsSentBy, lanes_of}
 use Rattle.live_engine.specs.Receiving.{AreCrossed, HaveArrived, IsSentTo, lanes_in}
+use Rattle.live_engine.specs.Runs.{AllArrived, AreDone, AreOpened, HaveEnded, IsTeamOf}
+use Rattle.live_engine.proofs.Crossed.{lanes_kept, shapes_kept}
 use Rattle.live_engine.proofs.Each.{all_at, all_there, any_at, any_there, made_of, makes_at, pick, within}
+use Rattle.live_engine.proofs.Running.{fits_pages}
 
 if_some : {X : Type 0} {P : X → Type 0} (o : Option X) → ((x : X) → o ≡ Some x → P x) → IfSome o P
 if_some None all = tt
@@ -171,3 +176,39 @@ pub sizes_of : (trace : GuestTrace) (streams : ℕ) (desks : List DeskView) → 
 sizes_of trace streams desks each = all_at (λ (row : List OutView). length row ≡ streams) (rows_of desks) (λ copier row there.
     let desk = made_of (λ (d : DeskView). d.outs) desks copier row there in
     sym (ap length desk.2) ∙ (all_there (IsDesk trace streams) desks copier desk.0 each desk.1).lanes_are)
+
+-- the lanes that are left cross as those that were opened
+pub still_crossed : (trace : GuestTrace) (s : MigrationSettings) (plan : MigrationPlan) (team : Team) (first desks : List DeskView) (opened receivers : List ReceiverView)
+    (closed : ClosedView) (rounds : List LiveRound) → AreOpened trace team first opened → HaveEnded trace s plan team first opened closed rounds desks receivers → AreCrossed (length desks) team.streams (lanes_of (rows_of desks)) (map lanes_in receivers)
+still_crossed trace s plan team first desks opened receivers closed rounds are ended =
+    let done = ended.done in
+    let same = ended.same in
+    subst (λ (n : ℕ). AreCrossed n team.streams (lanes_of (rows_of desks)) (map lanes_in receivers)) (sym done.under_way.desks_are)
+    (subst (λ (sends : List (List LaneId)). AreCrossed team.copiers team.streams sends (map lanes_in receivers)) (sym done.lanes)
+    (subst (λ (takes : List (List LaneId)). AreCrossed team.copiers team.streams (lanes_of (rows_of first)) takes) (sym (lanes_kept opened receivers same)) are.crossed))
+
+-- what was sent has arrived
+pub all_arrived : (trace : GuestTrace) (s : MigrationSettings) (plan : MigrationPlan) (team : Team) (first desks : List DeskView) (opened receivers : List ReceiverView)
+    (closed : ClosedView) (rounds : List LiveRound) (parts : List GuestPart) → AreOpened trace team first opened
+    → HaveEnded trace s plan team first opened closed rounds desks receivers
+    → (All (λ (r : ReceiverView). r.part.shape ≡ shape_of_trace trace) receivers → AreFrames (shape_of_trace trace) (IsSentBy (rows_of desks))
+    → HaveArrived (shape_of_trace trace) team.streams (rows_of desks) parts) → AllArrived trace team.streams closed parts
+all_arrived trace s plan team first desks opened receivers closed rounds parts are ended come_by =
+    let done = ended.done in
+    let come : HaveArrived (shape_of_trace trace) team.streams (rows_of desks) parts =
+    come_by (shapes_kept (shape_of_trace trace) opened receivers ended.same are.shapes) (λ text sent. (let h = done.joined.honest text sent in (h.frame, h.spells))) in
+    let sizes = sizes_of trace team.streams desks done.under_way.each in
+    record {
+      fits = fits_pages trace plan.stop team plan.rounds rounds closed desks done.under_way done.joined;
+      count = come.count;
+      not_beyond = not_beyond trace team.copiers team.streams plan.stop plan.rounds rounds closed (rows_of desks) parts done.joined sizes come;
+      current = current trace team.copiers team.streams plan.stop plan.rounds rounds closed (rows_of desks) parts done.joined sizes come;
+    }
+
+-- the rounds keep the law of the settings
+pub keeps_settings : (trace : GuestTrace) (s : MigrationSettings) (plan : MigrationPlan) (team : Team) (first desks : List DeskView) (opened : List ReceiverView)
+    (closed : ClosedView) (rounds : List LiveRound) → IsTeamOf s team → AreOpened trace team first opened → AreDone trace s plan team first closed rounds desks
+    → LiveRounds trace s.skip s.workers s.lane plan.rounds rounds
+keeps_settings trace s plan team first desks opened closed rounds team_is are done =
+    subst (λ (n : ℕ). LiveRounds trace s.skip n s.lane plan.rounds rounds) team_is.copiers_are
+    (done.law s.lane (subst (λ (n : ℕ). HaveCapacity n (lanes_of (rows_of first))) team_is.lane_is are.capacity))

@@ -1,7 +1,6 @@
 -- Before the first tick nothing is written.
 use Rattle.std.proofs.Common.{◌≡◌, ℕ, ◌&&◌, ◌==◌, true, false, nat_lt, map, max, get_or, refl, ap, arith}
 use Rattle.std.specs.List.{enumerate_from, fold}
-use Rattle.std.specs.Prelude.{Err, IfOk, Ok, Result}
 use Rattle.std.proofs.lemmas.Bool.{le-ltb}
 use Rattle.migration_model.specs.Trace.{GuestTrace, GuestWrite}
 use Rattle.migration_model.specs.Versions.{version_before}

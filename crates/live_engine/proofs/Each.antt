@@ -1,6 +1,6 @@
 -- Elements and their indexes.
 use Rattle.std.proofs.Common.{Result, Ok, IfOk, ◌≡◌, ℕ, zero, suc, ◌+◌, ◌<◌, inl, inr, List, [], ◌∷◌, ◌++◌, length, get_or, map, refl, sym, ap, subst, ◌∙◌, arith}
-use Rattle.std.specs.Prelude.{Some, slice_get}
+use Rattle.std.specs.Prelude.{OnOk, Some, slice_get}
 use Rattle.std.specs.List.{All, Any, range_with_len}
 use Rattle.std.proofs.lemmas.Bool.{cases_lt}
 use Rattle.std.proofs.lemmas.List.{get_or_append_left, get_or-append-add, length-append, get_or_default, get_or-map, length-map}
@@ -114,3 +114,7 @@ pub same_image : {X Y Z : Type 0} (f : X → Z) (g : Y → Z) (xs : List X) (ys 
 same_image f g xs ys i x same there =
     let found = made_of g ys i (f x) (ap (λ l. slice_get l i) (sym same) ∙ makes_at f xs i x there) in
     (found.0, found.1, sym found.2)
+
+-- what is so where a call is not refused, is so of one that was not
+pub from_ok : {X E P : Type 0} (r : Result X E) (x : X) → r ≡ Ok x → OnOk r P → P
+from_ok {X} {E} {P} r x ok = subst (λ (q : Result X E). OnOk q P → P) (sym ok) (λ p. p)

@@ -8,7 +8,7 @@ use Rattle.std.proofs.lemmas.Option.{slice_get-get_or, same_Some}
 use Rattle.migration_model.specs.Trace.{GuestTrace}
 use Rattle.migration_model.specs.Versions.{IsWritten, version_before}
 use Rattle.migration_model.specs.Live.{IsPlaceOf, LiveRound, live_round_with, IsInScanOrder, IsListed}
-use Rattle.dirty_core.specs.Pages.{in_words}
+use Rattle.page_bitmap.specs.Pages.{in_words}
 use Rattle.dirty_core.specs.Start.{Start, IsStart, start_with, sizes_of, GuestOwns, CopierOwnsPage}
 use Rattle.dirty_core.specs.Runs.{IsVisited, place_after}
 use Rattle.dirty_words.specs.Facts.{OwnsPage}

@@ -107,3 +107,20 @@ posts_are trace skip table from to streams rows guests copiers desks after is co
     sym (ap rows_of same ∙ map-map (λ (d : DeskView). d.outs) (λ (c : Copier). c.desk) copiers) in
     subst (λ (r : LiveRound). HavePosted trace table.start.copiers r rows (rows_of desks)) (lists_are copiers desks same)
     (subst (HavePosted trace table.start.copiers (round_of copiers) rows) rows_are posted)
+
+-- what a round did and left, and what its copiers posted, when all its threads have ended and its table is closed
+pub round_done : (trace : GuestTrace) (skip : Bool) (table : TableView) (from to streams replayers workers : ℕ) (first : List DeskView) (guests : List GuestView)
+    (copiers : List Copier) (seats : List CopyView) (desks : List DeskView) (before after : ClosedView)
+    → table.start ≡ start_with before.versions before.dirty replayers workers → IsStart table.start → from ≤ to → OpensAt trace from table.start → length first ≡ workers
+    → AreReplayed trace table from to guests → AreCopied trace skip table streams (rows_of first) copiers → seats ≡ map (λ (c : Copier). c.seat) copiers
+    → desks ≡ map (λ (c : Copier). c.desk) copiers → EachPageLeft table.start guests seats after
+    → IsStart (start_with after.versions after.dirty table.start.guests table.start.copiers)
+    → IsRound trace skip workers before.dirty from to after (lists_of desks) × HavePosted trace workers (lists_of desks) (rows_of first) (rows_of desks)
+round_done trace skip table from to streams replayers workers first guests copiers seats desks before after start_is start span opens count replayed copied seats_are desks_are left next =
+    let closed = closed_is trace skip table from to streams (rows_of first) guests copiers seats after span opens start replayed copied seats_are left next in
+    let workers_are : table.start.copiers ≡ workers = ap (λ (s : Start). s.copiers) start_is in (
+      round_is trace skip table from to streams replayers workers (rows_of first) guests copiers desks before after closed start_is desks_are,
+      subst (λ (n : ℕ). HavePosted trace n (lists_of desks) (rows_of first) (rows_of desks)) workers_are
+          (posts_are trace skip table from to streams (rows_of first) guests copiers desks after closed
+          (length-map first (λ (d : DeskView). d.outs) ∙ count ∙ sym (copied.count ∙ workers_are)) desks_are),
+    )

@@ -15,13 +15,14 @@ use Rattle.migration_model.specs.Rounds.{PlannedRound}
 use Rattle.migration_model.specs.Live.{IsPlaceOf, LiveRound, KeepsLaw, LiveRounds, IsSentWith, WasCurrent, IsDue, pages_sent, page_copier, sent_by_copier}
 use Rattle.migration_model.proofs.Touches.{written_is_lem}
 use Rattle.migration_model.proofs.Placed.{version_is_place, version_rises}
-use Rattle.dirty_core.specs.Pages.{in_words}
+use Rattle.page_bitmap.specs.Pages.{in_words}
 use Rattle.dirty_words.specs.Seats.{ClosedView}
 use Rattle.dirty_words.specs.Closing.{FitsPages}
 use Rattle.stream_lanes.specs.Ends.{LaneId, OutView}
 use Rattle.live_seats.specs.Desks.{DeskView}
 use Rattle.live_seats.specs.Outboxes.{frames_sent}
 use Rattle.live_engine.specs.Lists.{rows_of}
+use Rattle.live_engine.specs.declared.opening.Team.{Team}
 use Rattle.live_engine.specs.Runs.{IsUnderWay}
 use Rattle.live_engine.specs.Joining.{IsRound, IsMarked, IsSentBy, lanes_of, HaveCapacity, HaveSentNothing, HavePosted, IsHonestText, IsCurrentText, AreJoined}
 use Rattle.live_engine.proofs.Each.{all_there, pick}
@@ -408,9 +409,9 @@ joined_next trace now copiers planned rounds plan round old new before after le 
     joined_more trace now copiers plan.from plan.to planned rounds plan round old new before after le refl refl joined is posted
 
 -- what the last round closed fits the trace
-pub fits_pages : (trace : GuestTrace) (tick replayers copiers streams : ℕ) (planned : List PlannedRound) (rounds : List LiveRound) (closed : ClosedView) (desks : List DeskView)
-    → IsUnderWay trace replayers copiers streams closed desks → AreJoined trace copiers tick planned rounds closed (rows_of desks) → FitsPages closed trace.pages (length trace.writes)
-fits_pages trace tick replayers copiers streams planned rounds closed desks under_way joined = record {
+pub fits_pages : (trace : GuestTrace) (tick : ℕ) (team : Team) (planned : List PlannedRound) (rounds : List LiveRound) (closed : ClosedView) (desks : List DeskView)
+    → IsUnderWay trace team closed desks → AreJoined trace team.copiers tick planned rounds closed (rows_of desks) → FitsPages closed trace.pages (length trace.writes)
+fits_pages trace tick team planned rounds closed desks under_way joined = record {
   versions = under_way.size;
   low = λ page d low.
       let real : page < trace.pages = omega (arith, low, under_way.size) in

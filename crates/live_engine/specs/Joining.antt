@@ -6,8 +6,9 @@ use Rattle.migration_model.specs.Versions.{IsWritten, version_before, page_at}
 use Rattle.migration_model.specs.Rounds.{PlannedRound}
 use Rattle.migration_model.specs.Frames.{PageFrame, SpellsFrame, content_of}
 use Rattle.migration_model.specs.Final.{shape_of_trace}
-use Rattle.migration_model.specs.Live.{IsPlaceOf, LiveRound, IsSentWith, IsListed, IsInScanOrder, pages_sent, page_copier, sent_by_copier, WasCurrent, IsPutOff, IsWrittenLast}
-use Rattle.dirty_core.specs.Pages.{in_words}
+use Rattle.migration_model.specs.Live.{IsPlaceOf, LiveRound, IsSentWith, IsListed, IsInScanOrder, WasCurrent, IsPutOff, IsWrittenLast}
+use Rattle.migration_model.specs.Live.{pages_sent, page_copier, sent_by_copier}
+use Rattle.page_bitmap.specs.Pages.{in_words}
 use Rattle.dirty_words.specs.Seats.{ClosedView}
 use Rattle.stream_lanes.specs.Ends.{LaneId, OutView, IsSentOn}
 use Rattle.live_seats.specs.Outboxes.{IsCrowded, SpellsPage, frames_sent}
@@ -16,7 +17,8 @@ abbrev pub IsMarked : List ℕ → ℕ → Type 0
 IsMarked dirty page = IsTrue (in_words dirty page)
 
 -- What a round in these ticks did and left, when the table opened with the versions before them and with these marks.
-pub record IsRound (trace : GuestTrace) (skip : Bool) (copiers : ℕ) (dirty : List ℕ) (from to : ℕ) (closed : ClosedView) (round : LiveRound) : Type 0 where
+pub record IsRound (trace : GuestTrace) (skip : Bool) (copiers : ℕ) (dirty : List ℕ) (from to : ℕ)
+    (closed : ClosedView) (round : LiveRound) : Type 0 where
   pub versions : (page : ℕ) → page < trace.pages → slice_index closed.versions page ≡ version_before trace page to
   pub found : (page : ℕ) → page < trace.pages → IsMarked dirty page → IsListed round page
   pub only : (page : ℕ) → IsListed round page → (page < trace.pages) × (IsMarked dirty page ⊎ IsWritten trace from to page)
@@ -80,13 +82,16 @@ pub record IsCurrentText (trace : GuestTrace) (versions : List ℕ) (page : ℕ)
 
 -- What holds after so many rounds, when the next begins at this tick: the versions are those before it; each frame that
 -- was sent is honest and nowhere beyond them; each page that isn't marked was sent as it is now.
-pub record AreJoined (trace : GuestTrace) (copiers tick : ℕ) (planned : List PlannedRound) (rounds : List LiveRound) (closed : ClosedView) (rows : List (List OutView)) : Type 0 where
+pub record AreJoined (trace : GuestTrace) (copiers tick : ℕ) (planned : List PlannedRound) (rounds : List LiveRound)
+    (closed : ClosedView) (rows : List (List OutView)) : Type 0 where
   pub versions : (page : ℕ) → page < trace.pages → slice_index closed.versions page ≡ version_before trace page tick
   pub honest : (text : List ℕ) → IsSentBy rows text → IsHonestText trace closed.versions text
   pub current : (page : ℕ) → page < trace.pages → ¬ IsMarked closed.dirty page
       → (text : List ℕ) × IsSentBy rows text × IsCurrentText trace closed.versions page text
   pub was_sent : (page : ℕ) → page < trace.pages → ¬ IsMarked closed.dirty page → WasCurrent trace tick rounds page
   pub put_off : (page : ℕ) → page < trace.pages → IsPutOff rounds page → IsMarked closed.dirty page
-  pub marked : (page : ℕ) → page < trace.pages → IsMarked closed.dirty page → (rounds ≡ []) ⊎ (IsPutOff rounds page ⊎ IsWrittenLast trace planned page)
+  pub marked : (page : ℕ) → page < trace.pages → IsMarked closed.dirty page
+      → (rounds ≡ []) ⊎ (IsPutOff rounds page ⊎ IsWrittenLast trace planned page)
   -- no copier sent more frames than are listed of its pages
-  pub count : (copier : ℕ) (outs : List OutView) → slice_get rows copier ≡ Some outs → frames_sent outs ≤ sent_by_copier copiers rounds copier
+  pub count : (copier : ℕ) (outs : List OutView) → slice_get rows copier ≡ Some outs
+      → frames_sent outs ≤ sent_by_copier copiers rounds copier

@@ -7,7 +7,8 @@ use Rattle.live_seats.specs.Desks.{DeskView}
 
 -- what the copiers sent, skipped and deferred, one after the other
 abbrev pub lists_of : List DeskView → LiveRound
-lists_of desks = live_round_with (flat_map (λ d. d.outbox.sent) desks) (flat_map (λ d. d.outbox.skipped) desks) (flat_map (λ d. d.outbox.deferred) desks)
+lists_of desks =
+    live_round_with (flat_map (λ d. d.outbox.sent) desks) (flat_map (λ d. d.outbox.skipped) desks) (flat_map (λ d. d.outbox.deferred) desks)
 
 -- the lanes of each copier
 abbrev pub rows_of : List DeskView → List (List OutView)

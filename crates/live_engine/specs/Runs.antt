@@ -1,5 +1,5 @@
 -- A live run between two rounds, and when it has ended.
-use Rattle.std.specs.Prelude.{◌≡◌, ℕ, ◌*◌, ◌^◌, ◌<◌, ◌≤◌, List, length, slice_index, slice_index_or}
+use Rattle.std.specs.Prelude.{◌≡◌, ℕ, ◌*◌, ◌^◌, ◌<◌, ◌≤◌, List, length, map, slice_index_or}
 use Rattle.std.specs.List.{All}
 use Rattle.migration_model.specs.Trace.{GuestTrace, IsTrace}
 use Rattle.migration_model.specs.Memory.{GuestMemory, image_before, image_of}
@@ -11,46 +11,85 @@ use Rattle.migration_model.specs.Final.{shape_of_trace}
 use Rattle.migration_model.specs.Images.{AreNotBeyond, HaveCurrent}
 use Rattle.migration_model.specs.Parts.{GuestPart}
 use Rattle.migration_model.specs.Resumed.{AtVersions}
-use Rattle.migration_model.specs.Versions.{version_before}
 use Rattle.page_versions.specs.Index.{GuestIndex, IsIndexOf}
 use Rattle.dirty_core.specs.Start.{IsStart, start_with}
 use Rattle.dirty_words.specs.Closing.{FitsPages}
 use Rattle.dirty_words.specs.Seats.{ClosedView}
 use Rattle.live_seats.specs.Desks.{DeskView, IsDesk}
+use Rattle.stream_receivers.specs.Receivers.{ReceiverView}
+use Rattle.live_engine.specs.declared.opening.Team.{Team}
 use Rattle.live_engine.specs.Joining.{AreJoined, HaveCapacity, HaveSentNothing, IsMarked, lanes_of}
 use Rattle.live_engine.specs.Lists.{rows_of}
+use Rattle.live_engine.specs.Receiving.{AreCrossed, identity_of, lanes_in}
+
+-- from 1 to 16
+abbrev pub IsParallel : ℕ → Type 0
+IsParallel count = (1 ≤ count) × (count ≤ 16)
+
+-- a team that a table, a deal and a final copy take
+pub record IsTeam (team : Team) : Type 0 where
+  pub replayers : IsParallel team.replayers
+  pub copiers : IsParallel team.copiers
+  pub streams : IsParallel team.streams
+
+-- the team that the settings ask for
+pub record IsTeamOf (s : MigrationSettings) (team : Team) : Type 0 where
+  pub is_team : IsTeam team
+  pub replayers_are : team.replayers ≡ s.replayers
+  pub copiers_are : team.copiers ≡ s.workers
+  pub streams_are : team.streams ≡ s.streams
+  pub lane_is : team.lane ≡ s.lane
 
 -- the next table may open, and there is a desk for each copier
-pub record IsUnderWay (trace : GuestTrace) (replayers copiers streams : ℕ) (closed : ClosedView) (desks : List DeskView) : Type 0 where
-  pub next : IsStart (start_with closed.versions closed.dirty replayers copiers)
+pub record IsUnderWay (trace : GuestTrace) (team : Team) (closed : ClosedView) (desks : List DeskView) : Type 0 where
+  pub next : IsStart (start_with closed.versions closed.dirty team.replayers team.copiers)
   pub size : length closed.versions ≡ trace.pages
-  pub desks_are : length desks ≡ copiers
-  pub each : All (IsDesk trace streams) desks
+  pub desks_are : length desks ≡ team.copiers
+  pub each : All (IsDesk trace team.streams) desks
 
--- a migration may begin: its numbers are those asked for, and each copier has a desk from which nothing was sent
-pub record MayBegin (trace : GuestTrace) (s : MigrationSettings) (replayers copiers streams : ℕ) (desks : List DeskView) : Type 0 where
-  pub replayers_are : replayers ≡ s.replayers
-  pub copiers_are : copiers ≡ s.workers
-  pub count : length desks ≡ copiers
-  pub each : All (IsDesk trace streams) desks
+-- there is a desk for each copier, and nothing was sent from it
+pub record AreNewDesks (trace : GuestTrace) (team : Team) (desks : List DeskView) : Type 0 where
+  pub count : length desks ≡ team.copiers
+  pub each : All (IsDesk trace team.streams) desks
   pub new : HaveSentNothing (rows_of desks)
 
+-- a lane from each copier's desk to each stream's receiver; nothing was sent, and no part has any page
+pub record AreOpened (trace : GuestTrace) (team : Team) (desks : List DeskView) (receivers : List ReceiverView) : Type 0 where
+  pub desks_are : AreNewDesks trace team desks
+  pub crossed : AreCrossed team.copiers team.streams (lanes_of (rows_of desks)) (map lanes_in receivers)
+  pub capacity : HaveCapacity team.lane (lanes_of (rows_of desks))
+  pub shapes : All (λ receiver. receiver.part.shape ≡ shape_of_trace trace) receivers
+
 -- all planned rounds are done, by copiers that had these desks before
-pub record AreDone (trace : GuestTrace) (s : MigrationSettings) (plan : MigrationPlan) (replayers copiers streams : ℕ) (before : List DeskView)
+pub record AreDone (trace : GuestTrace) (s : MigrationSettings) (plan : MigrationPlan) (team : Team) (before : List DeskView)
     (closed : ClosedView) (rounds : List LiveRound) (desks : List DeskView) : Type 0 where
-  pub under_way : IsUnderWay trace replayers copiers streams closed desks
+  pub under_way : IsUnderWay trace team closed desks
   pub lanes : lanes_of (rows_of desks) ≡ lanes_of (rows_of before)
-  pub joined : AreJoined trace copiers plan.stop plan.rounds rounds closed (rows_of desks)
-  pub law : (lane : ℕ) → HaveCapacity lane (lanes_of (rows_of before)) → LiveRounds trace s.skip copiers lane plan.rounds rounds
+  pub joined : AreJoined trace team.copiers plan.stop plan.rounds rounds closed (rows_of desks)
+  pub law : (lane : ℕ) → HaveCapacity lane (lanes_of (rows_of before))
+      → LiveRounds trace s.skip team.copiers lane plan.rounds rounds
+
+-- what a run begins with: an index of the trace, a team, the plan, and a desk for each copier
+pub record MayBegin (trace : GuestTrace) (index : GuestIndex) (s : MigrationSettings) (plan : MigrationPlan) (team : Team)
+    (desks : List DeskView) : Type 0 where
+  pub is_index : IsIndexOf index trace
+  pub is_team : IsTeam team
+  pub is_plan : IsPlan trace.pages (touches_of trace) s plan
+  pub desks_are : AreNewDesks trace team desks
+
+-- the rounds are done, and each receiver has the lanes and the guest that it had
+pub record HaveEnded (trace : GuestTrace) (s : MigrationSettings) (plan : MigrationPlan) (team : Team) (before : List DeskView)
+    (opened : List ReceiverView) (closed : ClosedView) (rounds : List LiveRound) (desks : List DeskView)
+    (receivers : List ReceiverView) : Type 0 where
+  pub done : AreDone trace s plan team before closed rounds desks
+  pub same : map identity_of receivers ≡ map identity_of opened
 
 -- all that was sent has arrived in the parts, and no page that isn't marked is older there than at the stop
-pub record AllArrived (trace : GuestTrace) (s : MigrationSettings) (plan : MigrationPlan) (streams : ℕ) (closed : ClosedView) (rounds : List LiveRound) (parts : List GuestPart) : Type 0 where
+pub record AllArrived (trace : GuestTrace) (streams : ℕ) (closed : ClosedView) (parts : List GuestPart) : Type 0 where
   pub fits : FitsPages closed trace.pages (length trace.writes)
-  pub versions : (page : ℕ) → page < trace.pages → slice_index closed.versions page ≡ version_before trace page plan.stop
   pub count : length parts ≡ streams
   pub not_beyond : AreNotBeyond trace (shape_of_trace trace) closed.versions parts
   pub current : (page : ℕ) → page < trace.pages → ¬ IsMarked closed.dirty page → HaveCurrent closed.versions parts page
-  pub law : LiveRounds trace s.skip s.workers s.lane plan.rounds rounds
 
 -- memory of a trace's guest in which each page is at its version, and an index of the trace
 pub record IsStoppedAt (trace : GuestTrace) (versions : List ℕ) (index : GuestIndex) (memory : GuestMemory) : Type 0 where
@@ -65,7 +104,8 @@ pub record IsStoppedAt (trace : GuestTrace) (versions : List ℕ) (index : Guest
 
 -- A guest that has stopped by the plan: it has the memory at the plan's stop tick, each page at its version, and the rounds
 -- keep the law.
-pub record IsStopped (trace : GuestTrace) (s : MigrationSettings) (stop : ℕ) (at_stop : GuestMemory) (versions : List ℕ) (index : GuestIndex) (rounds : List LiveRound) : Type 0 where
+pub record IsStopped (trace : GuestTrace) (s : MigrationSettings) (stop : ℕ) (at_stop : GuestMemory) (versions : List ℕ)
+    (index : GuestIndex) (rounds : List LiveRound) : Type 0 where
   pub plan : MigrationPlan
   pub is_plan : IsPlan trace.pages (touches_of trace) s plan
   pub stop_is : stop ≡ plan.stop
@@ -75,7 +115,8 @@ pub record IsStopped (trace : GuestTrace) (s : MigrationSettings) (stop : ℕ) (
 
 -- A live run that answers: by the plan, it has the memory at the plan's stop tick and after all writes, and its rounds keep
 -- the law.
-pub record IsLiveRun (trace : GuestTrace) (s : MigrationSettings) (stop : ℕ) (at_stop at_end : GuestMemory) (rounds : List LiveRound) : Type 0 where
+pub record IsLiveRun (trace : GuestTrace) (s : MigrationSettings) (stop : ℕ) (at_stop at_end : GuestMemory)
+    (rounds : List LiveRound) : Type 0 where
   pub plan : MigrationPlan
   pub is_plan : IsPlan trace.pages (touches_of trace) s plan
   pub stop_is : stop ≡ plan.stop

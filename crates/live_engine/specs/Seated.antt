@@ -1,6 +1,7 @@
 -- What the threads of a round give back.
 use Rattle.std.specs.Prelude.{◌≡◌, ℕ, ◌<◌, slice_index_or, Bool, List, [], length}
 use Rattle.migration_model.specs.Trace.{GuestTrace}
+use Rattle.page_versions.specs.Index.{GuestIndex, IsIndexOf}
 use Rattle.dirty_words.specs.Seats.{TableView, GuestView, guest_table}
 use Rattle.stream_lanes.specs.Ends.{OutView}
 use Rattle.live_seats.specs.Replays.{HasReplayed}
@@ -10,6 +11,35 @@ use Rattle.live_seats.specs.declared.copier.Copier.{Copier}
 -- the relation of each element and its index
 abbrev pub EachAt : {X : Type 0} → (X → ℕ → Type 0) → List X → Type 0
 EachAt {X} Holds xs = (i : ℕ) → i < length xs → (x : X) × (x ≡ slice_index_or xs i x) × Holds x i
+
+-- what copiers of a round share: an index of the trace, and a table of its pages
+pub record IsRoundOf (trace : GuestTrace) (index : GuestIndex) (table : TableView) : Type 0 where
+  pub is_index : IsIndexOf index trace
+  pub has_pages : length table.start.places ≡ trace.pages
+
+-- the part of a round that a replayer owes: the writes in these ticks to the pages of the guest with this number
+pub record ReplayTask : Type 0 where
+  pub trace : GuestTrace
+  pub table : TableView
+  pub from : ℕ
+  pub to : ℕ
+  pub number : ℕ
+
+abbrev pub replay_task : GuestTrace → TableView → ℕ → ℕ → ℕ → ReplayTask
+replay_task trace table from to number = record { trace = trace; table = table; from = from; to = to; number = number }
+
+-- the part that a copier owes: the words of the copier with this number, on the lanes that it had first
+pub record CopyTask : Type 0 where
+  pub trace : GuestTrace
+  pub skip : Bool
+  pub table : TableView
+  pub streams : ℕ
+  pub number : ℕ
+  pub outs : List OutView
+
+abbrev pub copy_task : GuestTrace → Bool → TableView → ℕ → ℕ → List OutView → CopyTask
+copy_task trace skip table streams number outs =
+    record { trace = trace; skip = skip; table = table; streams = streams; number = number; outs = outs }
 
 -- the guest with this number is of the table, and did its part of the round
 pub record IsReplayed (trace : GuestTrace) (table : TableView) (from to number : ℕ) (guest : GuestView) : Type 0 where
@@ -28,6 +58,7 @@ IsCopied trace skip table streams rows copier number =
     HasCopied trace skip table number streams (slice_index_or rows number []) copier.seat copier.desk
 
 -- all copiers of the table did their parts
-pub record AreCopied (trace : GuestTrace) (skip : Bool) (table : TableView) (streams : ℕ) (rows : List (List OutView)) (copiers : List Copier) : Type 0 where
+pub record AreCopied (trace : GuestTrace) (skip : Bool) (table : TableView) (streams : ℕ) (rows : List (List OutView))
+    (copiers : List Copier) : Type 0 where
   pub count : length copiers ≡ table.start.copiers
   pub each : EachAt (IsCopied trace skip table streams rows) copiers

@@ -1,7 +1,7 @@
 //! Why a live run gives no image.
 
 ghost use Rattle.std.specs.Prelude.{◌≡◌};
-ghost use Rattle.live_engine.specs.declared.error.LiveError.TheVariants.{Memory};
+ghost use Rattle.live_engine.specs.declared.error.LiveError.TheVariants.{Memory, Thread};
 
 use dirty_words::TableError;
 use image_build::ImageError;
@@ -9,6 +9,7 @@ use live_seats::SeatError;
 use page_versions::IndexError;
 use round_planner::PlanError;
 use std::alloc::{AllocError, AllocFailed};
+use std::thread::SpawnError;
 use stop_copy::CopyError;
 use stream_lanes::LaneError;
 use stream_receivers::ReceiverError;
@@ -59,12 +60,16 @@ impl From<TableError> for LiveError {
 
 /// After the final copy no page is missing in the parts, so only memory can have been refused.
 impl From<ImageError> for LiveError {
+    ghost from_gives = { λ _ e. e ≡ Memory };
+
     fn from(_error: ImageError) -> LiveError {
         LiveError::Memory
     }
 }
 
 impl From<LaneError> for LiveError {
+    ghost from_gives = { λ _ e. e ≡ Memory };
+
     fn from(_error: LaneError) -> LiveError {
         LiveError::Memory
     }
@@ -72,20 +77,35 @@ impl From<LaneError> for LiveError {
 
 /// All that is sent are frames, so only memory can have been refused.
 impl From<ReceiverError> for LiveError {
+    ghost from_gives = { λ _ e. e ≡ Memory };
+
     fn from(_error: ReceiverError) -> LiveError {
         LiveError::Memory
     }
 }
 
 impl From<IndexError> for LiveError {
+    ghost from_gives = { λ _ e. e ≡ Memory };
+
     fn from(_error: IndexError) -> LiveError {
         LiveError::Memory
     }
 }
 
 impl From<PlanError> for LiveError {
+    ghost from_gives = { λ _ e. e ≡ Memory };
+
     fn from(_error: PlanError) -> LiveError {
         LiveError::Memory
+    }
+}
+
+/// The one cause of `L2` beside a final copy's own: a thread was asked for and not made.
+impl<F: Drop> From<SpawnError<F>> for LiveError {
+    ghost from_gives = { λ _ e. e ≡ Thread };
+
+    fn from(_refused: SpawnError<F>) -> LiveError {
+        LiveError::Thread
     }
 }
 

@@ -1,20 +1,15 @@
 //! Migrates a running guest: replayers change its pages while copiers send them, and receivers take them.
 #![tactic(auto)]
 
-mod arriving;
-mod beside;
-mod ending;
+mod crew;
 mod error;
-mod listing;
+mod migration;
 mod opening;
 mod receivers;
-mod round;
-mod run;
 mod stopped;
 mod threads;
 
 pub use error::LiveError;
-pub use listing::LiveRound;
 pub use live_seats::{Gate, OpenGate, Point};
-pub use run::{Live, live_run, migrate};
-pub use stopped::Stopped;
+pub use migration::{Live, live_run, migrate};
+pub use stopped::{LiveRound, Stopped};

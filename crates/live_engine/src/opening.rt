@@ -1,25 +1,49 @@
 //! What a migration begins with.
 
-ghost use Rattle.std.specs.Prelude.{◌≡◌, ◌<◌, ◌≤◌, ◌+◌, ◌/◌, ℕ, nat_lt, IfOk, [], length, map, replicate, slice_index};
+ghost use Rattle.std.specs.Prelude.{◌≡◌, ◌<◌, ◌≤◌, ℕ, IfOk, [], length, map, replicate, slice_index};
 ghost use Rattle.std.specs.List.{All};
-ghost use Rattle.dirty_core.specs.Pages.{in_words};
 ghost use Rattle.migration_model.specs.Versions.{version_before};
 ghost use Rattle.live_seats.specs.Desks.{IsDesk};
 ghost use Rattle.migration_model.specs.Trace.{GuestTrace};
 ghost use Rattle.page_message.specs.Shapes.{shape_of};
 ghost use Rattle.live_engine.specs.Lists.{rows_of};
 ghost use Rattle.live_engine.specs.Receiving.{lanes_in};
+ghost use Rattle.live_engine.specs.Runs.{AreOpened, IsTeam, IsTeamOf};
 ghost use Rattle.page_versions.specs.Index.{IsIndexOf};
 
 use crate::error::LiveError;
-use dirty_core::add_page;
 use live_seats::Desk;
 use page_versions::PageIndex;
+use rate_limit::Settings;
 use std::alloc::Global;
 use std::collections::VecDeque;
-use stream_lanes::{LaneIn, LaneOut};
+use stream_lanes::{LaneIn, LaneOut, Lanes, lanes};
 use stream_receivers::Receiver;
 use trace_codec::{Shape, WriteLog};
+
+/// How many replayers, copiers and streams there are, and how many frames a lane holds.
+#[derive(Clone, Copy, Debug)]
+pub(crate) struct Team {
+    pub(crate) replayers: usize,
+    pub(crate) copiers: usize,
+    pub(crate) streams: usize,
+    pub(crate) lane: usize,
+}
+
+impl Team {
+    /// The team that the settings ask for.
+    pub(crate) fn of(settings: &Settings) -> Team
+        ensures { IsTeamOf settings.now result }
+    {
+        let asked = settings.asked();
+        Team {
+            replayers: asked.replayers as usize,
+            copiers: asked.workers as usize,
+            streams: asked.streams as usize,
+            lane: asked.lane as usize,
+        }
+    }
+}
 
 /// A version of 0 for each page.
 fn no_versions(alloc: Global, pages: usize) -> Result<Vec<u32>, LiveError>
@@ -37,7 +61,8 @@ pub(crate) fn versions_before<W: WriteLog>(
 ) -> Result<Vec<u32>, LiveError>
     requires { IsIndexOf index.now (W.trace trace.now) }
     ensures count { IfOk result (λ v. length v.items ≡ (W.trace trace.now).pages) }
-    ensures each { IfOk result (λ v. (page : ℕ) → page < (W.trace trace.now).pages → slice_index v.items page ≡ version_before (W.trace trace.now) page tick) }
+    ensures each { IfOk result (λ v. (page : ℕ) → page < (W.trace trace.now).pages
+        → slice_index v.items page ≡ version_before (W.trace trace.now) page tick) }
 {
     let pages = trace.shape().pages;
     if tick == 0 {
@@ -51,21 +76,8 @@ pub(crate) fn versions_before<W: WriteLog>(
     Ok(versions)
 }
 
-/// Dirty words that mark every page.
-pub(crate) fn all_pages(alloc: Global, pages: u32) -> Result<Vec<u64>, LiveError>
-    requires { pages ≤ 65_536 }
-    ensures words { IfOk result (λ v. length v.items ≡ (pages + 63) / 64) }
-    ensures pages { IfOk result (λ v. (page : ℕ) → in_words v.items page ≡ nat_lt page pages) }
-{
-    let mut words = Vec::from_elem(alloc, 0u64, (pages as usize + 63) / 64)?;
-    for page in 0..pages {
-        add_page(&mut words, page);
-    }
-    Ok(words)
-}
-
 /// A desk for each copier, before the first round, with its lanes.
-pub(crate) fn new_desks(
+fn new_desks(
     alloc: Global,
     shape: &Shape,
     rows: Vec<Vec<LaneOut>>,
@@ -73,7 +85,8 @@ pub(crate) fn new_desks(
     requires some { All (λ row. 1 ≤ length row.items) rows.items }
     requires few { All (λ row. length row.items ≤ 16) rows.items }
     ensures rows { IfOk result (λ v. rows_of v.items ≡ map (λ row. row.items) rows.items) }
-    ensures each { (trace : GuestTrace) (streams : ℕ) → trace.shift ≡ shape.now.shift → trace.pages ≡ shape.now.pages → All (λ row. length row.items ≡ streams) rows.items → IfOk result (λ v. All (IsDesk trace streams) v.items) }
+    ensures each { (trace : GuestTrace) (streams : ℕ) → trace.shift ≡ shape.now.shift → trace.pages ≡ shape.now.pages
+        → All (λ row. length row.items ≡ streams) rows.items → IfOk result (λ v. All (IsDesk trace streams) v.items) }
 {
     let mut desks = VecDeque::with_capacity(alloc, rows.len())?;
     for row in rows {
@@ -83,7 +96,7 @@ pub(crate) fn new_desks(
 }
 
 /// A receiver for each stream, with its lanes. No part has any page.
-pub(crate) fn new_receivers(
+fn new_receivers(
     alloc: Global,
     shape: Shape,
     columns: Vec<Vec<LaneIn>>,
@@ -97,4 +110,20 @@ pub(crate) fn new_receivers(
         receivers.push(Receiver::new(alloc, shape, column))?;
     }
     Ok(receivers)
+}
+
+/// Opens a lane from each copier to each stream: a desk for each copier, and a receiver for each stream.
+pub(crate) fn open_lanes<W: WriteLog>(
+    alloc: Global,
+    trace: &W,
+    team: Team,
+) -> Result<(VecDeque<Desk>, Vec<Receiver>), LiveError>
+    requires { IsTeam team }
+    ensures { IfOk result (λ ends. AreOpened (W.trace trace.now) team ends.0.items ends.1.items) }
+{
+    let shape = trace.shape();
+    let Lanes { outs, ins } = lanes(alloc, team.copiers, team.streams, team.lane)?;
+    let desks = new_desks(alloc, &shape, outs)?;
+    let receivers = new_receivers(alloc, shape, ins)?;
+    Ok((desks, receivers))
 }

@@ -1,24 +1,35 @@
-//! The threads of a run's receivers, one for each stream.
+//! The receivers, one for each stream: their threads, and the parts that they leave.
 
-ghost use Rattle.std.specs.Prelude.{◌≡◌, IfOk, OnOk, length, map};
-ghost use Rattle.live_engine.specs.Receiving.{identity_of};
+ghost use Rattle.std.specs.Prelude.{◌≡◌, ℕ, List, IfErr, IfOk, OnOk, Some, Vec, length, map, slice_get};
+ghost use Rattle.std.specs.Global.{Global};
+ghost use Rattle.std.specs.List.{All};
+ghost use Rattle.live_engine.specs.Joining.{IsSentBy, lanes_of};
+ghost use Rattle.live_engine.specs.Lists.{rows_of};
+ghost use Rattle.live_engine.specs.Receiving.{AreCrossed, HaveArrived, identity_of, lanes_in};
+ghost use Rattle.migration_model.specs.Frames.{GuestShape};
+ghost use Rattle.migration_model.specs.Parts.{GuestPart};
+ghost use Rattle.stream_lanes.specs.Ends.{IsSentOn, OutView};
+ghost use Rattle.stream_receivers.specs.Receivers.{AreEnds, AreFrames, HasFrames, ReceiverView};
 
 use crate::error::LiveError;
-use live_seats::{Gate, Point};
+use collector::Part;
+use live_seats::{Desk, Gate, Point};
 use std::alloc::Global;
+use std::collections::VecDeque;
 use std::hint::spin_loop;
 use std::snapshot::Snapshot;
 use std::sync::Wait;
 use std::sync::atomic::{AtomicBool, Ordering};
-use std::thread::{Parker, Promise, PromisedHandle, Scope, Threads, join_promised};
+use std::thread::{Parker, Promise, PromisedHandle, Scope};
 use std::time::Duration;
+use stream_lanes::{LaneOut, by_stream};
 use stream_receivers::Receiver;
 
 /// How often a receiver to which nothing came looks again before it sleeps.
 const LOOKS: u32 = 8;
 
-/// How many turns it waits before each of these looks, a few microseconds in all. Each look takes the lane's memory away from who
-/// sends, so that it is cheaper for both to take some frames at a time.
+/// How many turns it waits before each of these looks, a few microseconds in all. Each look takes the lane's memory away
+/// from who sends, so that it is cheaper for both to take some frames at a time.
 const TURNS: u32 = 64;
 
 /// How many microseconds it sleeps then before each look: who goes on looking takes time from those who send.
@@ -121,7 +132,8 @@ fn start_receiver<'s, E, R: Wait + Sync, G: Gate>(
     signals: &'s Signals,
     receiver: Receiver,
 ) -> Result<PromisedHandle<Receiver, Receives>, LiveError>
-    ensures { IfOk result (λ h. h.promise.receiver.value ≡ receiver) }
+    ensures refused { IfErr result (λ e. e ≡ LiveError.Thread) }
+    ensures promised { IfOk result (λ h. h.promise.receiver.value ≡ receiver) }
 {
     let promise = Receives {
         receiver: Snapshot::of(&receiver),
@@ -129,7 +141,7 @@ fn start_receiver<'s, E, R: Wait + Sync, G: Gate>(
     let run = move || -> Receiver
         ensures { identity_of result ≡ identity_of receiver }
     { receive(rt, gate, stream, signals, receiver) };
-    scope.spawn_with(promise, run).or(Err(LiveError::Thread))
+    Ok(scope.spawn_with(promise, run)?)
 }
 
 /// Starts the receivers, in order of their streams.
@@ -142,31 +154,75 @@ pub(crate) fn start_receivers<'s, E, R: Wait + Sync, G: Gate>(
     handles: &mut Vec<PromisedHandle<Receiver, Receives>>,
 ) -> Result<(), LiveError>
     requires none { length handles.old.items ≡ 0 }
-    ensures { OnOk result (map (λ h. identity_of h.promise.receiver.value) handles.new.items ≡ map identity_of receivers.items) }
+    ensures { OnOk result (map (λ h. identity_of h.promise.receiver.value) handles.new.items
+        ≡ map identity_of receivers.items) }
 {
     for receiver in receivers {
         let stream = handles.len();
-        handles.reserve(1).or(Err(LiveError::Memory))?;
+        handles.reserve(1)?;
         let handle = start_receiver(rt, scope, gate, stream, signals, receiver)?;
         handles.push_reserved(handle);
     }
     Ok(())
 }
 
-/// Waits until all receivers have ended. Where memory runs out they are waited for as well.
-pub(crate) fn join_receivers<R: Threads>(
-    rt: &R,
-    handles: Vec<PromisedHandle<Receiver, Receives>>,
-) -> Result<Vec<Receiver>, LiveError>
-    ensures { IfOk result (λ receivers. map identity_of receivers.items ≡ map (λ h. identity_of h.promise.receiver.value) handles.items) }
+/// The lanes of each copier.
+fn take_lanes(alloc: Global, desks: VecDeque<Desk>) -> Result<Vec<Vec<LaneOut>>, LiveError>
+    ensures { IfOk result (λ rows. map (λ row. row.items) rows.items ≡ rows_of desks.items) }
 {
-    match join_promised(rt, handles) {
-        Ok(receivers) => Ok(receivers),
-        Err(refused) => {
-            for handle in refused.value {
-                drop(handle.join(rt));
-            }
-            Err(LiveError::Memory)
-        }
+    let mut desks = desks;
+    let mut rows = Vec::with_capacity(alloc, desks.len())?;
+    for _ in 0..desks.len() {
+        let Some(desk) = desks.pop_front() else {
+            unreachable!()
+        };
+        let Desk { outs, .. } = desk;
+        rows.push(outs)?;
     }
+    Ok(rows)
+}
+
+/// Each receiver takes what is left on its lanes, and gives its part away.
+fn finish_all(
+    alloc: Global,
+    columns: Vec<Vec<LaneOut>>,
+    receivers: Vec<Receiver>,
+) -> Result<Vec<Part>, LiveError>
+    requires count { length columns.items ≡ length receivers.items }
+    requires ends { (stream : ℕ) (outs : Vec OutView Global) (receiver : ReceiverView)
+        → slice_get columns.items stream ≡ Some outs → slice_get receivers.items stream ≡ Some receiver
+        → AreEnds outs.items receiver.ends }
+    ensures count { IfOk result (λ parts. length parts.items ≡ length receivers.items) }
+    ensures each { IfOk result (λ parts. (stream : ℕ) (outs : Vec OutView Global) (receiver : ReceiverView) (part : GuestPart)
+        → slice_get columns.items stream ≡ Some outs → slice_get receivers.items stream ≡ Some receiver
+        → slice_get parts.items stream ≡ Some part → AreFrames receiver.part.shape (IsSentOn outs.items)
+        → HasFrames receiver.part.shape (IsSentOn outs.items) part) }
+{
+    let mut columns = columns.into_iter();
+    let mut parts = Vec::with_capacity(alloc, receivers.len())?;
+    for receiver in receivers {
+        let Some(outs) = columns.next() else {
+            unreachable!()
+        };
+        parts.push(receiver.finish(outs)?)?;
+    }
+    Ok(parts)
+}
+
+/// Drains each lane into the part of its stream, when all threads have ended: each part has then what was sent to it.
+pub(crate) fn drain_all(
+    alloc: Global,
+    streams: usize,
+    desks: VecDeque<Desk>,
+    receivers: Vec<Receiver>,
+) -> Result<Vec<Part>, LiveError>
+    requires { AreCrossed (length desks.items) streams (lanes_of (rows_of desks.items)) (map lanes_in receivers.items) }
+    ensures { (shape : GuestShape) → All (λ receiver. receiver.part.shape ≡ shape) receivers.items
+        → AreFrames shape (IsSentBy (rows_of desks.items))
+        → IfOk result (λ parts. HaveArrived shape streams (rows_of desks.items) parts.items) }
+{
+    let rows = take_lanes(alloc, desks)?;
+    let columns = by_stream(alloc, streams, rows)?;
+    let parts = finish_all(alloc, columns, receivers)?;
+    Ok(parts)
 }

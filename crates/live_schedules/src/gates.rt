@@ -1,4 +1,4 @@
-//! Gates that choose a schedule. Each wait ends after a great many turns, and then the gate says that it was late.
+//! Gates that choose a schedule. Each wait ends after a great many turns, and the gate then counts that it was late.
 
 use live_engine::{Gate, Point};
 use std::sync::atomic::{AtomicU64, Ordering};
@@ -23,6 +23,7 @@ pub struct Counts {
 }
 
 impl Counts {
+    /// Returns counts at which no point was reached.
     pub fn new() -> Counts {
         Counts {
             stored: AtomicU64::new(0),
@@ -123,7 +124,8 @@ impl Gate for MarkedEarly {
     }
 }
 
-/// In each round replayers wait for that round's harvest; the first harvest waits for three marks, the second for five.
+/// In each round replayers wait for that round's harvest; the first harvest waits for three marks, the second for
+/// five.
 #[derive(Drop)]
 pub struct MarkedInTurn(pub Counts);
 
@@ -165,7 +167,8 @@ impl Gate for SlowReceivers {
     }
 }
 
-/// Each side waits for the other's first step, and the receiver of stream 0 looks at no lane before all rounds were closed.
+/// Each side waits for the other's first step, and the receiver of stream 0 looks at no lane before all rounds were
+/// closed.
 #[derive(Drop)]
 pub struct SlowFirstReceiver(pub Counts);
 

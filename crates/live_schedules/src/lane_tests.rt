@@ -6,7 +6,7 @@ use live_engine::Live;
 use rate_limit::Asked;
 use std::test::Fail;
 
-/// The settings of the worked example, with so many streams and lanes of so many frames.
+/// Returns the settings of the worked example, with so many streams and lanes of so many frames.
 fn asked_with(streams: u64, lane: u64) -> Asked {
     Asked {
         streams,
@@ -15,12 +15,12 @@ fn asked_with(streams: u64, lane: u64) -> Asked {
     }
 }
 
-/// Whether both memories are the ones that every run of the worked example makes.
+/// Returns whether both memories are the ones that every run of the worked example makes.
 fn has_both_images(live: &Live) -> bool {
     has_images(live, &AT_END, &AT_END)
 }
 
-/// Whether the first round sent these pages, whatever their stamps, and deferred those.
+/// Returns whether the first round sent these pages, whatever their stamps, and deferred those.
 fn begins_with(live: &Live, sent: &[u32], deferred: &[u32]) -> bool {
     match live.rounds.first() {
         Some(round) => {
@@ -36,7 +36,7 @@ fn begins_with(live: &Live, sent: &[u32], deferred: &[u32]) -> bool {
     }
 }
 
-/// Whether the rounds after the first send nothing.
+/// Returns whether the rounds after the first send nothing.
 fn sends_no_more(live: &Live) -> bool {
     live.rounds
         .iter()
@@ -78,7 +78,7 @@ fn frames_are_taken_beside_the_rounds(rt: HostRuntime) -> Result<(), Fail> {
     Ok(())
 }
 
-/// The first page that a round deferred.
+/// Returns the first page that a round deferred.
 fn first_deferred(live: &Live, number: usize) -> Option<u32> {
     live.rounds.get(number)?.deferred.first().copied()
 }

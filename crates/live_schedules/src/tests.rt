@@ -1,5 +1,5 @@
-//! Worked examples: a guest of 4 pages of 16 bytes that writes pages 0 and 1 at ticks 0 and 5, page 1 at tick 1200, and
-//! pages 3 and 1 at tick 2500.
+//! Worked examples: a guest of 4 pages of 16 bytes that writes pages 0 and 1 at ticks 0 and 5, page 1 at tick 1200,
+//! and pages 3 and 1 at tick 2500.
 
 ghost use Rattle.image_build.specs.Joins.{memory_by};
 ghost use Rattle.live_engine.specs.Runs.{IsStoppedAt};
@@ -80,17 +80,17 @@ pub(crate) fn run(
     Ok(live_run(rt, alloc, &trace, &settings, gate)?)
 }
 
-/// Whether the run made these memories: where the guest stopped, and after all writes.
+/// Returns whether the run made these memories: where the guest stopped, and after all writes.
 pub(crate) fn has_images(live: &Live, at_stop: &[u8], at_end: &[u8]) -> bool {
     live.at_stop.bytes() == at_stop && live.at_end.bytes() == at_end
 }
 
-/// What a round sent, with the stamps.
+/// Returns what a round sent, with the stamps.
 pub(crate) fn sent(live: &Live, number: usize) -> Option<&[(u32, u32)]> {
     Some(live.rounds.get(number)?.sent.as_slice())
 }
 
-/// The first page that a round sent, and its stamp.
+/// Returns the first page that a round sent, and its stamp.
 pub(crate) fn first_sent(live: &Live, number: usize) -> Option<(u32, u32)> {
     sent(live, number)?.first().copied()
 }
@@ -139,7 +139,7 @@ fn the_guest_resumes_from_where_it_stopped(rt: HostRuntime) -> Result<(), Fail> 
     Ok(())
 }
 
-/// The memory after all writes of the trace, page by page; none where the guest is another one.
+/// Returns the memory after all writes of the trace, page by page; none where the guest is another one.
 fn resumed(alloc: Global, stopped: &Stopped, trace: &Trace) -> Option<Vec<u8>>
     requires { IsStoppedAt trace.now stopped.now.versions.items stopped.now.index (memory_by stopped.now.memory) }
 {
@@ -172,7 +172,7 @@ fn the_guest_resumes_in_the_memory_in_which_it_stopped(rt: HostRuntime) -> Resul
     Ok(())
 }
 
-/// A guest of 65 pages of 16 bytes, which writes byte 7 to its last page.
+/// Returns a trace of 65 pages of 16 bytes, which writes byte 7 to its last page.
 fn guest_of_65_pages(alloc: Global) -> Result<Trace, Fail> {
     let mut writes = Vec::new(alloc);
     writes.push(Write {
@@ -204,7 +204,7 @@ fn a_last_word_of_one_page_is_copied(rt: HostRuntime) -> Result<(), Fail> {
     Ok(())
 }
 
-/// How many pages all rounds sent.
+/// Returns how many pages all rounds sent.
 fn total_sent(live: &Live) -> u64 {
     let mut total = 0u64;
     for round in &live.rounds {
@@ -240,7 +240,7 @@ fn replayers_and_copiers_meet(rt: HostRuntime) -> Result<(), Fail> {
     Ok(())
 }
 
-/// Whether the first round sent these pages, the second began with page 0, and both memories are right.
+/// Returns whether the first round sent these pages, the second began with page 0, and both memories are right.
 fn has_rounds(live: &Live, first: &[(u32, u32)]) -> bool {
     sent(live, 0) == Some(first)
         && first_sent(live, 1) == Some((0, 1))
@@ -265,7 +265,7 @@ fn all_stores_of_a_round_are_read(rt: HostRuntime) -> Result<(), Fail> {
     Ok(())
 }
 
-/// Whether a round sent and skipped these pages, and deferred none.
+/// Returns whether a round sent and skipped these pages, and deferred none.
 fn has_round(live: &Live, number: usize, sent: &[(u32, u32)], skipped: &[u32]) -> bool {
     match live.rounds.get(number) {
         Some(round) => {
@@ -296,7 +296,7 @@ fn a_page_that_is_marked_again_is_skipped(rt: HostRuntime) -> Result<(), Fail> {
     Ok(())
 }
 
-/// A guest of 300 pages of 64 bytes, with so many writes that go round them by strides.
+/// Returns a trace of 300 pages of 64 bytes, with so many writes that go round them by strides.
 fn busy_guest(alloc: Global, count: u32) -> Result<Trace, Fail> {
     let mut writes = Vec::new(alloc);
     for number in 0..count {
@@ -315,7 +315,7 @@ fn busy_guest(alloc: Global, count: u32) -> Result<Trace, Fail> {
     Ok(Trace::new(6, 300, writes)?)
 }
 
-/// Sixteen of each, with lanes of so many frames: both memories come out right.
+/// Runs with sixteen workers, streams and replayers, and lanes of so many frames: both memories come out right.
 pub(crate) fn run_sixteen(
     rt: &(impl Threads + Wait + Sync),
     alloc: Global,
@@ -353,7 +353,7 @@ fn sixteen_of_each_make_the_same_memory(rt: HostRuntime) -> Result<(), Fail> {
     Ok(())
 }
 
-/// A guest of 600 pages of 4,096 bytes, which writes each of them once.
+/// Returns a trace of 600 pages of 4,096 bytes, which writes each of them once.
 fn wide_guest(alloc: Global) -> Result<Trace, Fail> {
     let mut writes = Vec::new(alloc);
     for page in 0..600u32 {

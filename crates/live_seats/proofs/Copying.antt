@@ -1,7 +1,7 @@
 -- A page that a copier sent, skipped or deferred.
 use Rattle.std.proofs.Common.{◌≡◌, inl, inr, ℕ, ◌+◌, ◌/◌, Bool, true, false, List, length, refl, sym, ap, subst, ◌∙◌}
 use Rattle.migration_model.specs.Trace.{GuestTrace}
-use Rattle.dirty_core.specs.Pages.{in_words, one_page, bit_pages, word_pages, minus, union, SamePages}
+use Rattle.page_bitmap.specs.Pages.{in_words, one_page, bit_pages, word_pages, minus, union, SamePages}
 use Rattle.dirty_words.specs.Facts.{CopyFacts, HoldsNone, first_copier, OwnsWord, after_harvest, after_read, after_peek, after_restore}
 use Rattle.dirty_core.specs.Start.{Start}
 use Rattle.dirty_core.proofs.Moves.{no_words}

@@ -2,7 +2,7 @@
 use Rattle.std.proofs.Common.{◌≡◌, ℕ, ◌+◌, ◌*◌, ◌/◌, ◌%◌, ◌<◌, inl, inr, Bool, true, false, not, eqb, leb, ◌&&◌, ◌||◌, sym, ap, subst, ◌∙◌, arith}
 use Rattle.std.specs.Int.{bit_at}
 use Rattle.std.proofs.lemmas.Bool.{cases_eq, cases_lt, and_parts, and_from, eq-eqb, ne_eqb, le-leb, leb-true}
-use Rattle.dirty_core.specs.Pages.{in_words, bit_pages, one_page, minus, union, SamePages}
+use Rattle.page_bitmap.specs.Pages.{in_words, bit_pages, one_page, minus, union, SamePages}
 use Rattle.dirty_core.specs.Start.{sizes_of}
 use Rattle.dirty_words.specs.Facts.{CopyFacts, OwnsWord, HoldsNone}
 use Rattle.live_seats.specs.Scans.{HoldsFrom, IsLeast, IsOwn}

@@ -7,7 +7,7 @@ use Rattle.std.proofs.lemmas.Bool.{cases_eq, cases_lt, and_parts, and_from, or_c
 use Rattle.std.proofs.lemmas.List.{map_push, length-append, get_or_append_left, get_or-append-add}
 use Rattle.std.proofs.lemmas.List.Elements.{Contains-append_left, Contains-push, Contains-push_cases, Contains-get_or}
 use Rattle.dirty_core.proofs.Moves.{no_words}
-use Rattle.dirty_core.specs.Pages.{PageSet, in_words, word_pages, bit_pages, one_page, union, minus, SamePages, IsWithin}
+use Rattle.page_bitmap.specs.Pages.{PageSet, in_words, word_pages, bit_pages, one_page, union, minus, SamePages, IsWithin}
 use Rattle.dirty_core.specs.Start.{Start}
 use Rattle.dirty_words.specs.Facts.{CopyFacts, first_copier, after_harvest, after_peek, after_restore, after_read, OwnsWord, HoldsNone}
 use Rattle.dirty_words.specs.Plays.{IsAnswer, IsShown}

@@ -1,9 +1,7 @@
 -- A copier in a round.
 use Rattle.std.specs.Prelude.{◌≡◌, ◌⊎◌, ◌↔◌, ℕ, ◌<◌, ◌≤◌, ◌+◌, ◌/◌, Bool, List, length, map, slice_index_or}
 use Rattle.migration_model.specs.Trace.{GuestTrace}
-use Rattle.migration_model.specs.Frames.{GuestShape, PageFrame, frame_text}
-use Rattle.page_message.specs.Framing.{IsFrameOf}
-use Rattle.dirty_core.specs.Pages.{in_words, bit_pages, one_page, union, minus, SamePages}
+use Rattle.page_bitmap.specs.Pages.{in_words, bit_pages, one_page, union, minus, SamePages}
 use Rattle.dirty_words.specs.Facts.{CopyFacts, HoldsNone, after_peek, after_read, after_restore}
 use Rattle.dirty_words.specs.Plays.{IsShown}
 use Rattle.dirty_words.specs.Seats.{TableView, CopyView, copy_table}
@@ -18,12 +16,6 @@ pub record HasPeeked (page : ℕ) (shows : Bool) (old new : CopyFacts) : Type 0 
   pub facts : new ≡ after_peek (page / 64) answer old
   pub shows_is : bit_pages (page / 64) answer page ≡ shows
   pub shown : IsShown old (page / 64) answer new
-
--- the text is that of the frame of a page with these bytes
-pub record SpellsBytes (shape : GuestShape) (page stamp : ℕ) (bytes text : List ℕ) : Type 0 where
-  pub frame : PageFrame
-  pub is_frame : IsFrameOf shape page stamp bytes frame
-  pub text_is : text ≡ frame_text frame
 
 -- one more frame fits on the lane of this stream
 pub record HasRoomAt (outs : List OutView) (stream : ℕ) : Type 0 where
@@ -49,7 +41,8 @@ pub record HasSentFrame (text : List ℕ) (before after : List OutView) : Type 0
   pub crowded : IsCrowded before → IsCrowded after
 
 -- the copier read the page's place, and sent the frame of it
-pub record HasSentPage (trace : GuestTrace) (page : ℕ) (old : CopyFacts) (before : OpenDeskView) (new : CopyFacts) (desk : OpenDeskView) : Type 0 where
+pub record HasSentPage (trace : GuestTrace) (page : ℕ) (old : CopyFacts) (before : OpenDeskView) (new : CopyFacts)
+    (desk : OpenDeskView) : Type 0 where
   pub place : ℕ
   pub text : List ℕ
   pub spells : SpellsPage trace page place text
@@ -90,19 +83,22 @@ pub record IsReady (trace : GuestTrace) (table : TableView) (seat : CopyView) (d
   pub lanes : length desk.outs ≡ desk.turn.streams
 
 -- the copier went on, and what was scanned and posted stays so
-pub record KeepsScan (trace : GuestTrace) (skip : Bool) (old : CopyFacts) (before : OpenDeskView) (new : CopyFacts) (desk : OpenDeskView) : Type 0 where
+pub record KeepsScan (trace : GuestTrace) (skip : Bool) (old : CopyFacts) (before : OpenDeskView) (new : CopyFacts)
+    (desk : OpenDeskView) : Type 0 where
   pub number_is : new.number ≡ old.number
   pub scanned : (ahead : ℕ) → IsScanned skip ahead old before.outbox → IsScanned skip ahead new desk.outbox
   pub posted : (first : List OutView) → IsPosted trace first before.outbox before.outs → IsPosted trace first desk.outbox desk.outs
 
 -- the same where one word more was scanned
-pub record AdvancesScan (trace : GuestTrace) (skip : Bool) (word : ℕ) (old : CopyFacts) (before : OpenDeskView) (new : CopyFacts) (desk : OpenDeskView) : Type 0 where
+pub record AdvancesScan (trace : GuestTrace) (skip : Bool) (word : ℕ) (old : CopyFacts) (before : OpenDeskView)
+    (new : CopyFacts) (desk : OpenDeskView) : Type 0 where
   pub number_is : new.number ≡ old.number
   pub scanned : IsScanned skip word old before.outbox → IsScanned skip (word + 1) new desk.outbox
   pub posted : (first : List OutView) → IsPosted trace first before.outbox before.outs → IsPosted trace first desk.outbox desk.outs
 
 -- the copier with this number has scanned all words, holds nothing, and posted what it sent on the lanes that it had first
-pub record HasCopied (trace : GuestTrace) (skip : Bool) (table : TableView) (number streams : ℕ) (first : List OutView) (seat : CopyView) (desk : DeskView) : Type 0 where
+pub record HasCopied (trace : GuestTrace) (skip : Bool) (table : TableView) (number streams : ℕ) (first : List OutView)
+    (seat : CopyView) (desk : DeskView) : Type 0 where
   pub table_is : copy_table seat ≡ table
   pub number_is : seat.facts.number ≡ number
   pub is_desk : IsDesk trace streams desk

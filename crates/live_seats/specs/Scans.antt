@@ -2,7 +2,7 @@
 use Rattle.std.specs.Prelude.{◌≡◌, ◌⊎◌, ℕ, ◌<◌, ◌≤◌, ◌/◌, ◌*◌, ◌+◌, ◌&&◌, nat_le, Bool, true, IsTrue, map}
 use Rattle.std.specs.List.{Contains}
 use Rattle.std.specs.List.Sorted.{IsStrictlyIncreasing}
-use Rattle.dirty_core.specs.Pages.{in_words, bit_pages}
+use Rattle.page_bitmap.specs.Pages.{in_words, bit_pages}
 use Rattle.dirty_core.specs.Start.{CopierOwnsPage, sizes_of}
 use Rattle.dirty_core.specs.Runs.{IsVisited}
 use Rattle.dirty_words.specs.Facts.{CopyFacts}
@@ -31,7 +31,8 @@ pub record IsScanned (skip : Bool) (ahead : ℕ) (facts : CopyFacts) (outbox : O
   pub listed : (page : ℕ) → IsListed outbox page → IsOwn facts page × (page / 64 < ahead) × (WasMarked facts page ⊎ IsFresh facts page)
   pub held : (page : ℕ) → IsHeldNow facts page → IsOwn facts page × (page / 64 < ahead) × (WasMarked facts page ⊎ IsFresh facts page)
   pub rising : (page other : ℕ) → IsListed outbox page → IsHeldNow facts other → page < other
-  pub returned : (page : ℕ) → IsOwn facts page → page / 64 < ahead → IsReturned facts page → Contains outbox.skipped page ⊎ Contains outbox.deferred page
+  pub returned : (page : ℕ) → IsOwn facts page → page / 64 < ahead → IsReturned facts page
+      → Contains outbox.skipped page ⊎ Contains outbox.deferred page
   pub skipped : (page : ℕ) → Contains outbox.skipped page → (skip ≡ true) × IsFresh facts page × IsReturned facts page
   pub deferred : (page : ℕ) → Contains outbox.deferred page → IsReturned facts page
   pub reads : (page place : ℕ) → IsVisited facts.reads page place → IsSentAt outbox page place

@@ -1,7 +1,7 @@
 //! What a copier does: it harvests its dirty words and sends their pages on its lanes.
 
 ghost use Rattle.std.specs.Prelude.{◌≡◌, ◌<◌, ◌≤◌, ◌+◌, ◌*◌, ◌^◌, ℕ, IsTrue, IfOk, OnOk, length, ◌/◌};
-ghost use Rattle.dirty_core.specs.Pages.{in_words, one_page, word_pages, bit_pages, union, minus, SamePages};
+ghost use Rattle.page_bitmap.specs.Pages.{in_words, one_page, word_pages, bit_pages, union, minus, SamePages};
 ghost use Rattle.dirty_words.specs.Facts.{after_harvest, after_read, first_copier, OwnsWord, HoldsNone};
 ghost use Rattle.dirty_words.specs.Plays.{IsAnswer, IsShown};
 ghost use Rattle.dirty_words.specs.Seats.{copy_table};
@@ -9,21 +9,22 @@ ghost use Rattle.live_seats.specs.Desks.{IsDesk};
 ghost use Rattle.live_seats.specs.Outboxes.{IsCrowded, SpellsPage};
 ghost use Rattle.page_versions.specs.Index.{IsIndexOf};
 ghost use Rattle.live_seats.specs.Scans.{HoldsFrom, IsLeast, IsOwn};
-ghost use Rattle.live_seats.specs.Copies.{AdvancesScan, HasCopied, HasDeferredPage, HasOfferedPage, HasPeeked, HasRestored, HasRoomAt, HasSentPage, HasSkippedPage, IsReady, KeepsScan};
+ghost use Rattle.live_seats.specs.Copies.{AdvancesScan, HasCopied, HasDeferredPage, HasOfferedPage, HasPeeked};
+ghost use Rattle.live_seats.specs.Copies.{HasRestored, HasSkippedPage, IsReady, KeepsScan};
 
 use crate::desk::{Desk, OpenDesk};
 use crate::error::SeatError;
-use crate::frame::spell_frame;
 use crate::gate::{Gate, Point};
 use dirty_words::{CopySeat, RoundTable};
 use page_cache::PageCache;
+use page_message::append_frame;
 use page_versions::PageIndex;
 use std::alloc::Global;
 use trace_codec::WriteLog;
 
-/// What all copiers of a round share.
+/// What all copiers of a round share: a trace with its index, and a table of the trace's pages.
 #[derive(Drop)]
-pub struct Round<'a, W, G> {
+pub struct Round<'a, W: WriteLog, G> {
     pub trace: &'a W,
     pub index: &'a PageIndex,
     pub table: &'a RoundTable,
@@ -32,6 +33,8 @@ pub struct Round<'a, W, G> {
     pub skip: bool,
     /// How many streams each copier has.
     pub streams: usize,
+    pub ghost is_index: { IsIndexOf index.now (W.trace trace.now) },
+    pub ghost has_pages: { length table.now.start.places ≡ (W.trace trace.now).pages },
 }
 
 /// A copier after a round: its seat, and its desk.
@@ -89,7 +92,8 @@ impl<'a, W: WriteLog, G: Gate> Round<'a, W, G> {
         place
     }
 
-    /// Spells the frame of a page at the place that was read. The cache is asked for the page.
+    /// Spells the frame of a page at the place that was read in a text, and what stood there goes. The cache is asked for the
+    /// page.
     fn spell(
         &self,
         cache: &mut PageCache<'_, W>,
@@ -108,7 +112,9 @@ impl<'a, W: WriteLog, G: Gate> Round<'a, W, G> {
         let Some(bytes) = cache.bytes(page) else {
             unreachable!()
         };
-        spell_frame(text, &shape, page, stamp, bytes)
+        text.clear();
+        append_frame(text, &shape, page, stamp, bytes)?;
+        Ok(())
     }
 
     /// Whether the word of a page shows it now.
@@ -120,32 +126,6 @@ impl<'a, W: WriteLog, G: Gate> Round<'a, W, G> {
     {
         let bits = seat.peek(self.table, (page / 64) as usize);
         (bits >> (page % 64)) & 1 == 1
-    }
-
-    /// Sends a held page on the lane of a stream.
-    fn send_page(
-        &self,
-        alloc: Global,
-        stream: usize,
-        page: u32,
-        copier: &mut Copying<'_, W>,
-    ) -> Result<(), SeatError>
-        requires page { page < (W.trace self.now.trace.now).pages }
-        requires table { copy_table copier.old.seat ≡ self.now.table.now }
-        requires held { IsTrue (in_words copier.old.seat.facts.held page) }
-        requires trace { copier.old.desk.cache.trace ≡ (W.trace self.now.trace.now) }
-        requires room { HasRoomAt copier.old.desk.outs stream }
-        ensures table { copy_table copier.new.seat ≡ copy_table copier.old.seat }
-        ensures sent { OnOk result (HasSentPage (W.trace self.now.trace.now) page copier.old.seat.facts copier.old.desk copier.new.seat.facts copier.new.desk) }
-        ensures trace { copier.new.desk.cache.trace ≡ copier.old.desk.cache.trace }
-        ensures turn { copier.new.desk.turn ≡ copier.old.desk.turn }
-    {
-        let place = self.read(&mut copier.seat, page);
-        let mut text = copier.desk.text(alloc, stream);
-        self.spell(&mut copier.desk.cache, page, place, &mut text)?;
-        copier.desk.send(stream, text);
-        copier.desk.outbox.list_sent(page, place)?;
-        Ok(())
     }
 
     /// Gives a held page back.
@@ -166,7 +146,8 @@ impl<'a, W: WriteLog, G: Gate> Round<'a, W, G> {
         requires own { OwnsWord copier.old.seat.facts (page / 64) }
         requires held { IsTrue (in_words copier.old.seat.facts.held page) }
         ensures table { copy_table copier.new.seat ≡ copy_table copier.old.seat }
-        ensures skipped { OnOk result (HasSkippedPage page copier.old.seat.facts copier.old.desk copier.new.seat.facts copier.new.desk) }
+        ensures skipped { OnOk result (HasSkippedPage page copier.old.seat.facts copier.old.desk
+            copier.new.seat.facts copier.new.desk) }
         ensures trace { copier.new.desk.cache.trace ≡ copier.old.desk.cache.trace }
         ensures turn { copier.new.desk.turn ≡ copier.old.desk.turn }
     {
@@ -182,7 +163,8 @@ impl<'a, W: WriteLog, G: Gate> Round<'a, W, G> {
         requires held { IsTrue (in_words copier.old.seat.facts.held page) }
         requires full { IsCrowded copier.old.desk.outs }
         ensures table { copy_table copier.new.seat ≡ copy_table copier.old.seat }
-        ensures deferred { OnOk result (HasDeferredPage page copier.old.seat.facts copier.old.desk copier.new.seat.facts copier.new.desk) }
+        ensures deferred { OnOk result (HasDeferredPage page copier.old.seat.facts copier.old.desk
+            copier.new.seat.facts copier.new.desk) }
         ensures trace { copier.new.desk.cache.trace ≡ copier.old.desk.cache.trace }
         ensures turn { copier.new.desk.turn ≡ copier.old.desk.turn }
     {
@@ -202,13 +184,19 @@ impl<'a, W: WriteLog, G: Gate> Round<'a, W, G> {
         requires ready { IsReady (W.trace self.now.trace.now) self.now.table.now copier.old.seat copier.old.desk }
         requires own { OwnsWord copier.old.seat.facts (page / 64) }
         requires held { IsTrue (in_words copier.old.seat.facts.held page) }
-        ensures offered { OnOk result (HasOfferedPage (W.trace self.now.trace.now) page copier.old.seat.facts copier.old.desk copier.new.seat.facts copier.new.desk) }
+        ensures offered { OnOk result (HasOfferedPage (W.trace self.now.trace.now) page copier.old.seat.facts copier.old.desk
+            copier.new.seat.facts copier.new.desk) }
         ensures ready { OnOk result (IsReady (W.trace self.now.trace.now) self.now.table.now copier.new.seat copier.new.desk) }
     {
-        match copier.desk.next_lane() {
-            Some(stream) => self.send_page(alloc, stream, page, copier),
-            None => self.defer_page(page, copier),
-        }
+        let Some(stream) = copier.desk.next_lane() else {
+            return self.defer_page(page, copier);
+        };
+        let place = self.read(&mut copier.seat, page);
+        let mut text = copier.desk.text(alloc, stream);
+        self.spell(&mut copier.desk.cache, page, place, &mut text)?;
+        copier.desk.send(stream, text);
+        copier.desk.outbox.list_sent(page, place)?;
+        Ok(())
     }
 
     /// Sends or defers a held page in front of which none is held, or skips it where it is marked again and pages may be
@@ -219,13 +207,14 @@ impl<'a, W: WriteLog, G: Gate> Round<'a, W, G> {
         page: u32,
         copier: &mut Copying<'_, W>,
     ) -> Result<(), SeatError>
-        requires pages { length self.now.table.now.start.places ≡ (W.trace self.now.trace.now).pages }
         requires ready { IsReady (W.trace self.now.trace.now) self.now.table.now copier.old.seat copier.old.desk }
         requires least { IsLeast copier.old.seat.facts page }
         requires own { IsOwn copier.old.seat.facts page }
         ensures ready { OnOk result (IsReady (W.trace self.now.trace.now) self.now.table.now copier.new.seat copier.new.desk) }
-        ensures scan { OnOk result (KeepsScan (W.trace self.now.trace.now) self.now.skip copier.old.seat.facts copier.old.desk copier.new.seat.facts copier.new.desk) }
-        ensures held { OnOk result (SamePages (in_words copier.new.seat.facts.held) (minus (in_words copier.old.seat.facts.held) (one_page page))) }
+        ensures scan { OnOk result (KeepsScan (W.trace self.now.trace.now) self.now.skip copier.old.seat.facts copier.old.desk
+            copier.new.seat.facts copier.new.desk) }
+        ensures held { OnOk result (SamePages (in_words copier.new.seat.facts.held)
+            (minus (in_words copier.old.seat.facts.held) (one_page page))) }
     {
         if !self.skip {
             self.offer_page(alloc, page, copier)?;
@@ -239,34 +228,6 @@ impl<'a, W: WriteLog, G: Gate> Round<'a, W, G> {
         Ok(())
     }
 
-    /// Sends, defers or skips one page of a word, if it was among those harvested.
-    fn copy_bit(
-        &self,
-        alloc: Global,
-        word: usize,
-        bits: u64,
-        bit: u32,
-        copier: &mut Copying<'_, W>,
-    ) -> Result<(), SeatError>
-        requires pages { length self.now.table.now.start.places ≡ (W.trace self.now.trace.now).pages }
-        requires few { (W.trace self.now.trace.now).pages ≤ 65_536 }
-        requires ready { IsReady (W.trace self.now.trace.now) self.now.table.now copier.old.seat copier.old.desk }
-        requires own { OwnsWord copier.old.seat.facts word }
-        requires real { (page : ℕ) → IsTrue (bit_pages word bits page) → page < (W.trace self.now.trace.now).pages }
-        requires bit { bit < 64 }
-        requires holds { HoldsFrom word bits bit copier.old.seat.facts }
-        ensures ready { OnOk result (IsReady (W.trace self.now.trace.now) self.now.table.now copier.new.seat copier.new.desk) }
-        ensures scan { OnOk result (KeepsScan (W.trace self.now.trace.now) self.now.skip copier.old.seat.facts copier.old.desk copier.new.seat.facts copier.new.desk) }
-        ensures holds { OnOk result (HoldsFrom word bits (bit + 1) copier.new.seat.facts) }
-    {
-        if (bits >> bit) & 1 != 1 {
-            return Ok(());
-        }
-        let page = page_at(word, bit);
-        self.copy_page(alloc, page, copier)?;
-        Ok(())
-    }
-
     /// Sends, defers or skips the harvested pages of a word, in rising order.
     fn copy_bits(
         &self,
@@ -275,18 +236,21 @@ impl<'a, W: WriteLog, G: Gate> Round<'a, W, G> {
         bits: u64,
         copier: &mut Copying<'_, W>,
     ) -> Result<(), SeatError>
-        requires pages { length self.now.table.now.start.places ≡ (W.trace self.now.trace.now).pages }
         requires few { (W.trace self.now.trace.now).pages ≤ 65_536 }
         requires ready { IsReady (W.trace self.now.trace.now) self.now.table.now copier.old.seat copier.old.desk }
         requires own { OwnsWord copier.old.seat.facts word }
         requires real { (page : ℕ) → IsTrue (bit_pages word bits page) → page < (W.trace self.now.trace.now).pages }
         requires holds { HoldsFrom word bits 0 copier.old.seat.facts }
         ensures ready { OnOk result (IsReady (W.trace self.now.trace.now) self.now.table.now copier.new.seat copier.new.desk) }
-        ensures scan { OnOk result (KeepsScan (W.trace self.now.trace.now) self.now.skip copier.old.seat.facts copier.old.desk copier.new.seat.facts copier.new.desk) }
+        ensures scan { OnOk result (KeepsScan (W.trace self.now.trace.now) self.now.skip copier.old.seat.facts copier.old.desk
+            copier.new.seat.facts copier.new.desk) }
         ensures held { OnOk result (HoldsNone copier.new.seat.facts) }
     {
         for bit in 0..64 {
-            self.copy_bit(alloc, word, bits, bit, copier)?;
+            if (bits >> bit) & 1 != 1 {
+                continue;
+            }
+            self.copy_page(alloc, page_at(word, bit), copier)?;
         }
         Ok(())
     }
@@ -298,12 +262,12 @@ impl<'a, W: WriteLog, G: Gate> Round<'a, W, G> {
         word: usize,
         copier: &mut Copying<'_, W>,
     ) -> Result<(), SeatError>
-        requires pages { length self.now.table.now.start.places ≡ (W.trace self.now.trace.now).pages }
         requires few { (W.trace self.now.trace.now).pages ≤ 65_536 }
         requires ready { IsReady (W.trace self.now.trace.now) self.now.table.now copier.old.seat copier.old.desk }
         requires held { HoldsNone copier.old.seat.facts }
         ensures ready { OnOk result (IsReady (W.trace self.now.trace.now) self.now.table.now copier.new.seat copier.new.desk) }
-        ensures scan { OnOk result (AdvancesScan (W.trace self.now.trace.now) self.now.skip word copier.old.seat.facts copier.old.desk copier.new.seat.facts copier.new.desk) }
+        ensures scan { OnOk result (AdvancesScan (W.trace self.now.trace.now) self.now.skip word copier.old.seat.facts copier.old.desk
+            copier.new.seat.facts copier.new.desk) }
         ensures held { OnOk result (HoldsNone copier.new.seat.facts) }
     {
         if !copier.seat.owns(word) {
@@ -317,12 +281,11 @@ impl<'a, W: WriteLog, G: Gate> Round<'a, W, G> {
     /// What a copier does in a round: it harvests its words once, in rising order, and sends, defers or skips the pages of
     /// each. The seat has done nothing before; what the desk listed in the round before goes. Memory alone is refused.
     pub fn copy(&self, alloc: Global, seat: CopySeat, desk: Desk) -> Result<Copier, SeatError>
-        requires of { IsIndexOf self.now.index.now (W.trace self.now.trace.now) }
-        requires pages { length self.now.table.now.start.places ≡ (W.trace self.now.trace.now).pages }
         requires table { copy_table seat ≡ self.now.table.now }
         requires idle { seat.facts ≡ first_copier self.now.table.now.start seat.facts.number }
         requires desk { IsDesk (W.trace self.now.trace.now) self.now.streams desk }
-        ensures { IfOk result (λ copier. HasCopied (W.trace self.now.trace.now) self.now.skip self.now.table.now seat.facts.number self.now.streams desk.outs copier.seat copier.desk) }
+        ensures { IfOk result (λ copier. HasCopied (W.trace self.now.trace.now) self.now.skip self.now.table.now seat.facts.number
+            self.now.streams desk.outs copier.seat copier.desk) }
     {
         let mut copier = Copying {
             seat,

@@ -77,7 +77,8 @@ impl Desk {
     pub fn new(alloc: Global, shape: &Shape, outs: Vec<LaneOut>) -> Result<Desk, SeatError>
         requires some { 1 ≤ length outs.items }
         requires few { length outs.items ≤ 16 }
-        ensures desk { (trace : GuestTrace) → trace.shift ≡ shape.now.shift → trace.pages ≡ shape.now.pages → IfOk result (IsDesk trace (length outs.items)) }
+        ensures desk { (trace : GuestTrace) → trace.shift ≡ shape.now.shift → trace.pages ≡ shape.now.pages
+            → IfOk result (IsDesk trace (length outs.items)) }
         ensures capacity { IfOk result (λ desk. desk.pages ≡ pages_with [] (cache_capacity shape.now.shift)) }
         ensures turn { IfOk result (λ desk. desk.turn ≡ turn_with (length outs.items) 0) }
         ensures outs { IfOk result (λ desk. desk.outs ≡ outs.items) }
@@ -95,7 +96,8 @@ impl Desk {
     pub(crate) fn open<'a, W: WriteLog>(self, trace: &'a W, index: &'a PageIndex) -> OpenDesk<'a, W>
         requires of { IsIndexOf index.now (W.trace trace.now) }
         requires kept { AreKept (W.trace trace.now) self.pages.entries }
-        ensures { result ≡ open_desk_with self.turn (cache_with (W.trace trace.entry.now) self.pages.entries self.pages.capacity) empty_outbox self.outs }
+        ensures { result ≡ open_desk_with self.turn (cache_with (W.trace trace.entry.now) self.pages.entries self.pages.capacity)
+            empty_outbox self.outs }
     {
         let Desk {
             dealer,
@@ -160,7 +162,8 @@ impl<'a, W: WriteLog> OpenDesk<'a, W> {
 
     /// The desk at the end of a round.
     pub(crate) fn close(self) -> Desk
-        ensures desk { result ≡ desk_with self.entry.turn (pages_with self.entry.cache.entries self.entry.cache.capacity) self.entry.outbox self.entry.outs }
+        ensures desk { result ≡ desk_with self.entry.turn (pages_with self.entry.cache.entries self.entry.cache.capacity)
+            self.entry.outbox self.entry.outs }
         ensures kept { AreKept self.entry.cache.trace self.entry.cache.entries }
     {
         let OpenDesk {

@@ -5,7 +5,6 @@
 mod copier;
 mod desk;
 mod error;
-mod frame;
 mod gate;
 mod outbox;
 mod replayer;

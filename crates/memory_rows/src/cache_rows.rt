@@ -1,4 +1,4 @@
-//! Worked examples, whose answers were made by hand.
+//! Worked examples, whose results were worked out by hand.
 
 ghost use Rattle.std.specs.Prelude.{◌≡◌, IfOk};
 
@@ -10,7 +10,7 @@ use std::test::Fail;
 use std::thread::Threads;
 use trace_codec::Trace;
 
-/// What the cache of a trace answers for a page of it.
+/// Returns the page of a trace at a version, from the cache.
 fn page_at(cache: &mut PageCache<'_, Trace>, trace: &Trace, page: u32, version: u32) -> Option<Page>
     requires { cache.old.trace ≡ trace.now }
     ensures { cache.new.trace ≡ trace.now }
@@ -36,12 +36,12 @@ fn new_cache<'a>(
     Ok(PageCache::new(alloc, trace, index, capacity)?)
 }
 
-/// What the cache keeps of a page.
+/// Returns what the cache keeps of a page.
 fn kept_of(cache: &PageCache<'_, Trace>, page: u32) -> Option<Page> {
     page_of(cache.bytes(page)?)
 }
 
-/// What the cache keeps of the four pages.
+/// Returns what the cache keeps of the four pages.
 fn kept_in(cache: &PageCache<'_, Trace>) -> [Option<Page>; 4] {
     [
         kept_of(cache, 0),
@@ -51,7 +51,7 @@ fn kept_in(cache: &PageCache<'_, Trace>) -> [Option<Page>; 4] {
     ]
 }
 
-/// What the cache answers, and what it keeps of the four pages then.
+/// The page that the cache returns, and what it keeps of the four pages then.
 type Step = (Option<Page>, [Option<Page>; 4]);
 
 /// Asks the cache for these pages at these versions, in order.
@@ -176,7 +176,8 @@ fn page_brought_on_was_used_last(rt: HostRuntime) -> Result<(), Fail> {
     Ok(())
 }
 
-/// What a cache keeps at first, after it was asked for the second page, and in a second cache that gets its pages.
+/// Returns what a cache keeps at first, after it was asked for the second page, and in a second cache that gets its
+/// pages.
 fn kept_and_handed_on(
     alloc: Global,
     trace: &Trace,

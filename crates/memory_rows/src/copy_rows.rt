@@ -1,8 +1,8 @@
-//! Worked examples, whose answers were made by hand, and a caller that these contracts serve.
+//! Worked examples, whose results were worked out by hand, and a caller that uses these contracts.
 
 ghost use Rattle.std.specs.Prelude.{◌≡◌, ◌<◌, ◌≤◌, ◌^◌, ℕ, IfOk, IsTrue, length, slice_index_or, vec_len};
 ghost use Rattle.std.specs.List.{All};
-ghost use Rattle.dirty_core.specs.Pages.{in_words};
+ghost use Rattle.page_bitmap.specs.Pages.{in_words};
 ghost use Rattle.dirty_words.specs.Closing.{FitsPages};
 ghost use Rattle.migration_model.specs.Final.{shape_of_trace};
 ghost use Rattle.migration_model.specs.Images.{AreNotBeyond, HaveCurrent};
@@ -30,8 +30,8 @@ struct Images {
     at_end: Image,
 }
 
-/// From honest parts, none beyond its page's version, that lack no page but marked ones, to the memory before any tick at
-/// which these are the versions, and to that after all writes.
+/// Returns the memory before any tick at which these are the versions, and the memory after all writes. The parts are
+/// honest, none beyond its page's version, and lack no page but marked ones.
 fn images_of<R: Threads + Wait + Sync>(
     rt: &R,
     alloc: Global,
@@ -61,8 +61,8 @@ fn images_of<R: Threads + Wait + Sync>(
     Ok(Images { at_stop, at_end })
 }
 
-/// Two parts after the final copy: the first had page 1 after write 2 and pages 2 and 3 before any write, the second had
-/// nothing. Pages 0 and 1 are now at versions 1 and 3, and these are marked.
+/// Returns two parts after the final copy: the first had page 1 after write 2 and pages 2 and 3 before any write, the
+/// second had nothing. Pages 0 and 1 are now at versions 1 and 3, and these are marked.
 fn copied(
     rt: &(impl Threads + Wait + Sync),
     alloc: Global,
@@ -92,7 +92,7 @@ fn copied(
     Ok(final_copy(rt, alloc, trace, index, &closed, workers, 2, parts)?)
 }
 
-/// The stamps that the parts together have of the four pages.
+/// Returns the stamps that the parts together have of the four pages.
 fn stamps(parts: &[Part]) -> [Option<u32>; 4] {
     let mut found = [None; 4];
     for part in parts {
@@ -106,7 +106,7 @@ fn stamps(parts: &[Part]) -> [Option<u32>; 4] {
     found
 }
 
-/// The image of an image's pages at these versions after all other writes of the trace.
+/// Returns the image of an image's pages at these versions after all other writes of the trace.
 fn resumed(image: Image, trace: &Trace, index: &PageIndex, versions: &[u32]) -> Option<Image> {
     if !index.is_of(trace)
         || !image.fits(&trace.shape())
@@ -117,7 +117,7 @@ fn resumed(image: Image, trace: &Trace, index: &PageIndex, versions: &[u32]) -> 
     Some(resume(image, trace, index, versions))
 }
 
-/// What the parts have after the final copy with so many workers, and the memory at the stop and at the end.
+/// Returns what the parts have after the final copy with so many workers, and the memory at the stop and at the end.
 fn copied_and_resumed(
     rt: &(impl Threads + Wait + Sync),
     alloc: Global,
@@ -156,7 +156,7 @@ fn marked_pages_come_once_more(rt: HostRuntime) -> Result<(), Fail> {
     Ok(())
 }
 
-/// What the parts have after the final copy with these pages marked.
+/// Returns what the parts have after the final copy with these pages marked.
 fn stamps_of(
     rt: &(impl Threads + Wait + Sync),
     alloc: Global,
@@ -190,7 +190,7 @@ fn page_that_is_not_marked_stays(rt: HostRuntime) -> Result<(), Fail> {
     Ok(())
 }
 
-/// A guest of 1,500 pages of 16 bytes, which writes every seventh of them.
+/// Returns a trace of 1,500 pages of 16 bytes, which writes every seventh of them.
 fn wide_guest(alloc: Global) -> Result<Trace, Fail> {
     let mut writes = Vec::new(alloc);
     for page in 0..1500u32 {
@@ -206,7 +206,7 @@ fn wide_guest(alloc: Global) -> Result<Trace, Fail> {
     Ok(Trace::new(4, 1500, writes)?)
 }
 
-/// The versions of all pages after all writes, each of them marked.
+/// Returns the versions of all pages after all writes, each of them marked.
 fn all_marked(alloc: Global, trace: &Trace, index: &PageIndex) -> Result<Closed, Fail> {
     let pages = trace.pages;
     if !index.is_of(trace) {
@@ -221,7 +221,7 @@ fn all_marked(alloc: Global, trace: &Trace, index: &PageIndex) -> Result<Closed,
     Ok(Closed { versions, dirty })
 }
 
-/// The memory that a final copy leaves of two empty parts.
+/// Returns the memory that a final copy leaves of two empty parts.
 fn copied_by(
     rt: &(impl Threads + Wait + Sync),
     alloc: Global,

@@ -41,8 +41,8 @@ pub(crate) static AT_END: [u8; 64] = [
     0, 0, 4, 5, 0, 0, 0, 0, 0, 0, 0, 0, 0, 0, 0, 0,
 ];
 
-/// A guest of 4 pages of 16 bytes, which writes pages 0 and 1 at ticks 0 and 5, page 1 at tick 1200, and pages 3 and 1
-/// at tick 2500; or all of this so many ticks later.
+/// Returns a trace of 4 pages of 16 bytes, which writes pages 0 and 1 at ticks 0 and 5, page 1 at tick 1200, and pages
+/// 3 and 1 at tick 2500. Or all of this so many ticks later.
 pub(crate) fn guest(alloc: Global, later: u64) -> Result<Trace, Fail> {
     let cases: [(u64, u32, u16, &[u8]); 5] = [
         (0, 0, 0, &[1]),
@@ -63,7 +63,7 @@ pub(crate) fn guest(alloc: Global, later: u64) -> Result<Trace, Fail> {
     Ok(Trace::new(4, 4, writes)?)
 }
 
-/// These bytes, where they are a page.
+/// Returns these bytes, where they are a page.
 pub(crate) fn page_of(bytes: &[u8]) -> Option<Page> {
     if bytes.len() != 16 {
         return None;
@@ -93,7 +93,7 @@ fn give(
     Ok(())
 }
 
-/// A part that has these pages: the number of each, its stamp and its bytes.
+/// Returns a part that has these pages: the number of each, its stamp and its bytes.
 pub(crate) fn part_of(
     alloc: Global,
     shape: &Shape,

@@ -17,7 +17,7 @@ const SHAPE: Shape = Shape {
     writes: 5,
 };
 
-/// Two parts that have all pages together, and one of them at two stamps.
+/// Returns two parts that have all pages together, and one of them at two stamps.
 fn two_parts(alloc: Global, shape: &Shape) -> Result<Vec<Part>, Fail>
     ensures { IfOk result (λ parts. All (λ part. part.shape ≡ shape_of shape.now) parts.items) }
 {
@@ -38,7 +38,7 @@ fn parts_together_give_memory(rt: HostRuntime) -> Result<(), Fail> {
     Ok(())
 }
 
-/// A page of memory that stands in parts, put where other bytes stood.
+/// Returns a page of memory that is left in parts, copied over other bytes.
 fn page_in(alloc: Global, memory: &JoinedParts, page: u32) -> Option<Page> {
     let shape = memory.shape();
     let mut room = Vec::from_elem(alloc, 7u8, 16).ok()?;

@@ -10,4 +10,6 @@ mod fixtures;
 #[cfg(test)]
 mod image_rows;
 #[cfg(test)]
+mod resent_rows;
+#[cfg(test)]
 mod version_rows;

@@ -1,4 +1,4 @@
-//! Worked examples, whose answers were made by hand.
+//! Worked examples, whose results were worked out by hand.
 
 use crate::fixtures::{FIRST, FOURTH, Page, SECOND, THIRD, ZEROS, guest, page_of};
 use page_versions::{PageIndex, Reached};
@@ -32,7 +32,7 @@ fn writes_after<'a>(
     Some(index.writes_after(page, version))
 }
 
-/// What the index of a trace answers for a page of it.
+/// Returns the page of a trace at a version, from the index.
 fn page_at(
     alloc: Global,
     index: &PageIndex,
@@ -97,7 +97,7 @@ fn bytes_of_pages(rt: HostRuntime) -> Result<(), Fail> {
     Ok(())
 }
 
-/// A guest of 1 page of 16 bytes with 11 writes of 2 bytes, each 1 byte behind the one before.
+/// Returns a trace of 1 page of 16 bytes with 11 writes of 2 bytes, each 1 byte behind the one before.
 fn guest_of_one_page(alloc: Global) -> Result<Trace, Fail> {
     let mut writes = Vec::new(alloc);
     for offset in 0..11u16 {
@@ -111,7 +111,7 @@ fn guest_of_one_page(alloc: Global) -> Result<Trace, Fail> {
     Ok(Trace::new(4, 1, writes)?)
 }
 
-/// Its page after so many writes: 1, 2, 3 and so on, and then 255.
+/// Returns this guest's page after so many writes: 1, 2, 3 and so on, and then 255.
 fn rising_page(version: u32) -> Page {
     let mut page = ZEROS;
     for (at, byte) in page.iter_mut().enumerate() {
@@ -138,7 +138,7 @@ fn page_with_many_writes(rt: HostRuntime) -> Result<(), Fail> {
     Ok(())
 }
 
-/// The page at a version, made where another page stood.
+/// Returns the page at a version, made in a buffer that held another page.
 fn put_into(
     index: &PageIndex,
     trace: &Trace,
@@ -168,7 +168,7 @@ fn pages_in_one_room(rt: HostRuntime) -> Result<(), Fail> {
     Ok(())
 }
 
-/// A page that has come so far, brought on to a later version; and how far it has come then.
+/// Brings a page on to a later version. Returns its bytes, and how far it has come then.
 fn brought_on(
     alloc: Global,
     index: &PageIndex,

@@ -20,7 +20,7 @@ image_large trace is =
     let after = length-applied trace.shift trace.pages trace.writes none (length-replicate (trace.pages * 2 ^ trace.shift) 0) is.writes.each in
     subst (IsAsLarge trace) (sym after.1) (record { shift = refl; pages = refl; len = after.2 })
 
--- so is the memory that is shown
+-- the memory that is shown is as large as the trace says
 pub shown_large : (show : Show) (trace : GuestTrace) (memory : GuestMemory) → IsTrace trace → IsAsLarge trace memory → IsAsLarge trace (memory_shown show trace memory)
 shown_large shows.Stop trace memory is large = large
 shown_large shows.End trace memory is large = image_large trace is

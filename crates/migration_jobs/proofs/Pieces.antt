@@ -38,7 +38,7 @@ wrote_part old mid new a b xs before part =
     let short = cut part.0 (b - a) (drop a xs) in
     (a + short.0, Appends-more old mid new xs a short.0 (subst (Appends old mid) (between_from_start xs a) before) (subst (Appends mid new) short.1 part.1))
 
--- all of them are a part
+-- all bytes that are written are a part of them
 pub wrote_all : (old mid new : Option (List ℕ)) (xs : List ℕ) → Appends old mid xs → Keeps mid new → AppendsPart old new xs
 wrote_all None mid new xs before keeps = (length xs, tt)
 wrote_all (Some a) None new xs before keeps = absurd before

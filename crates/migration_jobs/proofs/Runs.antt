@@ -28,7 +28,7 @@ pub made_source : (P : GuestTrace → Type 0) (old new : Option (List ℕ)) (byt
     → (trace : GuestTrace) × Spells bytes trace × P trace → (trace : GuestTrace) × IsTrace trace × SourceSpells old trace × P trace
 made_source P old new bytes whole made = (made.0, made.1.is_trace, spelled_whole old new bytes made.0 whole made.1, made.2)
 
--- all that a source held, where it spells a trace
+-- the bytes that a source held, where they encode a trace
 held_text : (known : Option (List ℕ)) (trace : GuestTrace) → SourceSpells known trace → IfSome known (λ held. held ≡ trace_text trace)
 held_text None trace spells = tt
 held_text (Some held) trace spells = spells.text

@@ -3,7 +3,7 @@ use Rattle.std.specs.Prelude.{ℕ, List}
 use Rattle.migration_jobs.specs.declared.output.Output.{Output}
 use Rattle.migration_jobs.specs.declared.output.Output.TheVariants as outputs
 
--- those of a text, or of memory
+-- the bytes of a text, or of memory
 abbrev pub bytes_in : Output → List ℕ
 bytes_in (outputs.Text text) = text.items
 bytes_in (outputs.Memory memory) = memory.bytes

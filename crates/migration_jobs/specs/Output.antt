@@ -23,7 +23,7 @@ pub record IsReport (trace : GuestTrace) (settings : MigrationSettings) (text : 
   pub is_plan : IsPlan trace.pages (touches_of trace) settings plan
   pub text_is : text ≡ report_of trace.shift trace.pages (length trace.writes) settings.hot (working_sets_of trace.pages (touches_of trace) settings) plan
 
--- the text of a sweep of a trace over some cases: what the plan of each comes to, and the best of them
+-- the text of a sweep of a trace over some cases: the sums of each case's plan, and the best of them
 pub record IsSweep (trace : GuestTrace) (cases : List MigrationSettings) (text : List ℕ) : Type 0 where
   pub lines : List SweepLine
   pub are_lines : AreLines trace.pages (touches_of trace) cases lines
@@ -47,7 +47,7 @@ IsOutputOf (jobs.Report settings) trace output = IsReport trace settings output
 IsOutputOf (jobs.Live settings show) trace output = IsShown show trace settings output
 IsOutputOf (jobs.Sweep cases workers) trace output = IsSweep trace cases.items output
 
--- The output of a job for what a source held: bytes that spell a trace, and all of its bytes, where they are known.
+-- The output of a job for what a source held: bytes that encode a trace, and all of its bytes, where they are known.
 pub record IsOutput (known : Option (List ℕ)) (job : Job) (output : List ℕ) : Type 0 where
   pub bytes : List ℕ
   pub trace : GuestTrace
@@ -55,7 +55,7 @@ pub record IsOutput (known : Option (List ℕ)) (job : Job) (output : List ℕ) 
   pub spells : Spells bytes trace
   pub is_output : IsOutputOf job trace output
 
--- A trace is refused only for a cause that stands in what the source held, or for one outside of it.
+-- A trace is refused only for a cause in what the source held, or for one outside of it.
 abbrev pub RefusesRun : Option (List ℕ) → RunError → Type 0
 RefusesRun known (errors.Trace e) = SourceRefuses known e
 RefusesRun known errors.Memory = ⊤
@@ -63,7 +63,7 @@ RefusesRun known errors.Thread = ⊤
 RefusesRun known (errors.Live e) = ⊤
 RefusesRun known errors.Write = ⊤
 
--- memory ran out, a thread was not to be had, or a read or a write failed
+-- memory ran out, a thread could not be started, or a read or a write failed
 abbrev pub IsOutsideRun : RunError → Type 0
 IsOutsideRun (errors.Trace e) = IsOutside e
 IsOutsideRun errors.Memory = ⊤
@@ -85,7 +85,7 @@ IsPlanningJob (jobs.Sweep cases workers) = ⊤
 IsPlanningJob jobs.Image = ⊥
 IsPlanningJob (jobs.Live settings show) = ⊥
 
--- A job's refusals: that of a live run comes from a live run alone, and a missing thread from what plans.
+-- A job's errors: that of a live run comes from a live run alone, and a missing thread from what plans.
 abbrev pub IsRefusalOf : Job → RunError → Type 0
 IsRefusalOf job (errors.Trace e) = ⊤
 IsRefusalOf job errors.Memory = ⊤
@@ -93,7 +93,7 @@ IsRefusalOf job errors.Write = ⊤
 IsRefusalOf job (errors.Live e) = IsLiveJob job
 IsRefusalOf job errors.Thread = IsPlanningJob job
 
--- a text is refused as a trace for this, or memory ran out
+-- the bytes are refused as a trace for this, or memory ran out
 abbrev pub RefusesText : List ℕ → RunError → Type 0
 RefusesText bytes (errors.Trace e) = RefusesUnlessMemory bytes e
 RefusesText bytes errors.Memory = ⊤

@@ -1,5 +1,5 @@
--- What a sink of bytes tells: the bytes that it holds, where they are known, whether a write or a flush failed, and
--- whether all was flushed.
+-- What is known of a sink of bytes: the bytes that it holds, where they are known, whether a write or a flush failed,
+-- and whether all was flushed.
 use Rattle.std.specs.Prelude.{◌<◌, ◌≤◌, ℕ, Bool, List, length, take, Option, Some, None}
 use Rattle.std.specs.Io.KnownBytes.{Keeps, Appends}
 

@@ -4,20 +4,20 @@ use live_engine::LiveError;
 use thiserror::Error;
 use trace_codec::TraceError;
 
-/// Why a run ended without its output. Its text follows `precopy: ` in a fault line.
+/// Why a run ended without its output. It is written behind `precopy: ` in a fault line.
 #[derive(Clone, Copy, Debug, PartialEq, Eq, Error)]
 pub enum RunError {
     /// The trace was refused.
     #[error("trace {0}")]
     Trace(TraceError),
-    /// A growth was refused.
+    /// Memory ran out.
     #[error("memory")]
     Memory,
-    /// A thread could not be started. No job answers it yet: a live run has a refusal of its own, and where no thread is to
-    /// be had for a report or a sweep, its work is done on the caller's.
+    /// A thread could not be started. No job returns it yet: a live run has an error of its own. Where a thread cannot
+    /// be started for a report or a sweep, the caller's thread does the work.
     #[error("thread")]
     Thread,
-    /// The live run gave no memory: for want of room, or of a thread.
+    /// The live run gave no memory: memory ran out, or a thread could not be started.
     #[error("live {0}")]
     Live(LiveError),
     /// The writer failed, took none of some bytes, or failed to flush.

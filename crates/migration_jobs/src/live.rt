@@ -14,15 +14,16 @@ use rate_limit::Settings;
 use std::alloc::Global;
 use std::sync::Wait;
 use std::thread::Threads;
-use trace_codec::{Source, TraceText};
+use trace_codec::Source;
+use trace_readers::HeldTrace;
 
-/// The memory of a live run of a trace.
+/// Returns the memory of a live run of a trace.
 fn live_of_trace<R: Threads + Wait + Sync, G: Gate>(
     rt: &R,
     alloc: Global,
     settings: &Settings,
     show: Show,
-    trace: TraceText,
+    trace: HeldTrace,
     gate: &G,
 ) -> Result<Shown, RunError>
     ensures made { IfOk result (λ m. IsTrace trace × IsShown show trace settings.now m.bytes) }
@@ -34,7 +35,7 @@ fn live_of_trace<R: Threads + Wait + Sync, G: Gate>(
     }
 }
 
-/// The memory of a live run of the trace that a source holds.
+/// Returns the memory of a live run of the trace that a source holds.
 pub(crate) fn live_output<R: Threads + Wait + Sync, S: Source, G: Gate>(
     rt: &R,
     alloc: Global,
@@ -52,7 +53,7 @@ pub(crate) fn live_output<R: Threads + Wait + Sync, S: Source, G: Gate>(
         → IfErr result IsOutsideRun }
     ensures read_failed { (result ≡ Err (RunError.Trace ReadFault)) ↔ (S.has_failed source.new ≡ true) }
 {
-    match TraceText::read(alloc, source) {
+    match HeldTrace::read(alloc, source) {
         Ok(trace) => live_of_trace(rt, alloc, settings, show, trace, gate),
         Err(refusal) => Err(RunError::Trace(refusal)),
     }

@@ -13,9 +13,9 @@ use std::alloc::Global;
 /// The whole output of a job.
 #[derive(Drop)]
 pub(crate) enum Output {
-    /// Bytes that stand ready.
+    /// Bytes that are complete.
     Text(Vec<u8>),
-    /// The memory of a live run, page by page where it stands.
+    /// The memory of a live run, written page by page.
     Memory(Shown),
 }
 
@@ -58,7 +58,7 @@ fn flush<K: Sink>(sink: &mut K) -> Result<(), RunError>
     }
 }
 
-/// Writes all of some bytes and flushes.
+/// Writes all of some bytes and flushes. The only error is `Write`.
 pub fn write_out<K: Sink>(sink: &mut K, bytes: &[u8]) -> Result<(), RunError>
     requires { K.has_failed sink.old ≡ false }
     ensures written { OnOk result (Appends (K.contents sink.old) (K.contents sink.new) bytes.now) }
@@ -101,7 +101,8 @@ fn write_pieces<K: Sink>(
     Ok(())
 }
 
-/// Writes all of some memory and flushes. Memory is refused before the first byte is written, and never after it.
+/// Writes all of some memory and flushes. It allocates its buffers before it writes the first byte, and nothing after
+/// that.
 fn write_memory<K: Sink>(alloc: Global, sink: &mut K, memory: &Shown) -> Result<(), RunError>
     requires { K.has_failed sink.old ≡ false }
     ensures written { OnOk result (Appends (K.contents sink.old) (K.contents sink.new) memory.now.bytes) }
@@ -122,7 +123,7 @@ fn write_memory<K: Sink>(alloc: Global, sink: &mut K, memory: &Shown) -> Result<
     flush(sink)
 }
 
-/// Writes all of an output and flushes. Where memory is refused nothing is written.
+/// Writes all of an output and flushes. Where memory runs out nothing is written.
 pub(crate) fn write_output<K: Sink>(
     alloc: Global,
     sink: &mut K,

@@ -28,13 +28,15 @@ use std::sync::Wait;
 use std::thread;
 use std::thread::Threads;
 use sweep_report::{report_text, sweep, sweep_text};
-use trace_codec::{Source, Timeline, TouchLog, read_bytes};
+use trace_codec::{Source, Timeline, read_bytes};
+use trace_readers::TouchLog;
 use working_sets::{Tables, TablesError, par_tables};
 
-/// How many touches there have to be for tables and plan to be made side by side: fewer take less time than a thread's start.
+/// How many touches there have to be for tables and plan to be made side by side: fewer take less time than to start a
+/// thread.
 const WORTH_A_THREAD: usize = 1 << 18;
 
-/// The same refusal, as one of a run.
+/// Returns a replay's error as one of a run.
 fn run_error_of(error: ReplayError) -> RunError
     ensures refused { (bytes : List ℕ) → RefusesReplay bytes error → RefusesText bytes result }
     ensures memory { error ≡ ReplayError.Memory → result ≡ RunError.Memory }
@@ -45,7 +47,7 @@ fn run_error_of(error: ReplayError) -> RunError
     }
 }
 
-/// The memory after all writes of the trace that the bytes spell.
+/// Returns the memory after all writes of the trace that the bytes encode.
 fn image_of_bytes(alloc: Global, bytes: &[u8]) -> Result<Vec<u8>, RunError>
     ensures made { IfOk result (λ v. (trace : GuestTrace) × Spells bytes.now trace × (v.items ≡ (image_of trace).bytes)) }
     ensures refused { IfErr result (RefusesText bytes.now) }
@@ -57,7 +59,7 @@ fn image_of_bytes(alloc: Global, bytes: &[u8]) -> Result<Vec<u8>, RunError>
     }
 }
 
-/// The memory after all writes of the trace that a source holds.
+/// Returns the memory after all writes of the trace that a source holds.
 fn image_output<S: Source>(alloc: Global, source: &mut S) -> Result<Vec<u8>, RunError>
     requires { S.has_failed source.old ≡ false }
     ensures made { IfOk result (λ v. (trace : GuestTrace) × IsTrace trace × SourceSpells (S.remaining source.old) trace × (v.items ≡ (image_of trace).bytes)) }
@@ -74,7 +76,7 @@ fn image_output<S: Source>(alloc: Global, source: &mut S) -> Result<Vec<u8>, Run
     }
 }
 
-/// The tables of what is touched, and its plan: side by side, where there are two workers and enough to do.
+/// Returns the tables of a log, and its plan: made side by side, where there are two workers and enough to do.
 fn tables_and_plan<R: Threads + Sync>(
     rt: &R,
     alloc: Global,
@@ -97,7 +99,7 @@ fn tables_and_plan<R: Threads + Sync>(
     thread::join(rt, tables, planned)
 }
 
-/// The text of a report, from its tables and its plan.
+/// Returns the text of a report, from its tables and its plan.
 fn text_of_report(
     alloc: Global,
     settings: &Settings,
@@ -113,7 +115,7 @@ fn text_of_report(
     report_text(alloc, &log.shape(), settings, tables, plan).or(Err(RunError::Memory))
 }
 
-/// The report on what is touched of a trace.
+/// Returns the report on a log of touches.
 fn report_of_log<R: Threads + Sync>(
     rt: &R,
     alloc: Global,
@@ -129,7 +131,7 @@ fn report_of_log<R: Threads + Sync>(
     text_of_report(alloc, settings, log, &tables, &planned)
 }
 
-/// The report on the trace that a source holds.
+/// Returns the report on the trace that a source holds.
 fn report_output<R: Threads + Sync, S: Source>(
     rt: &R,
     alloc: Global,
@@ -151,7 +153,7 @@ fn report_output<R: Threads + Sync, S: Source>(
     }
 }
 
-/// The sweep over what is touched of a trace.
+/// Returns the sweep over a log of touches.
 fn sweep_of_log<R: Threads + Sync>(
     rt: &R,
     alloc: Global,
@@ -166,7 +168,7 @@ fn sweep_of_log<R: Threads + Sync>(
     sweep_text(alloc, &lines).or(Err(RunError::Memory))
 }
 
-/// The sweep over the trace that a source holds.
+/// Returns the sweep over the trace that a source holds.
 fn sweep_output<R: Threads + Sync, S: Source>(
     rt: &R,
     alloc: Global,
@@ -189,7 +191,7 @@ fn sweep_output<R: Threads + Sync, S: Source>(
     }
 }
 
-/// The output of a job over the trace that a source holds.
+/// Returns the output of a job over the trace that a source holds.
 fn read_output<R: Threads + Wait + Sync, S: Source, G: Gate>(
     rt: &R,
     alloc: Global,
@@ -219,9 +221,9 @@ fn read_output<R: Threads + Wait + Sync, S: Source, G: Gate>(
     }
 }
 
-/// Runs one job: reads a trace to the end of the source, makes the whole output, and then writes it and flushes. Nothing
-/// is written while anything but a write can still fail, so each error but `Write` leaves nothing written, and that one a
-/// beginning. The threads of a live run call the gate; no other job does.
+/// Runs one job: reads a trace to the end of the source, makes the whole output, and then writes it and flushes. It
+/// writes nothing while anything but a write can still fail. So each error but `Write` leaves nothing written, and
+/// `Write` leaves a beginning of the output. The threads of a live run call the gate; no other job does.
 pub fn run<R: Threads + Wait + Sync, S: Source, K: Sink, G: Gate>(
     rt: &R,
     alloc: Global,

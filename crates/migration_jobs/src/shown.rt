@@ -10,14 +10,15 @@ ghost use Rattle.migration_jobs.specs.Shown.{memory_shown};
 use job_kinds::Show;
 use live_engine::Stopped;
 use std::marker::Model;
-use trace_codec::{Shape, TraceText, WriteLog};
+use trace_codec::{Shape, WriteLog};
+use trace_readers::HeldTrace;
 
-/// The memory of a guest that stopped, as it is or after the guest has resumed, where it stands: no page of it is copied
-/// before it is asked for, and none is refused.
+/// The memory of a guest that stopped, as it is or after the guest has resumed. A page is copied only when it is asked
+/// for, and no such copy fails.
 #[derive(Drop)]
 pub(crate) struct Shown {
     stopped: Stopped,
-    trace: TraceText,
+    trace: HeldTrace,
     show: Show,
 }
 
@@ -30,8 +31,8 @@ impl Model for Shown {
 }
 
 impl Shown {
-    /// What is shown of a guest that stopped.
-    pub(crate) fn new(stopped: Stopped, trace: TraceText, show: Show) -> Shown
+    /// Returns the memory of a guest that stopped, with what is to be shown of it.
+    pub(crate) fn new(stopped: Stopped, trace: HeldTrace, show: Show) -> Shown
         requires { IsStoppedAt trace stopped.versions.items stopped.index (memory_by stopped.memory) }
         ensures { result ≡ memory_shown show trace (memory_by stopped.memory) }
     {
@@ -42,7 +43,7 @@ impl Shown {
         }
     }
 
-    /// How many pages there are, and their size.
+    /// Returns how many pages there are, and their size.
     pub(crate) fn shape(&self) -> Shape
         ensures shift { result.shift ≡ self.now.shift }
         ensures pages { result.pages ≡ self.now.pages }
@@ -51,7 +52,7 @@ impl Shown {
         self.trace.shape()
     }
 
-    /// Puts the bytes of a page into a room of as many bytes.
+    /// Copies the bytes of a page into a buffer of as many bytes.
     fn page_into(&self, page: u32, room: &mut Vec<u8>)
         requires page { page < self.now.pages }
         requires room { length room.old.items ≡ 2 ^ self.now.shift }
@@ -63,7 +64,8 @@ impl Shown {
         }
     }
 
-    /// Puts some pages, one after the other, into a piece that has room for them. What stood there goes.
+    /// Copies some pages, one after the other, into a piece that has the capacity for them. What the piece held is
+    /// lost.
     pub(crate) fn fill(&self, first: u32, end: u32, room: &mut Vec<u8>, piece: &mut Vec<u8>)
         requires order { first ≤ end }
         requires within { end ≤ self.now.pages }
@@ -73,7 +75,7 @@ impl Shown {
         ensures room { length room.new.items ≡ 2 ^ self.now.shift }
         ensures capacity { vec_capacity piece.old ≤ vec_capacity piece.new }
     {
-        // How large the memory is, is known where it was asked for its shape.
+        // The size of the memory is known once its shape was read.
         let _ = self.shape();
         piece.clear();
         for page in first..end {

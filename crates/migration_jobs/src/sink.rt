@@ -20,26 +20,26 @@ pub trait Sink {
     // Whether nothing was written since the last flush.
     ghost is_flushed: { Self → Bool };
 
-    /// Writes the first of some bytes, and answers how many. None is a write that failed or took none of some, after
+    /// Writes the first of some bytes, and returns how many. None is a write that failed or took none of some, after
     /// which the sink may not be used again.
     fn write(&mut self, bytes: &[u8]) -> Option<usize>
         requires { has_failed self.old ≡ false }
         ensures written { WritesTo (contents self.old) (contents self.new) result bytes.now }
         ensures failed { has_failed self.new ≡ is_none result };
 
-    /// Passes on what was written, and answers whether that went well.
+    /// Passes on what was written, and returns whether that went well.
     fn flush(&mut self) -> bool
         requires { has_failed self.old ≡ false }
         ensures kept { Keeps (contents self.old) (contents self.new) }
         ensures failed { has_failed self.new ≡ not result }
         ensures flushed { OnTrue result (is_flushed self.new ≡ true) };
 
-    /// Whether a write or a flush failed.
+    /// Returns whether a write or a flush failed.
     fn failed(&self) -> bool
         ensures { result ≡ has_failed self.now };
 }
 
-/// One of std's writers as a sink. A write that a signal interrupts is tried again.
+/// One of std's writers as a sink. It tries a write again that a signal interrupts.
 #[derive(Drop)]
 pub struct FromWrite<W: Write + Drop> {
     writer: W,
@@ -54,7 +54,7 @@ impl<W: Write + Drop> Model for FromWrite<W> {
 }
 
 impl<W: Write + Drop> FromWrite<W> {
-    /// The sink that adds to what the writer holds.
+    /// Returns the sink that adds to what the writer holds.
     pub fn new(writer: W) -> FromWrite<W>
         ensures { result ≡ sink_state (W.contents writer) false false }
     {

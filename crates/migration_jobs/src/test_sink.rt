@@ -1,4 +1,4 @@
-//! A sink into memory, for tests of what writes.
+//! A sink into memory, for tests.
 
 ghost use Rattle.std.specs.Prelude.{◌≡◌, Some, false};
 ghost use Rattle.migration_jobs.specs.Sink.{SinkState, sink_state};
@@ -6,7 +6,7 @@ ghost use Rattle.migration_jobs.specs.Sink.{SinkState, sink_state};
 use crate::sink::Sink;
 use std::marker::Model;
 
-/// A sink that tells its bytes, takes them in pieces of a bounded size, and can fail.
+/// A sink whose bytes are known, which takes them in pieces of a bounded size, and can fail.
 #[derive(Debug, Drop)]
 pub struct TestSink {
     bytes: Vec<u8>,
@@ -25,9 +25,9 @@ impl Model for TestSink {
 }
 
 impl TestSink {
-    /// A sink that adds to these bytes, in the room that they have or can get, at most `greatest` in one write; with
-    /// 0 it takes none of any. The write numbered `failing_call`, counted from 1, fails, and `flush_fails` says whether
-    /// each flush does.
+    /// Returns a sink that adds to these bytes, in the capacity that they have or can get, at most `greatest` in one
+    /// write; with 0 it takes none of any. The write numbered `failing_call`, counted from 1, fails, and `flush_fails`
+    /// says whether each flush does.
     pub fn new(
         bytes: Vec<u8>,
         greatest: usize,
@@ -47,7 +47,7 @@ impl TestSink {
         }
     }
 
-    /// What the sink holds.
+    /// Returns what the sink holds.
     pub fn bytes(&self) -> &[u8]
         ensures { Some result.now ≡ self.now.contents }
     {

@@ -21,7 +21,7 @@ record Below (size stamp : ℕ) (content : List ℕ) (c : PageCopy) : Type 0 whe
   pub same : c.stamp ≡ stamp → c.content ≡ content
   pub size_is : length c.content ≡ size
 
--- it is this one
+-- the copy is this one
 record Is (size stamp : ℕ) (content : List ℕ) (c : PageCopy) : Type 0 where
   pub content_is : c.content ≡ content
   pub stamp_is : c.stamp ≡ stamp
@@ -189,7 +189,7 @@ current_whole trace shape versions parts are p low lacks =
     let found = are.current p low in
     some_there (copy_at found.1 p) (get_or versions p 0) found.4 (ap (λ (q : GuestPart). copy_at q p) (sym found.3) ∙ lacks found.0 found.1 found.2)
 
--- it is as long as the guest's pages
+-- memory made of such parts is as long as the guest's pages
 current_sizes : (trace : GuestTrace) (shape : GuestShape) (versions : List ℕ) (parts : List GuestPart) → AreCurrent trace shape versions parts
     → length (memory_in (join_all shape parts)).bytes ≡ (memory_in (join_all shape parts)).pages * 2 ^ (memory_in (join_all shape parts)).shift
 current_sizes trace shape versions parts are =

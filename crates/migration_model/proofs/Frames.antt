@@ -12,7 +12,7 @@ use Rattle.migration_model.specs.Numbers.{text_of, number_in}
 use Rattle.migration_model.specs.Frames.{GuestShape, IsGuestShape, IsZeros, PageFrame, frame_with, IsFrame, content_of, body_text, frame_text, SpellsFrame}
 use Rattle.migration_model.proofs.Numbers.{wide32}
 
--- a frame whose numbers have room
+-- a frame whose numbers fit their widths
 pub record HasRoom (frame : PageFrame) : Type 0 where
   pub page : frame.page < 2 ^ 32
   pub stamp : frame.stamp < 2 ^ 32
@@ -37,7 +37,7 @@ pub length-frame_text : (frame : PageFrame) → length (frame_text frame) ≡ 8 
 unfolding frame_text text_of
 length-frame_text frame = omega arith
 
--- two bodies of one size, each in front of something
+-- two bodies of one size, each in front of some bytes
 same_body : (size : ℕ) (a b : Option (List ℕ)) (r s : List ℕ) → IfSome a (λ bytes. (length bytes ≡ size) × ¬ IsZeros bytes) → IfSome b (λ bytes. (length bytes ≡ size) × ¬ IsZeros bytes)
     → body_text a ++ r ≡ body_text b ++ s → (a ≡ b) × (r ≡ s)
 same_body size None None r s fits_a fits_b same = (refl, ap (λ (x : List ℕ). drop 1 x) same)
@@ -54,7 +54,7 @@ same_body size (Some bytes) (Some others) r s fits_a fits_b same =
 pub same_frame : (f g : PageFrame) → f.page ≡ g.page → f.stamp ≡ g.stamp → f.body ≡ g.body → f ≡ g
 same_frame f g page stamp body = λ i. record { page = page i; stamp = stamp i; body = body i }
 
--- two spellings of one shape, each in front of something: they are of one frame, and have the same behind them
+-- two encodings of one shape, each in front of some bytes: they are of one frame, and have the same bytes behind them
 pub same_front : (shape : GuestShape) (f g : PageFrame) (r s : List ℕ) → IsGuestShape shape → IsFrame shape f → IsFrame shape g
     → frame_text f ++ r ≡ frame_text g ++ s → (f ≡ g) × (r ≡ s)
 same_front shape f g r s is fits_f fits_g same =

@@ -6,7 +6,7 @@ use Rattle.std.proofs.lemmas.List.{length-take, get_or-take, get_or_past}
 use Rattle.std.proofs.lemmas.Nat.{le_bytes_2, le_bytes_4, le_bytes_8, from_le_bytes-to_le_bytes_2, from_le_bytes-to_le_bytes_4, from_le_bytes-to_le_bytes_8}
 use Rattle.migration_model.specs.Numbers.{IsBytes, text_of, number_in}
 
--- a width of numbers, and how many they are
+-- a width of numbers: how many bytes it has, and how many numbers fit
 pub record IsWide (w : Width) (len limit : ℕ) : Type 0 where
   pub length_text : (n : ℕ) → length (text_of w n) ≡ len
   pub again : (n : ℕ) (rest : List ℕ) → n < limit → number_in w (text_of w n ++ rest) ≡ n

@@ -136,7 +136,7 @@ later_one (Some a) (Some b) c is = elim (cases_lt a.stamp b.stamp) [
   | inr le ↦ inl (sym (later_first a b le) ∙ is)
 ]
 
--- and so does their join stay honest
+-- the join of honest parts is honest
 pub IsHonest-join : (trace : GuestTrace) (a b : GuestPart) → IsHonest trace a → IsHonest trace b → IsHonest trace (join a b)
 IsHonest-join trace a b honest_a honest_b page c is =
     elim (later_one (get_or a.copies page None) (get_or b.copies page None) c (sym (get_or-later_each a.copies b.copies page) ∙ is)) [

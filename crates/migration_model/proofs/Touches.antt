@@ -13,7 +13,7 @@ use Rattle.migration_model.specs.Versions.{IsWritten}
 no_write : GuestWrite
 no_write = write_with 0 0 0 []
 
--- a touch is that of the write in its place
+-- a touch is that of the write with the same index
 touch_at : (writes : List GuestWrite) (i : ℕ) (d : GuestTouch) → i < length writes → get_or (map touch_of writes) i d ≡ touch_of (get_or writes i no_write)
 touch_at writes i d low = get_or-map touch_of writes i no_write d low
 

@@ -1,4 +1,4 @@
--- One text spells one trace.
+-- Bytes encode at most one trace.
 use Rattle.std.proofs.Common.{◌≡◌, ℕ, ◌^◌, ◌<◌, List, [], ◌++◌, length, get_or, drop, refl, sym, ap, ◌∙◌, arith}
 use Rattle.std.specs.Int.{w32}
 use Rattle.std.specs.List.{AllByRecursion, flat_map}
@@ -14,7 +14,7 @@ pub length-header_text : (shift pages count : ℕ) → length (header_text shift
 unfolding header_text text_of
 length-header_text shift pages count = refl
 
--- the fields of a header, read from any text that begins with it
+-- the fields of a header, read from any bytes that begin with it
 pub shift_again : (shift pages count : ℕ) (rest : List ℕ) → get_or (header_text shift pages count ++ rest) 5 0 ≡ shift
 unfolding header_text
 shift_again shift pages count rest = refl
@@ -34,7 +34,7 @@ pub AllHavePlaces : (shift pages : ℕ) (writes : List GuestWrite) → IsGuestSi
 AllHavePlaces shift pages writes size fits =
     recursion_from_All HasPlaces writes (All-weaker (IsGuestWrite shift pages) HasPlaces (λ write is. HasPlaces-from_guest shift pages write size is) writes fits.each)
 
--- what is read from the spelling of a trace
+-- what is read from the encoding of a trace
 pub record ReadsBack (bytes : List ℕ) (trace : GuestTrace) : Type 0 where
   pub shift : get_or bytes 5 0 ≡ trace.shift
   pub pages : number_in w32 (drop 8 bytes) ≡ trace.pages

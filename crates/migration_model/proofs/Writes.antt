@@ -9,7 +9,7 @@ use Rattle.migration_model.specs.Trace.{GuestWrite, IsGuestSize, IsGuestWrite, w
 use Rattle.migration_model.specs.TraceReading.{page_in, offset_in, length_in, write_in, rest_after, writes_in, rest_of}
 use Rattle.migration_model.proofs.Numbers.{IsWide, wide16, wide32, wide64}
 
--- a write whose fields fit their places on the trace
+-- a write whose fields fit their widths in a record
 pub record HasPlaces (write : GuestWrite) : Type 0 where
   pub tick : write.tick < 2 ^ 64
   pub page : write.page < 2 ^ 32
@@ -79,7 +79,7 @@ HasPlaces-read bytes fits long =
       len = omega (arith, len, length-take (length_in bytes) (drop 16 bytes));
     }
 
--- a number in front of what stands behind it
+-- a number in front of the bytes behind it
 pub number_front : (w : Width) (len limit : ℕ) → IsWide w len limit → (bytes behind : List ℕ) → IsBytes bytes → len ≤ length bytes
     → behind ≡ drop len bytes → text_of w (number_in w bytes) ++ behind ≡ bytes
 number_front w len limit wide bytes behind fits long is =
@@ -91,7 +91,7 @@ pub write_text-append : (write : GuestWrite) (rest : List ℕ) → write_text wr
 unfolding write_text text_of
 write_text-append write rest = refl
 
--- the bytes are the write that is read at their front, and what stands behind it
+-- the bytes are the write that is read at their front, and the bytes behind it
 pub text_read : (bytes : List ℕ) → IsBytes bytes → 16 + length_in bytes ≤ length bytes → bytes ≡ write_text (write_in bytes) ++ rest_after bytes
 unfolding write_in rest_after
 text_read bytes fits long =
@@ -134,7 +134,7 @@ pub length-writes_in : (n : ℕ) (bytes : List ℕ) → length (writes_in n byte
 length-writes_in zero bytes = refl
 length-writes_in (suc n) bytes = ap suc (length-writes_in n (rest_after bytes))
 
--- the writes that were written one after another are read again, and then what stands behind them
+-- the writes that were written one after another are read again, and then the bytes behind them
 pub writes_again : (writes : List GuestWrite) (rest : List ℕ) → AllByRecursion HasPlaces writes → writes_in (length writes) (flat_map write_text writes ++ rest) ≡ writes
 writes_again [] rest fits = refl
 writes_again (write ∷ writes) rest fits =
@@ -149,9 +149,10 @@ rest_of_again (write ∷ writes) rest fits =
     ap (rest_of (suc (length writes))) grouped
     ∙ ap (rest_of (length writes)) (rest_again write (flat_map write_text writes ++ rest) fits.0) ∙ rest_of_again writes rest fits.1
 
--- ---- one text's writes in another's
+-- ---- the writes of some bytes in others
 
--- Writes in front of a text that is all writes are the first of those, and behind them stands the text of the others.
+-- Writes in front of bytes that are all writes are the first of those, and behind them stands the encoding of the
+-- others.
 pub front_writes : (writes all : List GuestWrite) (rest : List ℕ) → AllByRecursion HasPlaces writes → AllByRecursion HasPlaces all
     → length writes ≤ length all → flat_map write_text writes ++ rest ≡ flat_map write_text all
     → (others : List GuestWrite) × (all ≡ writes ++ others) × (rest ≡ flat_map write_text others)

@@ -1,6 +1,6 @@
 -- The final copy of a guest that stands still: each page that is still marked comes once more, as it is now. That a
--- pre-copy migration ends so is of Clark and others, "Live Migration of Virtual Machines" (2005), on stop-and-copy;
--- parts, stamps and versions are this project's own.
+-- pre-copy migration ends so is of Clark and others, "Live Migration of Virtual Machines" (2005), section 3.1, on
+-- stop-and-copy. Parts, stamps and versions are this project's own.
 use Rattle.std.specs.Prelude.{◌≡◌, ℕ, ◌<◌, ◌&&◌, ◌==◌, Bool, if◌then◌else◌, IsTrue, List, length, slice_index_or, Some}
 use Rattle.migration_model.specs.Trace.{GuestTrace}
 use Rattle.migration_model.specs.Versions.{page_at}
@@ -15,7 +15,8 @@ shape_of_trace trace = shape_with trace.shift trace.pages (length trace.writes)
 abbrev pub current_copy : GuestTrace → List ℕ → ℕ → PageCopy
 current_copy trace versions page = record { stamp = slice_index_or versions page 0; content = page_at trace page (slice_index_or versions page 0) }
 
--- a part after it took the current copy of each of some pages: of those it has the later copy, and all others as before
+-- a part after it took the current copy of each page that `takes` passes: of those it has the later copy, of all
+-- others its own
 pub record TakesCurrent (trace : GuestTrace) (versions : List ℕ) (takes : ℕ → Bool) (old new : GuestPart) : Type 0 where
   pub is_part : IsPart new
   pub shape : new.shape ≡ old.shape

@@ -1,4 +1,4 @@
--- Pages as they are sent, each at one of its versions, and the one spelling of each. The format is this project's own.
+-- Pages as they are sent, each at one of its versions, and the one encoding of each. The format is this project's own.
 use Rattle.std.specs.Prelude.{◌≡◌, ℕ, ◌^◌, ◌<◌, ◌≤◌, List, [], ◌∷◌, ◌++◌, length, replicate, Option, Some, None, IfSome, unwrap_or}
 use Rattle.std.specs.Int.{w32}
 use Rattle.std.specs.List.{All, flat_map}
@@ -19,7 +19,7 @@ pub record IsGuestShape (shape : GuestShape) : Type 0 where
   pub size : IsGuestSize shape.shift shape.pages
   pub few : shape.writes ≤ 2 ^ 20
 
--- each byte is 0
+-- each of these bytes is 0
 abbrev pub IsZeros : List ℕ → Type 0
 IsZeros bytes = All (λ byte. byte ≡ 0) bytes
 
@@ -43,21 +43,21 @@ pub record IsFrame (shape : GuestShape) (frame : PageFrame) : Type 0 where
 abbrev pub content_of : GuestShape → PageFrame → List ℕ
 content_of shape frame = unwrap_or frame.body (replicate (2 ^ shape.shift) 0)
 
--- the kind of a body, and behind it the bytes that it has
+-- the byte that tells the kind of a body, and then the bytes that the body has
 abbrev pub body_text : Option (List ℕ) → List ℕ
 body_text None = 0 ∷ []
 body_text (Some bytes) = 1 ∷ bytes
 
--- a frame on a stream: page, stamp, and the body
+-- the encoding of a frame: page, stamp, and the body
 unfoldable pub frame_text : PageFrame → List ℕ
 frame_text frame = text_of w32 frame.page ++ (text_of w32 frame.stamp ++ body_text frame.body)
 
--- these bytes are the spelling of this frame
+-- these bytes are the encoding of this frame
 pub record SpellsFrame (shape : GuestShape) (bytes : List ℕ) (frame : PageFrame) : Type 0 where
   pub is_frame : IsFrame shape frame
   pub text : bytes ≡ frame_text frame
 
--- these bytes are a stream of these frames: one after the other, and nothing else
+-- these bytes are a stream of these frames: their encodings one after the other, and nothing else
 pub record SpellsStream (shape : GuestShape) (bytes : List ℕ) (frames : List PageFrame) : Type 0 where
   pub are_frames : All (IsFrame shape) frames
   pub text : bytes ≡ flat_map frame_text frames

@@ -11,7 +11,7 @@ abbrev pub bytes_of : Option PageCopy → List ℕ
 bytes_of None = []
 bytes_of (Some copy) = copy.content
 
--- what a part has of the first pages, so many, one after the other
+-- what a part has of its first pages, so many, one page after the other
 abbrev pub bytes_of_first : GuestPart → ℕ → List ℕ
 bytes_of_first part count = flat_map (λ page. bytes_of (copy_at part page)) (range_with_len 0 count)
 
@@ -49,7 +49,7 @@ pub record AreNotBeyond (trace : GuestTrace) (shape : GuestShape) (versions : Li
 abbrev pub HaveCurrent : List ℕ → List GuestPart → ℕ → Type 0
 HaveCurrent versions parts page = Any (λ part. IsSomeAnd (copy_at part page) (λ copy. copy.stamp ≡ slice_index_or versions page 0)) parts
 
--- such parts, of which some has each page at its version
+-- parts that are not beyond, of which some part has each page at its version
 pub record AreCurrent (trace : GuestTrace) (shape : GuestShape) (versions : List ℕ) (parts : List GuestPart) : Type 0 where
   pub not_beyond : AreNotBeyond trace shape versions parts
   pub current : (page : ℕ) → page < shape.pages → HaveCurrent versions parts page

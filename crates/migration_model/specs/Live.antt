@@ -1,6 +1,6 @@
 -- Live rounds of a migration, and the law that they keep. After Clark and others, "Live Migration of Virtual Machines"
--- (2005), section 4: each round sends the pages that were dirtied during the round before, and may leave out those that
--- are dirtied again. Versions, copiers and the order of a scan are this project's own.
+-- (2005), section 4: each round sends the pages that were dirtied during the round before. After their section 5.4, it
+-- may leave out those that are dirtied again. Versions, copiers and the order of a scan are this project's own.
 use Rattle.std.specs.Prelude.{◌≡◌, ◌⊎◌, ℕ, ◌-◌, ◌/◌, ◌%◌, ◌<◌, ◌≤◌, ◌==◌, Bool, true, List, [], ◌∷◌, ◌++◌, length, map, take, Some, slice_get}
 use Rattle.std.specs.List.{Any, AllPairs, Contains, count_by, flat_map}
 use Rattle.migration_model.specs.Trace.{GuestTrace, GuestWrite}
@@ -36,7 +36,7 @@ IsSentWith round page stamp = Contains round.sent (page, stamp)
 abbrev pub IsListed : LiveRound → ℕ → Type 0
 IsListed round page = Contains (pages_sent round) page ⊎ (Contains round.skipped page ⊎ Contains round.deferred page)
 
--- of so many copiers the one that a page is of: words of 64 pages go round the copiers one by one
+-- the copier, of so many, that a page belongs to: words of 64 pages go round the copiers one by one
 abbrev pub page_copier : ℕ → ℕ → ℕ
 page_copier copiers page = page / 64 % copiers
 
@@ -82,7 +82,8 @@ pub record KeepsLaw (trace : GuestTrace) (skip : Bool) (copiers lane : ℕ) (pla
       → (stamp ≡ version_before trace page plan.from) ⊎ IsPlaceOf trace page plan.from plan.to stamp
   -- a page is skipped only where skipping is on, not in the first round, and where the page is written in this round
   pub skips : (page : ℕ) → Contains round.skipped page → (skip ≡ true) × (1 ≤ length rounds) × IsWritten trace plan.from plan.to page
-  -- a page is deferred only where its copier sent as many pages, in this round and those before, as a lane holds
+  -- a page is deferred only where its copier sent at least as many pages, in this round and those before, as a lane
+  -- holds
   pub defers : (page : ℕ) → Contains round.deferred page → lane ≤ sent_by_copier copiers (rounds ++ round ∷ []) (page_copier copiers page)
 
 -- The law of live rounds: there are as many as were planned, and each keeps the law after those before it.

@@ -21,7 +21,7 @@ pub record IsMemory (shift pages : ℕ) (bytes : List ℕ) : Type 0 where
 abbrev pub zeros : ℕ → ℕ → GuestMemory
 zeros shift pages = memory_with shift pages (replicate (pages * 2 ^ shift) 0)
 
--- a list with some of its bytes replaced, from a place on
+-- a list with some of its bytes replaced, from an offset on
 abbrev pub put : List ℕ → ℕ → List ℕ → List ℕ
 put memory place bytes = take place memory ++ (bytes ++ drop (place + length bytes) memory)
 

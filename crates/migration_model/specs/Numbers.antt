@@ -2,11 +2,11 @@
 use Rattle.std.specs.Prelude.{ℕ, ◌<◌, List, slice_index}
 use Rattle.std.specs.Int.{Width, to_le_bytes, from_le_bytes}
 
--- the bytes of a number, as many as the width has
+-- the encoding of a number: as many bytes as the width has
 unfoldable pub text_of : Width → ℕ → List ℕ
 text_of w n = to_le_bytes w n
 
--- the number that the first bytes spell, as many as the width has
+-- the number that the first bytes encode, as many as the width has
 unfoldable pub number_in : Width → List ℕ → ℕ
 number_in w bytes = from_le_bytes w bytes
 

@@ -1,4 +1,5 @@
--- Parts of a guest's memory at the destination, put together from frames in whatever order they come. This project's own.
+-- Parts of a guest's memory at the destination, put together from frames in whatever order they come. This project's
+-- own.
 use Rattle.std.specs.Prelude.{◌≡◌, ℕ, ◌^◌, ◌≤◌, nat_lt, if◌then◌else◌, List, [], ◌∷◌, length, replicate, slice_index_or, slice_set, Option, Some, None, IfSome}
 use Rattle.std.specs.List.{Contains, fold}
 use Rattle.migration_model.specs.Trace.{GuestTrace}
@@ -10,7 +11,7 @@ pub record PageCopy : Type 0 where
   pub stamp : ℕ
   pub content : List ℕ
 
--- A finite map from pages to copies, as a list with a place for each page of the guest.
+-- A finite map from pages to copies, as a list with a slot for each page of the guest.
 pub record GuestPart : Type 0 where
   pub shape : GuestShape
   pub copies : List (Option PageCopy)
@@ -36,23 +37,23 @@ pub record IsPart (part : GuestPart) : Type 0 where
 abbrev pub empty_part : GuestShape → GuestPart
 empty_part shape = part_with shape (replicate shape.pages None)
 
--- of two copies of a page the one with the greater stamp, and the first where the stamps are equal
+-- of two copies of a page, the one with the greater stamp, and the first where the stamps are equal
 abbrev pub later : Option PageCopy → Option PageCopy → Option PageCopy
 later None second = second
 later (Some first) None = Some first
 later (Some first) (Some second) = if nat_lt first.stamp second.stamp then Some second else Some first
 
--- the same page by page
+-- the later copy of each page, of two lists of copies
 abbrev pub later_each : List (Option PageCopy) → List (Option PageCopy) → List (Option PageCopy)
 later_each [] seconds = seconds
 later_each (first ∷ firsts) [] = first ∷ firsts
 later_each (first ∷ firsts) (second ∷ seconds) = later first second ∷ later_each firsts seconds
 
--- the join of two parts of one guest
+-- the join of two parts of one guest: of each page the later copy
 abbrev pub join : GuestPart → GuestPart → GuestPart
 join first second = part_with first.shape (later_each first.copies second.copies)
 
--- the join of all of them, in order
+-- the join of all parts of a list, in order
 abbrev pub join_all : GuestShape → List GuestPart → GuestPart
 join_all shape parts = fold join (empty_part shape) parts
 

@@ -1,11 +1,11 @@
--- The settings of a migration, how long rounds last, how fast pages are dirtied, and when pre-copying ends.
--- After Clark and others, "Live Migration of Virtual Machines" (2005), on dynamic rate limiting: a first round at the
--- least rate, later ones at the dirtying rate before plus a constant, an end where that is above the greatest rate or
--- where little remains. A rate is in pages per 1,000 ticks.
+-- The settings of a migration, how long rounds last, how fast pages are dirtied, and when pre-copying ends. After
+-- Clark and others, "Live Migration of Virtual Machines" (2005), section 5.3, on dynamic rate limiting. The first
+-- round has the least rate. Later ones have the dirtying rate before plus a constant. Rounds end where that is above
+-- the greatest rate, or where little remains. A rate is in pages per 1,000 ticks.
 use Rattle.std.specs.Prelude.{ℕ, ◌+◌, ◌*◌, ◌^◌, ◌<◌, ◌≤◌, ◌==◌, nat_lt, max, Bool, if◌then◌else◌, List, codes}
 use Rattle.std.specs.Int.{div_ceil}
 
--- what a migration and a report are asked to keep to
+-- the settings of a migration and of a report
 pub record MigrationSettings : Type 0 where
   pub min : ℕ
   pub max : ℕ
@@ -46,15 +46,17 @@ pub record AreSettings (s : MigrationSettings) : Type 0 where
   pub lane_low : 1 ≤ s.lane
   pub lane_high : s.lane ≤ 65_536
 
--- The ticks that so many pages take at a rate, rounded up. The rounding is this project's own.
+-- How long so many pages take at a rate, in ticks, rounded up. The rounding is this project's own.
 abbrev pub duration_of : ℕ → ℕ → ℕ
 duration_of pages rate = div_ceil (1_000 * pages) rate
 
--- The rate at which so many pages were dirtied in these ticks, rounded up. The rounding is this project's own.
+-- The rate at which so many pages were dirtied in these ticks, in pages per 1,000 ticks, rounded up. The rounding is
+-- this project's own.
 abbrev pub dirtying_rate_of : ℕ → ℕ → ℕ
 dirtying_rate_of pages ticks = div_ceil (1_000 * pages) ticks
 
--- the rate of the next round, before it is raised: the dirtying rate plus the increment (Clark)
+-- the rate of the next round before it is raised to the least one: the dirtying rate plus the increment (Clark and
+-- others)
 abbrev pub candidate_of : MigrationSettings → ℕ → ℕ → ℕ
 candidate_of s dirtied ticks = dirtying_rate_of dirtied ticks + s.increment
 
@@ -69,9 +71,10 @@ pub data AfterRound : Type 0 where
   goes_on : ℕ → AfterRound
   stops : StopReason → AfterRound
 
--- What comes after a round that lasted these ticks, in which so many pages were dirtied, so many rounds being done.
--- Few pages and a rate above the greatest are Clark's ends. That the increment counts in the second, the third test,
--- their order, and that the next rate is raised to the least, are this project's own.
+-- What comes after a round that lasted these ticks, in which so many pages were dirtied, and after which so many
+-- rounds are done. Few pages, and a rate above the greatest, are the ends that Clark and others have. This project's
+-- own are: that the increment counts in the second test, the third test, the order of the tests, and that the next
+-- rate is raised to the least.
 abbrev pub after_round : MigrationSettings → ℕ → ℕ → ℕ → AfterRound
 after_round s dirtied ticks done =
     if nat_lt dirtied s.threshold then stops few_remain
@@ -79,7 +82,7 @@ after_round s dirtied ticks done =
     else (if done == s.rounds then stops rounds_done
     else goes_on (max (candidate_of s dirtied ticks) s.min)))
 
--- the word that reports have for a reason
+-- the word that reports write for a reason
 abbrev pub word_of : StopReason → List ℕ
 word_of few_remain = codes "few"
 word_of too_fast = codes "fast"

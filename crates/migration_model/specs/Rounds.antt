@@ -1,7 +1,7 @@
 -- The planned rounds of a pre-copy migration. After Clark and others, "Live Migration of Virtual Machines" (2005),
--- section 4: the first round sends all pages, each later one those that were dirtied during the round before, and a page
--- that is dirtied again while a round goes on need not be sent in it. Ticks, roundings and the rising order of a round's
--- scan are this project's own.
+-- section 4: the first round sends all pages, and each later one those that were dirtied during the round before.
+-- After their section 5.4, a page that is dirtied again while a round goes on need not be sent in it. Ticks, roundings
+-- and the rising order of a round's scan are this project's own.
 use Rattle.std.specs.Prelude.{◌≡◌, ℕ, ◌+◌, ◌-◌, ◌*◌, ◌/◌, ◌&&◌, nat_lt, nat_le, not, Bool, List, [], ◌∷◌, length}
 use Rattle.std.specs.List.{count_by, filter, range_with_len, sum_by}
 use Rattle.migration_model.specs.Touches.{GuestTouch, is_written, pages_written}
@@ -17,7 +17,8 @@ pub record PlannedRound : Type 0 where
   pub sent : List ℕ
   pub dirtied : ℕ
 
--- the rounds, why they end, the tick at which the guest is stopped, the pages that are sent then, and how long that takes
+-- the rounds, why they end, the tick at which the guest is stopped, the pages that are sent then, and how many ticks
+-- that takes
 pub record MigrationPlan : Type 0 where
   pub rounds : List PlannedRound
   pub reason : StopReason
@@ -36,13 +37,13 @@ total_of plan = sum_by (λ round. length round.sent) plan.rounds + length plan.l
 abbrev pub pages_below : ℕ → List ℕ → ℕ
 pages_below page pages = count_by (λ other. nat_lt other page) pages
 
--- The pages of a round that are sent, of all of its pages. Where skipping is on, a page is among them exactly when it is
--- not written in the ticks that those below it take, rounded down; else all are.
+-- The pages of a round that are sent, of all of its pages. Where skipping is on, a page is among them exactly when it
+-- is not written in the ticks that the pages below it take, rounded down. Where skipping is off, all are sent.
 abbrev pub IsSent : Bool → List GuestTouch → ℕ → ℕ → List ℕ → List ℕ → Type 0
 IsSent skip touches from rate pages sent =
     sent ≡ filter (λ page. not (skip && is_written touches from (from + 1_000 * pages_below page sent / rate) page)) pages
 
--- what a migration has come to: so many rounds done, and the first tick, the rate and the pages of the next
+-- where a migration stands: so many rounds done, and the first tick, the rate and the pages of the next round
 pub record NextRound : Type 0 where
   pub done : ℕ
   pub from : ℕ
@@ -67,7 +68,8 @@ pub record IsRound (pages : ℕ) (touches : List GuestTouch) (s : MigrationSetti
   pub to_is : round.to ≡ round.from + duration_of (length round.sent) round.rate
   pub dirtied_is : round.dirtied ≡ length (pages_written pages touches round.from round.to)
 
--- what is left after the last round: the guest stops where that ends, and what was dirtied meanwhile goes at the greatest rate
+-- what is left after the last round: the guest stops where that ends, and the pages dirtied meanwhile go at the
+-- greatest rate
 pub record IsEnd (pages : ℕ) (touches : List GuestTouch) (s : MigrationSettings) (round : PlannedRound) (plan : MigrationPlan) : Type 0 where
   pub stop_is : plan.stop ≡ round.to
   pub last_is : plan.last ≡ pages_written pages touches round.from round.to
@@ -78,7 +80,7 @@ abbrev pub InEither : AfterRound → (ℕ → Type 0) → (StopReason → Type 0
 InEither (goes_on rate) Next End = Next rate
 InEither (stops reason) Next End = End reason
 
--- These rounds are the next ones and all that follow: after each the stop tests say whether there is one more.
+-- These rounds are the next one and all that follow: after each the stop tests say whether there is one more.
 abbrev pub AreRounds : ℕ → List GuestTouch → MigrationSettings → NextRound → List PlannedRound → MigrationPlan → Type 0
 AreRounds pages touches s now [] plan = ⊥
 AreRounds pages touches s now (round ∷ rounds) plan =

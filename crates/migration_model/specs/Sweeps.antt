@@ -1,12 +1,13 @@
--- Sweeps: what the plans of some settings come to, and the best of them. Clark and others (2005) weigh the downtime and the
--- pages sent against one another; that the downtime counts first is this project's own.
+-- Sweeps: what the plans of some settings come to, and the best of them. Clark and others (2005) weigh the downtime
+-- and the pages sent against one another; that the downtime counts first is this project's own.
 use Rattle.std.specs.Prelude.{◌≡◌, ℕ, ◌&&◌, ◌||◌, ◌==◌, nat_lt, not, Bool, List, length}
 use Rattle.std.specs.List.{AllZip, list_any, position_or_len}
 use Rattle.migration_model.specs.Touches.{GuestTouch}
 use Rattle.migration_model.specs.Rates.{MigrationSettings, StopReason}
 use Rattle.migration_model.specs.Rounds.{MigrationPlan, IsPlan, total_of}
 
--- what a plan comes to: how many rounds it has, why and when they end, the downtime, and how many pages are sent in all
+-- what a plan comes to: how many rounds it has, why and when they end, the downtime, and how many pages are sent in
+-- all
 pub record PlanOutcome : Type 0 where
   pub rounds : ℕ
   pub reason : StopReason
@@ -43,11 +44,11 @@ pub record IsLineOf (pages : ℕ) (touches : List GuestTouch) (s : MigrationSett
 abbrev pub AreLines : ℕ → List GuestTouch → List MigrationSettings → List SweepLine → Type 0
 AreLines pages touches cases lines = AllZip (IsLineOf pages touches) cases lines
 
--- whether a line has a lesser pair of downtime and pages sent than another
+-- whether a line has less downtime than another, or equal downtime and fewer pages sent
 abbrev pub is_better : SweepLine → SweepLine → Bool
 is_better a b = nat_lt a.outcome.down b.outcome.down
     || ((a.outcome.down == b.outcome.down) && nat_lt a.outcome.total b.outcome.total)
 
--- the number of the best line, from 0: the first than which none is better
+-- the index of the best line, from 0: the first than which none is better
 abbrev pub best_of : List SweepLine → ℕ
 best_of lines = position_or_len (λ line. not (list_any (λ other. is_better other line) lines)) lines

@@ -1,4 +1,4 @@
--- When pages are written, without what is written: all that working sets and rounds look at.
+-- When pages are written, without the bytes: all that working sets and rounds need.
 use Rattle.std.specs.Prelude.{ℕ, ◌^◌, ◌<◌, ◌≤◌, ◌&&◌, ◌==◌, nat_lt, nat_le, Bool, List, length, map}
 use Rattle.std.specs.List.{All, list_any, filter, range_with_len}
 use Rattle.std.specs.List.Sorted.{IsNonDecreasingBy}
@@ -18,7 +18,7 @@ no_touch = touch_with 0 0
 abbrev pub touch_of : GuestWrite → GuestTouch
 touch_of write = touch_with write.tick write.page
 
--- the same of all writes of a trace, in order
+-- the touches of all writes of a trace, in order
 abbrev pub touches_of : GuestTrace → List GuestTouch
 touches_of trace = map touch_of trace.writes
 
@@ -33,16 +33,16 @@ pub record AreTouches (pages : ℕ) (touches : List GuestTouch) : Type 0 where
   pub each : All (IsTouch pages) touches
   pub in_order : IsNonDecreasingBy (λ touch. touch.tick) touches
 
--- whether the page is written at a tick from `from` on and before `to`: the pages modified during a round, of Clark and
--- others (2005), section 4
+-- whether the page is written at a tick from `from` on and before `to`: the pages modified during a round, of Clark
+-- and others (2005), section 4
 abbrev pub is_written : List GuestTouch → ℕ → ℕ → ℕ → Bool
 is_written touches from to page = list_any (λ touch. (touch.page == page) && (nat_le from touch.tick && nat_lt touch.tick to)) touches
 
--- all of those pages, rising, of a guest of so many
+-- the pages, of a guest of so many, that are written in such a range of ticks, rising
 abbrev pub pages_written : ℕ → List GuestTouch → ℕ → ℕ → List ℕ
 pages_written pages touches from to = filter (is_written touches from to) (range_with_len 0 pages)
 
--- a trace without what is written
+-- a trace without the bytes of its writes
 pub record GuestTouches : Type 0 where
   pub shift : ℕ
   pub pages : ℕ

@@ -1,4 +1,4 @@
--- Recorded traces of guest writes, and the one spelling of each. The format is this project's own.
+-- Recorded traces of guest writes, and the one encoding of each. The format is this project's own.
 use Rattle.std.specs.Prelude.{◌≡◌, ℕ, ◌+◌, ◌^◌, ◌<◌, ◌≤◌, List, [], ◌∷◌, ◌++◌, length}
 use Rattle.std.specs.Int.{w16, w32, w64}
 use Rattle.std.specs.List.{All, flat_map, fold}
@@ -51,7 +51,7 @@ last_by number xs = fold (λ last x. number x) 0 xs
 abbrev pub last_tick : List GuestWrite → ℕ
 last_tick writes = last_by (λ write. write.tick) writes
 
--- a write on the trace: tick, page, offset and length, and then its bytes
+-- the encoding of a write: tick, page, offset and length, and then its bytes
 unfoldable pub write_text : GuestWrite → List ℕ
 write_text write = text_of w64 write.tick ++ (text_of w32 write.page ++ (text_of w16 write.offset
     ++ (text_of w16 (length write.bytes) ++ write.bytes)))
@@ -60,21 +60,21 @@ write_text write = text_of w64 write.tick ++ (text_of w32 write.page ++ (text_of
 abbrev pub magic : List ℕ
 magic = 80 ∷ 67 ∷ 87 ∷ 84 ∷ 1 ∷ []
 
--- the head of a trace: those bytes, the shift, two bytes 0, and how many pages and writes there are
+-- the header of a trace: those bytes, the shift, two bytes 0, and how many pages and writes there are
 unfoldable pub header_text : ℕ → ℕ → ℕ → List ℕ
 header_text shift pages writes = magic ++ shift ∷ 0 ∷ 0 ∷ (text_of w32 pages ++ text_of w32 writes)
 
 unfoldable pub trace_text : GuestTrace → List ℕ
 trace_text trace = header_text trace.shift trace.pages (length trace.writes) ++ flat_map write_text trace.writes
 
--- what a trace may be
+-- what a trace may be: sizes, writes and length within the limits of the format
 pub record IsTrace (trace : GuestTrace) : Type 0 where
   pub size : IsGuestSize trace.shift trace.pages
   pub count : length trace.writes ≤ 2 ^ 20
   pub writes : AreGuestWrites trace.shift trace.pages trace.writes
   pub short : length (trace_text trace) ≤ 2 ^ 28
 
--- these bytes are the spelling of this trace
+-- these bytes are the encoding of this trace
 pub record Spells (bytes : List ℕ) (trace : GuestTrace) : Type 0 where
   pub is_trace : IsTrace trace
   pub text : bytes ≡ trace_text trace

@@ -1,4 +1,4 @@
--- What stands at the front of some bytes, read as a write of a trace, whether or not one was written there.
+-- The bytes at the front, read as a write of a trace, whether or not one was written there.
 use Rattle.std.specs.Prelude.{ℕ, zero, suc, ◌+◌, List, [], ◌∷◌, take, drop}
 use Rattle.std.specs.Int.{w16, w32, w64}
 use Rattle.migration_model.specs.Numbers.{number_in}
@@ -16,7 +16,7 @@ offset_in bytes = number_in w16 (drop 12 bytes)
 abbrev pub length_in : List ℕ → ℕ
 length_in bytes = number_in w16 (drop 14 bytes)
 
--- the write at the front
+-- the write at the front of these bytes
 unfoldable pub write_in : List ℕ → GuestWrite
 write_in bytes = record {
   tick = tick_in bytes;
@@ -25,16 +25,16 @@ write_in bytes = record {
   bytes = take (length_in bytes) (drop 16 bytes);
 }
 
--- what stands behind it
+-- the bytes behind the write at the front
 unfoldable pub rest_after : List ℕ → List ℕ
 rest_after bytes = drop (16 + length_in bytes) bytes
 
--- so many writes at the front, one after another
+-- so many writes from the front on, one after another
 abbrev pub writes_in : ℕ → List ℕ → List GuestWrite
 writes_in zero bytes = []
 writes_in (suc n) bytes = write_in bytes ∷ writes_in n (rest_after bytes)
 
--- what stands behind them
+-- the bytes behind so many writes
 abbrev pub rest_of : ℕ → List ℕ → List ℕ
 rest_of zero bytes = bytes
 rest_of (suc n) bytes = rest_of n (rest_after bytes)

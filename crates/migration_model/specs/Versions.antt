@@ -9,8 +9,8 @@ use Rattle.migration_model.specs.Memory.{image_after, page_of}
 abbrev pub IsWritten : GuestTrace → ℕ → ℕ → ℕ → Type 0
 IsWritten trace from to page = Any (λ write. (write.page ≡ page) × (from ≤ write.tick) × (write.tick < to)) trace.writes
 
--- The places of the writes to a page before a tick, rising. A write's place is 1 for the first of the trace.
--- This project's own, as versions are.
+-- The places of the writes to a page before a tick, rising. A write's place is its number in the trace, 1 for the
+-- first. This project's own, as versions are.
 abbrev pub places_before : GuestTrace → ℕ → ℕ → List ℕ
 places_before trace page tick =
     map (λ at. at.0) (filter (λ at. (at.1.page == page) && nat_lt at.1.tick tick) (enumerate_from 1 trace.writes))

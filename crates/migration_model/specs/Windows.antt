@@ -1,6 +1,6 @@
 -- Writable working sets by windows of ticks. The writable working set is that of Clark and others, "Live Migration of
--- Virtual Machines" (2005): the pages written so often that sending them early is wasted. Windows, their rows, and hot
--- pages as the measure of that set are this project's own.
+-- Virtual Machines" (2005), section 4: the pages written so often that sending them early is wasted. Windows, their
+-- rows, and hot pages as the measure of that set are this project's own.
 use Rattle.std.specs.Prelude.{ℕ, ◌+◌, ◌-◌, ◌*◌, ◌/◌, ◌&&◌, nat_lt, nat_le, not, Bool, List, map}
 use Rattle.std.specs.List.{count_by, filter, range_with_len}
 use Rattle.migration_model.specs.Trace.{last_by}
@@ -15,11 +15,11 @@ writes_between touches from to = count_by (λ touch. nat_le from touch.tick && n
 abbrev pub is_in_window : List GuestTouch → ℕ → ℕ → ℕ → Bool
 is_in_window touches w j page = is_written touches (j * w) ((j + 1) * w) page
 
--- the same of the window before it; for window 0 that is no tick, so no page
+-- whether a page is written in the window before window j; for window 0 that is no tick, so no page
 abbrev pub is_in_window_before : List GuestTouch → ℕ → ℕ → ℕ → Bool
 is_in_window_before touches w j page = is_written touches ((j - 1) * w) (j * w) page
 
--- the same of all windows before it
+-- whether a page is written in any window before window j
 abbrev pub is_in_earlier_window : List GuestTouch → ℕ → ℕ → ℕ → Bool
 is_in_earlier_window touches w j page = is_written touches 0 (j * w) page
 
@@ -63,7 +63,7 @@ pub record WorkingSets : Type 0 where
   pub windows : List WindowRow
   pub hot : List ℕ
 
--- the same of a guest of so many pages with these touches
+-- what a report says of the working sets of a guest of so many pages with these touches
 abbrev pub working_sets_of : ℕ → List GuestTouch → MigrationSettings → WorkingSets
 working_sets_of pages touches s = record {
   windows = rows_of touches pages s.window;

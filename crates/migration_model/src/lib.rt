@@ -14,23 +14,24 @@ ghost use Rattle.migration_model.specs.Trace.{GuestTrace, IsTrace, Spells};
 ghost use Rattle.migration_model.specs.Touches.{is_written, touches_of};
 ghost use Rattle.migration_model.specs.Versions.{IsWritten, page_at, version_before};
 
-/// One trace has one spelling.
+/// A trace has one encoding.
 pub fn one_spelling()
     ensures { (a b : List ℕ) (trace : GuestTrace) → Spells a trace → Spells b trace → a ≡ b }
 {}
 
-/// One text spells one trace.
+/// Bytes encode at most one trace.
 pub fn one_trace()
     ensures { (bytes : List ℕ) (s t : GuestTrace) → Spells bytes s → Spells bytes t → s ≡ t }
 {}
 
-/// The test that windows and rounds are made of says which pages are written in a range of ticks.
+/// `is_written`, the test on which windows and rounds are built, holds exactly for the pages written in a range of
+/// ticks.
 #[tactic(auto, using(crate::proofs::Touches::written_is_lem))]
 pub fn written_as_a_test()
     ensures { (trace : GuestTrace) (from to page : ℕ) → IsTrue (is_written (touches_of trace) from to page) ↔ IsWritten trace from to page }
 {}
 
-/// A page, a stamp and the bytes of the page have a spelling as a frame, and only one.
+/// A page, a stamp and the bytes of the page have an encoding as a frame, and only one.
 pub fn one_frame_spelling()
     ensures some { (shape : GuestShape) (page stamp : ℕ) (content : List ℕ)
         → page < shape.pages → stamp ≤ shape.writes → length content ≡ 2 ^ shape.shift
@@ -40,7 +41,7 @@ pub fn one_frame_spelling()
         → f.page ≡ g.page → f.stamp ≡ g.stamp → content_of shape f ≡ content_of shape g → a ≡ b }
 {}
 
-/// One text spells one frame, and one stream is of one list of frames.
+/// Bytes encode at most one frame, and are a stream of at most one list of frames.
 pub fn one_frame()
     ensures frame { (shape : GuestShape) (bytes : List ℕ) (f g : PageFrame) → IsGuestShape shape
         → SpellsFrame shape bytes f → SpellsFrame shape bytes g → f ≡ g }
@@ -48,34 +49,34 @@ pub fn one_frame()
         → SpellsStream shape bytes fs → SpellsStream shape bytes gs → fs ≡ gs }
 {}
 
-/// For one shape no frame's spelling begins another's.
+/// For one shape, no frame's encoding begins another frame's.
 pub fn no_frame_begins_another()
     ensures { (shape : GuestShape) (a b rest : List ℕ) (f g : PageFrame) → IsGuestShape shape
         → SpellsFrame shape a f → SpellsFrame shape b g → b ≡ a ++ rest → rest ≡ [] }
 {}
 
-/// Parts may be joined in any order, and any of them again: of parts that agree only what was joined counts. That it is
-/// associative and idempotent holds of all parts.
+/// Parts may be joined in any order, and any of them again: of parts that agree, only what was joined counts. The join
+/// of all parts, also of those that do not agree, is associative and idempotent.
 pub fn parts_join_in_any_order()
     ensures associative { (a b c : GuestPart) → join (join a b) c ≡ join a (join b c) }
     ensures commutative { (a b : GuestPart) → Agree a b → join a b ≡ join b a }
     ensures idempotent { (a : GuestPart) → join a a ≡ a }
 {}
 
-/// A frame that comes to a part is joined to it, as the part that has this frame's page and no other.
+/// To add a frame to a part is to join the part with the one that has this frame's page and no other.
 pub fn frames_are_joined()
     ensures { (part : GuestPart) (frame : PageFrame) → IsPart part → IsFrame part.shape frame
         → with_frame part frame ≡ join part (part_of part.shape frame) }
 {}
 
-/// Frames that agree may come to a part in any order, and any of them again: only which came counts.
+/// Frames that agree may come to a part in any order, and any of them again: only which frames came counts.
 pub fn frames_come_in_any_order()
     ensures { (part : GuestPart) (fs gs : List PageFrame) → FramesAgree part.shape (fs ++ gs)
         → All (Contains gs) fs → All (Contains fs) gs → with_frames part fs ≡ with_frames part gs }
 {}
 
-/// Honest parts that have the current copy of every page, and no later one, make memory in which each page is at its version.
-/// Where these are the versions before a tick, that is the memory before it.
+/// Honest parts that have the current copy of every page, and no later one, make memory in which each page is at its
+/// version. Where these are the versions before a tick, that is the memory before it.
 pub fn current_copies_make_memory()
     ensures whole { (trace : GuestTrace) (shape : GuestShape) (versions : List ℕ) (parts : List GuestPart)
         → AreCurrent trace shape versions parts → HaveFirst parts shape.pages }
@@ -91,8 +92,8 @@ pub fn current_copies_make_memory()
         → memory_in (join_all (shape_of_trace trace) parts) ≡ image_before trace tick }
 {}
 
-/// A final copy needs the marked pages alone: if the parts were honest, no stamp in them was beyond its page's version, and
-/// every page that isn't marked had its current copy in some part, then every page has it now.
+/// A final copy needs the marked pages alone. Let the parts be honest, no stamp in them beyond its page's version, and
+/// the current copy of every unmarked page in some part: then every page has its current copy after the final copy.
 pub fn final_copy_makes_current()
     ensures { (trace : GuestTrace) (shape : GuestShape) (versions : List ℕ) (marked : ℕ → Bool) (old new : List GuestPart)
         → AreNotBeyond trace shape versions old

@@ -43,7 +43,7 @@ kept_used trace entries page kept are is =
     (all_of_contained (λ (e : ℕ × KeptPage). IsKept trace e.0 e.1) (promoted (nat_eq page) entries)
     (λ e inside. All-contains (λ (e : ℕ × KeptPage). IsKept trace e.0 e.1) entries e are (Contains-promoted (nat_eq page) entries e inside)))
 
--- the same of a page that is brought to a version
+-- the entry of a page that is brought to a version goes to the front
 pub kept_brought : (trace : GuestTrace) (entries : List (ℕ × KeptPage)) (page version : ℕ) (was kept : KeptPage) → AreKept trace entries
     → lookup (nat_eq page) entries ≡ Some was → version ≤ length trace.writes → kept ≡ page_with version (page_at trace page version)
     → AreKept trace (set_value (nat_eq page) (promoted (nat_eq page) entries) kept)
@@ -76,7 +76,7 @@ kept_put trace cache page kept are is =
           ])
     ])
 
--- the same of a page that was made for the trace
+-- what is kept is right after a page that was made for the trace
 pub kept_put_at : (trace : GuestTrace) (cache : LruCache ℕ KeptPage) (page version : ℕ) (kept : KeptPage) → AreKept trace cache.entries
     → page < trace.pages → version ≤ length trace.writes → kept ≡ page_with version (page_at trace page version) → AreKept trace (put_entries nat_eq cache page kept)
 kept_put_at trace cache page version kept are low within made =

@@ -20,7 +20,7 @@ pub record GuestPages : Type 0 where
 abbrev pub pages_with : List (ℕ × KeptPage) → ℕ → GuestPages
 pages_with entries capacity = record { entries = entries; capacity = capacity }
 
--- the same of a trace
+-- the pages that are kept of a trace
 pub record GuestCache : Type 0 where
   pub trace : GuestTrace
   pub entries : List (ℕ × KeptPage)

@@ -16,8 +16,8 @@ use std::alloc::Global;
 use std::marker::Model;
 use trace_codec::WriteLog;
 
-/// Pages of a trace, each with the version that it was last asked for: at most so many, and the one that was not used
-/// for longest goes first. It keeps the allocator that it was made with.
+/// Pages of a trace, each with the version that it was last asked for. It keeps at most so many; the one that was not
+/// used for longest goes first. It keeps the allocator that it was made with.
 #[derive(Debug, Drop)]
 pub struct PageCache<'a, W: WriteLog> {
     trace: &'a W,
@@ -34,7 +34,7 @@ impl<'a, W: WriteLog> Model for PageCache<'a, W> {
 }
 
 impl<'a, W: WriteLog> PageCache<'a, W> {
-    /// A cache that keeps nothing yet, and at most `capacity` pages later.
+    /// Returns a cache that keeps nothing yet, and at most `capacity` pages later.
     pub fn new(
         alloc: Global,
         trace: &'a W,
@@ -49,7 +49,7 @@ impl<'a, W: WriteLog> PageCache<'a, W> {
         Ok(PageCache::with_pages(trace, index, pages))
     }
 
-    /// A cache that goes on with pages that one of the same trace kept.
+    /// Returns a cache that goes on with the pages that another one of the same trace kept.
     pub fn with_pages(trace: &'a W, index: &'a PageIndex, pages: KeptPages) -> PageCache<'a, W>
         requires of { IsIndexOf index.now (W.trace trace.now) }
         requires kept { AreKept (W.trace trace.now) pages.entries }
@@ -59,7 +59,7 @@ impl<'a, W: WriteLog> PageCache<'a, W> {
         PageCache { trace, index, kept }
     }
 
-    /// What the cache keeps, given away.
+    /// Returns what the cache keeps.
     pub fn into_pages(self) -> KeptPages
         ensures pages { result ≡ pages_with self.entry.entries self.entry.capacity }
         ensures kept { AreKept self.entry.trace self.entry.entries }
@@ -72,9 +72,11 @@ impl<'a, W: WriteLog> PageCache<'a, W> {
         KeptPages { kept }
     }
 
-    /// Keeps the page after the first `version` writes of the trace. Where an earlier version of the page is kept,
-    /// only the writes in between are put there; else it is made from zeros. Where any version of it is kept, or as
-    /// many pages as may be, it takes the memory of that page, or of the one that was not used for longest.
+    /// Keeps the page after the first `version` writes of the trace. Where it keeps an earlier version of the page, it
+    /// puts only the writes in between over it; else it makes the page from zeros.
+    ///
+    /// Where it keeps any version of the page, it uses that page's memory again. Where it keeps as many pages as it
+    /// may, it uses the memory of the page that was not used for longest. The only error is that memory runs out.
     pub fn keep(&mut self, page: u32, version: u32) -> Result<(), CacheError>
         requires page { page < self.old.trace.pages }
         requires version { version ≤ length self.old.trace.writes }
@@ -86,7 +88,7 @@ impl<'a, W: WriteLog> PageCache<'a, W> {
         keep_recent(self.trace, self.index, &mut self.kept, page, version)
     }
 
-    /// The bytes that are kept of a page, of whatever version.
+    /// Returns the bytes that are kept of a page, of whatever version.
     pub fn bytes(&self, page: u32) -> Option<&[u8]>
         ensures { option_map (λ b. b.now) result ≡ option_map (λ k. k.bytes) (lookup (nat_eq page) self.now.entries) }
     {
@@ -94,7 +96,8 @@ impl<'a, W: WriteLog> PageCache<'a, W> {
         Some(&kept.bytes)
     }
 
-    /// The page after the first `version` writes of the trace, as `PageIndex::bytes_at` tells it. It is kept then.
+    /// Returns the bytes of the page after the first `version` writes of the trace, as `PageIndex::bytes_at` does, and
+    /// keeps the page. The only error is that memory runs out.
     pub fn bytes_at(&mut self, page: u32, version: u32) -> Result<Vec<u8>, CacheError>
         requires page { page < self.old.trace.pages }
         requires version { version ≤ length self.old.trace.writes }

@@ -1,4 +1,4 @@
-//! Why a page could not be had.
+//! Why a page could not be made or kept.
 
 ghost use Rattle.std.specs.Prelude.{◌≡◌};
 ghost use Rattle.page_cache.specs.declared.error.CacheError.TheVariants.{Memory};
@@ -7,10 +7,10 @@ use page_versions::IndexError;
 use std::alloc::{AllocError, AllocFailed};
 use thiserror::Error;
 
-/// A refusal.
+/// Why a page could not be made or kept.
 #[derive(Clone, Copy, Debug, PartialEq, Eq, Error)]
 pub enum CacheError {
-    /// A growth was refused.
+    /// Memory ran out.
     #[error("memory")]
     Memory,
 }

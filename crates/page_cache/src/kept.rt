@@ -28,8 +28,8 @@ impl Model for Kept {
     ghost view = { λ k. page_with k.reached.version k.bytes.items };
 }
 
-/// Brings the bytes of a page to a version. Of a later one only its writes in between are put over them; an earlier
-/// one is made from zeros, in the same memory.
+/// Brings the bytes of a page to a version. For a later version it puts only the writes in between over them; an
+/// earlier one it makes from zeros, in the same memory.
 fn bring_bytes_to<W: WriteLog>(
     trace: &W,
     index: &PageIndex,

@@ -13,7 +13,7 @@ use lru::LruCache;
 use page_versions::{PageIndex, Reached};
 use trace_codec::WriteLog;
 
-/// Brings what is kept of a page to a version, where it stands. Returns whether anything is kept of the page.
+/// Brings what is kept of a page to a version, in place. Returns whether anything is kept of the page.
 fn bring_kept<W: WriteLog>(
     trace: &W,
     index: &PageIndex,
@@ -35,8 +35,8 @@ fn bring_kept<W: WriteLog>(
     true
 }
 
-/// Room for the bytes of one page more. Where as many are kept as may be, the page that was not used for longest
-/// goes, and its room is used again.
+/// Returns a buffer for the bytes of one page more. Where as many pages are kept as may be, the page that was not used
+/// for longest goes, and its buffer is used again.
 fn room_for_page(kept: &mut LruCache<u32, Kept>) -> Vec<u8>
     ensures kept { (trace : GuestTrace) → AreKept trace kept.old.entries → AreKept trace kept.new.entries }
     ensures capacity { kept.new.cap ≡ kept.old.cap }
@@ -51,8 +51,8 @@ fn room_for_page(kept: &mut LruCache<u32, Kept>) -> Vec<u8>
     }
 }
 
-/// Keeps a page at a version: what is kept of it is brought there; else the page is made from zeros, and the one that
-/// was not used for longest may go.
+/// Keeps a page at a version: it brings what is kept of the page there. Else it makes the page from zeros, for which
+/// the page that was not used for longest may go.
 pub(crate) fn keep_recent<W: WriteLog>(
     trace: &W,
     index: &PageIndex,
@@ -73,7 +73,7 @@ pub(crate) fn keep_recent<W: WriteLog>(
     }
     let mut bytes = room_for_page(kept);
     index.bytes_into(trace, page, version, &mut bytes)?;
-    // How many of its writes are in them is looked for when the page is brought on.
+    // How many of the page's writes are in the bytes is found when the page is brought on.
     let reached = Reached { version, writes: 0 };
     kept.put(page, Kept { reached, bytes })?;
     Ok(())

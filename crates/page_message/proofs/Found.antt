@@ -1,4 +1,4 @@
--- The frame that is read is the one that the bytes spell, and what is spelled is read.
+-- The frame that is read is the one that the bytes encode, and what is encoded is read.
 use Rattle.std.proofs.Common.{◌≡◌, ℕ, ◌+◌, ◌^◌, ◌<◌, ◌≤◌, true, false, eqb, List, [], ◌∷◌, ◌++◌, length, take, drop, Option, Some, None, Result, Ok, Err, IfOk, IfErr, refl, sym, ap, ap₂, ◌∙◌, inl, inr, arith}
 use Rattle.std.specs.Int.{w32}
 use Rattle.std.proofs.lemmas.Bool.{cases_Bool, eqb-true, eqb-false, ltb-false, leb-false, le-ltb, lt-leb, cond-false}
@@ -80,7 +80,7 @@ reads shape bytes fits none =
           reads_bytes shape bytes fits (ltb-false _ _ long.0) (leb-false _ _ page.0) (ltb-false _ _ stamp.0) one (ltb-false _ _ behind.0) (some_from_false _ filled.0)
     ]
 
--- ---- what is spelled
+-- ---- what is encoded
 
 spelled_passes : (shape : GuestShape) (page stamp : ℕ) (body : Option (List ℕ)) (rest : List ℕ) → IsGuestShape shape → IsFrame shape (frame_with page stamp body)
     → frame_refusal shape (frame_text (frame_with page stamp body) ++ rest) ≡ None
@@ -109,7 +109,7 @@ pub never_refused : (shape : GuestShape) (bytes rest : List ℕ) (frame : PageFr
     → frame_refusal shape bytes ≡ None
 never_refused shape bytes rest frame is fits same = ap (frame_refusal shape) same ∙ spelled_passes shape frame.page frame.stamp frame.body rest is fits
 
--- so what begins with a spelling is read as that frame, and no other
+-- so bytes that begin with an encoding are read as that frame, and no other
 pub is_only : (shape : GuestShape) (bytes : List ℕ) (r : Result (PageFrame × ℕ) FrameError) → IsGuestShape shape
     → IfOk r (λ read. SpellsFrame shape (take read.1 bytes) read.0) → IfOk r (λ read. read.1 ≤ length bytes) → IfErr r (λ e. frame_refusal shape bytes ≡ Some e)
     → (frame : PageFrame) (rest : List ℕ) → IsFrame shape frame → bytes ≡ frame_text frame ++ rest

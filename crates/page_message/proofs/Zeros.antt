@@ -18,7 +18,7 @@ not_zeros bytes some = false_from_ne_true _ (λ all. some ((tells_zeros bytes).0
 pub some_from_false : (bytes : List ℕ) → list_all (λ byte. byte == 0) bytes ≡ false → ¬ IsZeros bytes
 some_from_false bytes is zeros = absurd (cc (is, (tells_zeros bytes).1 zeros))
 
--- what is the same throughout is that as often as it is long
+-- a list all of whose elements are equal is that element, as often as the list is long
 pub all_same : {X : Type 0} (x : X) (xs : List X) → All (λ y. y ≡ x) xs → replicate (length xs) x ≡ xs
 all_same x [] same = refl
 all_same x (y ∷ ys) same =

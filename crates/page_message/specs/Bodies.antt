@@ -1,4 +1,4 @@
--- The plain words of the model for a body.
+-- The model's value for a body.
 use Rattle.std.specs.Prelude.{ℕ, List, Option, Some, None}
 use Rattle.page_message.specs.declared.frame.Body.{Body}
 use Rattle.page_message.specs.declared.frame.Body.TheVariants.{Zero, Data}

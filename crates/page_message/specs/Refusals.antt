@@ -1,4 +1,4 @@
--- Why some bytes begin with no frame: the first cause that stands in them. This project's own.
+-- Why some bytes begin with no frame: the first cause in them. This project's own.
 use Rattle.std.specs.Prelude.{◌≡◌, ◌⊎◌, ℕ, ◌+◌, ◌^◌, ◌==◌, nat_lt, nat_le, if◌then◌else◌, List, Option, Some, None, length}
 use Rattle.std.specs.List.{list_all}
 use Rattle.migration_model.specs.Frames.{GuestShape}

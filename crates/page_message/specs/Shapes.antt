@@ -1,4 +1,4 @@
--- The plain words of the model for a shape.
+-- The model's value for a shape.
 use Rattle.migration_model.specs.Frames.{GuestShape, shape_with}
 use Rattle.trace_codec.specs.declared.shape.Shape.{Shape}
 

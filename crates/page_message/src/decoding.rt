@@ -25,7 +25,7 @@ fn u32_in(bytes: &[u8]) -> u32
     LittleEndian::read_u32(bytes)
 }
 
-/// The page behind the head.
+/// Returns the page behind the head.
 fn page_bytes<'a>(shape: &Shape, bytes: &'a [u8]) -> &'a [u8]
     requires { 9 + 2 ^ shape.now.shift ≤ length bytes.now }
     ensures { result.now ≡ take (2 ^ shape.now.shift) (drop 9 bytes.now) }
@@ -35,7 +35,7 @@ fn page_bytes<'a>(shape: &Shape, bytes: &'a [u8]) -> &'a [u8]
     page
 }
 
-/// Whether that page is all zeros.
+/// Returns whether the page behind the head is all zeros.
 fn has_zeros(shape: &Shape, bytes: &[u8]) -> bool
     requires { 9 + 2 ^ shape.now.shift ≤ length bytes.now }
     ensures { result ≡ list_all (λ byte. byte == 0) (bytes_in (shape_of shape.now) bytes.now) }
@@ -43,7 +43,7 @@ fn has_zeros(shape: &Shape, bytes: &[u8]) -> bool
     is_zero(page_bytes(shape, bytes))
 }
 
-/// How many bytes the frame at the front has, or what the bytes are refused for.
+/// Returns how many bytes the frame at the front has, or what the bytes are refused for.
 fn checked_size(shape: &Shape, bytes: &[u8]) -> Result<usize, FrameError>
     ensures refused { IfErr result (λ e. frame_refusal (shape_of shape.now) bytes.now ≡ Some e) }
     ensures accepted { OnOk result (frame_refusal (shape_of shape.now) bytes.now ≡ None) }
@@ -74,7 +74,7 @@ fn checked_size(shape: &Shape, bytes: &[u8]) -> Result<usize, FrameError>
     Ok(end)
 }
 
-/// The body of the frame at the front of bytes that begin with one.
+/// Returns the body of the frame at the front, None where it is all zeros. The bytes have to begin with a frame.
 fn body_at<'a>(shape: &Shape, bytes: &'a [u8]) -> Option<&'a [u8]>
     requires { frame_refusal (shape_of shape.now) bytes.now ≡ None }
     ensures { option_map (λ body. body.now) result ≡ body_in (shape_of shape.now) bytes.now }
@@ -97,8 +97,8 @@ fn read_view<'a>(shape: &Shape, bytes: &'a [u8]) -> Result<(FrameView<'a>, usize
     Ok((FrameView { page, stamp, body }, size))
 }
 
-/// The frame at the front of some bytes, left where it stands, and how many of them it has. It takes no memory, and `F6` is
-/// never answered.
+/// Returns the frame at the front of some bytes, borrowed from them, and how many bytes it has. It allocates nothing,
+/// so it never returns `F6`.
 pub fn view_frame<'a>(shape: &Shape, bytes: &'a [u8]) -> Result<(FrameView<'a>, usize), FrameError>
     ensures found { IfOk result (λ read. SpellsFrame (shape_of shape.now) (take read.1 bytes.now) read.0) }
     ensures within { IfOk result (λ read. read.1 ≤ length bytes.now) }
@@ -109,7 +109,7 @@ pub fn view_frame<'a>(shape: &Shape, bytes: &'a [u8]) -> Result<(FrameView<'a>, 
     read_view(shape, bytes)
 }
 
-/// The frame at the front of some bytes, and how many of them it has. A page's bytes are copied once.
+/// Returns the frame at the front of some bytes, and how many bytes it has. It copies the page's bytes once.
 pub fn decode_frame(
     alloc: Global,
     shape: &Shape,

@@ -14,10 +14,10 @@ use std::alloc::Global;
 use trace_codec::Shape;
 use zero_pages::is_zero;
 
-/// The bytes of a frame in front of the page.
+/// How many bytes a frame has in front of the page.
 pub(crate) const HEAD: usize = 9;
 
-/// Page, stamp and kind.
+/// Returns the bytes in front of a page: page, stamp and kind.
 #[tactic(auto, unfolding(migration_model::specs::Numbers::text_of))]
 fn head_of(page: u32, stamp: u32, kind: u8) -> [u8; 9]
     ensures { result ≡ text_of w32 page ++ (text_of w32 stamp ++ kind ∷ []) }
@@ -29,7 +29,7 @@ fn head_of(page: u32, stamp: u32, kind: u8) -> [u8; 9]
     head
 }
 
-/// The spelling of a frame. A page's bytes are copied once. `F6` alone is answered.
+/// Returns the encoding of a frame. It copies the page's bytes once. The only error is `F6`.
 #[tactic(auto, unfolding(migration_model::specs::Frames::frame_text))]
 pub fn encode_frame(alloc: Global, shape: &Shape, frame: &Frame) -> Result<Vec<u8>, FrameError>
     requires { IsFrame (shape_of shape.now) frame.now }
@@ -51,8 +51,8 @@ pub fn encode_frame(alloc: Global, shape: &Shape, frame: &Frame) -> Result<Vec<u
     }
 }
 
-/// Adds the spelling of the frame of these bytes of a page to the end of a stream. They are copied once, or not at all where
-/// each is 0; no room is taken for them then. `F6` alone is answered, and the stream is of no use then.
+/// Appends the encoding of the frame of these bytes of a page to a stream. It copies them once. Where each of them is
+/// 0, it copies none and reserves no memory for them. The only error is `F6`, after which the stream is of no use.
 pub fn append_frame(
     stream: &mut Vec<u8>,
     shape: &Shape,

@@ -6,8 +6,8 @@ ghost use Rattle.page_message.specs.declared.error.FrameError.TheVariants.{Memor
 use std::alloc::AllocError;
 use thiserror::Error;
 
-/// A refusal. Its text is its name. Where several causes stand in the bytes, the first in the order of the names' numbers
-/// is answered; a kind 1 with less than a page behind it is `F1` after `F4`.
+/// Why bytes begin with no frame, written as its name. Where the bytes have several causes, the error is the first in
+/// the order of the names' numbers; a kind 1 with less than a page behind it is `F1` after `F4`.
 #[derive(Clone, Copy, Debug, PartialEq, Eq, Error)]
 pub enum FrameError {
     /// Fewer than 9 bytes, or fewer behind a kind 1 than a page has.
@@ -25,7 +25,7 @@ pub enum FrameError {
     /// A kind 1 has a page of zeros behind it.
     #[error("F5")]
     ZeroData,
-    /// A growth was refused.
+    /// Memory ran out.
     #[error("F6")]
     Memory,
 }

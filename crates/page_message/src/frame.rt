@@ -18,12 +18,15 @@ pub enum Body {
     Data(Vec<u8>),
 }
 
-/// A page at one of its versions. The stamp is the place of the last write in it, 1 for the first write of the trace, or 0
-/// before any.
+/// A page at one of its versions. The stamp is the place of the last write in it, 1 for the first write of the trace,
+/// or 0 before any.
 #[derive(Debug, Drop)]
 pub struct Frame {
+    /// The number of the page, from 0.
     pub page: u32,
+    /// The place of the last write in the bytes, or 0 before any.
     pub stamp: u32,
+    /// The bytes of the page.
     pub body: Body,
 }
 
@@ -36,10 +39,12 @@ impl Model for Frame {
     ghost view = { λ f. frame_with f.page f.stamp (body_of f.body) };
 }
 
-/// A frame whose page is left where it stands in a stream.
+/// A frame whose page is borrowed from a stream.
 #[derive(Debug, Drop)]
 pub struct FrameView<'a> {
+    /// The number of the page, from 0.
     pub page: u32,
+    /// The place of the last write in the bytes, or 0 before any.
     pub stamp: u32,
     /// The bytes of the page, not all of them 0, or None where all are.
     pub body: Option<&'a [u8]>,
@@ -55,7 +60,7 @@ impl<'a> Model for FrameView<'a> {
 }
 
 impl<'a> FrameView<'a> {
-    /// The same frame with bytes of its own, which are copied once.
+    /// Returns this frame with a copy of its bytes. The only error is that memory runs out.
     pub fn to_frame(&self, alloc: Global) -> Result<Frame, AllocError>
         ensures { IfOk result (λ frame. frame ≡ self.now) }
     {
@@ -76,7 +81,7 @@ impl Body {
     ghost use Rattle.migration_model.specs.Frames.{IsZeros};
     ghost use Rattle.page_message.specs.Bodies.{body_of};
 
-    /// Whether it is the body of a page of this shape.
+    /// Returns whether it is the body of a page of this shape.
     fn fits(&self, shape: &Shape) -> bool
         ensures { IsTrue result
             ↔ IfSome (body_of self.now) (λ bytes. (length bytes ≡ 2 ^ shape.now.shift) × ¬ IsZeros bytes) }
@@ -87,7 +92,7 @@ impl Body {
         }
     }
 
-    /// Puts these bytes into the room of the old ones where they are as many.
+    /// Copies these bytes over the old ones where they are as many, or else into a new vector.
     fn copy_from(&mut self, alloc: Global, bytes: Option<&[u8]>) -> Result<(), AllocError>
         ensures copied { OnOk result (body_of self.new ≡ option_map (λ b. b.now) bytes.entry) }
         ensures unchanged { OnErr result (body_of self.new ≡ body_of self.old) }
@@ -109,15 +114,15 @@ impl Body {
 }
 
 impl Frame {
-    /// Whether a trace of this shape may have the frame. It takes no memory.
+    /// Returns whether a trace of this shape may have the frame. It allocates nothing.
     pub fn fits(&self, shape: &Shape) -> bool
         ensures { IsTrue result ↔ IsFrame (shape_of shape.now) self.now }
     {
         self.page < shape.pages && self.stamp <= shape.writes && self.body.fits(shape)
     }
 
-    /// Makes it the frame that is viewed. Its bytes are copied into the room of the old ones where they are as many; then, and
-    /// where all of them are 0, no memory is taken.
+    /// Makes this frame equal to the one that is viewed. It copies the bytes over the old ones where they are as many.
+    /// Then, and where all of them are 0, it allocates nothing. The only error is that memory runs out.
     pub fn copy_from(&mut self, alloc: Global, view: &FrameView<'_>) -> Result<(), AllocError>
         ensures copied { OnOk result (self.new ≡ view.now) }
         ensures unchanged { OnErr result (self.new ≡ self.old) }

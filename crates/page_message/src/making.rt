@@ -8,7 +8,7 @@ use crate::frame::{Body, Frame};
 use trace_codec::Shape;
 use zero_pages::is_zero;
 
-/// The frame of these bytes of a page, which stand in it as they are, or not at all where each is 0. It takes no memory.
+/// Returns the frame of these bytes of a page, which it takes over, or drops where each is 0. It allocates nothing.
 pub fn frame_of(shape: &Shape, page: u32, stamp: u32, bytes: Vec<u8>) -> Frame
     requires page { page < shape.now.pages }
     requires stamp { stamp ≤ shape.now.writes }

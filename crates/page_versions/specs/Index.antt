@@ -1,4 +1,4 @@
--- What an index of the writes of a trace tells. This project's own, as versions are.
+-- What an index of the writes of a trace holds. This project's own, as versions are.
 use Rattle.std.specs.Prelude.{◌≡◌, ℕ, ◌==◌, List, map}
 use Rattle.std.specs.List.{enumerate_from, filter}
 use Rattle.migration_model.specs.Trace.{GuestTrace}
@@ -16,7 +16,7 @@ index_with pages touches = record { pages = pages; touches = touches }
 abbrev pub IsIndexOf : GuestIndex → GuestTrace → Type 0
 IsIndexOf index trace = (index.pages ≡ trace.pages) × (index.touches ≡ touches_of trace)
 
--- the places of the touches of a page, rising: 1 is that of the first touch of all
+-- the places of the touches of a page, rising: the first touch of all has place 1
 abbrev pub places_in : List GuestTouch → ℕ → List ℕ
 places_in touches page = map (λ at. at.0) (filter (λ at. at.1.page == page) (enumerate_from 1 touches))
 

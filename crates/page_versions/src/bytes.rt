@@ -11,7 +11,7 @@ use crate::error::IndexError;
 use std::marker::Model;
 use trace_codec::{WriteLog, WriteView};
 
-/// Puts a write's bytes over those of its page.
+/// Writes a write's bytes over those of its page.
 fn write_over(bytes: &mut [u8], write: &WriteView<'_>)
     requires { write.now.offset + length write.now.bytes.now ≤ length bytes.old }
     ensures room { length bytes.new ≡ length bytes.old }
@@ -21,7 +21,7 @@ fn write_over(bytes: &mut [u8], write: &WriteView<'_>)
     bytes[start..start + write.bytes.len()].copy_from_slice(write.bytes);
 }
 
-/// One to four writes that were looked up, in the order in which they are put.
+/// One to four writes that were looked up, in the order in which they are put over a page.
 #[derive(Drop)]
 struct UpToFour<'a> {
     count: usize,
@@ -40,7 +40,7 @@ impl<'a> Model for UpToFour<'a> {
 }
 
 impl<'a> UpToFour<'a> {
-    /// Puts them, one after the other.
+    /// Puts the writes over the bytes of their page, one after the other.
     fn put_over(&self, bytes: &mut [u8])
         requires { All (λ write. write.offset + length write.bytes ≤ length bytes.old) self.now }
         ensures room { length bytes.new ≡ length bytes.old }
@@ -62,7 +62,8 @@ impl<'a> UpToFour<'a> {
     }
 }
 
-/// The writes at one to four places. Where there are fewer than four, the last is looked up again in place of those that lack.
+/// Returns the writes at one to four places. Where there are fewer than four, the last one fills the fields that are
+/// left.
 fn look_up<'a, W: WriteLog>(trace: &'a W, places: &[u32]) -> UpToFour<'a>
     requires some { 1 ≤ length places.now }
     requires few { length places.now ≤ 4 }
@@ -79,8 +80,8 @@ fn look_up<'a, W: WriteLog>(trace: &'a W, places: &[u32]) -> UpToFour<'a>
     }
 }
 
-/// Puts the writes at one to four places. All are looked up before the first is put: so none waits for the one before where
-/// they have to come from memory.
+/// Puts the writes at one to four places over the bytes. It looks all of them up before it puts the first, so that
+/// none waits for the one before where they have to come from memory.
 fn put_four<W: WriteLog>(bytes: &mut [u8], trace: &W, places: &[u32])
     requires some { 1 ≤ length places.now }
     requires few { length places.now ≤ 4 }
@@ -93,7 +94,8 @@ fn put_four<W: WriteLog>(bytes: &mut [u8], trace: &W, places: &[u32])
     look_up(trace, places).put_over(bytes);
 }
 
-/// Puts the writes at five to eight places, all of which are looked up before the first is put, for the same reason.
+/// Puts the writes at five to eight places over the bytes. It looks all of them up before it puts the first, for the
+/// same reason.
 fn put_eight<W: WriteLog>(bytes: &mut [u8], trace: &W, places: &[u32])
     requires many { 5 ≤ length places.now }
     requires few { length places.now ≤ 8 }
@@ -128,7 +130,7 @@ pub(crate) fn put_writes<W: WriteLog>(bytes: &mut [u8], trace: &W, places: &[u32
     }
 }
 
-/// Puts zeros into a room, and then the writes at these places. What stood there goes.
+/// Makes zeros of a buffer, and puts the writes at these places over them. What the buffer held is lost.
 pub(crate) fn put_bytes<W: WriteLog>(
     room: &mut Vec<u8>,
     trace: &W,

@@ -6,10 +6,10 @@ ghost use Rattle.page_versions.specs.declared.error.IndexError.TheVariants.{Memo
 use std::alloc::{AllocError, AllocFailed};
 use thiserror::Error;
 
-/// A refusal.
+/// Why an index or a page could not be made.
 #[derive(Clone, Copy, Debug, PartialEq, Eq, Error)]
 pub enum IndexError {
-    /// A growth was refused.
+    /// Memory ran out.
     #[error("memory")]
     Memory,
 }

@@ -18,8 +18,8 @@ use std::thread;
 use std::thread::Threads;
 use trace_codec::{Touch, WriteLog};
 
-/// The writes of a trace by page: for each page the places of its writes, and their ticks. A write's place is 1 for the
-/// first write of the trace. The bytes that are written stay in the trace.
+/// The writes of a trace by page: for each page the places of its writes, and their ticks. A write's place is its
+/// number in the trace, 1 for the first. The bytes that are written stay in the trace.
 #[derive(Debug, Drop)]
 pub struct PageIndex {
     pages: u32,
@@ -28,10 +28,12 @@ pub struct PageIndex {
     places: Vec<u32>,
 }
 
-/// How far a page has come: the version that its bytes are of, and a guess at how many of its writes are in them.
+/// How far a page has come: the version of its bytes, and a guess at how many of its writes are in them.
 #[derive(Clone, Copy, Debug)]
 pub struct Reached {
+    /// The version of the page's bytes.
     pub version: u32,
+    /// How many of the page's writes are thought to be in the bytes.
     pub writes: u32,
 }
 
@@ -44,7 +46,8 @@ impl Model for PageIndex {
 }
 
 impl PageIndex {
-    /// The index of a trace. Its touches, and runs of touches that are sorted by page in several threads, are made at once.
+    /// Returns the index of a trace. It makes the list of touches and the list of places side by side; several threads
+    /// sort the runs of touches by page. The only error is that memory runs out.
     pub fn build<W: WriteLog + Sync>(
         rt: &(impl Threads + Sync),
         alloc: Global,
@@ -70,7 +73,7 @@ impl PageIndex {
         })
     }
 
-    /// The page's part of the places.
+    /// Returns the page's part of the list of places.
     fn part(&self, page: u32) -> &[u32]
         requires { page < self.now.pages }
         ensures { result.now ≡ places_in self.now.touches page }
@@ -80,7 +83,7 @@ impl PageIndex {
         &self.places[start..end]
     }
 
-    /// The places of the page's writes, rising.
+    /// Returns the places of the page's writes, rising.
     pub fn places(&self, page: u32) -> &[u32]
         requires { page < self.now.pages }
         ensures own { result.now ≡ places_in self.now.touches page }
@@ -89,7 +92,7 @@ impl PageIndex {
         self.part(page)
     }
 
-    /// Those of the page's places that are greater than a version.
+    /// Returns the page's places that are greater than a version.
     pub fn writes_after(&self, page: u32, version: u32) -> &[u32]
         requires { page < self.now.pages }
         ensures own { result.now ≡ filter (λ place. nat_lt version place) (places_in self.now.touches page) }
@@ -99,8 +102,8 @@ impl PageIndex {
         places_after(self.part(page), version)
     }
 
-    /// The page's version before a tick: the greatest place of a write to it with a smaller tick, or 0 where there is
-    /// none. It is found by halves.
+    /// Returns the page's version before a tick: the greatest place of a write to it with a smaller tick, or 0 where
+    /// there is none. It takes a binary search.
     pub fn version_before(&self, page: u32, tick: u64) -> u32
         requires { page < self.now.pages }
         ensures { (trace : GuestTrace) → IsIndexOf self.now trace → result ≡ version_of trace page tick }
@@ -108,7 +111,8 @@ impl PageIndex {
         greatest_before(&self.touches, self.part(page), tick)
     }
 
-    /// The page after the first `version` writes of the trace. Only the page's own writes are put there.
+    /// Returns the bytes of the page after the first `version` writes of the trace. It puts only the page's own writes
+    /// over zeros. The only error is that memory runs out.
     pub fn bytes_at<W: WriteLog>(
         &self,
         alloc: Global,
@@ -126,7 +130,8 @@ impl PageIndex {
         Ok(bytes)
     }
 
-    /// The same in a room that is used again: what stood there goes.
+    /// Writes the bytes of the page after the first `version` writes of the trace into a buffer that is used again.
+    /// What the buffer held is lost. The only error is that memory runs out.
     pub fn bytes_into<W: WriteLog>(
         &self,
         trace: &W,
@@ -142,8 +147,8 @@ impl PageIndex {
         put_bytes(room, trace, places_to(self.part(page), version))
     }
 
-    /// Brings a page on to a later version: only its writes in between are put over its bytes. How many of its writes are in
-    /// them is looked for where the guess says first. It takes no memory.
+    /// Brings a page on to a later version: it puts only the writes in between over its bytes. It tests first whether
+    /// the guess is how many of the page's writes are in the bytes. It allocates nothing.
     pub fn bring_on<W: WriteLog>(
         &self,
         trace: &W,
@@ -172,15 +177,15 @@ impl PageIndex {
         }
     }
 
-    /// Whether the index has the trace's pages and touches.
+    /// Returns whether the index has the trace's pages and touches.
     fn has_touches_of<W: WriteLog>(&self, trace: &W) -> bool
         ensures { IsTrue result ↔ IsIndexOf self.now (W.trace trace.now) }
     {
         self.pages == trace.page_count() && are_touches(&self.touches, trace)
     }
 
-    /// Whether the index is of this trace: it has the trace's pages, and for each page the places and the ticks of its
-    /// writes. It takes no memory.
+    /// Returns whether the index is of this trace: it has the trace's pages, and for each page the places and the
+    /// ticks of its writes. It allocates nothing.
     pub fn is_of<W: WriteLog>(&self, trace: &W) -> bool
         ensures index { IsTrue result ↔ IsIndexOf self.now (W.trace trace.now) }
         ensures each_page { IsTrue result ↔ HasWritesOf self.now (W.trace trace.now) }

@@ -1,4 +1,4 @@
-//! What an index is made of.
+//! The two parts of an index.
 
 ghost use Rattle.std.specs.Prelude.{◌≡◌, ◌↔◌, IfOk, IsTrue};
 ghost use Rattle.page_versions.specs.Layout.{IsLaidOut};
@@ -10,7 +10,7 @@ use std::alloc::{AllocError, Global};
 use std::thread::Threads;
 use trace_codec::{Timeline, Touch};
 
-/// All touches in order.
+/// Returns all touches in order.
 pub(crate) fn touches_in<T: Timeline>(alloc: Global, timeline: &T) -> Result<Vec<Touch>, AllocError>
     ensures { IfOk result (λ v. v.items ≡ T.touches timeline.now) }
 {
@@ -22,7 +22,7 @@ pub(crate) fn touches_in<T: Timeline>(alloc: Global, timeline: &T) -> Result<Vec
     Ok(touches)
 }
 
-/// The places of all touches, page by page: runs of touches are sorted by page in several threads.
+/// Returns the places of all touches, page by page, from runs of touches that several threads sort by page.
 pub(crate) fn parts_of<T: Timeline>(
     rt: &(impl Threads + Sync),
     alloc: Global,
@@ -36,7 +36,7 @@ pub(crate) fn parts_of<T: Timeline>(
     Ok(lay_out(alloc, pages, timeline.touch_count(), &runs)?)
 }
 
-/// Whether these are all touches that are told.
+/// Returns whether these are all touches of the timeline, in order.
 pub(crate) fn are_touches<T: Timeline>(touches: &[Touch], timeline: &T) -> bool
     ensures { IsTrue result ↔ (touches.now ≡ T.touches timeline.now) }
 {

@@ -1,4 +1,4 @@
-//! Searches by halves among the places of a page.
+//! Binary searches among the places of a page.
 
 ghost use Rattle.std.specs.Prelude.{◌≡◌, ◌≤◌, ◌↔◌, IsTrue, true, false, nat_le, nat_lt, length, fold, max};
 ghost use Rattle.std.specs.List.{filter};
@@ -7,7 +7,7 @@ ghost use Rattle.page_versions.specs.Layout.{IsCountTo, tick_at};
 
 use trace_codec::Touch;
 
-/// How many of the places are not after a version.
+/// Returns how many of the places are not after a version.
 pub(crate) fn count_to(places: &[u32], version: u32) -> usize
     requires { IsNonDecreasing places.now }
     ensures { IsCountTo places.now version result }
@@ -19,7 +19,7 @@ pub(crate) fn count_to(places: &[u32], version: u32) -> usize
     )
 }
 
-/// Whether so many of the places are not after a version, and no more.
+/// Returns whether so many of the places are not after a version, and no more.
 fn is_count(places: &[u32], version: u32, count: usize) -> bool
     requires { IsNonDecreasing places.now }
     ensures { IsTrue result ↔ IsCountTo places.now version count }
@@ -29,7 +29,8 @@ fn is_count(places: &[u32], version: u32, count: usize) -> bool
         && (count == places.len() || places[count] > version)
 }
 
-/// How many of the places are not after a version: as many as a guess says, where it is right, or else they are searched.
+/// Returns how many of the places are not after a version: as many as a guess says, where it is right, or else by
+/// binary search.
 fn count_near(places: &[u32], version: u32, guess: usize) -> usize
     requires { IsNonDecreasing places.now }
     ensures { IsCountTo places.now version result }
@@ -40,7 +41,7 @@ fn count_near(places: &[u32], version: u32, guess: usize) -> usize
     count_to(places, version)
 }
 
-/// How many of the places are not after a version, counted one by one: they are few, or all.
+/// Returns how many of the places are not after a version, counted one by one: they are few, or all.
 fn count_few(places: &[u32], version: u32) -> usize
     requires { IsNonDecreasing places.now }
     ensures { IsCountTo places.now version result }
@@ -55,7 +56,7 @@ fn count_few(places: &[u32], version: u32) -> usize
     count
 }
 
-/// The tick of the touch at a place; 0 where there is none.
+/// Returns the tick of the touch at a place; 0 where there is none.
 fn tick_of(touches: &[Touch], place: u32) -> u64
     ensures { result ≡ tick_at touches.now place }
 {
@@ -68,7 +69,7 @@ fn tick_of(touches: &[Touch], place: u32) -> u64
     }
 }
 
-/// How many of the places are of touches before a tick.
+/// Returns how many of the places are of touches before a tick.
 fn count_before(touches: &[Touch], places: &[u32], tick: u64) -> usize
     requires { IsNonDecreasingBy (tick_at touches.now) places.now }
     ensures bound { result ≤ length places.now }
@@ -81,7 +82,7 @@ fn count_before(touches: &[Touch], places: &[u32], tick: u64) -> usize
     )
 }
 
-/// The greatest of rising places, or 0.
+/// Returns the greatest of rising places, or 0.
 fn greatest(places: &[u32]) -> u32
     requires { IsNonDecreasing places.now }
     ensures { result ≡ fold max 0 places.now }
@@ -92,7 +93,7 @@ fn greatest(places: &[u32]) -> u32
     places[places.len() - 1]
 }
 
-/// The greatest of rising places whose touch is before a tick, or 0.
+/// Returns the greatest of rising places whose touch is before a tick, or 0.
 pub(crate) fn greatest_before(touches: &[Touch], places: &[u32], tick: u64) -> u32
     requires rising { IsNonDecreasing places.now }
     requires order { IsNonDecreasingBy (tick_at touches.now) places.now }
@@ -102,7 +103,7 @@ pub(crate) fn greatest_before(touches: &[Touch], places: &[u32], tick: u64) -> u
     greatest(&places[..count])
 }
 
-/// The places that are not after a version.
+/// Returns the places that are not after a version.
 pub(crate) fn places_to(places: &[u32], version: u32) -> &[u32]
     requires { IsNonDecreasing places.now }
     ensures { result.now ≡ filter (λ place. nat_le place version) places.now }
@@ -111,8 +112,8 @@ pub(crate) fn places_to(places: &[u32], version: u32) -> &[u32]
     &places[..count]
 }
 
-/// The places after a version and not after a later one, and how many are not after that. How many are not after the first is
-/// looked for where the guess says.
+/// Returns the places after a version and not after a later one, and how many are not after the later one. It tests
+/// first whether the guess is how many are not after the first version.
 pub(crate) fn places_between(places: &[u32], from: u32, to: u32, guess: usize) -> (&[u32], usize)
     requires rising { IsNonDecreasing places.now }
     requires later { from ≤ to }
@@ -126,7 +127,7 @@ pub(crate) fn places_between(places: &[u32], from: u32, to: u32, guess: usize) -
     (&rest[..more], start + more)
 }
 
-/// The places after a version.
+/// Returns the places after a version.
 pub(crate) fn places_after(places: &[u32], version: u32) -> &[u32]
     requires { IsNonDecreasing places.now }
     ensures { result.now ≡ filter (λ place. nat_lt version place) places.now }

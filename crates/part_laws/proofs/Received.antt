@@ -1,4 +1,4 @@
--- A part that has what some texts bring is the join of their frames.
+-- A part that has what the encodings of some frames bring is the join of these frames.
 use Rattle.std.proofs.Common.{◌≡◌, ℕ, ◌⊎◌, inl, inr, zero, suc, ◌<◌, ◌≤◌, List, [], ◌∷◌, length, map, get_or, replicate, Option, Some, None, IfSome, refl, sym, ap, subst, ◌∙◌, arith}
 use Rattle.std.specs.List.{All, Contains, fold}
 use Rattle.std.proofs.lemmas.List.{ext_get_or, length-replicate}
@@ -12,15 +12,15 @@ use Rattle.migration_model.proofs.Parts.{same_copy, same_part, with_frame_joins_
 use Rattle.stream_receivers.specs.Receivers.{HasFrames}
 use Rattle.stream_receivers.proofs.Had.{has_all, has_nothing, in_rest}
 
--- ---- two parts that have what the same texts bring
+-- ---- two parts that have what the same encodings bring
 
--- frames of these texts agree
+-- frames whose encodings are among these agree
 abbrev TextsAgree : GuestShape → (List ℕ → Type 0) → Type 0
 TextsAgree shape IsText =
     (s t : List ℕ) (f g : PageFrame) → IsText s → IsText t → SpellsFrame shape s f → SpellsFrame shape t g → f.page ≡ g.page → f.stamp ≡ g.stamp
     → content_of shape f ≡ content_of shape g
 
--- a part that has a text's frame has its page
+-- a part that has the frame of an encoding has its page
 came_at : (shape : GuestShape) (IsText : List ℕ → Type 0) (part : GuestPart) (p : ℕ) (text : List ℕ) (frame : PageFrame) → HasFrames shape IsText part → IsText text
     → SpellsFrame shape text frame → frame.page ≡ p → (copy : PageCopy) × (copy_at part p ≡ Some copy) × (frame.stamp ≤ copy.stamp)
 came_at shape IsText part p text frame has is spells page =
@@ -90,7 +90,7 @@ joined_frames shape part (f ∷ fs) same is fit =
     ∙ ap (λ (q : GuestPart). fold join q (map (part_of shape) fs))
     (with_frame_joins_lem part f is.places one.page ∙ ap (λ (s : GuestShape). join part (part_of s f)) same)
 
--- ---- frames and their texts
+-- ---- frames and their encodings
 
 spelled_of : (frames : List PageFrame) (text : List ℕ) → Contains (map frame_text frames) text → (f : PageFrame) × Contains frames f × (text ≡ frame_text f)
 spelled_of [] text found = absurd (omega (arith, found.1))
@@ -100,7 +100,7 @@ spelled_of (f ∷ fs) text (suc k, low, is) = let rest = spelled_of fs text (k, 
 fits_in : (shape : GuestShape) (frames : List PageFrame) (f : PageFrame) → All (IsFrame shape) frames → Contains frames f → IsFrame shape f
 fits_in shape frames f fit found = subst (IsFrame shape) found.2 (fit found.0 f found.1)
 
--- a frame that one of the texts spells is one of the frames
+-- a frame whose encoding is one of these is one of the frames
 is_one : (shape : GuestShape) (frames : List PageFrame) (text : List ℕ) (f : PageFrame) → IsGuestShape shape → All (IsFrame shape) frames → Contains (map frame_text frames) text
     → SpellsFrame shape text f → Contains frames f
 is_one shape frames text f is fit found spells =

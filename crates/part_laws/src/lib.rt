@@ -13,8 +13,8 @@ ghost use Rattle.stream_lanes.specs.Ends.{IsSentOn, OutView};
 ghost use Rattle.stream_receivers.specs.Receivers.{HasFrames};
 ghost use Rattle.part_laws.specs.Current.{current_part};
 
-/// The parts that a final copy leaves, joined, are the join of the parts that it was given and of the current copies of
-/// the marked pages, where these agree.
+/// The parts that a final copy leaves, joined, are the join of the parts that it was given and of the current copies
+/// of the marked pages, where these agree.
 pub fn final_copy_is_a_join()
     ensures { (trace : GuestTrace) (shape : GuestShape) (versions : List ℕ) (marked : ℕ → Bool) (old new : List GuestPart)
         → All IsPart old → All (λ part. Agree part (current_part trace shape versions marked)) old
@@ -22,7 +22,8 @@ pub fn final_copy_is_a_join()
         → join_all shape new ≡ join (join_all shape old) (current_part trace shape versions marked) }
 {}
 
-/// The part that a receiver answers is the join of the frames whose spellings were sent on its lanes, where these agree.
+/// The part that a receiver returns is the join of the frames whose encodings were sent on its lanes, where these
+/// agree.
 pub fn received_part_is_a_join()
     ensures { (shape : GuestShape) (outs : List OutView) (frames : List PageFrame) (part : GuestPart)
         → IsGuestShape shape → All (IsFrame shape) frames → FramesAgree shape frames

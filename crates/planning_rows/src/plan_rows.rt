@@ -1,4 +1,4 @@
-//! Worked examples, whose answers were made by hand.
+//! Worked examples, whose results were worked out by hand.
 
 use rate_limit::{Asked, Reason, Settings};
 use round_planner::{Outcome, Plan, Planner, RoundIndex, par_plan, plan};
@@ -7,7 +7,7 @@ use std::test::Fail;
 use std::thread::Threads;
 use trace_codec::{Trace, Write};
 
-/// A guest whose writes are of one byte, at these ticks and to these pages.
+/// Returns a trace whose writes are of one byte, at these ticks and to these pages.
 fn guest(alloc: Global, pages: u32, touches: &[(u64, u32)]) -> Result<Trace, Fail> {
     let mut writes = Vec::new(alloc);
     for (tick, page) in touches {
@@ -43,8 +43,8 @@ fn asked(max: u64, threshold: u64, start: u64, skip: bool) -> Asked {
     }
 }
 
-/// A plan's rounds (from, to, rate, how many pages, how many of them sent, dirtied), and then its stop, how many pages
-/// are left, the downtime and the total.
+/// Returns a plan's rounds (from, to, rate, how many pages, how many of them sent, dirtied), and then its stop, how
+/// many pages are left, the downtime and the total.
 fn numbers(alloc: Global, plan: &Plan) -> Result<Vec<u64>, AllocError> {
     let mut numbers = Vec::new(alloc);
     for round in &plan.rounds {
@@ -74,13 +74,13 @@ fn told(outcome: &Outcome) -> Told {
     )
 }
 
-/// What a plan comes to, and its numbers.
+/// Returns the sums of a plan, and its numbers.
 fn planned(alloc: Global, trace: &Trace, settings: &Settings) -> Result<(Told, Vec<u64>), Fail> {
     let made = plan(alloc, trace, settings)?;
     Ok((told_of_plan(&made), numbers(alloc, &made)?))
 }
 
-/// The same of a plan by so many workers.
+/// Returns the sums and the numbers of a plan by so many workers.
 fn par_planned<R: Threads + Sync>(
     rt: &R,
     alloc: Global,
@@ -92,7 +92,7 @@ fn par_planned<R: Threads + Sync>(
     Ok((told_of_plan(&made), numbers(alloc, &made)?))
 }
 
-/// What a plan comes to, told twice by one planner.
+/// Returns the sums of a plan that one planner makes for the second time.
 fn second_outcome(alloc: Global, trace: &Trace, settings: &Settings) -> Result<Told, Fail> {
     let index = RoundIndex::build(alloc, trace)?;
     let mut planner = Planner::new(alloc, trace)?;
@@ -179,6 +179,60 @@ fn worked_plans(rt: HostRuntime) -> Result<(), Fail> {
     Ok(())
 }
 
+/// The pages of each round of a plan, and then those that are left at its stop.
+fn pages_of(alloc: Global, plan: &Plan) -> Result<Vec<&[u32]>, AllocError> {
+    let mut pages = Vec::new(alloc);
+    for round in &plan.rounds {
+        pages.push(round.pages.as_slice())?;
+    }
+    pages.push(plan.last.as_slice())?;
+    Ok(pages)
+}
+
+#[test]
+fn pages_of_worked_plans(rt: HostRuntime) -> Result<(), Fail> {
+    let alloc = rt.alloc();
+    let cases: [(&[(u64, u32)], Asked, &[&[u32]]); 7] = [
+        (
+            &TOUCHES,
+            asked(4, 1, 0, false),
+            &[&[0, 1, 2, 3], &[0, 1], &[1, 3], &[]],
+        ),
+        (
+            &TOUCHES,
+            asked(2, 1, 0, false),
+            &[&[0, 1, 2, 3], &[0, 1], &[1, 3]],
+        ),
+        (
+            &TOUCHES,
+            asked(4, 1, 0, true),
+            &[&[0, 1, 2, 3], &[0, 1], &[1, 3], &[]],
+        ),
+        (
+            &EARLIER,
+            asked(4, 1, 0, true),
+            &[&[0, 1, 2, 3], &[0, 1], &[1, 3]],
+        ),
+        (
+            &TOUCHES,
+            asked(4, 2, 0, false),
+            &[&[0, 1, 2, 3], &[0, 1], &[1, 3], &[]],
+        ),
+        (&TOUCHES, asked(4, 3, 0, false), &[&[0, 1, 2, 3], &[0, 1]]),
+        (&TOUCHES, asked(4, 1, 3000, false), &[&[0, 1, 2, 3], &[]]),
+    ];
+    for (touches, asked, expected) in cases {
+        let trace = guest(alloc, 4, touches)?;
+        let settings = Settings::new(asked)?;
+        let made = plan(alloc, &trace, &settings)?;
+        let by_workers = par_plan(&rt, alloc, &trace, &settings, 3)?;
+        let pages = pages_of(alloc, &made)?;
+        let pages_by_workers = pages_of(alloc, &by_workers)?;
+        assert!(rt; pages.as_slice() == expected && pages_by_workers.as_slice() == expected);
+    }
+    Ok(())
+}
+
 #[test]
 fn a_page_of_the_last_word(rt: HostRuntime) -> Result<(), Fail> {
     let alloc = rt.alloc();
@@ -208,7 +262,8 @@ fn a_page_of_the_last_word(rt: HostRuntime) -> Result<(), Fail> {
     Ok(())
 }
 
-/// The pages of a plan's second round and those of them that it sends, if there is one, and the pages that are left.
+/// Returns the pages of a plan's second round and those of them that it sends, if there is one, and the pages that are
+/// left.
 fn skips(plan: &Plan) -> (Option<(&[u32], &[u32])>, &[u32]) {
     let second = plan
         .rounds
@@ -228,9 +283,9 @@ fn pages_that_are_skipped(rt: HostRuntime) -> Result<(), Fail> {
     Ok(())
 }
 
-/// Pages at the edges of three words. In the second round, which sends a page in 7 ticks and 90 of 130 parts of one more, page 63
-/// is written one tick before its scan ends, page 64 just when it has ended, and page 129 in the tick that the parts of two
-/// pages make.
+/// Pages at the edges of three words. The second round sends a page in 7 ticks and 90 of 130 parts of one more. Page
+/// 63 is written one tick before its scan ends, page 64 just when it has ended, and page 129 in the tick that the
+/// parts of two pages make.
 #[test]
 fn pages_of_three_words(rt: HostRuntime) -> Result<(), Fail> {
     let alloc = rt.alloc();

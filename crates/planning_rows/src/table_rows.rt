@@ -3,7 +3,8 @@
 use rate_limit::{Asked, Settings, SettingsError};
 use std::alloc::Global;
 use std::test::Fail;
-use trace_codec::{TouchLog, decode};
+use trace_codec::decode;
+use trace_readers::TouchLog;
 use working_sets::{Tables, Window, par_tables, tables};
 
 /// A guest of 4 pages of 16 bytes, which writes pages 0 and 1 at ticks 0 and 5, page 1 at tick 1200, and pages 3 and 1
@@ -17,7 +18,7 @@ const TRACE: [u8; 102] = [
     0xc4, 9, 0, 0, 0, 0, 0, 0, 1, 0, 0, 0, 0, 0, 1, 0, 0, // write 5
 ];
 
-/// The same guest, with no write.
+/// The bytes of this guest's trace, with no write.
 const NO_WRITES: [u8; 16] = [0x50, 0x43, 0x57, 0x54, 1, 4, 0, 0, 4, 0, 0, 0, 0, 0, 0, 0];
 
 /// A guest of 1 page with a write at tick 0 and one at the greatest tick, 2^40 - 1.
@@ -55,7 +56,7 @@ fn row(number: u64, writes: u32, pages: u32, again: u32, fresh: u32) -> Window {
     }
 }
 
-/// The tables of a trace, and of its touches alone.
+/// Returns the tables of a trace, and of its touches alone.
 fn both(alloc: Global, bytes: &[u8], window: u64, hot: u64) -> Result<(Tables, Tables), Fail> {
     let settings = settings(window, hot)?;
     let trace = decode(alloc, bytes)?;
@@ -65,7 +66,7 @@ fn both(alloc: Global, bytes: &[u8], window: u64, hot: u64) -> Result<(Tables, T
     Ok((owned, touched))
 }
 
-/// The windows and the hot pages.
+/// Returns the windows and the hot pages.
 fn parts(tables: &Tables) -> (&[Window], &[u32]) {
     (tables.windows.as_slice(), tables.hot.as_slice())
 }

@@ -12,7 +12,7 @@ use working_sets::{Tables, Window};
 /// The beginning of a trace of 4 pages of 16 bytes, with no write.
 const NO_WRITES: [u8; 16] = [0x50, 0x43, 0x57, 0x54, 1, 4, 0, 0, 4, 0, 0, 0, 0, 0, 0, 0];
 
-/// A plan of one round, with its greatest numbers.
+/// Returns a plan of one round, with its greatest numbers.
 fn one_round(alloc: Global) -> Result<Plan, Fail> {
     let mut rounds = Vec::new(alloc);
     rounds.push(Round {
@@ -32,7 +32,7 @@ fn one_round(alloc: Global) -> Result<Plan, Fail> {
     })
 }
 
-/// The report over these windows and hot pages, with so many windows for a hot page.
+/// Returns the report over these windows and hot pages, with so many windows for a hot page.
 fn text(alloc: Global, windows: &[Window], pages: &[u32], hot: u64) -> Result<Vec<u8>, Fail> {
     let settings = Settings::new(Asked {
         min: 2,
@@ -100,7 +100,7 @@ stop fast at 1099577163775 pages 1 down 65536000 total 3
     Ok(())
 }
 
-/// A guest of 4 pages that writes one byte at these ticks and to these pages.
+/// Returns a trace of 4 pages that writes one byte at these ticks and to these pages.
 fn guest(alloc: Global) -> Result<Trace, Fail> {
     let mut writes = Vec::new(alloc);
     for (tick, page) in [(0, 0), (5, 1), (1200, 1), (2500, 3), (2500, 1)] {
@@ -132,7 +132,7 @@ fn case(max: u64, threshold: u64) -> Result<Settings, Fail> {
     })?)
 }
 
-/// The text of the sweep over these cases.
+/// Returns the text of the sweep over these cases.
 fn swept<R: Threads + Sync>(
     rt: &R,
     alloc: Global,
@@ -182,7 +182,7 @@ best 1
     Ok(())
 }
 
-/// A line with this downtime and total.
+/// Returns a line with this downtime and total.
 fn line(down: u64, total: u64) -> Result<Line, Fail> {
     Ok(Line {
         settings: case(4, 1)?,
@@ -202,7 +202,7 @@ fn the_downtime_counts_first(rt: HostRuntime) -> Result<(), Fail> {
     Ok(())
 }
 
-/// A guest of 64 pages that writes one byte at each of 8,192 ticks.
+/// Returns a trace of 64 pages that writes one byte at each of 8,192 ticks.
 fn busy_guest(alloc: Global) -> Result<Trace, Fail> {
     let mut writes = Vec::new(alloc);
     for tick in 0..8192u32 {
@@ -216,7 +216,7 @@ fn busy_guest(alloc: Global) -> Result<Trace, Fail> {
     Ok(Trace::new(4, 64, writes)?)
 }
 
-/// Cases of different rates, half of them with skips.
+/// Returns cases of different rates, half of them with skips.
 fn many_cases(alloc: Global) -> Result<Vec<Settings>, Fail> {
     let mut cases = Vec::new(alloc);
     for number in 0..256u64 {
@@ -229,7 +229,7 @@ fn many_cases(alloc: Global) -> Result<Vec<Settings>, Fail> {
     Ok(cases)
 }
 
-/// The rounds, the reason, the stop, the downtime and the total of a case's plan.
+/// Returns the rounds, the reason, the stop, the downtime and the total of a case's plan.
 fn told_of_plan(
     alloc: Global,
     guest: &Trace,

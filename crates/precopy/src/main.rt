@@ -1,7 +1,18 @@
 //! `precopy`: what a pre-copy migration of a recorded guest would do.
 #![tactic(auto)]
 
-use command_line::{refuse, start, words};
+#[cfg(test)]
+mod live_tests;
+#[cfg(test)]
+mod report_tests;
+mod starting;
+#[cfg(test)]
+mod sweep_tests;
+#[cfg(test)]
+mod tests;
+
+use crate::starting::{refuse, start};
+use job_words::words;
 use migration_jobs::FromWrite;
 use std::process::ExitCode;
 use trace_codec::FromRead;

@@ -1,4 +1,4 @@
--- The plain words for a reason, and for what comes after a round.
+-- The definitions' values for a reason, and for what comes after a round.
 use Rattle.migration_model.specs.Rates.{StopReason, few_remain, too_fast, rounds_done, AfterRound, goes_on, stops}
 use Rattle.rate_limit.specs.declared.outcome.Reason.{Reason}
 use Rattle.rate_limit.specs.declared.outcome.Reason.TheVariants.{Few, Fast, Rounds}

@@ -4,11 +4,11 @@ use Rattle.migration_model.specs.Rates.{MigrationSettings}
 use Rattle.rate_limit.specs.declared.error.SettingsError.{SettingsError}
 use Rattle.rate_limit.specs.declared.error.SettingsError.TheVariants.{MinRate, MaxRate, Increment, Threshold, Rounds, WindowLength, HotWindows, StartTick, Parallelism}
 
--- neither below the one nor above the other
+-- neither below the first nor above the second
 abbrev pub is_between : ℕ → ℕ → ℕ → Bool
 is_between low high n = nat_le low n && nat_le n high
 
--- how many run side by side
+-- the workers, streams, replayers and the frames of a lane are in range
 abbrev pub is_parallelism : MigrationSettings → Bool
 is_parallelism s = is_between 1 16 s.workers && is_between 1 16 s.streams && is_between 1 16 s.replayers && is_between 1 65_536 s.lane
 

@@ -2,12 +2,12 @@
 
 use std::fmt;
 
-/// Why pre-copying ends. Its text is the word that reports have for it.
+/// Why pre-copying ends. A reason is written as the word that reports have for it.
 #[derive(Clone, Copy, Debug, PartialEq, Eq)]
 pub enum Reason {
     /// Fewer pages than the threshold were dirtied.
     Few,
-    /// The next rate would be greater than the greatest.
+    /// The next rate would be above the greatest.
     Fast,
     /// As many rounds as were asked for are done.
     Rounds,
@@ -27,7 +27,7 @@ impl Reason {
     ghost use Rattle.migration_model.specs.Rates.{word_of};
     ghost use Rattle.rate_limit.specs.Pacing.{reason_of};
 
-    /// The word that reports have for it: `few`, `fast` or `rounds`.
+    /// Returns the word that reports have for the reason: `few`, `fast` or `rounds`.
     pub fn word(&self) -> &'static str
         ensures { result.now ≡ word_of (reason_of self.now) }
     {

@@ -1,4 +1,5 @@
-//! Durations, dirtying rates, and what comes after a round.
+//! Durations, dirtying rates, and what comes after a round: the dynamic rate limiting of Clark and others (2005),
+//! section 5.3.
 
 ghost use Rattle.std.specs.Prelude.{ℕ, ◌≡◌, ◌*◌, ◌≤◌};
 ghost use Rattle.migration_model.specs.Rates.{after_round, dirtying_rate_of, duration_of};
@@ -7,7 +8,7 @@ ghost use Rattle.rate_limit.specs.Pacing.{outcome_of};
 use crate::outcome::{Next, Reason};
 use crate::settings::Settings;
 
-/// The ticks that so many pages take at a rate in pages per 1,000 ticks, rounded up.
+/// Returns how many ticks so many pages take at a rate in pages per 1,000 ticks, rounded up.
 pub fn duration(pages: u32, rate: u64) -> u64
     requires { 1 ≤ rate }
     ensures value { result ≡ duration_of pages rate }
@@ -17,7 +18,7 @@ pub fn duration(pages: u32, rate: u64) -> u64
     (1000 * pages as u64).div_ceil(rate)
 }
 
-/// The rate, in pages per 1,000 ticks, at which so many pages were dirtied in these ticks, rounded up.
+/// Returns the rate, in pages per 1,000 ticks, at which so many pages were dirtied in these ticks, rounded up.
 pub fn dirty_rate(pages: u32, ticks: u64) -> u64
     requires { 1 ≤ ticks }
     ensures value { result ≡ dirtying_rate_of pages ticks }
@@ -27,7 +28,11 @@ pub fn dirty_rate(pages: u32, ticks: u64) -> u64
     (1000 * pages as u64).div_ceil(ticks)
 }
 
-/// What comes after a round that lasted these ticks, in which so many pages were dirtied, with so many rounds done.
+/// Returns what comes after a round that lasted these ticks and in which so many pages were dirtied, with `done`
+/// rounds done.
+///
+/// The stop tests come in the order few, fast, rounds. The next rate is the dirtying rate plus the increment (Clark
+/// and others 2005, section 5.3), and at least the least rate.
 pub fn next(settings: &Settings, dirtied: u32, ticks: u64, done: u64) -> Next
     requires { 1 ≤ ticks }
     ensures { outcome_of result ≡ after_round settings.now dirtied ticks done }

@@ -40,7 +40,7 @@ pub struct Asked {
     pub max: u64,
     /// What is added to a dirtying rate, in pages per 1,000 ticks.
     pub increment: u64,
-    /// Rounds end where fewer pages than these were dirtied.
+    /// Rounds end after one that dirtied fewer pages than these.
     pub threshold: u64,
     /// The most rounds.
     pub rounds: u64,
@@ -48,7 +48,7 @@ pub struct Asked {
     pub start: u64,
     /// The length of a window, in ticks.
     pub window: u64,
-    /// In how many windows a hot page is written at least.
+    /// In how many windows a page has to be written to be hot.
     pub hot: u64,
     /// Threads that copy.
     pub workers: u64,
@@ -56,7 +56,7 @@ pub struct Asked {
     pub streams: u64,
     /// Threads that replay the guest's writes.
     pub replayers: u64,
-    /// Frames that a lane has room for.
+    /// How many frames a lane has room for.
     pub lane: u64,
     /// Whether pages that were written again are skipped.
     pub skip: bool,
@@ -114,14 +114,14 @@ impl Model for Settings {
     ghost inverse = { λ s. record { asked = s } };
 }
 
-/// Whether a number is neither below the one nor above the other.
+/// Returns whether `n` is neither below `low` nor above `high`.
 fn is_within(low: u64, high: u64, n: u64) -> bool
     ensures { result ≡ is_between low high n }
 {
     low <= n && n <= high
 }
 
-/// Whether so many may run side by side.
+/// Returns whether the workers, streams, replayers and the frames of a lane are in range.
 fn is_parallel(asked: &Asked) -> bool
     ensures { result ≡ is_parallelism asked.now }
 {
@@ -131,7 +131,7 @@ fn is_parallel(asked: &Asked) -> bool
         && is_within(1, MAX_LANE, asked.lane)
 }
 
-/// Tests each setting for its range, in the order of the refusals.
+/// Tests each setting against its range, in the order of the refusals.
 fn check(asked: &Asked) -> Result<(), SettingsError>
     ensures refused { IfErr result (λ e. refusal_of asked.now ≡ Some e) }
     ensures accepted { IfOk result (λ _. refusal_of asked.now ≡ None) }
@@ -168,7 +168,7 @@ fn check(asked: &Asked) -> Result<(), SettingsError>
 
 impl Settings {
     #[tactic(auto, using(crate::proofs::Ranges::in_range_lem))]
-    /// These settings, where each is in its range, or else the first refusal. It takes no memory.
+    /// Returns these settings where each is in its range, or else the first refusal. It allocates nothing.
     pub fn new(asked: Asked) -> Result<Settings, SettingsError>
         ensures accepted { IfOk result (λ settings. settings ≡ asked) }
         ensures in_range { IsOk result ↔ AreSettings asked }
@@ -178,7 +178,7 @@ impl Settings {
         Ok(Settings { asked })
     }
 
-    /// The settings as they were asked for.
+    /// Returns the settings as they were asked for.
     pub fn asked(&self) -> &Asked
         ensures value { result.now ≡ self.now }
         ensures in_range { AreSettings self.now }

@@ -10,7 +10,7 @@ use Rattle.round_planner.specs.Scanning.{is_met}
 use Rattle.round_planner.specs.Indexing.{IsPoint, IsLast}
 use Rattle.round_planner.proofs.Scans.{none_met, met_more, or_true, or_false, written_at}
 
--- the page of the next touch
+-- the last touch to the page of the next touch is that touch
 pub last_here : (touches : List GuestTouch) (n : ℕ) → n < length touches → IsLast touches (n + 1) (get_or touches n no_touch).page (n + 1)
 last_here touches n inside = record {
   high = omega arith;
@@ -28,7 +28,7 @@ last_here touches n inside = record {
       ];
 }
 
--- another page
+-- the last touch to any other page stays
 pub last_other : (touches : List GuestTouch) (n page place : ℕ) → n < length touches → ((get_or touches n no_touch).page ≡ page → ⊥) → IsLast touches n page place
     → IsLast touches (n + 1) page place
 last_other touches n page place inside other before = record {

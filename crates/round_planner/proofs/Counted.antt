@@ -4,7 +4,7 @@ use Rattle.std.proofs.lemmas.Bool.{lt-ltb, le-ltb}
 use Rattle.std.proofs.lemmas.List.{take_more, length_push}
 use Rattle.std.proofs.lemmas.List.Sums.{fold-append}
 use Rattle.migration_model.specs.Touches.{GuestTouch, is_written}
-use Rattle.dirty_core.specs.Pages.{in_words}
+use Rattle.page_bitmap.specs.Pages.{in_words}
 use Rattle.round_planner.specs.Scanning.{IsScan}
 use Rattle.round_planner.proofs.Scans.{mark_is}
 use Rattle.round_planner.proofs.Skims.{skim, skim_one, stays}

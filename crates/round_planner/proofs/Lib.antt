@@ -3,7 +3,6 @@ pub mod PageLists
 pub mod Plans
 pub mod Scans
 pub mod Columns
-pub mod Words
 pub mod Paces
 pub mod Counted
 pub mod Outcomes

@@ -1,4 +1,4 @@
--- A plan that is made of counts: what holds between its rounds, and what it comes to.
+-- A plan that is made of counts: what holds between its rounds, and what its sums are.
 use Rattle.std.proofs.Common.{◌≡◌, ℕ, ◌+◌, ◌-◌, ◌*◌, ◌≤◌, true, List, [], ◌∷◌, ◌++◌, length, replicate, refl, sym, ap, subst, ◌∙◌, arith}
 use Rattle.std.specs.List.{sum_by}
 use Rattle.std.proofs.lemmas.List.{length_push, length-replicate}
@@ -9,7 +9,7 @@ use Rattle.migration_model.specs.Rounds.{PlannedRound, NextRound, plan_with, fir
 use Rattle.migration_model.specs.Sweeps.{PlanOutcome, IsOutcome, outcome_with}
 use Rattle.migration_model.specs.Touches.{GuestTouch, pages_written}
 use Rattle.round_planner.specs.Scanning.{IsScan}
-use Rattle.round_planner.specs.Marking.{word_count}
+use Rattle.page_bitmap.specs.Listing.{word_count}
 use Rattle.round_planner.specs.Indexing.{IsPoint, StandsAt, IsReady, RanTo, IsTurned, AreMarksOf}
 use Rattle.round_planner.specs.declared.tally.Marks.{Marks}
 use Rattle.round_planner.specs.declared.tally.Ran.{Ran}

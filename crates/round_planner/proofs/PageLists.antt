@@ -2,6 +2,7 @@
 use Rattle.std.proofs.Common.{ℕ, zero, suc, ◌+◌, ◌<◌, ◌≤◌, Bool, true, false, cond, List, ◌∷◌, length, ap, arith}
 use Rattle.std.specs.List.{All, AllByRecursion, filter, range_with_len}
 use Rattle.std.proofs.lemmas.List.Elements.{All-from_recursion}
+use Rattle.page_bitmap.proofs.Listed.{few_pages}
 use Rattle.round_planner.specs.Scanning.{IsPageList}
 use Rattle.round_planner.proofs.Skims.{Rises, Rises-pages}
 
@@ -12,14 +13,6 @@ low_kept false n x xs low all = all
 all_low : (test : ℕ → Bool) (n a m : ℕ) → a + m ≤ n → AllByRecursion (λ p. p < n) (filter test (range_with_len a m))
 all_low test n a zero bound = tt
 all_low test n a (suc m) bound = low_kept (test a) n a (filter test (range_with_len (a + 1) m)) (omega arith) (all_low test n (a + 1) m (omega arith))
-
-pub few_kept : (b : Bool) (x : ℕ) (xs : List ℕ) → length (cond b (x ∷ xs) xs) ≤ length xs + 1
-few_kept true x xs = omega arith
-few_kept false x xs = omega arith
-
-pub few_pages : (test : ℕ → Bool) (a m : ℕ) → length (filter test (range_with_len a m)) ≤ m
-few_pages test a zero = omega arith
-few_pages test a (suc m) = omega (arith, few_kept (test a) a (filter test (range_with_len (a + 1) m)), few_pages test (a + 1) m)
 
 pub list_low : (pages : ℕ) (list : List ℕ) → IsPageList pages list → All (λ p. p < pages) list
 list_low pages list is =

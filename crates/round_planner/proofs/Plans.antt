@@ -9,7 +9,8 @@ use Rattle.migration_model.specs.Touches.{GuestTouch, is_written, pages_written}
 use Rattle.migration_model.specs.Rounds.{PlannedRound, MigrationPlan, plan_with, NextRound, pages_below, first_round, round_after, IsSent, IsRound, IsEnd, InEither, AreRounds, IsPlan}
 use Rattle.round_planner.specs.Scanning.{CanCome, HasRun, IsPageList}
 use Rattle.round_planner.proofs.Skims.{Rises, Rises-pages, Rises-range, sent_is_skim, filter_all, sent_is_all, round_sends}
-use Rattle.round_planner.proofs.PageLists.{few_kept, list_few, list_rises}
+use Rattle.page_bitmap.proofs.Listed.{few_kept}
+use Rattle.round_planner.proofs.PageLists.{list_few, list_rises}
 
 -- the pages sent are one list
 one_sent : (skip : Bool) (touches : List GuestTouch) (from rate : ℕ) (pages a b : List ℕ) → Rises 0 pages → IsSent skip touches from rate pages a
@@ -31,7 +32,7 @@ one_round pages touches s now a b rises is_a is_b =
     let dirtied : a.dirtied ≡ b.dirtied = is_a.dirtied_is ∙ (λ i. length (pages_written pages touches (from i) (to i))) ∙ sym is_b.dirtied_is in
     λ i. record { from = from i; to = to i; rate = rate i; pages = list i; sent = sent i; dirtied = dirtied i }
 
--- two plans that come to the same
+-- two plans that have the same rounds and the same end
 record AreSame (ps qs : List PlannedRound) (p q : MigrationPlan) : Type 0 where
   pub rounds : ps ≡ qs
   pub reason : p.reason ≡ q.reason

@@ -10,12 +10,12 @@ use Rattle.std.proofs.lemmas.Nat.Bits.{bit_at-zero}
 use Rattle.std.specs.Int.{bit_at}
 use Rattle.migration_model.specs.Touches.{GuestTouch, no_touch, is_written, pages_written, AreTouches}
 use Rattle.migration_model.proofs.Ranges.{filter_range_agree}
-use Rattle.dirty_core.specs.Pages.{in_words, one_page, union, SamePages}
-use Rattle.round_planner.specs.Marking.{marked, word_count}
+use Rattle.page_bitmap.specs.Pages.{in_words, one_page, union, SamePages}
+use Rattle.page_bitmap.specs.Listing.{pages_of, word_count}
 use Rattle.round_planner.specs.Scanning.{is_met, AreMet, IsScan, IsScanWithin, IsNextBefore}
-use Rattle.round_planner.proofs.PageLists.{few_pages}
+use Rattle.page_bitmap.proofs.Listed.{few_pages}
 use Rattle.round_planner.proofs.Plans.{scan_in_round}
-use Rattle.round_planner.proofs.Words.{none_kept, range_split}
+use Rattle.page_bitmap.proofs.Listed.{none_kept, range_split}
 
 take_within : (P : GuestTouch → Type 0) (touches : List GuestTouch) (n : ℕ) → AllWithin P touches 0 n → All P (take n touches)
 take_within P touches n all k d low =
@@ -106,7 +106,7 @@ mark_is pages touches from tick n page marks scan low = scan.met.marked page low
 
 -- the pages that are marked are those written
 pub marked_pages : (pages : ℕ) (touches : List GuestTouch) (from tick n : ℕ) (marks : List ℕ) → IsScan pages touches from tick n marks
-    → marked marks ≡ pages_written pages touches from tick
+    → pages_of marks ≡ pages_written pages touches from tick
 marked_pages pages touches from tick n marks scan =
     let all = length marks * 64 in
     let more : pages ≤ all = omega (arith, scan.met.len) in
@@ -119,8 +119,8 @@ marked_pages pages touches from tick n marks scan =
     ∙ filter_range_agree (is_written touches from tick) (in_words marks) 0 pages
     (λ page low high. mark_is pages touches from tick n page marks scan (omega arith))
 
--- no more than all
-pub marked_few : (pages : ℕ) (touches : List GuestTouch) (from tick n : ℕ) (marks : List ℕ) → IsScan pages touches from tick n marks → length (marked marks) ≤ pages
+-- no more pages are marked than the guest has
+pub marked_few : (pages : ℕ) (touches : List GuestTouch) (from tick n : ℕ) (marks : List ℕ) → IsScan pages touches from tick n marks → length (pages_of marks) ≤ pages
 marked_few pages touches from tick n marks scan =
     omega (arith, ap (λ (l : List ℕ). length l) (marked_pages pages touches from tick n marks scan), few_pages (is_written touches from tick) 0 pages)
 
@@ -200,12 +200,6 @@ walk_ends pages touches from tick n marks fits bound none walk = record {
   );
   met = walk.met;
 }
-
--- marks that are lent whole come back whole
-pub whole_again : (n : ℕ) (new old : List ℕ) → length new ≡ length old → length new ≤ n → take n (new ++ drop (length new) old) ≡ new
-whole_again n new old same fits =
-    let none : drop (length new) old ≡ [] = drop_all (length new) old (omega (arith, same)) in
-    ap (λ (l : List ℕ). take n (new ++ l)) none ∙ ap (take n) (append-nil new) ∙ take_all n new fits
 
 -- on to the end of a round, from no later than where its last page was looked at
 pub walked_on : (pages : ℕ) (touches : List GuestTouch) (from rate count ticks to next later : ℕ) (marks new : List ℕ) → to ≡ from + ticks → 1_000 * count ≤ ticks * rate

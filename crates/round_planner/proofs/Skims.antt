@@ -1,5 +1,5 @@
--- The pages of a round that are sent where those soon written again are skipped: found one by one, and why no other list
--- is what the definition says.
+-- The pages of a round that are sent where those soon written again are skipped: found one by one, and why no other
+-- list is what the definition says.
 use Rattle.std.proofs.Common.{◌≡◌, ℕ, zero, suc, ◌+◌, ◌*◌, ◌/◌, ◌<◌, ◌≤◌, Bool, true, false, cond, not, ◌&&◌, eqb, leb, ltb, List, [], ◌∷◌, ◌++◌, length, get_or, take, refl, sym, ap, ◌∙◌, append_assoc, inl, inr, arith}
 use Rattle.std.specs.List.{filter, fold, range_with_len}
 use Rattle.std.proofs.lemmas.Bool.{cases_lt, le-ltb, lt-ltb, lt-leb, and_left, and_right}

@@ -1,11 +1,11 @@
--- What plans of one trace share, and a plan that is made of counts. The contracts of the index and of the planner speak of the
--- first part.
+-- The index that plans of one trace share, and a plan that is made of counts. The contracts of the index and of the
+-- planner cite the first part alone.
 use Rattle.std.specs.Prelude.{◌≡◌, ℕ, ◌+◌, ◌*◌, ◌/◌, ◌&&◌, ◌<◌, ◌≤◌, nat_lt, nat_le, not, true, false, List, length, slice_index_or, take}
 use Rattle.std.specs.List.Sorted.{IsPartitionPoint}
 use Rattle.migration_model.specs.Rates.{MigrationSettings}
 use Rattle.migration_model.specs.Rounds.{NextRound, PlannedRound, IsSent}
 use Rattle.migration_model.specs.Touches.{GuestTouch, AreTouches, no_touch, pages_written}
-use Rattle.round_planner.specs.Marking.{word_count}
+use Rattle.page_bitmap.specs.Listing.{word_count}
 use Rattle.round_planner.specs.Scanning.{is_met, CanCome, HasRun, IsScan, IsScanWithin}
 use Rattle.round_planner.specs.declared.scan.Scan.{Scan}
 use Rattle.round_planner.specs.declared.tally.Marks.{Marks}
@@ -16,13 +16,13 @@ use Rattle.round_planner.specs.declared.tally.Ran.{Ran}
 abbrev pub IsPoint : List GuestTouch → ℕ → ℕ → Type 0
 IsPoint touches tick n = IsPartitionPoint (λ touch. nat_lt touch.tick tick ≡ true) (λ touch. nat_lt touch.tick tick ≡ false) touches n
 
--- Of the first touches, so many, `place` tells when the last one was to a page: it is no greater than how many are before a
--- tick exactly where none from that tick on was to the page.
+-- `place` tells when the last of the first n touches to a page was: it is no greater than the count of touches before
+-- a tick exactly where none of them from that tick on is to the page.
 pub record IsLast (touches : List GuestTouch) (n page place : ℕ) : Type 0 where
   pub high : place ≤ n
   pub tells : (from low : ℕ) → IsPoint touches from low → low ≤ n → nat_le place low ≡ not (is_met touches from n page)
 
--- for each touch when the one before to its page was
+-- for each touch, when the one before to its page was
 pub record RoundColumns : Type 0 where
   pub earlier : List ℕ
 
@@ -50,7 +50,7 @@ pub record StandsAt (pages : ℕ) (touches : List GuestTouch) (s : MigrationSett
   pub bound : now.next ≤ length touches
   pub point : IsPoint touches coming.from now.next
 
--- the same, of some round
+-- a round that may come, of which these are the numbers
 pub record IsStanding (pages : ℕ) (touches : List GuestTouch) (s : MigrationSettings) (now : Standing) : Type 0 where
   pub coming : NextRound
   pub at : StandsAt pages touches s coming now
@@ -66,19 +66,20 @@ pub record RanTo (pages : ℕ) (touches : List GuestTouch) (s : MigrationSetting
   pub bound : ran.next ≤ length touches
   pub point : IsPoint touches round.to ran.next
 
--- marks for the pages of a guest of so many, and room for a list of them
+-- marks for the pages of a guest of so many, and a buffer for a list of them
 pub record AreMarksOf (pages : ℕ) (marks : Marks) : Type 0 where
   pub marks_len : length marks.scan.marks.items ≡ word_count pages
   pub room_len : length marks.room.items ≡ pages
 
--- a round that may come, by its numbers and, behind the first one, the list of its pages; the walk stands at its first tick
+-- a round that may come, by its numbers and, behind the first one, the list of its pages; the walk stands at its first
+-- tick
 pub record IsMarkedAt (pages : ℕ) (touches : List GuestTouch) (s : MigrationSettings) (coming : NextRound) (now : Standing) (marks : Marks) : Type 0 where
   pub at : StandsAt pages touches s coming now
   pub list : 1 ≤ coming.done → coming.pages ≡ take now.listed marks.room.items
   pub room : length marks.room.items ≡ pages
   pub scan : IsScan pages touches coming.from coming.from marks.scan.next marks.scan.marks.items
 
--- the same, of some round
+-- a round that may come, of which these are the numbers and the marks
 pub record CanMark (pages : ℕ) (touches : List GuestTouch) (s : MigrationSettings) (now : Standing) (marks : Marks) : Type 0 where
   pub coming : NextRound
   pub is : IsMarkedAt pages touches s coming now marks
@@ -89,12 +90,13 @@ pub record IsReady (pages : ℕ) (touches : List GuestTouch) (s : MigrationSetti
   pub kept : AreMarksOf pages marks
   pub marked : s.skip ≡ true → IsMarkedAt pages touches s coming now marks
 
--- the same, of some round
+-- a round that may come, of which these are the numbers, with its marks where pages may be skipped
 pub record CanRun (pages : ℕ) (touches : List GuestTouch) (s : MigrationSettings) (now : Standing) (marks : Marks) : Type 0 where
   pub coming : NextRound
   pub ready : IsReady pages touches s coming now marks
 
--- the first places of the room, so many, list the pages that were written in these ticks, and the walk begins anew at the last of them
+-- the first slots of the buffer, so many, list the pages that were written in these ticks, and the walk begins anew at
+-- the last of them
 pub record IsTurned (pages : ℕ) (touches : List GuestTouch) (from tick count : ℕ) (marks : Marks) : Type 0 where
   pub list : take count marks.room.items ≡ pages_written pages touches from tick
   pub scan : IsScan pages touches tick tick marks.scan.next marks.scan.marks.items

@@ -1,4 +1,3 @@
 pub mod Sizes
-pub mod Marking
 pub mod Scanning
 pub mod Indexing

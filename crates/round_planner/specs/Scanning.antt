@@ -1,12 +1,12 @@
--- A walk over touches, on its way. No contract of a public call speaks of it.
+-- A walk over touches, on its way. No contract of a public call cites it.
 use Rattle.std.specs.Prelude.{◌≡◌, ℕ, ◌+◌, ◌*◌, ◌/◌, ◌%◌, ◌≤◌, ◌<◌, ◌&&◌, ◌==◌, ◌^◌, nat_lt, nat_le, true, false, Bool, List, length, take, slice_index_or}
 use Rattle.std.specs.List.{filter, list_any, range_with_len}
 use Rattle.std.specs.List.Sorted.{IsPartitionPoint}
 use Rattle.migration_model.specs.Rates.{MigrationSettings}
 use Rattle.migration_model.specs.Rounds.{NextRound, PlannedRound, IsRound}
 use Rattle.migration_model.specs.Touches.{GuestTouch, no_touch, pages_written}
-use Rattle.dirty_core.specs.Pages.{in_words}
-use Rattle.round_planner.specs.Marking.{word_count}
+use Rattle.page_bitmap.specs.Pages.{in_words}
+use Rattle.page_bitmap.specs.Listing.{word_count}
 use Rattle.round_planner.specs.declared.pace.Pace.{Pace}
 use Rattle.round_planner.specs.declared.pace.Progress.{Progress}
 
@@ -27,7 +27,7 @@ pub record IsScan (pages : ℕ) (touches : List GuestTouch) (from tick next : �
   pub point : IsPartitionPoint (λ touch. nat_lt touch.tick tick ≡ true) (λ touch. nat_lt touch.tick tick ≡ false) touches next
   pub met : AreMet pages touches from next marks
 
--- the same at some tick that is no later than this one
+-- the walk stands at some tick that is no later than this one
 pub record IsScanWithin (pages : ℕ) (touches : List GuestTouch) (from limit next : ℕ) (marks : List ℕ) : Type 0 where
   pub tick : ℕ
   pub high : tick ≤ limit
@@ -69,7 +69,7 @@ pub record HasRun (pages : ℕ) (touches : List GuestTouch) (s : MigrationSettin
   pub few : length round.sent ≤ 65_536
   pub small : pages ≤ 65_536
 
--- a pace that the numbers have room for: a page takes so many ticks, and parts of one more
+-- a pace whose numbers fit their widths: a page takes so many ticks, and parts of one more
 pub record IsPace (pace : Pace) : Type 0 where
   pub some : 1 ≤ pace.rate
   pub low : pace.from < 2 ^ 42

@@ -1,4 +1,4 @@
-//! What the plans of one trace share.
+//! The index that the plans of one trace share.
 
 ghost use Rattle.std.specs.Prelude.{◌≡◌, ◌≤◌, ◌<◌, ◌-◌, ◌^◌, IfErr, IfOk, drop, length, nat_le, take};
 ghost use Rattle.std.specs.List.{count_by};
@@ -9,8 +9,8 @@ use std::alloc::Global;
 use std::marker::Model;
 use trace_codec::Timeline;
 
-/// For each touch when its page was touched before: 4 bytes a touch. With it the pages of a round are counted in one pass over
-/// numbers, with no note of any page.
+/// For each touch, when its page was touched before: 4 bytes a touch. With the index, one pass over numbers counts the
+/// pages of a round, and marks no page.
 #[derive(Debug, Drop)]
 pub struct RoundIndex {
     /// 1 more than the index of the last touch before to the same page, or 0.
@@ -26,7 +26,7 @@ impl Model for RoundIndex {
 }
 
 impl RoundIndex {
-    /// The index of a trace. `Memory` is answered where it found no room.
+    /// Returns the index of a trace. The error is `Memory`, where memory runs out.
     pub fn build<T: Timeline>(alloc: Global, timeline: &T) -> Result<RoundIndex, PlanError>
         ensures index { IfOk result (λ index. IsRoundIndexOf (T.pages timeline.now) (T.touches timeline.now) index) }
         ensures refusal { IfErr result (λ e. e ≡ PlanError.Memory) }
@@ -42,7 +42,7 @@ impl RoundIndex {
         Ok(RoundIndex { earlier })
     }
 
-    /// How many of the touches from `low` on and before `high` are the first of their pages there.
+    /// Returns how many of the touches from `low` on and before `high` are the first of their pages there.
     pub(crate) fn first_touches(&self, low: usize, high: usize) -> u32
         requires order { low ≤ high }
         requires bound { high ≤ length self.now.earlier }
@@ -55,7 +55,7 @@ impl RoundIndex {
     }
 }
 
-/// How many numbers are not above one.
+/// Returns how many of these numbers are not above `low`.
 fn count_up_to(places: &[u32], low: u32) -> u32
     requires { length places.now < 2 ^ 32 }
     ensures { result ≡ count_by (λ place. nat_le place low) places.now }

@@ -1,10 +1,9 @@
-//! The planned rounds of a pre-copy migration.
+//! The planned rounds of a pre-copy migration, after Clark and others (2005), sections 4, 5.3 and 5.4.
 #![tactic(auto)]
 
 mod error;
 mod index;
 mod laws;
-mod marks;
 mod pace;
 mod parts;
 mod planner;

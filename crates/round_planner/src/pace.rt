@@ -3,7 +3,7 @@
 ghost use Rattle.std.specs.Prelude.{◌≡◌, ◌≤◌, ◌<◌, ◌+◌, ◌^◌};
 ghost use Rattle.round_planner.specs.Scanning.{IsPace, IsProgress};
 
-/// How far a round is: so many of its pages are sent, which takes it to a tick and some parts of the next one.
+/// How far a round has come: so many of its pages are sent, which takes it to a tick and some parts of the next one.
 #[derive(Clone, Copy)]
 pub(crate) struct Progress {
     pub(crate) sent: u32,
@@ -12,8 +12,8 @@ pub(crate) struct Progress {
     part: u64,
 }
 
-/// The pace of a round, which begins at a tick and sends so many pages in 1,000 ticks. A page takes it so many ticks and parts
-/// of one more.
+/// The pace of a round, which begins at tick `from` and sends `rate` pages in 1,000 ticks. A page takes `ticks` ticks
+/// and `parts` parts of one more.
 #[derive(Clone, Copy)]
 pub(crate) struct Pace {
     pub(crate) from: u64,
@@ -23,7 +23,7 @@ pub(crate) struct Pace {
 }
 
 impl Pace {
-    /// The pace of a round.
+    /// Returns the pace of a round.
     pub(crate) fn new(from: u64, rate: u64) -> Pace
         requires rate { 1 ≤ rate }
         requires from { from < 2 ^ 42 }
@@ -39,7 +39,7 @@ impl Pace {
         }
     }
 
-    /// No page is sent.
+    /// Returns the progress at which no page is sent.
     pub(crate) fn begin(&self) -> Progress
         requires { IsPace self.now }
         ensures at { IsProgress self.now result }
@@ -53,7 +53,7 @@ impl Pace {
         }
     }
 
-    /// One page more is sent.
+    /// Returns the progress after one page more is sent.
     pub(crate) fn send(&self, at: Progress) -> Progress
         requires pace { IsPace self.now }
         requires at { IsProgress self.now at }

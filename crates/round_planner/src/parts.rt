@@ -5,7 +5,7 @@ ghost use Rattle.std.specs.Prelude.{◌≡◌};
 use rate_limit::Reason;
 use std::marker::Model;
 
-/// One round of a plan. Pages rise.
+/// One round of a plan. Its pages rise.
 #[derive(Debug, Drop)]
 pub struct Round {
     /// The round's first tick.
@@ -30,7 +30,7 @@ impl Model for Round {
     ghost view = { λ r. record { from = r.from; to = r.to; rate = r.rate; pages = r.pages.items; sent = r.sent.items; dirtied = r.dirtied } };
 }
 
-/// What a migration would do: its rounds, and what is left for when the guest is stopped.
+/// What a migration would do: its rounds, and what is left when the guest is stopped.
 #[derive(Debug, Drop)]
 pub struct Plan {
     /// The rounds, at least one.
@@ -57,7 +57,7 @@ impl Model for Plan {
     ghost invariant = { λ p. IsSmallPlan p.rounds.items p.last.items };
 }
 
-/// What a plan comes to.
+/// The sums of a plan.
 #[derive(Debug, Drop)]
 pub struct Outcome {
     /// How many rounds there are.
@@ -85,7 +85,7 @@ impl Plan {
     ghost use Rattle.migration_model.specs.Rounds.{total_of};
     ghost use Rattle.migration_model.specs.Sweeps.{outcome_of};
 
-    /// How many pages are sent, over all rounds and after the stop.
+    /// Returns how many pages are sent, over all rounds and after the stop.
     pub fn total(&self) -> u64
         ensures { result ≡ total_of self.now }
     {
@@ -96,7 +96,7 @@ impl Plan {
         total
     }
 
-    /// What the plan comes to.
+    /// Returns the sums of the plan.
     pub fn outcome(&self) -> Outcome
         ensures { result ≡ outcome_of self.now }
     {

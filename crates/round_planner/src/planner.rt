@@ -1,4 +1,4 @@
-//! Plans of many settings over one trace.
+//! Sums of the plans of many settings over one trace.
 
 ghost use Rattle.std.specs.Prelude.{◌≡◌, IfErr, IfOk};
 ghost use Rattle.migration_model.specs.Sweeps.{IsOutcome};
@@ -13,8 +13,8 @@ use std::alloc::Global;
 use std::marker::Model;
 use trace_codec::Timeline;
 
-/// Tells what plans come to, one after another, with marks of pages that are made once. It is for guests of one number of
-/// pages.
+/// Makes the sums of plans, one after another, with buffers that are allocated once. A planner is for guests of one
+/// number of pages.
 #[derive(Drop)]
 pub struct Planner {
     marks: Marks,
@@ -32,7 +32,7 @@ impl Model for Planner {
 }
 
 impl Planner {
-    /// A planner for a guest. `Memory` is answered where its marks found no room: 33 bits a page.
+    /// Returns a planner for a guest. The error is `Memory`, where memory runs out for its buffers of 33 bits a page.
     pub fn new<T: Timeline>(alloc: Global, timeline: &T) -> Result<Planner, PlanError>
         ensures pages { IfOk result (λ planner. planner ≡ T.pages timeline.now) }
         ensures refusal { IfErr result (λ e. e ≡ PlanError.Memory) }
@@ -41,9 +41,11 @@ impl Planner {
         Ok(Planner { marks })
     }
 
-    /// What the plan of some settings comes to: as many rounds, the same end and the same pages sent, but no list of pages
-    /// is made. Where no page is skipped it reads 4 bytes for each touch in the ticks of its rounds and no more; else it marks
-    /// the pages of these touches. It takes no memory.
+    /// Returns the sums of the plan of some settings: as many rounds, the same end and as many pages sent as the plan
+    /// of `plan` has. It allocates nothing.
+    ///
+    /// Where no page is skipped, it reads 4 bytes for each touch in the ticks of its rounds and no more. Where pages
+    /// are skipped, it marks the pages of these touches.
     pub fn outcome<T: Timeline>(
         &mut self,
         timeline: &T,

@@ -34,7 +34,7 @@ impl Model for Coming {
     ghost view = { λ c. record { done = c.done; from = c.from; rate = c.rate; pages = c.pages.items } };
 }
 
-/// So many pages, rising.
+/// Returns the first pages, so many, rising.
 fn first_pages(alloc: Global, count: u32) -> Result<Vec<u32>, AllocError>
     ensures { IfOk result (λ pages. pages.items ≡ range_with_len 0 count) }
 {
@@ -45,14 +45,14 @@ fn first_pages(alloc: Global, count: u32) -> Result<Vec<u32>, AllocError>
     Ok(pages)
 }
 
-/// Whether pages may be skipped in a round behind so many.
+/// Returns whether pages may be skipped in a round behind so many.
 fn may_skip(settings: &Settings, done: u64) -> bool
     ensures { result ≡ settings.now.skip && nat_le 1 done }
 {
     settings.asked().skip && done >= 1
 }
 
-/// The pages of a round that it sends.
+/// Returns the pages of a round that it sends.
 fn sent_pages<T: Timeline>(
     alloc: Global,
     timeline: &T,
@@ -73,7 +73,7 @@ fn sent_pages<T: Timeline>(
     Ok(sent)
 }
 
-/// Runs a round: the round, and the pages that are written meanwhile.
+/// Runs a round. Returns the round, and the pages that are written meanwhile.
 fn run_round<T: Timeline>(
     alloc: Global,
     timeline: &T,
@@ -101,7 +101,7 @@ fn run_round<T: Timeline>(
     Ok((round, dirtied))
 }
 
-/// What a migration comes to when it ends with a round, which goes on to `stop`.
+/// Returns the plan of a migration that ends with a round, which goes on to tick `stop`.
 fn ended(settings: &Settings, rounds: Vec<Round>, reason: Reason, stop: u64, last: Vec<u32>) -> Plan
     requires { IsSmallPlan rounds.items last.items }
     ensures { result ≡ plan_with rounds.items (reason_of reason) stop last.items (duration_of (length last.items) settings.now.max) }
@@ -116,9 +116,11 @@ fn ended(settings: &Settings, rounds: Vec<Round>, reason: Reason, stop: u64, las
     }
 }
 
-/// The plan of a migration. It costs as much as the touches in the ticks that its rounds cover, the pages of its lists, and a
-/// walk over one word for 64 pages in each round; the first of those touches is found by halves. `Memory` is answered where a
-/// list of pages or the rounds found no room.
+/// Returns the plan of a migration. The error is `Memory`, where memory runs out for a list of pages or for the
+/// rounds.
+///
+/// It costs as much as the touches in the ticks that its rounds cover, the pages of its lists, and a walk over one
+/// word for 64 pages in each round. It finds the first of those touches by binary search.
 pub fn plan<T: Timeline>(
     alloc: Global,
     timeline: &T,
@@ -157,8 +159,9 @@ pub fn plan<T: Timeline>(
     }
 }
 
-/// The same plan, whatever the number of workers, 1 to 16. The rounds come one after another, and no round is long enough to
-/// pay for a thread: of 2^20 touches and 65,536 pages it has a millisecond of work. So all is done on the caller's thread.
+/// Returns the plan of `plan`, whatever the number of workers, 1 to 16. The rounds come one after another, and no
+/// round is long enough to pay for a thread: of 2^20 touches and 65,536 pages it has a millisecond of work. So the
+/// caller's thread does all of it.
 pub fn par_plan<R: Threads + Sync, T: Timeline + Sync>(
     _rt: &R,
     alloc: Global,

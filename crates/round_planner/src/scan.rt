@@ -1,26 +1,26 @@
-//! A walk over what is touched from a round's first tick on, which marks the pages that it meets.
+//! A walk over the touches from a round's first tick on, which marks their pages.
 
 ghost use Rattle.std.specs.Prelude.{◌≡◌, ◌≤◌, ◌<◌, ◌+◌, ◌*◌, ◌/◌, ◌^◌, ◌++◌, ◌∷◌, [], not, ℕ, IfOk, IfSome, OnOk, None, if◌then◌else◌, true, List, length, slice_index_or};
 ghost use Rattle.migration_model.specs.Touches.{AreTouches, GuestTouch, is_written, no_touch};
 ghost use Rattle.migration_model.specs.Rounds.{IsSent};
 ghost use Rattle.round_planner.specs.Indexing.{HasSent};
-ghost use Rattle.round_planner.specs.Marking.{marked};
+ghost use Rattle.page_bitmap.specs.Listing.{pages_of};
 ghost use Rattle.round_planner.specs.Scanning.{HasRoom, IsNextBefore, IsPace, IsPageList, IsProgress, IsScan, IsScanWithin};
 
-use crate::marks::{is_marked, list_marked, mark, words_for};
 use crate::pace::{Pace, Progress};
+use page_bitmap::{add_page, has_page, pages_in, word_count};
 use std::alloc::{AllocError, Global};
 use trace_codec::Timeline;
 
-/// The touches before `next` are behind the walk; a page is marked where one of them, from the round's first tick on,
-/// was to it. The marks stand 64 to a word, the lowest bit first.
+/// The touches before index `next` are behind the walk. A page is marked where one of them, from the round's first
+/// tick on, was to it. The marks have 64 pages a word, the lowest bit first.
 #[derive(Drop)]
 pub(crate) struct Scan {
     pub(crate) next: usize,
     pub(crate) marks: Vec<u64>,
 }
 
-/// Keeps a page, or not.
+/// Appends a page where `keep` is set.
 fn push_if(pages: &mut Vec<u32>, keep: bool, page: u32) -> Result<(), AllocError>
     ensures { OnOk result (pages.new.items ≡ (if keep then pages.old.items ++ page ∷ [] else pages.old.items)) }
 {
@@ -30,7 +30,7 @@ fn push_if(pages: &mut Vec<u32>, keep: bool, page: u32) -> Result<(), AllocError
     Ok(())
 }
 
-/// The page of touch `next`, where there is one and it is before the tick.
+/// Returns the page of touch `next`, where there is one and it is before the tick.
 fn page_before<T: Timeline>(timeline: &T, next: usize, tick: u64) -> Option<u32>
     ensures some { IfSome result (λ page. IsNextBefore (T.pages timeline.now) (T.touches timeline.now) next tick page) }
     ensures none { result ≡ None → next < length (T.touches timeline.now) → tick ≤ (slice_index_or (T.touches timeline.now) next no_touch).tick }
@@ -47,8 +47,8 @@ fn page_before<T: Timeline>(timeline: &T, next: usize, tick: u64) -> Option<u32>
     }
 }
 
-/// Marks the pages of the touches from `next` on and before a tick, and answers which touch comes then. What changes here
-/// stands apart from the walk, so that it can be kept in registers.
+/// Marks the pages of the touches from index `next` on and before a tick. Returns the index of the touch that comes
+/// then. It takes the walk's fields as arguments, so that they can be kept in registers.
 fn mark_until<T: Timeline>(timeline: &T, marks: &mut [u64], next: usize, tick: u64) -> usize
     requires { HasRoom (T.pages timeline.now) (T.touches timeline.now) next marks.old }
     ensures room { HasRoom (T.pages timeline.now) (T.touches timeline.now) result marks.new }
@@ -57,14 +57,14 @@ fn mark_until<T: Timeline>(timeline: &T, marks: &mut [u64], next: usize, tick: u
 {
     let mut at = next;
     while let Some(page) = page_before(timeline, at, tick) {
-        mark(marks, page);
+        add_page(marks, page);
         at += 1;
     }
     at
 }
 
 impl Scan {
-    /// A walk that stands at a tick, with no page marked.
+    /// Returns a walk that stands at a tick, with no page marked.
     pub(crate) fn new<T: Timeline>(
         alloc: Global,
         timeline: &T,
@@ -72,7 +72,7 @@ impl Scan {
     ) -> Result<Scan, AllocError>
         ensures { IfOk result (λ scan. IsScan (T.pages timeline.now) (T.touches timeline.now) tick tick scan.next scan.marks.items) }
     {
-        let marks = Vec::from_elem(alloc, 0, words_for(timeline.page_count()))?;
+        let marks = Vec::from_elem(alloc, 0, word_count(timeline.page_count() as usize))?;
         Ok(Scan {
             next: timeline.before(tick),
             marks,
@@ -89,7 +89,7 @@ impl Scan {
         self.next = mark_until(timeline, &mut self.marks, self.next, tick);
     }
 
-    /// Forgets the marks: the walk begins anew where it stands.
+    /// Clears the marks: the walk begins anew where it stands.
     pub(crate) fn restart(&mut self)
         ensures { (pages from tick : ℕ) (touches : List GuestTouch) → IsScan pages touches from tick self.old.next self.old.marks.items
             → IsScan pages touches tick tick self.new.next self.new.marks.items }
@@ -97,19 +97,16 @@ impl Scan {
         self.marks.fill(0);
     }
 
-    /// The pages that are marked, rising.
+    /// Returns the pages that are marked, rising.
     pub(crate) fn pages(&self, alloc: Global) -> Result<Vec<u32>, AllocError>
         requires { length self.now.marks.items ≤ 1_024 }
-        ensures { IfOk result (λ pages. pages.items ≡ marked self.now.marks.items) }
+        ensures { IfOk result (λ pages. pages.items ≡ pages_of self.now.marks.items) }
     {
-        let mut room = Vec::from_elem(alloc, 0, self.marks.len() * 64)?;
-        let count = list_marked(&self.marks, &mut room);
-        let (pages, _) = room.split_at(count);
-        Vec::from_slice(alloc, pages)
+        pages_in(alloc, &self.marks)
     }
 
-    /// The pages of a round that are sent where those soon written again are skipped. The walk goes on to where the
-    /// scan of the last page ends.
+    /// Returns the pages of a round that are sent where those soon written again are skipped. The walk goes on to
+    /// where the scan of the last page ends.
     pub(crate) fn skim<T: Timeline>(
         &mut self,
         alloc: Global,
@@ -137,7 +134,7 @@ impl Scan {
         Ok(sent)
     }
 
-    /// Looks at one page of a round, and answers how far the round is then. The walk goes on to where it was.
+    /// Looks at one page of a round. Returns how far the round is then. The walk goes on to where the round was.
     fn look<T: Timeline>(&mut self, timeline: &T, pace: &Pace, page: u32, at: Progress) -> Progress
         requires scan { IsScanWithin (T.pages timeline.now) (T.touches timeline.now) pace.now.from at.tick self.old.next self.old.marks.items }
         requires page { page < T.pages timeline.now }
@@ -149,14 +146,14 @@ impl Scan {
         ensures scan { IsScanWithin (T.pages timeline.now) (T.touches timeline.now) pace.now.from result.tick self.new.next self.new.marks.items }
     {
         self.advance(timeline, at.tick);
-        if is_marked(&self.marks, page) {
+        if has_page(&self.marks, page) {
             return at;
         }
         pace.send(at)
     }
 
-    /// How many of these pages of a round are sent where those soon written again are skipped. The walk goes on to where the
-    /// scan of the last page ends.
+    /// Returns how many of these pages of a round are sent where those soon written again are skipped. The walk goes
+    /// on to where the scan of the last page ends.
     pub(crate) fn count_sent<T: Timeline>(
         &mut self,
         timeline: &T,

@@ -1,4 +1,4 @@
-//! What a plan comes to, made of counts: no list of pages is written down.
+//! The sums of a plan, made of counts: no list of pages is kept past its round.
 
 ghost use Rattle.std.specs.Prelude.{◌≡◌, ◌≤◌, ◌<◌, ◌&&◌, ◌+◌, ◌^◌, ℕ, true, false, IfOk, List, length, nat_le};
 ghost use Rattle.migration_model.specs.Rates.{AreSettings, duration_of};
@@ -6,19 +6,19 @@ ghost use Rattle.migration_model.specs.Rounds.{NextRound, first_round};
 ghost use Rattle.migration_model.specs.Sweeps.{IsOutcome, outcome_with};
 ghost use Rattle.migration_model.specs.Touches.{GuestTouch};
 ghost use Rattle.rate_limit.specs.Pacing.{reason_of};
-ghost use Rattle.round_planner.specs.Marking.{marked};
+ghost use Rattle.page_bitmap.specs.Listing.{pages_of};
 ghost use Rattle.round_planner.specs.Scanning.{IsScan};
 ghost use Rattle.round_planner.specs.Indexing.{AreMarksOf, CanMark, CanRun, HasSentOf, IsMarkedAt, IsReady, IsTurned, IsRoundIndexOf, IsStanding, RanTo, StandsAt};
 
 use crate::index::RoundIndex;
-use crate::marks::list_marked;
 use crate::parts::Outcome;
 use crate::scan::Scan;
+use page_bitmap::list_pages;
 use rate_limit::{Next, Reason, Settings, duration, next};
 use std::alloc::{AllocError, Global};
 use trace_codec::Timeline;
 
-/// The round that comes next.
+/// The round that comes next, by its numbers.
 #[derive(Drop)]
 pub(crate) struct Standing {
     done: u64,
@@ -32,7 +32,7 @@ pub(crate) struct Standing {
     total: u64,
 }
 
-/// What a round did.
+/// What a round did, by its numbers.
 #[derive(Drop)]
 pub(crate) struct Ran {
     sent: u32,
@@ -42,17 +42,17 @@ pub(crate) struct Ran {
     dirtied: u32,
 }
 
-/// The marks of one case, made once and used for case after case.
+/// The buffers of one case, allocated once and used for case after case.
 #[derive(Drop)]
 pub(crate) struct Marks {
     /// The walk over the touches of a round.
     scan: Scan,
-    /// Room for a list of the round's pages.
+    /// A buffer for the list of the round's pages.
     room: Vec<u32>,
 }
 
 impl Marks {
-    /// Marks for the pages of a guest.
+    /// Returns buffers for the pages of a guest.
     pub(crate) fn new<T: Timeline>(alloc: Global, timeline: &T) -> Result<Marks, AllocError>
         ensures { IfOk result (λ marks. AreMarksOf (T.pages timeline.now) marks) }
     {
@@ -61,7 +61,7 @@ impl Marks {
         Ok(Marks { scan, room })
     }
 
-    /// How many pages a round sends, where pages may be skipped but in the first round.
+    /// Returns how many pages a round sends, where pages may be skipped in all rounds but the first.
     fn count_sent<T: Timeline>(&mut self, timeline: &T, settings: &Settings, now: &Standing) -> u32
         requires skips { settings.now.skip ≡ true }
         requires marks { CanMark (T.pages timeline.now) (T.touches timeline.now) settings.now now.now self.old }
@@ -76,16 +76,16 @@ impl Marks {
         self.scan.count_sent(timeline, now.from, now.rate, pages)
     }
 
-    /// Lists the pages that are marked, forgets the marks, and answers how many there were.
+    /// Lists the pages that are marked, and clears the marks. Returns how many pages there were.
     fn turn(&mut self) -> u32
         requires marks { length self.old.scan.marks.items ≤ 1_024 }
-        requires room { length (marked self.old.scan.marks.items) ≤ length self.old.room.items }
+        requires room { length (pages_of self.old.scan.marks.items) ≤ length self.old.room.items }
         ensures turned { (pages from tick : ℕ) (touches : List GuestTouch) → IsScan pages touches from tick self.old.scan.next self.old.scan.marks.items
             → IsTurned pages touches from tick result self.new }
-        ensures count { result ≡ length (marked self.old.scan.marks.items) }
+        ensures count { result ≡ length (pages_of self.old.scan.marks.items) }
         ensures room { length self.new.room.items ≡ length self.old.room.items }
     {
-        let count = list_marked(&self.scan.marks, &mut self.room);
+        let count = list_pages(&self.scan.marks, &mut self.room);
         self.scan.restart();
         count as u32
     }
@@ -117,7 +117,7 @@ impl Marks {
         }
     }
 
-    /// Runs a round.
+    /// Runs a round, with marks where pages may be skipped, or else by the index.
     fn run_round<T: Timeline>(
         &mut self,
         timeline: &T,
@@ -139,7 +139,7 @@ impl Marks {
         }
     }
 
-    /// Makes all ready for the first round.
+    /// Prepares the buffers for the first round. Returns that round's numbers.
     fn begin<T: Timeline>(&mut self, timeline: &T, settings: &Settings) -> Standing
         requires { AreMarksOf (T.pages timeline.now) self.old }
         ensures ready { IsReady (T.pages timeline.now) (T.touches timeline.now) settings.now (first_round (T.pages timeline.now) settings.now) result self.new }
@@ -160,7 +160,7 @@ impl Marks {
         }
     }
 
-    /// What the plan of some settings comes to.
+    /// Returns the sums of the plan of some settings.
     pub(crate) fn outcome<T: Timeline>(
         &mut self,
         timeline: &T,
@@ -194,7 +194,7 @@ impl Marks {
     }
 }
 
-/// What a plan comes to that ends with a round, by how many rounds there are then and how many pages they send.
+/// Returns the sums of a plan that ends with a round, after so many rounds that sent so many pages.
 fn ended(settings: &Settings, rounds: u64, sent: u64, reason: Reason, last: &Ran) -> Outcome
     requires { sent < 2 ^ 32 }
     ensures { result ≡ outcome_with rounds (reason_of reason) last.now.to (duration_of last.now.dirtied settings.now.max) (sent + last.now.dirtied) }
@@ -208,7 +208,7 @@ fn ended(settings: &Settings, rounds: u64, sent: u64, reason: Reason, last: &Ran
     }
 }
 
-/// Runs a round that skips no page, where nothing is skipped at all.
+/// Runs a round by the index, where no page is skipped in any round.
 fn counted_round<T: Timeline>(
     timeline: &T,
     index: &RoundIndex,

@@ -29,7 +29,7 @@ pub AreMadeOf-from : {H : Type 0} (trace : GuestTrace) (versions pages : List �
     → flat_map pages_of hs ≡ pages → AreMade trace versions (map pages_of hs) made → AreMadeOf trace versions pages made
 AreMadeOf-from trace versions pages pages_of hs made whole each = record { pieces = map pages_of hs; whole = flat-map pages_of hs ∙ whole; each = each }
 
--- what each thread made, by its place
+-- what each thread made, by the index of its piece
 pub AreMade-from_each : {H : Type 0} (trace : GuestTrace) (versions : List ℕ) (pages_of : H → List ℕ) (hs : List H) (made : List MadeOne) → length made ≡ length hs
     → ((i : ℕ) (d : MadeOne) → i < length hs
     → (h : H) × (h ≡ get_or hs i h) × IfOk (get_or made i d) (λ frames. AreCurrentFrames trace versions (pages_of h) frames.items))

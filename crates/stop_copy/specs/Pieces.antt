@@ -14,7 +14,7 @@ AreMade trace versions (pages ∷ pieces) (made ∷ rest) = IfOk made (λ frames
 AreMade trace versions [] (made ∷ rest) = ⊥
 AreMade trace versions (pages ∷ pieces) [] = ⊥
 
--- the pages were cut into pieces, and of each of them that is so
+-- the pages were cut into pieces, and the current frames of each piece were made, or making them was refused
 pub record AreMadeOf (trace : GuestTrace) (versions pages : List ℕ) (made : List (Result (Vec PageFrame) CopyError)) : Type 0 where
   pub pieces : List (List ℕ)
   pub whole : flat_map (λ piece. piece) pieces ≡ pages

@@ -1,18 +1,18 @@
-//! The final copy.
+//! The final copy: the stop-and-copy phase of Clark and others (2005), section 3.1.
 
 ghost use Rattle.std.specs.Prelude.{◌≡◌, ◌≤◌, IfOk, length};
 ghost use Rattle.std.specs.List.{All};
-ghost use Rattle.dirty_core.specs.Pages.{in_words};
+ghost use Rattle.page_bitmap.specs.Pages.{in_words};
 ghost use Rattle.dirty_words.specs.Closing.{FitsPages};
 ghost use Rattle.migration_model.specs.Final.{IsFinalCopy, shape_of_trace};
 ghost use Rattle.page_versions.specs.Index.{IsIndexOf};
 
 use crate::dealing::{deal_out, know_parts};
 use crate::error::CopyError;
-use crate::marks::pages_marked;
 use crate::workers::frames_by_workers;
 use collector::Part;
 use dirty_words::Closed;
+use page_bitmap::pages_in;
 use page_versions::PageIndex;
 use std::alloc::Global;
 use std::sync::Wait;
@@ -20,9 +20,9 @@ use std::thread::Threads;
 use stream_split::Dealer;
 use trace_codec::WriteLog;
 
-/// Gives each page that is still marked once more, at its version, to one of the parts, of which there is one for each
-/// stream. Frames are made in so many workers and dealt out in the order of their pages. After a refusal the parts are
-/// gone. `Thread` is answered only where a thread could not be started.
+/// Sends each page that is still marked once more, at its version, to one of the parts, of which there is one for each
+/// stream. Returns the parts. Up to `workers` threads make the frames, which are dealt out in the order of their
+/// pages. After an error the parts are dropped. The error is `Thread` only where a thread could not be started.
 pub fn final_copy<R: Threads + Wait + Sync, W: WriteLog + Sync>(
     rt: &R,
     alloc: Global,
@@ -43,7 +43,9 @@ pub fn final_copy<R: Threads + Wait + Sync, W: WriteLog + Sync>(
     requires shapes { All (λ part. part.shape ≡ shape_of_trace (W.trace trace.now)) parts.items }
     ensures { IfOk result (λ copied. IsFinalCopy (W.trace trace.now) closed.now.versions (in_words closed.now.dirty) parts.items copied.items) }
 {
-    let marked = pages_marked(alloc, &closed.dirty, trace.shape().pages)?;
+    // For the proof: a guest has at most 65,536 pages.
+    let _ = trace.shape();
+    let marked = pages_in(alloc, &closed.dirty)?;
     let frames = frames_by_workers(rt, alloc, trace, index, &closed.versions, &marked, workers)?;
     let mut parts = parts;
     know_parts(&parts);

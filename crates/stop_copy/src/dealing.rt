@@ -12,7 +12,7 @@ use page_message::Frame;
 use std::alloc::Global;
 use stream_split::Dealer;
 
-/// Each of them is a part: that is known of one that was asked for its shape.
+/// Shows the prover that each of them is a part: that is known of one that was asked for its shape.
 pub(crate) fn know_parts(parts: &[Part])
     ensures { All IsPart parts.now }
 {

@@ -8,10 +8,10 @@ use page_versions::IndexError;
 use std::alloc::{AllocError, AllocFailed};
 use thiserror::Error;
 
-/// A refusal.
+/// Why a final copy could not be made.
 #[derive(Clone, Copy, Debug, PartialEq, Eq, Error)]
 pub enum CopyError {
-    /// A growth was refused.
+    /// Memory ran out.
     #[error("memory")]
     Memory,
     /// A thread could not be started.

@@ -11,7 +11,7 @@ use page_versions::PageIndex;
 use std::alloc::Global;
 use trace_codec::WriteLog;
 
-/// The frame of a page at its version.
+/// Returns the frame of a page at its version.
 fn frame_at<W: WriteLog>(
     alloc: Global,
     trace: &W,
@@ -32,7 +32,7 @@ fn frame_at<W: WriteLog>(
     Ok(frame_of(&shape, page, version, bytes))
 }
 
-/// The frames of these pages, in order, each at its version.
+/// Returns the frames of these pages, in order, each at its version.
 pub(crate) fn frames_of<W: WriteLog>(
     alloc: Global,
     trace: &W,

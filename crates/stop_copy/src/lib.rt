@@ -5,7 +5,6 @@ mod copying;
 mod dealing;
 mod error;
 mod frames;
-mod marks;
 mod workers;
 
 pub use copying::final_copy;

@@ -1,26 +1,27 @@
 //! Frames made on several threads.
 
-ghost use Rattle.std.specs.Prelude.{◌≡◌, ◌<◌, ◌≤◌, ℕ, List, IfOk, OnOk, [], length, map};
+ghost use Rattle.std.specs.Prelude.{◌≡◌, ◌<◌, ◌≤◌, ℕ, List, IfOk, OnOk, [], length};
 ghost use Rattle.std.specs.List.{All, flat_map};
 ghost use Rattle.migration_model.specs.Trace.{GuestTrace};
 ghost use Rattle.page_versions.specs.Index.{IsIndexOf};
 ghost use Rattle.stop_copy.specs.Copies.{AreCurrentFrames};
-ghost use Rattle.stop_copy.specs.Pieces.{AreMade, AreMadeOf};
+ghost use Rattle.stop_copy.specs.Pieces.{AreMadeOf};
 
 use crate::error::CopyError;
 use crate::frames::frames_of;
+use joined_threads::join_all;
 use page_message::Frame;
 use page_versions::PageIndex;
 use std::alloc::Global;
 use std::sync::Wait;
 use std::thread;
-use std::thread::{Promise, PromisedHandle, Scope, Threads, join_promised};
+use std::thread::{Promise, PromisedHandle, Scope, Threads};
 use trace_codec::WriteLog;
 
-/// Frames of as many pages take longer to make than a thread takes to start.
+/// To make the frames of so many pages takes longer than a thread takes to start.
 const WORTH_A_THREAD: usize = 512;
 
-/// What a thread made of its piece of the pages.
+/// The frames that a thread made of its piece of the pages, or why it could not.
 type Made = Result<Vec<Frame>, CopyError>;
 
 /// A thread's promise: the frames of these pages, at these versions of the trace.
@@ -67,7 +68,7 @@ fn start_piece<'s, E, W: WriteLog + Sync>(
     scope.spawn_with(promise, run).or(Err(CopyError::Thread))
 }
 
-/// Starts a thread for each piece of so many pages.
+/// Starts a thread for each piece of `size` pages.
 fn start_pieces<'s, E, W: WriteLog + Sync>(
     scope: &'s Scope<'s, E>,
     alloc: Global,
@@ -96,26 +97,6 @@ fn start_pieces<'s, E, W: WriteLog + Sync>(
         rest = behind;
     }
     Ok(())
-}
-
-/// Joins the threads. Each is joined also where there is no memory for what they made.
-fn join_pieces<'s, R: Threads, W: WriteLog>(
-    rt: &R,
-    handles: Vec<PromisedHandle<Made, MakesFrames<'s, W>>>,
-) -> Result<Vec<Made>, CopyError>
-    ensures { IfOk result (λ made. (trace : GuestTrace) (versions : List ℕ)
-        → All (λ h. (W.trace h.promise.trace.now ≡ trace) × (h.promise.versions.now ≡ versions)) handles.entry.items
-        → AreMade trace versions (map (λ h. h.promise.pages.now) handles.entry.items) made.items) }
-{
-    match join_promised(rt, handles) {
-        Ok(made) => Ok(made),
-        Err(refused) => {
-            for handle in refused.value {
-                drop(handle.join(rt));
-            }
-            Err(CopyError::Memory)
-        }
-    }
 }
 
 /// Starts the threads and joins them. Those that run are joined before any refusal is answered.
@@ -147,12 +128,12 @@ fn make_in_scope<'s, E, R: Threads, W: WriteLog + Sync>(
         size,
         &mut handles,
     );
-    let made = join_pieces(rt, handles);
+    let made = join_all(rt, handles);
     started?;
     Ok(made?)
 }
 
-/// All that was made, in order, or the first refusal.
+/// Returns all frames that were made, in order, or the first error.
 fn all_frames(alloc: Global, made: Vec<Made>) -> Result<Vec<Frame>, CopyError>
     ensures { IfOk result (λ frames. (trace : GuestTrace) (versions pages : List ℕ) → AreMadeOf trace versions pages made.items
         → AreCurrentFrames trace versions pages frames.items) }
@@ -165,8 +146,8 @@ fn all_frames(alloc: Global, made: Vec<Made>) -> Result<Vec<Frame>, CopyError>
     Ok(all)
 }
 
-/// The frames of these pages, in order, each at its version, made by so many workers. Where there are few pages, no thread
-/// is started.
+/// Returns the frames of these pages, in order, each at its version, made by up to so many threads. For few pages it
+/// starts none.
 pub(crate) fn frames_by_workers<R: Threads + Wait + Sync, W: WriteLog + Sync>(
     rt: &R,
     alloc: Global,

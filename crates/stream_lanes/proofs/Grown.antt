@@ -34,7 +34,7 @@ at_added capacity out before after end worker adds there =
       | inr last ↦ inr (last.0, subst (λ (e : InView). IsNewLane capacity out e) last.1 adds.new)
     ]
 
--- what stands at a place of one row stands at that of the same row
+-- an element in a slot of one row is the element in that slot of an equal row
 same_out : (row other : Vec OutView Global) (stream : ℕ) (a b : OutView) → row ≡ other → slice_get row.items stream ≡ Some a
     → slice_get other.items stream ≡ Some b → a ≡ b
 same_out row other stream a b same a_is b_is =

@@ -16,7 +16,8 @@ pub record OutView : Type 0 where
   pub room : ℕ
   pub sent : List (List ℕ)
 
--- the end that takes: its lane, all frames taken so far, the first one first, and those that it has seen and takes next
+-- the end that takes: its lane, all frames taken so far, the first one first, and those that it has seen and takes
+-- next
 pub record InView : Type 0 where
   pub lane : LaneId
   pub taken : List (List ℕ)
@@ -35,11 +36,11 @@ HasRoom out = 0 < out.room
 abbrev pub IsLane : OutView → InView → Type 0
 IsLane out end = end.lane ≡ out.lane
 
--- the same end, which may have sent since
+-- one end at two times: it may have sent since
 abbrev pub SameOut : OutView → OutView → Type 0
 SameOut before after = after.lane ≡ before.lane
 
--- the same end, which may have taken since
+-- one end at two times: it may have taken since
 abbrev pub SameIn : InView → InView → Type 0
 SameIn before after = after.lane ≡ before.lane
 

@@ -13,7 +13,8 @@ pub record IsNewLane (capacity : ℕ) (out : OutView) (end : InView) : Type 0 wh
   pub taken : end.taken ≡ []
   pub seen : end.seen ≡ []
 
--- the lane of each worker and each stream: its ends stand at the worker's place for the stream, and at the stream's for the worker
+-- the lane of each worker and each stream: its ends stand in the worker's slot for the stream, and in the stream's
+-- slot for the worker
 pub record IsGrid (workers streams capacity : ℕ) (outs : List (Vec OutView Global)) (ins : List (Vec InView Global)) : Type 0 where
   pub workers_are : length outs ≡ workers
   pub streams_are : length ins ≡ streams
@@ -37,7 +38,7 @@ pub record AddsWorker (capacity : ℕ) (outs : List OutView) (before after : Lis
       → slice_get before stream ≡ Some old → slice_get after stream ≡ Some new → AddsLane capacity out old.items new.items
   pub rest : (stream : ℕ) → length outs ≤ stream → slice_get after stream ≡ slice_get before stream
 
--- the same ends, by stream
+-- the ends of these rows, by stream
 pub record AreColumns (streams : ℕ) (rows columns : List (Vec OutView Global)) : Type 0 where
   pub count : length columns ≡ streams
   pub sizes : All (λ column. length column.items ≡ length rows) columns

@@ -8,11 +8,12 @@ use rtrb::{Consumer, Producer, RingBuffer};
 use std::alloc::{AllocError, Global};
 use std::marker::Model;
 
-/// The most texts that wait at once to be used again. More than so many wait for nobody, and what holds so many takes 24 KB, which
-/// stay in the processor's cache.
+/// The most buffers that wait at once to be used again. No caller needs more of them to wait, and a ring of so many
+/// takes 24 KB, which stay in the processor's cache.
 const SPARE: usize = 1024;
 
-/// The end of a lane that sends. To a contract it is which lane it is of, the room that it knows of, and what it sent.
+/// The end of a lane that sends. To a contract it is which lane it is of, how many more frames it knows to fit, and
+/// what it sent.
 #[derive(Drop)]
 pub struct LaneOut {
     pub(crate) producer: Producer<Vec<u8>>,
@@ -44,7 +45,7 @@ impl Model for LaneIn {
     ghost view = { λ i. in_view i.consumer };
 }
 
-/// A lane with room for so many frames. The texts that go back have a ring of their own.
+/// Returns the ends of a lane with room for so many frames. The buffers that go back have a ring of their own.
 pub(crate) fn lane(alloc: Global, capacity: usize) -> Result<(LaneOut, LaneIn), AllocError>
     ensures { IfOk result (λ ends. IsNewLane capacity ends.0 ends.1) }
 {
@@ -62,7 +63,7 @@ pub(crate) fn lane(alloc: Global, capacity: usize) -> Result<(LaneOut, LaneIn), 
 }
 
 impl LaneOut {
-    /// Whether one more frame fits. It looks at the other end, which makes room as it takes.
+    /// Returns whether one more frame fits. It looks at the other end, which makes room as it takes.
     pub fn has_room(&mut self) -> bool
         ensures lane { SameOut self.old self.new }
         ensures sent { self.new.sent ≡ self.old.sent }
@@ -73,7 +74,7 @@ impl LaneOut {
         !self.producer.is_full()
     }
 
-    /// Sends a frame. It takes no memory.
+    /// Sends a frame. It allocates nothing.
     pub fn send(&mut self, frame: Vec<u8>)
         requires { HasRoom self.old }
         ensures lane { SameOut self.old self.new }
@@ -83,7 +84,7 @@ impl LaneOut {
         self.producer.push_reserved(frame);
     }
 
-    /// A text that the other end gave back, if one has come: its room may be used again. It takes no memory.
+    /// Returns a buffer that the other end gave back, if one has come, to be used again. It allocates nothing.
     pub fn spare(&mut self) -> Option<Vec<u8>>
         ensures { self.new ≡ self.old }
     {
@@ -95,7 +96,7 @@ impl LaneOut {
 }
 
 impl LaneIn {
-    /// The first frame that was sent and not taken yet, if one has come. It takes no memory.
+    /// Returns the first frame that was sent and not taken yet, if one has come. It allocates nothing.
     #[tactic(auto, using(crate::proofs::Seen::begins_with_next))]
     pub fn take(&mut self) -> Option<Vec<u8>>
         ensures lane { SameIn self.old self.new }
@@ -109,8 +110,8 @@ impl LaneIn {
         Some(self.consumer.pop_known())
     }
 
-    /// Gives a text back to the other end, which may use its room again. Where more wait there than it uses, the text is dropped. It
-    /// takes no memory.
+    /// Gives a buffer back to the other end, which may use it again. Where the ring of such buffers is full, the
+    /// buffer is dropped. It allocates nothing.
     pub fn give_back(&mut self, text: Vec<u8>)
         ensures { self.new ≡ self.old }
     {

@@ -6,10 +6,10 @@ ghost use Rattle.stream_lanes.specs.declared.error.LaneError.TheVariants.{Memory
 use std::alloc::{AllocError, AllocFailed};
 use thiserror::Error;
 
-/// A refusal.
+/// Why lanes could not be made.
 #[derive(Clone, Copy, Debug, PartialEq, Eq, Error)]
 pub enum LaneError {
-    /// A growth or a ring was refused.
+    /// Memory ran out, for a list or a ring.
     #[error("memory")]
     Memory,
 }

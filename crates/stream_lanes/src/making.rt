@@ -8,7 +8,7 @@ use crate::error::LaneError;
 use crate::grid::Lanes;
 use std::alloc::Global;
 
-/// So many streams with no ends, each with room for one of each worker.
+/// Returns so many streams with no ends, each with slots for one of each worker.
 fn empty_ins(alloc: Global, streams: usize, workers: usize) -> Result<Vec<Vec<LaneIn>>, LaneError>
     ensures { IfOk result (λ ins. map (λ row. row.items) ins.items ≡ replicate streams []) }
 {
@@ -19,7 +19,7 @@ fn empty_ins(alloc: Global, streams: usize, workers: usize) -> Result<Vec<Vec<La
     Ok(ins)
 }
 
-/// A new lane, whose taking end is added to those of its stream.
+/// Makes a new lane, and adds its taking end to those of its stream. Returns the sending end.
 fn add_lane(alloc: Global, capacity: usize, ends: &mut Vec<LaneIn>) -> Result<LaneOut, LaneError>
     ensures { IfOk result (λ out. AddsLane capacity out ends.old.items ends.new.items) }
 {
@@ -28,7 +28,7 @@ fn add_lane(alloc: Global, capacity: usize, ends: &mut Vec<LaneIn>) -> Result<La
     Ok(out)
 }
 
-/// One worker's lanes, one to each stream.
+/// Makes the lanes of one worker, one to each stream. Returns their sending ends.
 fn add_worker(
     alloc: Global,
     capacity: usize,
@@ -44,7 +44,8 @@ fn add_worker(
     Ok(outs)
 }
 
-/// A lane from each worker to each stream, each with room for so many frames. The lanes' other calls take no memory.
+/// Returns a lane from each worker to each stream, each with room for so many frames. The other calls of lanes
+/// allocate nothing.
 pub fn lanes(
     alloc: Global,
     workers: usize,

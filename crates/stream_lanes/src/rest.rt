@@ -1,4 +1,4 @@
-//! What is left of a lane.
+//! The frames that are left on a lane.
 
 ghost use Rattle.std.specs.Prelude.{◌≡◌, ◌∷◌, ◌++◌, [], IfSome, IfNone};
 ghost use Rattle.stream_lanes.specs.Ends.{IsLane};
@@ -22,7 +22,7 @@ impl Model for Rest {
     ghost view = { λ r. rest_view r.consumer };
 }
 
-/// What was sent on a lane and not taken, when both ends are back. It takes no memory.
+/// Returns the frames that were sent on a lane and not taken, when both ends are back. It allocates nothing.
 pub fn drain(out: LaneOut, end: LaneIn) -> Rest
     requires { IsLane out end }
     ensures { end.taken ++ result ≡ out.sent }
@@ -40,7 +40,7 @@ pub fn drain(out: LaneOut, end: LaneIn) -> Rest
 }
 
 impl Rest {
-    /// The next frame. It takes no memory.
+    /// Returns the next frame, if there is one. It allocates nothing.
     pub fn take(&mut self) -> Option<Vec<u8>>
         ensures next { IfSome result (λ frame. self.old ≡ frame.items ∷ self.new) }
         ensures none { IfNone result ((self.old ≡ []) × (self.new ≡ [])) }

@@ -8,7 +8,7 @@ use crate::ends::LaneOut;
 use crate::error::LaneError;
 use std::alloc::Global;
 
-/// So many streams with no ends, each with room for one of each worker.
+/// Returns so many streams with no ends, each with slots for one of each worker.
 fn empty_columns(
     alloc: Global,
     streams: usize,
@@ -34,7 +34,7 @@ fn add_row(columns: &mut Vec<Vec<LaneOut>>, row: Vec<LaneOut>) -> Result<(), Lan
     Ok(())
 }
 
-/// The ends that send, by stream: of each stream those of all workers, in order.
+/// Returns the ends that send, by stream: of each stream the ends of all workers, in order.
 pub fn by_stream(
     alloc: Global,
     streams: usize,

@@ -5,7 +5,8 @@ use Rattle.migration_model.specs.Frames.{GuestShape, PageFrame, SpellsFrame}
 use Rattle.migration_model.specs.Parts.{GuestPart, PageCopy, IsPart, copy_at, copy_in}
 use Rattle.stream_lanes.specs.Ends.{OutView, InView, Begins, IsLane, IsTakenFrom, SameIn}
 
--- the lanes of a stream as their receiver holds them, in order of the workers; what came of the guest's memory; and whether a frame was refused
+-- the lanes of a stream as their receiver holds them, in order of the workers; what came of the guest's memory; and whether a
+-- frame was refused
 pub record ReceiverView : Type 0 where
   pub ends : List InView
   pub part : GuestPart
@@ -24,7 +25,8 @@ pub record HasFrames (shape : GuestShape) (IsText : List ℕ → Type 0) (part :
   pub is_part : IsPart part
   pub shape_is : part.shape ≡ shape
   pub had : (page : ℕ) (copy : PageCopy) → copy_at part page ≡ Some copy
-      → (text : List ℕ) × (frame : PageFrame) × IsText text × SpellsFrame shape text frame × (frame.page ≡ page) × (copy ≡ copy_in shape frame)
+      → (text : List ℕ) × (frame : PageFrame) × IsText text × SpellsFrame shape text frame × (frame.page ≡ page)
+      × (copy ≡ copy_in shape frame)
   pub came : (text : List ℕ) (frame : PageFrame) → IsText text → SpellsFrame shape text frame
       → (copy : PageCopy) × (copy_at part frame.page ≡ Some copy) × (frame.stamp ≤ copy.stamp)
 
@@ -35,7 +37,8 @@ IsReceiver r = r.is_refused ≡ false → AreFrames r.part.shape (IsTakenFrom r.
 -- the two ends of each worker's lane
 pub record AreEnds (outs : List OutView) (ends : List InView) : Type 0 where
   pub count : length outs ≡ length ends
-  pub each : (worker : ℕ) (out : OutView) (end : InView) → slice_get outs worker ≡ Some out → slice_get ends worker ≡ Some end → IsLane out end
+  pub each : (worker : ℕ) (out : OutView) (end : InView) → slice_get outs worker ≡ Some out → slice_get ends worker ≡ Some end
+      → IsLane out end
 
 -- the same, where nothing was taken yet
 pub record AreNewEnds (outs : List OutView) (ends : List InView) : Type 0 where

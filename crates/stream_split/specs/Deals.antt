@@ -15,6 +15,6 @@ turn_with streams next = record { streams = streams; next = next }
 abbrev pub dealt : ℕ → List PageFrame → ℕ → List PageFrame
 dealt streams frames stream = map (λ at. at.1) (filter (λ at. at.0 % streams == stream) (enumerate_from 0 frames))
 
--- what each stream holds: the spellings of its frames
+-- what each stream holds: the encodings of its frames
 abbrev pub streams_of : ℕ → List PageFrame → List (List ℕ)
 streams_of streams frames = map (λ stream. flat_map frame_text (dealt streams frames stream)) (range_with_len 0 streams)

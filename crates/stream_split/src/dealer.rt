@@ -1,11 +1,11 @@
-//! Whose turn it is.
+//! The streams in turn.
 
 ghost use Rattle.std.specs.Prelude.{◌≡◌, ◌≤◌, ◌<◌, ◌+◌, ◌%◌};
 ghost use Rattle.stream_split.specs.Deals.{Turn, turn_with};
 
 use std::marker::Model;
 
-/// Deals out streams in turn, starting with 0. It takes no memory.
+/// Deals out streams in turn, starting with 0. It allocates nothing.
 #[derive(Debug, Drop)]
 pub struct Dealer {
     streams: usize,
@@ -21,7 +21,7 @@ impl Model for Dealer {
 }
 
 impl Dealer {
-    /// A dealer to so many streams, before its first turn.
+    /// Returns a dealer to so many streams, before its first turn.
     pub fn new(streams: usize) -> Dealer
         requires some { 1 ≤ streams }
         requires few { streams ≤ 16 }
@@ -30,7 +30,7 @@ impl Dealer {
         Dealer { streams, next: 0 }
     }
 
-    /// The stream whose turn it is. The next one's comes then, and after the last the first's.
+    /// Returns the stream whose turn it is, and passes the turn to the next one; after the last comes the first.
     pub fn deal(&mut self) -> usize
         ensures next { result ≡ self.old.next }
         ensures within { result < self.old.streams }

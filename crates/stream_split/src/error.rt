@@ -6,10 +6,10 @@ ghost use Rattle.stream_split.specs.declared.error.SplitError.TheVariants.{Memor
 use std::alloc::{AllocError, AllocFailed};
 use thiserror::Error;
 
-/// A refusal.
+/// Why frames could not be split.
 #[derive(Clone, Copy, Debug, PartialEq, Eq, Error)]
 pub enum SplitError {
-    /// A growth was refused.
+    /// Memory ran out.
     #[error("memory")]
     Memory,
 }

@@ -12,7 +12,7 @@ use page_message::{Frame, encode_frame};
 use std::alloc::Global;
 use trace_codec::Shape;
 
-/// So many empty streams, each with room for so many bytes.
+/// Returns so many empty streams, each with `room` bytes reserved.
 pub fn empty_streams(alloc: Global, streams: usize, room: usize) -> Result<Vec<Vec<u8>>, SplitError>
     ensures { IfOk result (λ v. map (λ s. s.items) v.items ≡ replicate streams []) }
 {
@@ -23,7 +23,7 @@ pub fn empty_streams(alloc: Global, streams: usize, room: usize) -> Result<Vec<V
     Ok(outs)
 }
 
-/// Adds the spelling of a frame to a stream.
+/// Appends the encoding of a frame to a stream.
 fn add_frame(
     alloc: Global,
     shape: &Shape,
@@ -40,7 +40,8 @@ fn add_frame(
     Ok(())
 }
 
-/// Frame n, counted from 0, goes to stream n modulo their number, and each stream is its frames one after the other.
+/// Returns the streams of these frames: frame n, counted from 0, goes to stream n modulo their number. Each stream is
+/// the encodings of its frames, one after the other. The only error is that memory runs out.
 pub fn split(
     alloc: Global,
     shape: &Shape,

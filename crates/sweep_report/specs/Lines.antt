@@ -1,4 +1,5 @@
--- The lines of a report and of a sweep: words and numbers in turn, one space between them, and a line feed. This project's own.
+-- The lines of a report and of a sweep: words and numbers in turn, one space between them, and a line feed. This
+-- project's own.
 use Rattle.std.specs.Prelude.{ℕ, if◌then◌else◌, List, [], ◌∷◌, ◌++◌, length, codes}
 use Rattle.std.specs.Fmt.{decimal}
 use Rattle.std.specs.List.{flat_map}
@@ -46,7 +47,7 @@ abbrev pub case_fields : ℕ → MigrationSettings → List (List ℕ)
 case_fields number s = field (codes "case ") number ∷ field (codes " min ") s.min ∷ field (codes " max ") s.max ∷ field (codes " inc ") s.increment
     ∷ field (codes " threshold ") s.threshold ∷ field (codes " limit ") s.rounds ∷ field (codes " skip ") (if s.skip then 1 else 0) ∷ []
 
--- what its plan comes to
+-- the sums of a case's plan
 abbrev pub outcome_fields : PlanOutcome → List (List ℕ)
 outcome_fields outcome = field (codes " rounds ") outcome.rounds ∷ (codes " stop " ++ word_of outcome.reason) ∷ field (codes " at ") outcome.stop
     ∷ field (codes " down ") outcome.down ∷ field (codes " total ") outcome.total ∷ []

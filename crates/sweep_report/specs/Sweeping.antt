@@ -1,4 +1,4 @@
--- Lines of a sweep on their way. No contract of a public call speaks of it.
+-- Lines of a sweep on their way. No contract of a public call cites it.
 use Rattle.std.specs.Prelude.{◌≡◌, ℕ, ◌<◌, Option, IfSome, Result, IfOk, IfErr, Vec, List, length, slice_index_or}
 use Rattle.std.specs.Global.{Global}
 use Rattle.std.specs.List.{All}
@@ -17,7 +17,7 @@ pub record IsNumbered (pages : ℕ) (touches : List GuestTouch) (cases : List Mi
 abbrev pub AreNumbered : ℕ → List GuestTouch → List MigrationSettings → List Numbered → Type 0
 AreNumbered pages touches cases made = All (IsNumbered pages touches cases) made
 
--- there is a place for the line of each case, and what is there is that line
+-- there is a slot for the line of each case, and a line in a slot is that case's
 pub record AreTaken (pages : ℕ) (touches : List GuestTouch) (cases : List MigrationSettings) (taken : List (Option SweepLine)) : Type 0 where
   pub len : length taken ≡ length cases
   pub each : (k : ℕ) (d : MigrationSettings) (e : Option SweepLine) → k < length cases → IfSome (slice_index_or taken k e) (IsLineOf pages touches (slice_index_or cases k d))

@@ -6,7 +6,8 @@ use Rattle.migration_model.specs.Sweeps.{SweepLine, best_of}
 use Rattle.migration_model.specs.Windows.{WorkingSets}
 use Rattle.sweep_report.specs.Lines.{trace_line, window_line, hot_line, page_line, round_line, stop_line, case_line, best_line}
 
--- the report over working sets: what the trace is, each window with a write, and the pages that are in at least `hot` windows
+-- the report over working sets: what the trace is, each window with a write, and the pages that are in at least `hot`
+-- windows
 abbrev pub sets_text : ℕ → WorkingSets → List ℕ
 sets_text hot sets = flat_map window_line sets.windows ++ (hot_line hot (length sets.hot) ++ flat_map page_line sets.hot)
 

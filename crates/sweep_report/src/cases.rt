@@ -12,14 +12,14 @@ use crate::lines::{end_line, push_field};
 use rate_limit::Settings;
 use std::alloc::{AllocError, Global};
 
-/// The number that stands for a flag.
+/// Returns the number that stands for a flag.
 fn flag(given: bool) -> u64
     ensures { result ≡ (if given then 1 else 0) }
 {
     if given { 1 } else { 0 }
 }
 
-/// Adds the settings of a case.
+/// Appends the settings of a case.
 fn push_settings(text: &mut Vec<u8>, number: usize, settings: &Settings) -> Result<(), AllocError>
     ensures { OnOk result (text.new.items ≡ text.old.items ++ flat_map (λ f. f) (case_fields number settings.now)) }
 {
@@ -34,7 +34,7 @@ fn push_settings(text: &mut Vec<u8>, number: usize, settings: &Settings) -> Resu
     Ok(())
 }
 
-/// Adds what a plan comes to.
+/// Appends the sums of a plan.
 fn push_outcome(text: &mut Vec<u8>, line: &Line) -> Result<(), AllocError>
     ensures { OnOk result (text.new.items ≡ text.old.items ++ flat_map (λ f. f) (outcome_fields line.now.outcome)) }
 {
@@ -47,7 +47,7 @@ fn push_outcome(text: &mut Vec<u8>, line: &Line) -> Result<(), AllocError>
     Ok(())
 }
 
-/// Adds the line of a case.
+/// Appends the line of a case.
 fn push_case(text: &mut Vec<u8>, number: usize, line: &Line) -> Result<(), AllocError>
     ensures { OnOk result (text.new.items ≡ text.old.items ++ case_line number line.now) }
 {
@@ -57,7 +57,7 @@ fn push_case(text: &mut Vec<u8>, number: usize, line: &Line) -> Result<(), Alloc
     Ok(())
 }
 
-/// Adds a line for each case.
+/// Appends a line for each case.
 fn push_cases(text: &mut Vec<u8>, lines: &[Line]) -> Result<(), AllocError>
     ensures { OnOk result (text.new.items ≡ text.old.items ++ case_lines lines.now) }
 {
@@ -67,14 +67,14 @@ fn push_cases(text: &mut Vec<u8>, lines: &[Line]) -> Result<(), AllocError>
     Ok(())
 }
 
-/// Whether a line has a lesser pair of downtime and pages sent than another.
+/// Returns whether a line has less downtime than another, or equal downtime and fewer pages sent.
 fn is_lesser(line: &Line, other: &Line) -> bool
     ensures { result ≡ is_better line.now other.now }
 {
     line.down < other.down || line.down == other.down && line.total < other.total
 }
 
-/// The number of the best of some lines.
+/// Returns the index of the best of some lines.
 fn best(lines: &[Line]) -> usize
     requires { 1 ≤ length lines.now }
     ensures { result ≡ best_of lines.now }
@@ -88,7 +88,7 @@ fn best(lines: &[Line]) -> usize
     best
 }
 
-/// Adds the line on the best case.
+/// Appends the line on the best case.
 fn push_best(text: &mut Vec<u8>, number: usize) -> Result<(), AllocError>
     ensures { OnOk result (text.new.items ≡ text.old.items ++ best_line number) }
 {
@@ -97,7 +97,7 @@ fn push_best(text: &mut Vec<u8>, number: usize) -> Result<(), AllocError>
     Ok(())
 }
 
-/// The text of a sweep: ASCII, a line for each case, and one on the best of them. Of no lines it is empty.
+/// Returns the text of a sweep: ASCII, a line for each case, and one on the best of them. Of no lines it is empty.
 pub fn sweep_text(alloc: Global, lines: &[Line]) -> Result<Vec<u8>, SweepError>
     ensures { IfOk result (λ text. text.items ≡ sweep_of lines.now) }
 {

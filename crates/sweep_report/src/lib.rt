@@ -1,4 +1,4 @@
-//! The texts that are printed, as exact functions of what they tell.
+//! The texts that are printed, as exact functions of tables, plans and lines.
 #![tactic(auto)]
 
 mod cases;

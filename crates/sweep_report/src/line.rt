@@ -4,9 +4,10 @@ use rate_limit::{Reason, Settings};
 use round_planner::Outcome;
 use std::marker::Model;
 
-/// Settings, and what a migration with them comes to.
+/// Settings, and the sums of a migration with them.
 #[derive(Debug, Drop)]
 pub struct Line {
+    /// The settings of the case.
     pub settings: Settings,
     /// How many rounds there are.
     pub rounds: u64,
@@ -33,7 +34,7 @@ impl Line {
     ghost use Rattle.std.specs.Prelude.{◌≡◌};
     ghost use Rattle.migration_model.specs.Sweeps.{line_with};
 
-    /// The line of some settings whose plan comes to this.
+    /// Returns the line of some settings whose plan has these sums.
     pub(crate) fn new(settings: Settings, outcome: Outcome) -> Line
         ensures { result ≡ line_with settings outcome }
     {

@@ -9,7 +9,7 @@ use std::alloc::AllocError;
 use trace_codec::Shape;
 use working_sets::Window;
 
-/// Adds some words and a number behind them.
+/// Appends some words and a number behind them.
 #[tactic(auto, unfolding(crate::specs::Lines::field))]
 pub(crate) fn push_field(text: &mut Vec<u8>, words: &str, number: u64) -> Result<(), AllocError>
     ensures { OnOk result (text.new.items ≡ text.old.items ++ field words.now number) }
@@ -26,7 +26,7 @@ pub(crate) fn end_line(text: &mut Vec<u8>) -> Result<(), AllocError>
     Ok(text.push(b'\n')?)
 }
 
-/// Adds the line on what a trace is, by how many pages of how many bytes it has, and how many writes.
+/// Appends the line on a trace: how many pages it has, how many bytes each of them, and how many writes.
 fn push_sizes(text: &mut Vec<u8>, pages: u32, size: usize, writes: u32) -> Result<(), AllocError>
     ensures { OnOk result (text.new.items ≡ text.old.items ++ trace_line pages size writes) }
 {
@@ -37,14 +37,14 @@ fn push_sizes(text: &mut Vec<u8>, pages: u32, size: usize, writes: u32) -> Resul
     Ok(())
 }
 
-/// Adds the line on what a trace is.
+/// Appends the line on a trace of this shape.
 pub(crate) fn push_trace(text: &mut Vec<u8>, shape: &Shape) -> Result<(), AllocError>
     ensures { OnOk result (text.new.items ≡ text.old.items ++ trace_line shape.now.pages (2 ^ shape.now.shift) shape.now.writes) }
 {
     push_sizes(text, shape.pages, shape.page_size(), shape.writes)
 }
 
-/// Adds the line on a window.
+/// Appends the line on a window.
 pub(crate) fn push_window(text: &mut Vec<u8>, window: &Window) -> Result<(), AllocError>
     ensures { OnOk result (text.new.items ≡ text.old.items ++ window_line window.now) }
 {
@@ -56,7 +56,7 @@ pub(crate) fn push_window(text: &mut Vec<u8>, window: &Window) -> Result<(), All
     end_line(text)
 }
 
-/// Adds the line on how many pages are hot.
+/// Appends the line on how many pages are hot.
 pub(crate) fn push_hot(text: &mut Vec<u8>, hot: u64, pages: usize) -> Result<(), AllocError>
     ensures { OnOk result (text.new.items ≡ text.old.items ++ hot_line hot pages) }
 {
@@ -65,7 +65,7 @@ pub(crate) fn push_hot(text: &mut Vec<u8>, hot: u64, pages: usize) -> Result<(),
     end_line(text)
 }
 
-/// Adds the line on one hot page.
+/// Appends the line on one hot page.
 pub(crate) fn push_page(text: &mut Vec<u8>, page: u32) -> Result<(), AllocError>
     ensures { OnOk result (text.new.items ≡ text.old.items ++ page_line page) }
 {
@@ -73,7 +73,7 @@ pub(crate) fn push_page(text: &mut Vec<u8>, page: u32) -> Result<(), AllocError>
     end_line(text)
 }
 
-/// Adds the line on a round of a plan.
+/// Appends the line on a round of a plan.
 pub(crate) fn push_round(text: &mut Vec<u8>, number: usize, round: &Round) -> Result<(), AllocError>
     ensures { OnOk result (text.new.items ≡ text.old.items ++ round_line number round.now) }
 {
@@ -88,7 +88,7 @@ pub(crate) fn push_round(text: &mut Vec<u8>, number: usize, round: &Round) -> Re
     Ok(())
 }
 
-/// Adds the line on the end of a plan.
+/// Appends the line on the end of a plan.
 pub(crate) fn push_stop(text: &mut Vec<u8>, plan: &Plan) -> Result<(), AllocError>
     ensures { OnOk result (text.new.items ≡ text.old.items ++ stop_line plan.now) }
 {

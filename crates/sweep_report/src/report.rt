@@ -1,4 +1,4 @@
-//! The report.
+//! The text of a report.
 
 ghost use Rattle.std.specs.Prelude.{◌≡◌, ◌++◌, IfOk, OnOk};
 ghost use Rattle.std.specs.List.{flat_map};
@@ -13,7 +13,7 @@ use std::alloc::{AllocError, Global};
 use trace_codec::Shape;
 use working_sets::{Tables, Window};
 
-/// Adds a line for each window.
+/// Appends a line for each window.
 fn push_windows(text: &mut Vec<u8>, windows: &[Window]) -> Result<(), AllocError>
     ensures { OnOk result (text.new.items ≡ text.old.items ++ flat_map window_line windows.now) }
 {
@@ -23,7 +23,7 @@ fn push_windows(text: &mut Vec<u8>, windows: &[Window]) -> Result<(), AllocError
     Ok(())
 }
 
-/// Adds a line for each hot page.
+/// Appends a line for each hot page.
 fn push_pages(text: &mut Vec<u8>, pages: &[u32]) -> Result<(), AllocError>
     ensures { OnOk result (text.new.items ≡ text.old.items ++ flat_map page_line pages.now) }
 {
@@ -33,7 +33,7 @@ fn push_pages(text: &mut Vec<u8>, pages: &[u32]) -> Result<(), AllocError>
     Ok(())
 }
 
-/// Adds a line for each round.
+/// Appends a line for each round.
 fn push_rounds(text: &mut Vec<u8>, rounds: &[Round]) -> Result<(), AllocError>
     ensures { OnOk result (text.new.items ≡ text.old.items ++ round_lines rounds.now) }
 {
@@ -43,8 +43,8 @@ fn push_rounds(text: &mut Vec<u8>, rounds: &[Round]) -> Result<(), AllocError>
     Ok(())
 }
 
-/// The text of a report on the working sets and the plan of a trace of this shape: ASCII, a line for each window with a
-/// write, for each hot page and for each round, and one for the stop.
+/// Returns the text of a report on the working sets and the plan of a trace of this shape, in ASCII. It has a line for
+/// the trace, for each window with a write, for the hot pages, for each of them, for each round, and for the stop.
 pub fn report_text(
     alloc: Global,
     shape: &Shape,

@@ -1,4 +1,4 @@
-//! Plans for many settings, made side by side.
+//! Lines of many cases, made by workers side by side.
 
 ghost use Rattle.std.specs.Prelude.{◌≡◌, ◌<◌, ℕ, IfErr, IfOk, IfSome, OnOk, None, List, length, replicate};
 ghost use Rattle.std.specs.List.{All};
@@ -25,7 +25,7 @@ pub(crate) struct Numbered {
     pub(crate) line: Line,
 }
 
-/// The line of one case.
+/// Returns the line of one case, from a plan of its own.
 fn line_of<T: Timeline>(alloc: Global, timeline: &T, case: &Settings) -> Result<Line, SweepError>
     ensures line { IfOk result (IsLineOf (T.pages timeline.now) (T.touches timeline.now) case.now) }
     ensures refusal { IfErr result (λ e. e ≡ SweepError.Memory) }
@@ -34,7 +34,7 @@ fn line_of<T: Timeline>(alloc: Global, timeline: &T, case: &Settings) -> Result<
     Ok(Line::new(*case, planned.outcome()))
 }
 
-/// The same, by what the cases share.
+/// Returns the line of one case, with the planner and the index that the cases share.
 fn line_by<T: Timeline>(
     planner: &mut Planner,
     timeline: &T,
@@ -49,7 +49,7 @@ fn line_by<T: Timeline>(
     Line::new(*case, planner.outcome(timeline, index, case))
 }
 
-/// Takes case after case by a counter that other workers take theirs from too, and makes the lines.
+/// Takes case after case by a counter that all workers share. Returns the lines of the cases taken.
 fn take_cases<T: Timeline>(
     alloc: Global,
     timeline: &T,
@@ -74,7 +74,7 @@ fn take_cases<T: Timeline>(
     Ok(made)
 }
 
-/// A place for the line of each case, with none there.
+/// Returns a slot for the line of each case, all of them empty.
 fn no_lines(alloc: Global, count: usize) -> Result<Vec<Option<Line>>, AllocError>
     ensures { IfOk result (λ taken. taken.items ≡ replicate count None) }
 {
@@ -85,7 +85,7 @@ fn no_lines(alloc: Global, count: usize) -> Result<Vec<Option<Line>>, AllocError
     Ok(taken)
 }
 
-/// Puts lines to the places of their cases.
+/// Puts lines into the slots of their cases.
 fn place(taken: &mut Vec<Option<Line>>, made: Vec<Numbered>)
     requires { All (λ one. one.number < length taken.old.items) made.items }
     ensures { (pages : ℕ) (touches : List GuestTouch) (cases : List MigrationSettings) → AreNumbered pages touches cases made.items
@@ -96,7 +96,7 @@ fn place(taken: &mut Vec<Option<Line>>, made: Vec<Numbered>)
     }
 }
 
-/// The line of a case, which is there already or is made now.
+/// Returns the line of a case, which is there already or is made now.
 fn line_or_new<T: Timeline>(
     planner: &mut Planner,
     timeline: &T,
@@ -116,7 +116,7 @@ fn line_or_new<T: Timeline>(
     }
 }
 
-/// The lines of all cases in order. Those that are not there are made now.
+/// Returns the lines of all cases in order, and makes those that are not there.
 fn in_order<T: Timeline>(
     alloc: Global,
     timeline: &T,
@@ -139,7 +139,8 @@ fn in_order<T: Timeline>(
     Ok(lines)
 }
 
-/// Puts what workers made to the places of its cases. The trace and the cases are there for the contract alone.
+/// Puts the lines that workers made into the slots of their cases. The trace and the cases are arguments for the
+/// contract alone.
 fn place_all<T: Timeline>(
     _timeline: &T,
     _cases: &[Settings],
@@ -157,7 +158,7 @@ fn place_all<T: Timeline>(
     Ok(())
 }
 
-/// Puts the lines of cases that some workers make side by side to the places of those cases.
+/// Starts workers side by side, and puts the lines that they make into the slots of their cases.
 fn make_beside<R: Threads + Sync, T: Timeline + Sync>(
     rt: &R,
     alloc: Global,
@@ -189,14 +190,14 @@ const WORTH_A_THREAD: usize = 1 << 20;
 /// How many cases there have to be for them to share an index.
 const WORTH_AN_INDEX: usize = 2;
 
-/// How many workers are worth their threads: no more than are asked for, nor than there are cases.
+/// Returns how many workers are worth their threads: no more than are asked for, nor than there are cases.
 fn workers_for<T: Timeline>(timeline: &T, cases: usize, workers: usize) -> usize {
     let each = timeline.touch_count() + timeline.page_count() as usize;
     let most = cases.saturating_mul(each) / WORTH_A_THREAD;
     workers.min(cases).min(most)
 }
 
-/// Puts lines to the places of their cases where it is worth it to start threads for them.
+/// Puts lines into the slots of their cases where it is worth it to start threads for them.
 fn make_some<R: Threads + Sync, T: Timeline + Sync>(
     rt: &R,
     alloc: Global,
@@ -219,7 +220,7 @@ fn make_some<R: Threads + Sync, T: Timeline + Sync>(
     Ok(())
 }
 
-/// The lines of few cases, of which each has a plan of its own.
+/// Returns the lines of few cases, each from a plan of its own.
 fn one_by_one<T: Timeline>(
     alloc: Global,
     timeline: &T,
@@ -235,9 +236,9 @@ fn one_by_one<T: Timeline>(
     Ok(lines)
 }
 
-/// The line of each case, in order: what its plan comes to, each planned by itself. Up to so many workers, 1 to 16, take case
-/// after case, where there is enough to do; the lines are the same for any number of them. `Memory` is answered where a list
-/// or marks of pages found no room.
+/// Returns the line of each case, in order: the sums of its plan, each case planned by itself. Up to `workers`
+/// workers, 1 to 16, take case after case, where there is enough to do; the lines are the same for any number of them.
+/// The error is `Memory`, where memory runs out for a list or for marks of pages.
 pub fn sweep<R: Threads + Sync, T: Timeline + Sync>(
     rt: &R,
     alloc: Global,

@@ -1,4 +1,4 @@
--- What a trace that is left in its bytes says of those bytes.
+-- What a trace that is read in place says of its bytes.
 use Rattle.std.proofs.Common.{◌≡◌, ℕ, zero, suc, List, ◌++◌, length, get_or, drop, None, refl, sym, ap, ◌∙◌, append_assoc, inl, inr}
 use Rattle.std.specs.Int.{w32}
 use Rattle.std.specs.List.{flat_map}
@@ -12,7 +12,7 @@ use Rattle.trace_codec.specs.Refusals.{header_refusal, Begins, Refuses, in_write
 use Rattle.trace_codec.specs.declared.error.TraceError.{TraceError}
 use Rattle.trace_codec.proofs.Headers.{IsHeader-from_none}
 
--- bytes that hold so many writes are the texts of those, and what stands behind them
+-- bytes that hold so many writes are the encodings of those, and the bytes behind them
 pub texts_read : (n : ℕ) (bytes : List ℕ) → IsBytes bytes → HoldsWrites n bytes → bytes ≡ flat_map write_text (writes_in n bytes) ++ rest_of n bytes
 texts_read zero bytes fits holds = refl
 texts_read (suc n) bytes fits holds =
@@ -20,7 +20,7 @@ texts_read (suc n) bytes fits holds =
     ∙ ap (λ (x : List ℕ). write_text (write_in bytes) ++ x) (texts_read n (rest_after bytes) (IsBytes-rest_after bytes fits) holds.1)
     ∙ sym (append_assoc (write_text (write_in bytes)) (flat_map write_text (writes_in n (rest_after bytes))) (rest_of n (rest_after bytes)))
 
--- the trace that the bytes spell
+-- the trace that the bytes encode
 abbrev pub trace_in : List ℕ → GuestTrace
 trace_in bytes = trace_with (get_or bytes 5 0) (number_in w32 (drop 8 bytes)) (writes_in (number_in w32 (drop 12 bytes)) (drop 16 bytes))
 
@@ -88,7 +88,7 @@ is_refused bytes e fits none refused =
           behind b (length-writes_in _ body) w.3 w.4
     ]
 
--- ---- the same by the names that the code has for the parts
+-- ---- these facts by the names that the code has for the parts
 
 pub cut_spelled : (bytes : List ℕ) (shift pages count : ℕ) (body : List ℕ) → IsCut bytes shift pages count body → IsBody shift pages count body
     → Spells bytes (trace_with shift pages (writes_in count body))

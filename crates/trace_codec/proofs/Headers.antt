@@ -1,4 +1,4 @@
--- A header that is not refused is the one that its fields spell.
+-- A header that is not refused is the one that its fields encode.
 use Rattle.std.proofs.Common.{◌≡◌, ℕ, ◌^◌, ◌≤◌, Bool, true, false, not, ◌&&◌, List, ◌∷◌, ◌++◌, length, get_or, drop, None, refl, sym, ap, ◌∙◌, arith}
 use Rattle.std.specs.Int.{w32}
 use Rattle.std.proofs.lemmas.Bool.{eqb-true, leb-true, ltb-false}
@@ -31,7 +31,7 @@ front_is : (bytes : List ℕ) → 16 ≤ length bytes → get_or bytes 0 0 ≡ 8
 front_is (b0 ∷ b1 ∷ b2 ∷ b3 ∷ b4 ∷ b5 ∷ b6 ∷ b7 ∷ rest) long a b c d e f g = λ i. a i ∷ b i ∷ c i ∷ d i ∷ e i ∷ b5 ∷ f i ∷ g i ∷ rest
 front_is _ long a b c d e f g = absurd (omega arith)
 
--- what stands behind them: two numbers, and the rest
+-- the bytes behind them: two numbers, and the rest
 sizes_are : (bytes : List ℕ) → IsBytes bytes → 16 ≤ length bytes
     → drop 8 bytes ≡ text_of w32 (number_in w32 (drop 8 bytes)) ++ (text_of w32 (number_in w32 (drop 12 bytes)) ++ drop 16 bytes)
 sizes_are bytes fits long =

@@ -6,8 +6,3 @@ pub mod Sources
 pub mod Readers
 pub mod Spelling
 pub mod Made
-pub mod Longer
-pub mod Logs
-pub mod OneMore
-pub mod Texts
-pub mod Fronts

@@ -77,7 +77,7 @@ length-header_text : (shift pages writes : ℕ) → length (header_text shift pa
 unfolding header_text text_of
 length-header_text shift pages writes = refl
 
--- how long a spelling is
+-- how long an encoding is
 pub length_of_text : (shift pages : ℕ) (writes : List GuestWrite)
     → length (trace_text (trace_with shift pages writes)) ≡ 16 + sum_by (λ (w : GuestWrite). 16 + length w.bytes) writes
 unfolding trace_text
@@ -86,12 +86,12 @@ length_of_text shift pages writes =
     length-flat_map write_text writes ∙ (λ i. sum_by (λ (w : GuestWrite). length-write_text w i) writes) in
     omega (arith, length-append (header_text shift pages (length writes)) (flat_map write_text writes), length-header_text shift pages (length writes), body)
 
--- whether it is short, where the bytes are counted
+-- whether it is short enough, where the bytes are counted
 pub counted_short : (shift pages bytes : ℕ) (writes : List GuestWrite) → bytes ≡ 16 + sum_by (λ (w : GuestWrite). 16 + length w.bytes) writes
     → bytes ≤ 2 ^ 28 → true ≡ is_short (trace_with shift pages writes)
 counted_short shift pages bytes writes is low = sym (le-leb _ _ (omega (arith, length_of_text shift pages writes)))
 
--- and where those of the first writes and one more are too many
+-- an encoding is too long, where the bytes of the first writes and one more are too many
 pub counted_long : (bytes len n : ℕ) (writes : List GuestWrite) (write : GuestWrite) → n < length writes → write ≡ get_or writes n write
     → bytes ≡ 16 + sum_by (λ (w : GuestWrite). 16 + length w.bytes) (take n writes) → len ≡ length write.bytes → 2 ^ 28 < bytes + (16 + len)
     → (shift pages : ℕ) → false ≡ is_short (trace_with shift pages writes)
@@ -101,7 +101,7 @@ counted_long bytes len n writes write low is so_far len_is high shift pages =
     ap (sum_by size) (take_more writes n write low ∙ ap (λ (w : GuestWrite). take n writes ++ w ∷ []) (sym is)) ∙ sum_by_push size (take n writes) write in
     sym (lt-leb _ _ (omega (arith, length_of_text shift pages writes, sum_by-take-le size writes (n + 1), more)))
 
--- ---- a trace has no cause to be refused for
+-- ---- a trace is refused for nothing
 
 let_pass : (b : Bool) (e : TraceError) (others : Option TraceError) → b ≡ false → others ≡ None → cond b (Some e) others ≡ None
 let_pass b e others is none = rw is none

@@ -1,4 +1,4 @@
--- No spelling of a trace is refused.
+-- No encoding of a trace is refused.
 use Rattle.std.proofs.Common.{◌≡◌, ℕ, ◌+◌, ◌^◌, ◌<◌, ◌≤◌, Bool, false, cond, not, ◌&&◌, leb, eqb, List, [], ◌∷◌, ◌++◌, length, get_or, drop, Option, Some, None, Result, Ok, Err, refl, sym, ap, subst, ◌∙◌, inl, inr, arith}
 use Rattle.std.specs.Prelude.{IfOk, IfErr, MatchResult}
 use Rattle.std.specs.Int.{w32}
@@ -60,7 +60,7 @@ write_passes shift pages before i write rest places fits order =
     (passes _ _ _ (ne_eqb (length_in bytes) 0 (λ zero. omega (arith, fits.some)))
     (passes _ _ _ (le-ltb (2 ^ shift) (offset_in bytes + length_in bytes) (rw (offset, len) fits.within)) refl))))))
 
--- what a beginning of a spelled text leaves is the text of the other writes
+-- the bytes behind a beginning of a trace's encoding are the encoding of the other writes
 record Leaves (trace : GuestTrace) (bytes : List ℕ) (b : Begins bytes) : Type 0 where
   pub shift : b.shift ≡ trace.shift
   pub pages : b.pages ≡ trace.pages
@@ -82,7 +82,7 @@ leaves bytes trace b spells few =
     let found = front_writes b.writes trace.writes b.rest (AllHavePlaces b.shift b.pages b.writes b.size b.fit) (AllHavePlaces _ _ trace.writes is.size is.writes) (omega arith) body in
     record { shift = shift; pages = pages; count = count; others = found.0; writes = found.1; rest = found.2 }
 
--- the next of those is not refused
+-- the next of those writes is not refused
 next_passes : (bytes : List ℕ) (trace : GuestTrace) (b : Begins bytes) → Spells bytes trace → b.shift ≡ trace.shift → b.pages ≡ trace.pages
     → (others : List GuestWrite) → trace.writes ≡ b.writes ++ others → b.rest ≡ flat_map write_text others → 0 < length others
     → write_refusal b.shift b.pages (last_tick b.writes) (length b.writes) b.rest ≡ None
@@ -111,20 +111,20 @@ never_refused bytes trace e spells (behind b all more is) =
     let none : left.others ≡ [] = nil_from_length left.others (omega (arith, ap length left.writes, length-append b.writes left.others, left.count)) in
     omega (arith, ap length (left.rest ∙ ap (flat_map write_text) none))
 
--- so a spelled trace is read, and no other
+-- so a trace that is encoded is read, and no other
 pub is_only : (bytes : List ℕ) (r : Result GuestTrace TraceError) → IfOk r (λ t. Spells bytes t) → IfErr r (Refuses bytes)
     → (trace : GuestTrace) → Spells bytes trace → r ≡ Ok trace
 is_only bytes (Ok found) spells refused trace is = ap (λ t. Ok t) (one_trace_lem bytes found trace spells is)
 is_only bytes (Err e) spells refused trace is = absurd (never_refused bytes trace e is refused)
 
--- so of a spelled trace nothing but memory is refused
+-- so a trace that is encoded is refused for memory alone
 pub only_memory : {X : Type 0} (bytes : List ℕ) (r : Result X TraceError) → IfErr r (RefusesUnlessMemory bytes)
     → (trace : GuestTrace) → Spells bytes trace → IfErr r (λ e. e ≡ Memory)
 only_memory bytes (Ok found) refused trace is = tt
 only_memory bytes (Err e) (inl memory) trace is = memory
 only_memory bytes (Err e) (inr refused) trace is = absurd (never_refused bytes trace e is refused)
 
--- and if memory doesn't run out, it is found
+-- and if memory does not run out, it is found
 pub only_found : (bytes : List ℕ) (r : Result GuestTrace TraceError) → IfOk r (λ t. Spells bytes t) → IfErr r (RefusesUnlessMemory bytes)
     → (trace : GuestTrace) → Spells bytes trace → MatchResult r (λ t. t ≡ trace) (λ e. e ≡ Memory)
 only_found bytes (Ok found) spells refused trace is = one_trace_lem bytes found trace spells is

@@ -1,4 +1,4 @@
--- What a reader on its way goes on to, and ends with.
+-- How a reader on its way goes on, and ends.
 use Rattle.std.proofs.Common.{◌≡◌, ℕ, ◌+◌, ◌<◌, List, [], ◌∷◌, ◌++◌, length, drop, Some, None, refl, sym, ap, subst, ◌∙◌, inl, inr, arith}
 use Rattle.std.proofs.lemmas.List.{nil_from_length}
 use Rattle.migration_model.specs.Trace.{GuestWrite, Spells, trace_with}

@@ -7,8 +7,6 @@ use Rattle.std.proofs.lemmas.Bool.{cases_lt, lt-ltb}
 use Rattle.std.specs.Prelude.{IfErr, IfSome}
 use Rattle.migration_model.specs.Trace.{GuestTrace, Spells}
 use Rattle.trace_codec.specs.Source.{ReadsFrom, ReadsWhole, SourceSpells, SourceRefuses}
-use Rattle.trace_codec.proofs.Longer.{stays}
-use Rattle.trace_codec.specs.Pieces.{wants_bytes}
 use Rattle.trace_codec.specs.Refusals.{header_refusal, Refuses, RefusesUnlessMemory, in_header, in_write, behind}
 use Rattle.trace_codec.specs.declared.error.TraceError.{TraceError}
 use Rattle.trace_codec.specs.declared.error.TraceError.TheVariants.{TooLong}
@@ -16,7 +14,7 @@ use Rattle.trace_codec.specs.declared.error.TraceError.TheVariants.{TooLong}
 abbrev given : TraceError → Option TraceError
 given e = Some e
 
--- no bytes are always there
+-- to consume no bytes leaves what is known of the source
 pub Consumes-nil : (a : Option (List ℕ)) → Consumes a a []
 Consumes-nil None = tt
 Consumes-nil (Some a) = refl
@@ -27,7 +25,7 @@ Consumes-then (Some a) None c xs ys p q = absurd p
 Consumes-then (Some a) (Some b) None xs ys p q = absurd q
 Consumes-then (Some a) (Some b) (Some c) xs ys p q = p ∙ ap (λ (x : List ℕ). xs ++ x) q ∙ sym (append_assoc xs ys c)
 
--- what one more read into the room behind the first ones makes of the front
+-- what one more read behind the first bytes makes of the front of a buffer
 pub Consumes-front : (a b c : Option (List ℕ)) (filled n : ℕ) (old room new : List ℕ) → Consumes a b (take filled old) → take filled room ≡ take filled old
     → take filled new ≡ take filled room → Consumes b c (take n (drop filled new)) → Consumes a c (take (filled + n) new)
 Consumes-front a b c filled n old room new p roomy kept q =
@@ -60,7 +58,7 @@ spelled_whole (Some xs) (Some ys) v trace whole spells =
     let short : length v ≤ 2 ^ 28 = rw spells.text spells.is_trace.short in
     subst (λ (x : List ℕ). Spells x trace) (whole_is xs ys v whole.0 whole.1 short) spells
 
--- what is longer than a trace may be is refused for that alone
+-- bytes that are longer than a trace may be are refused for that alone
 header_too_long : (bytes : List ℕ) → 2 ^ 28 < length bytes → header_refusal bytes ≡ Some TooLong
 header_too_long bytes long = rw (lt-ltb (2 ^ 28) (length bytes) long) refl
 
@@ -91,7 +89,7 @@ only_whole (Some old) (Some ys) xs v trace is spells whole =
     let shorter : length v ≤ 2 ^ 28 = omega (arith, ap length same, ap length whole.0, length-append v ys) in
     subst (λ (x : List ℕ). Spells x trace) (sym (whole_is old ys v whole.0 whole.1 shorter ∙ same)) spells
 
--- ---- the same of a text that came
+-- ---- these facts of the bytes that came
 
 -- the cause of all that came is that of the source
 pub ended_refused : (old new : Option (List ℕ)) (text : List ℕ) (e : TraceError) → Consumes old new text → IsAtEnd new → Refuses text e → SourceRefuses old e
@@ -102,14 +100,7 @@ pub long_refused : (old new : Option (List ℕ)) (text : List ℕ) → Consumes 
 long_refused old new text came long =
     inr (refused_whole old new text TooLong (came, λ short. absurd (omega arith)) (in_header (header_too_long text long)))
 
--- a cause that stands in what came, after the rest came too
-pub early_refused : (old new end : Option (List ℕ)) (text more : List ℕ) (e : TraceError) → Consumes old new text → Consumes new end more → IsAtEnd end
-    → length text + length more ≤ 2 ^ 28 → wants_bytes e ≡ false → Refuses text e → SourceRefuses old e
-early_refused old new end text more e came read_on ended short some refused =
-    ended_refused old end (text ++ more) e (Consumes-then old new end text more came read_on) ended
-    (stays text more e refused some (omega (arith, length-append text more)))
-
--- ---- the same of what a call answered
+-- ---- these facts of what a call returned
 
 pub refused_source : {T : Type 0} (r : Result T TraceError) (old new : Option (List ℕ)) (v : List ℕ) → ReadsWhole old new v
     → IfErr r (RefusesUnlessMemory v) → IfErr r (SourceRefuses old)

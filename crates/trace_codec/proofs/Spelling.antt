@@ -1,4 +1,4 @@
--- The spelling of a trace, part after part; and the sizes of one that is not spelled yet.
+-- The encoding of a trace, part after part; and the sizes of one that is not encoded yet.
 use Rattle.std.proofs.Common.{◌≡◌, ℕ, List, ◌++◌, length, ap, ◌∙◌, append_assoc}
 use Rattle.std.specs.Int.{w16, w32, w64}
 use Rattle.std.specs.List.{flat_map}

@@ -2,5 +2,3 @@ pub mod Refusals
 pub mod Reading
 pub mod Writes
 pub mod Source
-pub mod Pieces
-pub mod Texts

@@ -14,7 +14,7 @@ abbrev pub HoldsWrites : ℕ → List ℕ → Type 0
 HoldsWrites zero bytes = Unit {0}
 HoldsWrites (suc n) bytes = (16 + length_in bytes ≤ length bytes) × HoldsWrites n (rest_after bytes)
 
--- the first n writes in the bytes are right, the last of them at this tick, and this is what stands behind them
+-- the first n writes in the bytes are right, the last of them at this tick, and `rest` is the bytes behind them
 pub record ReadsTo (shift pages n : ℕ) (bytes : List ℕ) (last : ℕ) (rest : List ℕ) : Type 0 where
   pub holds : HoldsWrites n bytes
   pub fit : AreGuestWrites shift pages (writes_in n bytes)
@@ -35,7 +35,7 @@ RefusesBody shift pages count bytes e =
     × (write_refusal shift pages last n rest ≡ Some e))
     ⊎ ((last : ℕ) × (rest : List ℕ) × ReadsTo shift pages count bytes last rest × (0 < length rest) × (e ≡ TrailingBytes))
 
--- what the first 16 bytes and those behind them are
+-- the sizes in the first 16 bytes, and the bytes behind them
 pub record IsCut (bytes : List ℕ) (shift pages count : ℕ) (body : List ℕ) : Type 0 where
   pub fits : IsBytes bytes
   pub header : header_refusal bytes ≡ None
@@ -44,12 +44,12 @@ pub record IsCut (bytes : List ℕ) (shift pages count : ℕ) (body : List ℕ) 
   pub count_is : count ≡ number_in w32 (drop 12 bytes)
   pub body_is : body ≡ drop 16 bytes
 
--- what a trace that is left in its bytes keeps: it is a trace, and the bytes hold its writes
+-- what a trace that is read in place keeps: it is a trace, and the bytes hold its writes
 pub record IsView (shift pages count : ℕ) (bytes : List ℕ) : Type 0 where
   pub is_trace : IsTrace (trace_with shift pages (writes_in count bytes))
   pub holds : HoldsWrites count bytes
 
--- a reader on its way: the whole text, the sizes in its header, and the writes that were read
+-- a reader on its way: all of the bytes, the sizes in their header, and the writes that were read
 pub record ReaderState : Type 0 where
   pub bytes : List ℕ
   pub shift : ℕ

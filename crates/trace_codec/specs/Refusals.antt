@@ -1,4 +1,4 @@
--- Why bytes are refused as a trace: the first cause that stands in them. This project's own.
+-- Why bytes are refused as a trace: the first cause in them. This project's own.
 use Rattle.std.specs.Prelude.{◌≡◌, ◌<◌, ◌≤◌, ℕ, ◌+◌, ◌^◌, ◌==◌, ◌&&◌, ◌⊎◌, nat_lt, nat_le, not, Bool, if◌then◌else◌, List, ◌∷◌, ◌++◌, length, drop, slice_index, Option, Some, None}
 use Rattle.std.specs.Int.{w32}
 use Rattle.std.specs.List.{flat_map}
@@ -25,7 +25,8 @@ header_refusal bytes =
     else (if nat_lt (2 ^ 20) (number_in w32 (drop 12 bytes)) then Some TooManyWrites
     else None)))))))
 
--- what the write at the front of these bytes is refused for: write i of a guest of this size, the one before at this tick
+-- what the write at the front of these bytes is refused for: write i of a guest of this size, the one before it at
+-- this tick
 abbrev pub write_refusal : ℕ → ℕ → ℕ → ℕ → List ℕ → Option TraceError
 write_refusal shift pages before i bytes =
     if nat_lt (length bytes) 16 then Some (ShortRecord i)
@@ -50,8 +51,7 @@ pub record Begins (bytes : List ℕ) : Type 0 where
   pub fit : AreGuestWrites shift pages writes
   pub parts : bytes ≡ header_text shift pages count ++ (flat_map write_text writes ++ rest)
 
--- The first cause that stands in the bytes: in the header; in a write, all before it being right; or bytes behind the
--- last write.
+-- The first cause in the bytes: in the header; in a write, all before it being right; or bytes behind the last write.
 pub data Refuses (bytes : List ℕ) (e : TraceError) : Type 0 where
   in_header : header_refusal bytes ≡ Some e → Refuses bytes e
   in_write : (b : Begins bytes) → length b.writes < b.count
@@ -62,9 +62,9 @@ pub data Refuses (bytes : List ℕ) (e : TraceError) : Type 0 where
 abbrev pub RefusesUnlessMemory : List ℕ → TraceError → Type 0
 RefusesUnlessMemory bytes e = (e ≡ Memory) ⊎ Refuses bytes e
 
--- ---- of a trace that is not spelled yet
+-- ---- of a trace that is not encoded yet
 
--- what the sizes of a trace are refused for, whose spelling is short enough or not
+-- what the sizes of a trace are refused for, whose encoding is short enough or not
 abbrev pub sizes_refusal : Bool → ℕ → ℕ → ℕ → Option TraceError
 sizes_refusal short shift pages writes =
     if not short then Some TooLong
@@ -73,11 +73,11 @@ sizes_refusal short shift pages writes =
     else (if nat_lt (2 ^ 20) writes then Some TooManyWrites
     else None)))
 
--- the spelling of a trace is no longer than one may be
+-- the encoding of a trace is no longer than one may be
 abbrev pub is_short : GuestTrace → Bool
 is_short trace = nat_le (length (trace_text trace)) (2 ^ 28)
 
--- what a write is refused for: write i of a guest of this size, the one before at this tick
+-- what a write is refused for: write i of a guest of this size, the one before it at this tick
 abbrev pub record_refusal : ℕ → ℕ → ℕ → ℕ → GuestWrite → Option TraceError
 record_refusal shift pages before i write =
     if nat_lt write.tick before then Some (TickOrder i)
@@ -96,7 +96,7 @@ pub record RefusesRecord (shift pages : ℕ) (writes : List GuestWrite) (e : Tra
   pub fit : AreGuestWrites shift pages before
   pub refused : record_refusal shift pages (last_tick before) (length before) write ≡ Some e
 
--- the first cause that stands in a trace: in its sizes, or in a write
+-- the first cause in a trace: in its sizes, or in a write
 pub data RefusesTrace (trace : GuestTrace) (e : TraceError) : Type 0 where
   in_sizes : sizes_refusal (is_short trace) trace.shift trace.pages (length trace.writes) ≡ Some e → RefusesTrace trace e
   in_record : sizes_refusal (is_short trace) trace.shift trace.pages (length trace.writes) ≡ None

@@ -1,4 +1,5 @@
--- What a source of bytes tells: the bytes that reads will give from here on, where they are known, and whether a read failed.
+-- What is known of a source of bytes: the bytes that reads will give from here on, where they are known, and whether a
+-- read failed.
 use Rattle.std.specs.Prelude.{◌≡◌, ◌<◌, ◌≤◌, ◌^◌, ℕ, Bool, List, length, take, Option, Some, None, IfSome, ◌⊎◌}
 use Rattle.std.specs.Io.KnownBytes.{Keeps, Consumes, IsAtEnd}
 use Rattle.migration_model.specs.Trace.{GuestTrace, Spells}
@@ -13,7 +14,8 @@ pub record SourceState : Type 0 where
 abbrev pub source_state : Option (List ℕ) → Bool → SourceState
 source_state remaining has_failed = record { remaining = remaining; has_failed = has_failed }
 
--- A read that gave n bytes took them from the front, and 0 into room is the end. One that failed took none.
+-- A read that gave n bytes took them from the front, and 0 into a buffer that is not empty is the end. One that failed
+-- took none.
 abbrev pub ReadsFrom : Option (List ℕ) → Option (List ℕ) → Option ℕ → List ℕ → Type 0
 ReadsFrom old new None buffer = Keeps old new
 ReadsFrom old new (Some n) buffer = (n ≤ length buffer) × Consumes old new (take n buffer) × (n ≡ 0 → 0 < length buffer → IsAtEnd new)
@@ -26,7 +28,7 @@ ReadsWhole old new bytes = Consumes old new bytes × (length bytes ≤ 2 ^ 28 �
 abbrev pub IsOutside : TraceError → Type 0
 IsOutside e = (e ≡ Memory) ⊎ (e ≡ ReadFault)
 
--- what the source holds spells this trace
+-- what the source holds encodes this trace
 abbrev pub SourceSpells : Option (List ℕ) → GuestTrace → Type 0
 SourceSpells known trace = IfSome known (λ bytes. Spells bytes trace)
 

@@ -1,4 +1,4 @@
-//! Tests of writes that are not spelled yet.
+//! Tests of writes that are not encoded yet.
 
 ghost use Rattle.std.specs.Prelude.{◌≡◌, ℕ, length, IfErr, IfOk, OnOk, Some, None};
 ghost use Rattle.migration_model.specs.Trace.{AreGuestWrites, IsTrace, trace_with};
@@ -9,7 +9,7 @@ use crate::fields::{MAX_LENGTH, MAX_PAGES, MAX_WRITES, TICK_LIMIT};
 use crate::shape::Shape;
 use crate::write::Write;
 
-/// Whether a trace of these writes has a spelling that is short enough.
+/// Returns whether the encoding of a trace of these writes has at most `MAX_LENGTH` bytes.
 fn has_short_text(writes: &[Write]) -> bool
     ensures { (shift pages : ℕ) → result ≡ is_short (trace_with shift pages writes.now) }
 {
@@ -23,7 +23,7 @@ fn has_short_text(writes: &[Write]) -> bool
     true
 }
 
-/// Tests write `index` of a guest of this shape; the write before it was at `before`.
+/// Tests write `index` of a guest of this shape; the write before it was at tick `before`.
 fn check_record(shape: Shape, before: u64, index: u32, write: &Write) -> Result<(), TraceError>
     ensures refused { IfErr result (λ e. record_refusal shape.shift shape.pages before index write.now ≡ Some e) }
     ensures accepted { OnOk result (record_refusal shape.shift shape.pages before index write.now ≡ None) }
@@ -47,7 +47,7 @@ fn check_record(shape: Shape, before: u64, index: u32, write: &Write) -> Result<
     Ok(())
 }
 
-/// Tests the writes of a guest of this shape.
+/// Tests all writes of a guest of this shape, in order.
 fn check_records(shape: Shape, writes: &[Write]) -> Result<(), TraceError>
     requires { length writes.now ≡ shape.writes }
     ensures refused { IfErr result (RefusesRecord shape.shift shape.pages writes.now) }
@@ -62,7 +62,7 @@ fn check_records(shape: Shape, writes: &[Write]) -> Result<(), TraceError>
     Ok(())
 }
 
-/// The sizes of a trace, of which it is known whether its spelling is short enough; or what they are refused for.
+/// Returns the sizes of a trace, or what they are refused for. `short` says whether its encoding is short enough.
 fn shape_for(short: bool, shift: u8, pages: u32, writes: usize) -> Result<Shape, TraceError>
     ensures refused { IfErr result (λ e. sizes_refusal short shift pages writes ≡ Some e) }
     ensures accepted { OnOk result (sizes_refusal short shift pages writes ≡ None) }
@@ -89,7 +89,7 @@ fn shape_for(short: bool, shift: u8, pages: u32, writes: usize) -> Result<Shape,
     })
 }
 
-/// Tests what is to be a trace.
+/// Tests the sizes and the writes of a trace, in the order of refusals that `Trace::new` names.
 pub(crate) fn check_trace(shift: u8, pages: u32, writes: &[Write]) -> Result<(), TraceError>
     ensures refused { IfErr result (RefusesTrace (trace_with shift pages writes.now)) }
     ensures accepted { OnOk result (IsTrace (trace_with shift pages writes.now)) }

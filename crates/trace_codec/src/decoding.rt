@@ -9,7 +9,7 @@ use crate::trace::Trace;
 use crate::view::TraceView;
 use std::alloc::Global;
 
-/// The trace that the bytes spell, with writes of its own. `E17` is never answered.
+/// Returns the trace that the bytes encode, with a copy of each write's bytes. It never returns `E17`.
 pub fn decode(alloc: Global, bytes: &[u8]) -> Result<Trace, TraceError>
     ensures found { IfOk result (λ trace. Spells bytes.now trace) }
     ensures refused { IfErr result (RefusesUnlessMemory bytes.now) }

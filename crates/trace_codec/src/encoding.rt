@@ -11,7 +11,7 @@ use crate::write::Write;
 use byteorder::{ByteOrder, LittleEndian};
 use std::alloc::{AllocError, Global};
 
-/// The 16 bytes in front of the records.
+/// Returns the 16 bytes in front of the records.
 #[tactic(auto, unfolding(migration_model::specs::Trace::header_text, migration_model::specs::Numbers::text_of))]
 fn header_of(shift: u8, pages: u32, writes: u32) -> [u8; 16]
     ensures { result ≡ header_text shift pages writes }
@@ -24,7 +24,7 @@ fn header_of(shift: u8, pages: u32, writes: u32) -> [u8; 16]
     header
 }
 
-/// The numbers in front of a write's bytes.
+/// Returns the 16 bytes in front of a write's data.
 #[tactic(auto, unfolding(migration_model::specs::Numbers::text_of))]
 fn head_of(tick: u64, page: u32, offset: u16, len: u16) -> [u8; 16]
     ensures { result ≡ text_of w64 tick ++ (text_of w32 page ++ (text_of w16 offset ++ text_of w16 len)) }
@@ -37,7 +37,7 @@ fn head_of(tick: u64, page: u32, offset: u16, len: u16) -> [u8; 16]
     head
 }
 
-/// Adds the spelling of one write.
+/// Appends the encoding of one write.
 fn push_write(text: &mut Vec<u8>, write: &Write) -> Result<(), AllocError>
     requires { length write.now.bytes < 2 ^ 16 }
     ensures { OnOk result (text.new.items ≡ text.old.items ++ write_text write.now) }
@@ -48,7 +48,7 @@ fn push_write(text: &mut Vec<u8>, write: &Write) -> Result<(), AllocError>
     Ok(())
 }
 
-/// The spelling of a trace: the bytes that `decode` reads it from. `E16` is the only refusal.
+/// Returns the encoding of a trace: the bytes from which `decode` reads it. The only error is `E16`.
 pub fn encode(alloc: Global, trace: &Trace) -> Result<Vec<u8>, TraceError>
     ensures text { IfOk result (λ bytes. bytes.items ≡ trace_text trace.now) }
     ensures spells { IfOk result (λ bytes. Spells bytes.items trace.now) }

@@ -6,9 +6,9 @@ ghost use Rattle.trace_codec.specs.declared.error.TraceError.TheVariants.{Memory
 use std::alloc::{AllocError, AllocFailed};
 use thiserror::Error;
 
-/// A refusal. Its text is the name of the refusal in fault lines, with the record where one is at fault; records
-/// count from 0. Where several causes stand in the bytes, the first in the order of the names' numbers is answered,
-/// with `E15` before all others and `E8` to `E13` record by record.
+/// Why bytes are no trace. An error is written as its name in fault lines, with the record where one is at fault;
+/// records count from 0. Where the bytes have several causes, the error is the first in the order of the names'
+/// numbers, with `E15` before all others and `E8` to `E13` record by record.
 #[derive(Clone, Copy, Debug, PartialEq, Eq, Error)]
 pub enum TraceError {
     /// Fewer than 16 bytes.
@@ -56,10 +56,10 @@ pub enum TraceError {
     /// More than 2^28 bytes.
     #[error("E15")]
     TooLong,
-    /// A growth was refused.
+    /// Memory ran out.
     #[error("E16")]
     Memory,
-    /// The reader failed.
+    /// A read of the source failed.
     #[error("E17")]
     ReadFault,
 }

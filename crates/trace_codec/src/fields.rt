@@ -1,4 +1,4 @@
-//! The numbers at the front of some bytes, and the two kinds of refusal that are read off them.
+//! The numbers at the front of some bytes, and the refusals of headers and records.
 
 ghost use Rattle.std.specs.Prelude.{◌≡◌, ◌≤◌, ◌+◌, length, drop, slice_index, IfOk, IfErr, OnOk, Some, None};
 ghost use Rattle.std.specs.Int.{w16, w32, w64};
@@ -13,7 +13,7 @@ use byteorder::{ByteOrder, LittleEndian};
 /// The most bytes that a trace may have, `2^28`.
 pub const MAX_LENGTH: usize = 268_435_456;
 
-/// No tick reaches this one, `2^40`.
+/// No tick of a trace reaches this one, `2^40`.
 pub const TICK_LIMIT: u64 = 1_099_511_627_776;
 
 /// The most pages that a guest may have.
@@ -46,8 +46,9 @@ pub(crate) fn u16_in(bytes: &[u8]) -> u16
     LittleEndian::read_u16(bytes)
 }
 
-/// The sizes that the first 16 bytes tell, or what they are refused for.
-pub(crate) fn shape_of(bytes: &[u8]) -> Result<Shape, TraceError>
+/// Returns the sizes that the first 16 bytes hold, or what they are refused for: `E15` for more than `MAX_LENGTH`
+/// bytes, then `E1` to `E7`.
+pub fn shape_of(bytes: &[u8]) -> Result<Shape, TraceError>
     ensures refused { IfErr result (λ e. header_refusal bytes.now ≡ Some e) }
     ensures accepted { OnOk result (header_refusal bytes.now ≡ None) }
     ensures long { OnOk result (16 ≤ length bytes.now) }
@@ -89,10 +90,10 @@ pub(crate) fn shape_of(bytes: &[u8]) -> Result<Shape, TraceError>
     })
 }
 
-/// The tick of the write at the front, and what stands behind that write; or what it is refused for. It is write
-/// `index` of a trace of this shape, and the write before it was at `before`.
+/// Tests the write at the front, which is write `index` of a trace of this shape; the write before it was at tick
+/// `before`. Returns its tick and the bytes behind it, or what it is refused for, `E8` to `E13`.
 #[tactic(auto, unfolding(migration_model::specs::TraceReading::rest_after))]
-pub(crate) fn checked_write<'a>(
+pub fn checked_write<'a>(
     shape: Shape,
     before: u64,
     index: u32,

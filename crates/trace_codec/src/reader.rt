@@ -1,4 +1,4 @@
-//! A trace read write by write, each tested as it is reached.
+//! A trace read write by write, each tested as the reader reaches it.
 
 ghost use Rattle.std.specs.Prelude.{◌≡◌, ◌<◌, ◌++◌, ◌∷◌, [], IfErr, IfOk, OnErr, OnOk, drop, length};
 ghost use Rattle.migration_model.specs.Trace.{AreGuestWrites, IsGuestWrite, Spells, trace_with};
@@ -14,8 +14,8 @@ use crate::shape::Shape;
 use crate::write::WriteView;
 use std::marker::Model;
 
-/// A reader on its way through the bytes of a trace, for a caller that can undo what it did with the first writes where
-/// a later one is refused. It takes no memory.
+/// A reader on its way through the bytes of a trace, for a caller that can undo what it did with the first writes
+/// where a later one is refused. It allocates nothing.
 #[derive(Drop)]
 pub struct TraceReader<'a> {
     bytes: &'a [u8],
@@ -34,7 +34,7 @@ impl<'a> Model for TraceReader<'a> {
 }
 
 impl<'a> TraceReader<'a> {
-    /// A reader in front of the first write.
+    /// Returns a reader in front of the first write, or what the header is refused for.
     pub fn new(bytes: &'a [u8]) -> Result<TraceReader<'a>, TraceError>
         ensures bytes { IfOk result (λ r. r.bytes ≡ bytes.entry.now) }
         ensures writes { IfOk result (λ r. r.writes ≡ []) }
@@ -51,7 +51,7 @@ impl<'a> TraceReader<'a> {
         })
     }
 
-    /// How large the header says that the trace is.
+    /// Returns the sizes that the header claims.
     pub fn shape(&self) -> Shape
         ensures shift { result.shift ≡ self.now.shift }
         ensures pages { result.pages ≡ self.now.pages }
@@ -60,8 +60,8 @@ impl<'a> TraceReader<'a> {
         self.shape
     }
 
-    /// The next write, within the guest's pages and not before the one in front of it. After a refusal the reader is as
-    /// before.
+    /// Returns the next write, within the guest's pages and not before the one in front of it. After a refusal the
+    /// reader is as before.
     pub fn read_record(&mut self) -> Result<WriteView<'a>, TraceError>
         requires { length self.old.writes < self.old.count }
         ensures read { IfOk result (λ write. self.new ≡ record self.old { writes = self.old.writes ++ shown write ∷ [] }) }

@@ -12,10 +12,10 @@ use crate::source::Source;
 use crate::trace::Trace;
 use std::alloc::{AllocError, Global};
 
-/// The greatest room that is made for one read: pieces of this size stay in a processor's cache.
+/// The most bytes that a buffer grows by for one read: pieces of this size stay in a processor's cache.
 const PIECE: usize = 262_144;
 
-/// The same bytes with room behind the first `filled` ones, and never for more than one byte past the longest trace.
+/// Returns the bytes with space behind the first `filled` ones, and never more than one byte past the longest trace.
 fn with_room(bytes: Vec<u8>, filled: usize) -> Result<Vec<u8>, AllocError>
     requires within { filled ≤ vec_len bytes }
     requires short { filled ≤ MAX_LENGTH }
@@ -33,12 +33,9 @@ fn with_room(bytes: Vec<u8>, filled: usize) -> Result<Vec<u8>, AllocError>
     Ok(bytes)
 }
 
-/// One read into the room behind the first `filled` bytes.
-pub(crate) fn read_behind<S: Source>(
-    source: &mut S,
-    bytes: &mut Vec<u8>,
-    filled: usize,
-) -> Option<usize>
+/// Reads once into the bytes behind the first `filled` ones. Returns how many bytes came: 0 at the end of the source,
+/// and None where the read failed.
+pub fn read_behind<S: Source>(source: &mut S, bytes: &mut Vec<u8>, filled: usize) -> Option<usize>
     requires unfailed { S.has_failed source.old ≡ false }
     requires room { filled < vec_len bytes.old }
     ensures len { vec_len bytes.new ≡ vec_len bytes.old }
@@ -50,8 +47,8 @@ pub(crate) fn read_behind<S: Source>(
     source.read(&mut bytes[filled..])
 }
 
-/// The bytes of a source to its end, or until more have come than a trace may have. Memory follows the bytes that
-/// come. Refusals are `E16` and `E17` alone.
+/// Returns the bytes of a source to its end, or until more have come than a trace may have. Memory follows the bytes
+/// that come. The errors are `E16` and `E17` alone.
 pub fn read_bytes<S: Source>(alloc: Global, source: &mut S) -> Result<Vec<u8>, TraceError>
     requires { S.has_failed source.old ≡ false }
     ensures whole { IfOk result (λ v. ReadsWhole (S.remaining source.old) (S.remaining source.new) v.items) }
@@ -75,7 +72,7 @@ pub fn read_bytes<S: Source>(alloc: Global, source: &mut S) -> Result<Vec<u8>, T
     Ok(bytes)
 }
 
-/// The trace that a source holds, read to its end. Any failed read is `E17`, whatever came before it.
+/// Returns the trace that a source holds, read to its end. Any failed read is `E17`, whatever came before it.
 pub fn read_trace<S: Source>(alloc: Global, source: &mut S) -> Result<Trace, TraceError>
     requires { S.has_failed source.old ≡ false }
     ensures found { IfOk result (SourceSpells (S.remaining source.old)) }

@@ -1,4 +1,4 @@
-//! The writes of a trace, read one by one where they stand.
+//! The writes of a trace, read one by one in place.
 
 ghost use Rattle.std.specs.Prelude.{◌≡◌, ◌≤◌, ◌+◌, List, length};
 ghost use Rattle.std.specs.Iterator.{item_count, YieldsFirstBy};
@@ -11,9 +11,9 @@ use crate::fields::{u16_in, u32_in, u64_in};
 use crate::write::WriteView;
 use std::marker::Model;
 
-/// The write at the front of some bytes, and the bytes behind it.
+/// Returns the write at the front of some bytes, and the bytes behind it.
 #[tactic(auto, unfolding(migration_model::specs::TraceReading::write_in, migration_model::specs::TraceReading::rest_after))]
-pub(crate) fn first_write<'a>(bytes: &'a [u8]) -> (WriteView<'a>, &'a [u8])
+pub fn first_write<'a>(bytes: &'a [u8]) -> (WriteView<'a>, &'a [u8])
     requires { 16 + length_in bytes.now ≤ length bytes.now }
     ensures write { shown result.0 ≡ write_in bytes.now }
     ensures rest { result.1.now ≡ rest_after bytes.now }
@@ -33,7 +33,7 @@ pub(crate) fn first_write<'a>(bytes: &'a [u8]) -> (WriteView<'a>, &'a [u8])
     (write, rest)
 }
 
-/// An iterator over the writes of a trace.
+/// An iterator over the writes of a trace, read in place.
 #[derive(Drop)]
 pub struct Records<'a> {
     left: u32,
@@ -49,7 +49,7 @@ impl<'a> Model for Records<'a> {
 }
 
 impl<'a> Records<'a> {
-    /// So many writes, which the bytes hold.
+    /// Returns an iterator over so many writes, which the bytes hold.
     pub(crate) fn of(count: u32, bytes: &'a [u8]) -> Records<'a>
         requires { HoldsWrites count bytes.now }
         ensures { result ≡ writes_in count bytes.entry.now }

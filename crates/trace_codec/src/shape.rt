@@ -2,11 +2,14 @@
 
 ghost use Rattle.std.specs.Prelude.{◌≡◌, ◌≤◌, ◌^◌};
 
-/// How large a trace is: pages of `2^shift` bytes, how many pages, and how many writes.
+/// The sizes of a trace: pages of `2^shift` bytes, how many pages, and how many writes.
 #[derive(Clone, Copy, Debug, PartialEq, Eq)]
 pub struct Shape {
+    /// The page shift: a page has `2^shift` bytes.
     pub shift: u8,
+    /// How many pages the guest has.
     pub pages: u32,
+    /// How many writes the trace has.
     pub writes: u32,
     pub ghost shift_low: { 4 ≤ shift },
     pub ghost shift_high: { shift ≤ 12 },
@@ -16,7 +19,7 @@ pub struct Shape {
 }
 
 impl Shape {
-    /// The bytes of one page.
+    /// Returns how many bytes one page has.
     pub fn page_size(&self) -> usize
         ensures { result ≡ 2 ^ self.now.shift }
     {

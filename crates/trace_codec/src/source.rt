@@ -15,19 +15,19 @@ pub trait Source {
     // Whether a read failed.
     ghost has_failed: { Self → Bool };
 
-    /// Reads some bytes into the front of `buffer`, and answers how many. 0 into a buffer with room is the end. None is
-    /// a read that failed, after which the source may not be read again.
+    /// Reads some bytes into the front of `buffer`, and returns how many. 0 into a buffer that is not empty is the
+    /// end. None is a read that failed, after which the source may not be read again.
     fn read(&mut self, buffer: &mut [u8]) -> Option<usize>
         requires { has_failed self.old ≡ false }
         ensures bytes { ReadsFrom (remaining self.old) (remaining self.new) result buffer.new }
         ensures failed { has_failed self.new ≡ is_none result };
 
-    /// Whether a read failed.
+    /// Returns whether a read failed.
     fn failed(&self) -> bool
         ensures { result ≡ has_failed self.now };
 }
 
-/// One of std's readers as a source. A read that a signal interrupts is tried again.
+/// One of std's readers as a source. It tries a read again that a signal interrupts.
 #[derive(Drop)]
 pub struct FromRead<R: Read + Drop> {
     reader: R,
@@ -41,7 +41,7 @@ impl<R: Read + Drop> Model for FromRead<R> {
 }
 
 impl<R: Read + Drop> FromRead<R> {
-    /// The source of what the reader gives from here on.
+    /// Returns the source of what the reader gives from here on.
     pub fn new(reader: R) -> FromRead<R>
         ensures { result ≡ source_state (R.remaining reader) false }
     {

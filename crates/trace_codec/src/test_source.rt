@@ -1,4 +1,4 @@
-//! A source over bytes in memory, for tests of what reads.
+//! A source over bytes in memory, for tests.
 
 ghost use Rattle.std.specs.Prelude.{◌≡◌, ◌≤◌, Some, false, vec_len, drop};
 ghost use Rattle.trace_codec.specs.Source.{SourceState, source_state};
@@ -6,7 +6,7 @@ ghost use Rattle.trace_codec.specs.Source.{SourceState, source_state};
 use crate::source::Source;
 use std::marker::Model;
 
-/// A source that tells its bytes, gives them in pieces of a bounded size, and can fail.
+/// A source whose bytes are known, which gives them in pieces of a bounded size, and can fail.
 #[derive(Debug, Drop)]
 pub struct TestSource {
     bytes: Vec<u8>,
@@ -26,8 +26,8 @@ impl Model for TestSource {
 }
 
 impl TestSource {
-    /// The source of these bytes, at most `greatest` in one read. The read numbered `failing_call`, counted from 1,
-    /// fails.
+    /// Returns the source of these bytes, which gives at most `greatest` in one read. The read numbered
+    /// `failing_call`, counted from 1, fails.
     pub fn new(bytes: Vec<u8>, greatest: usize, failing_call: Option<u64>) -> TestSource
         requires { 1 ≤ greatest }
         ensures { result ≡ source_state (Some bytes.items) false }

@@ -1,4 +1,4 @@
-//! When pages are written, without what is written.
+//! When pages are written, without the bytes.
 
 ghost use Rattle.std.specs.Prelude.{◌≡◌, ◌<◌, ◌≤◌, ℕ, true, false, nat_lt, List, length, slice_index_or};
 ghost use Rattle.std.specs.List.Sorted.{IsPartitionPoint};
@@ -8,10 +8,12 @@ use crate::trace::Trace;
 use crate::write::Write;
 use std::marker::Model;
 
-/// When a write was, and to which page.
+/// When a write was, in ticks, and to which page.
 #[derive(Clone, Copy, Debug)]
 pub struct Touch {
+    /// The tick of the write.
     pub tick: u64,
+    /// The page that it is to.
     pub page: u32,
 }
 
@@ -25,7 +27,7 @@ impl Model for Touch {
     ghost inverse = { λ t. record { tick = t.tick; page = t.page } };
 }
 
-/// What tells when each page of a guest was written: all that working sets and rounds look at.
+/// Reads when each page of a guest was written: all that working sets and rounds need.
 pub trait Timeline {
     // The touches in order.
     ghost touches: { Self → List GuestTouch };
@@ -33,23 +35,23 @@ pub trait Timeline {
     // How many pages the guest has.
     ghost pages: { Self → ℕ };
 
-    /// How many pages the guest has.
+    /// Returns how many pages the guest has.
     fn page_count(&self) -> u32
         ensures pages { result ≡ pages self.now }
         ensures some { 1 ≤ result }
         ensures few { result ≤ 65_536 };
 
-    /// How many touches there are.
+    /// Returns how many touches there are.
     fn touch_count(&self) -> usize
         ensures count { result ≡ length (touches self.now) }
         ensures fits { AreTouches (pages self.now) (touches self.now) };
 
-    /// One touch. The first has index 0.
+    /// Returns touch `index`. The first has index 0.
     fn touch(&self, index: usize) -> Touch
         requires { index < length (touches self.now) }
         ensures { result ≡ slice_index_or (touches self.now) index no_touch };
 
-    /// How many touches there are before a tick, found by halves.
+    /// Returns how many touches there are before a tick, by binary search.
     fn before(&self, tick: u64) -> usize
         ensures bound { result ≤ length (touches self.now) }
         ensures point { IsPartitionPoint (λ touch. nat_lt touch.tick tick ≡ true) (λ touch. nat_lt touch.tick tick ≡ false) (touches self.now) result };

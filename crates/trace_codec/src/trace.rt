@@ -10,12 +10,15 @@ use crate::shape::Shape;
 use crate::write::Write;
 use std::marker::Model;
 
-/// A recorded trace: a guest of `pages` pages of `2^shift` bytes, and its writes in the order of their ticks. Each value
-/// is valid: it has a spelling in the trace format.
+/// A recorded trace: a guest of `pages` pages of `2^shift` bytes, and its writes in the order of their ticks. Each
+/// value is valid: it has an encoding in the trace format.
 #[derive(Debug, Drop)]
 pub struct Trace {
+    /// The page shift: a page has `2^shift` bytes.
     pub shift: u8,
+    /// How many pages the guest has.
     pub pages: u32,
+    /// The writes, in the order of their ticks.
     pub writes: Vec<Write>,
 }
 
@@ -28,8 +31,8 @@ impl Model for Trace {
 }
 
 impl Trace {
-    /// A trace of these writes. It is refused for `E15` where its spelling would be too long, then for its sizes (`E4`,
-    /// `E6`, `E7`) and then record by record (`E9` to `E13`); records count from 0. It takes no memory.
+    /// Returns the trace of these writes. It is refused for `E15` where its encoding would be too long, then for its
+    /// sizes (`E4`, `E6`, `E7`) and then record by record (`E9` to `E13`); records count from 0. It allocates nothing.
     pub fn new(shift: u8, pages: u32, writes: Vec<Write>) -> Result<Trace, TraceError>
         ensures made { IfOk result (λ trace. trace ≡ trace_with shift pages writes.items) }
         ensures valid { IfOk result IsTrace }
@@ -44,7 +47,7 @@ impl Trace {
         })
     }
 
-    /// How large the trace is.
+    /// Returns the sizes of the trace.
     pub fn shape(&self) -> Shape
         ensures shift { result.shift ≡ self.now.shift }
         ensures pages { result.pages ≡ self.now.pages }

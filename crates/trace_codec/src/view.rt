@@ -1,4 +1,4 @@
-//! A trace that is left where its bytes stand.
+//! A trace that is read in place.
 
 ghost use Rattle.std.specs.Prelude.{◌≡◌, IfErr, IfOk, Ok, OnOk, length};
 ghost use Rattle.migration_model.specs.Trace.{GuestTrace, IsTrace, Spells, trace_with};
@@ -14,7 +14,7 @@ use crate::trace::Trace;
 use std::alloc::{AllocError, Global};
 use std::marker::Model;
 
-/// Tests the writes of a trace of this shape, which are all that the bytes may hold.
+/// Tests the writes of a trace of this shape, behind which the bytes may hold nothing.
 fn check_writes(shape: Shape, bytes: &[u8]) -> Result<(), TraceError>
     ensures refused { IfErr result (RefusesBody shape.shift shape.pages shape.writes bytes.now) }
     ensures accepted { OnOk result (IsBody shape.shift shape.pages shape.writes bytes.now) }
@@ -32,7 +32,7 @@ fn check_writes(shape: Shape, bytes: &[u8]) -> Result<(), TraceError>
     Ok(())
 }
 
-/// A trace that is left where its bytes stand: nothing is copied, and no memory is taken.
+/// A trace that is read in place, from the bytes that encode it: nothing is copied, and nothing is allocated.
 #[derive(Drop)]
 pub struct TraceView<'a> {
     shape: Shape,
@@ -58,7 +58,7 @@ impl<'a> TraceView<'a> {
         Ok(TraceView { shape, body })
     }
 
-    /// Reads a trace off its bytes, in one pass over the records. `E16` and `E17` are never answered.
+    /// Reads a trace from its bytes, in one pass over the records. It never returns `E16` or `E17`.
     pub fn parse(bytes: &'a [u8]) -> Result<TraceView<'a>, TraceError>
         ensures found { IfOk result (λ trace. Spells bytes.now trace) }
         ensures refused { IfErr result (Refuses bytes.now) }
@@ -67,7 +67,7 @@ impl<'a> TraceView<'a> {
         TraceView::whole(bytes)
     }
 
-    /// How large the trace is.
+    /// Returns the sizes of the trace.
     pub fn shape(&self) -> Shape
         ensures shift { result.shift ≡ self.now.shift }
         ensures pages { result.pages ≡ self.now.pages }
@@ -77,14 +77,14 @@ impl<'a> TraceView<'a> {
         self.shape
     }
 
-    /// The writes in order.
+    /// Returns an iterator over the writes, in order.
     pub fn records(&self) -> Records<'a>
         ensures { result ≡ self.now.writes }
     {
         Records::of(self.shape.writes, self.body)
     }
 
-    /// The same trace with writes of its own, each of whose bytes are copied once.
+    /// Returns the trace with a copy of each write's bytes. The only error is that memory runs out.
     pub fn to_trace(&self, alloc: Global) -> Result<Trace, AllocError>
         ensures { IfOk result (λ trace. trace ≡ self.now) }
     {

@@ -6,12 +6,16 @@ ghost use Rattle.migration_model.specs.Trace.{GuestWrite, write_with};
 use std::alloc::{AllocError, Global};
 use std::marker::Model;
 
-/// A guest write: at `tick`, `bytes` from `offset` of `page` on.
+/// A guest write: at tick `tick`, `bytes` from `offset` of `page` on.
 #[derive(Debug, Drop)]
 pub struct Write {
+    /// The tick of the write.
     pub tick: u64,
+    /// The page that it is to.
     pub page: u32,
+    /// The offset in the page, in bytes.
     pub offset: u16,
+    /// The bytes that are written.
     pub bytes: Vec<u8>,
 }
 
@@ -24,7 +28,7 @@ impl Model for Write {
 impl Write {
     ghost use Rattle.trace_codec.specs.Writes.{shown};
 
-    /// The same write, whose bytes are left where they stand.
+    /// Returns this write with its bytes borrowed.
     pub fn view(&self) -> WriteView<'_>
         ensures { shown result ≡ self.now }
     {
@@ -43,19 +47,23 @@ impl Write {
     }
 }
 
-/// A guest write whose bytes are left where they stand in a trace.
+/// A guest write whose bytes are borrowed from a trace.
 #[derive(Clone, Copy, Debug)]
 pub struct WriteView<'a> {
+    /// The tick of the write.
     pub tick: u64,
+    /// The page that it is to.
     pub page: u32,
+    /// The offset in the page, in bytes.
     pub offset: u16,
+    /// The bytes that are written.
     pub bytes: &'a [u8],
 }
 
 impl<'a> WriteView<'a> {
     ghost use Rattle.trace_codec.specs.Writes.{shown};
 
-    /// The same write with bytes of its own.
+    /// Returns this write with a copy of its bytes. The only error is that memory runs out.
     pub fn to_write(&self, alloc: Global) -> Result<Write, AllocError>
         ensures { IfOk result (λ write. write ≡ shown self.now) }
     {

@@ -1,4 +1,4 @@
-//! What tells the writes of a trace.
+//! The writes of a trace, by index.
 
 ghost use Rattle.std.specs.Prelude.{◌≡◌, ◌<◌, length, refl, slice_index_or};
 ghost use Rattle.migration_model.specs.Touches.{touches_of};
@@ -10,19 +10,19 @@ use crate::timeline::Timeline;
 use crate::trace::Trace;
 use crate::write::WriteView;
 
-/// What tells each write of a trace: all that versions of pages, resumed memory and migrations look at.
+/// Reads each write of a trace: all that versions of pages, resumed memory and migrations need.
 pub trait WriteLog: Timeline {
     // The trace.
     ghost trace: { Self → GuestTrace };
 
-    /// How large the trace is.
+    /// Returns the sizes of the trace.
     fn shape(&self) -> Shape
         ensures shift { result.shift ≡ (trace self.now).shift }
         ensures pages { result.pages ≡ (trace self.now).pages }
         ensures writes { result.writes ≡ length (trace self.now).writes }
         ensures is_trace { IsTrace (trace self.now) };
 
-    /// One write. The first has index 0.
+    /// Returns write `index`. The first has index 0.
     fn write(&self, index: usize) -> WriteView<'_>
         requires { index < length (trace self.now).writes }
         ensures { shown result ≡ slice_index_or (trace self.now).writes index no_write };

@@ -16,14 +16,14 @@ const TURNS: u32 = 50_000_000;
 /// The number of frames that go from thread to thread.
 const FRAMES: u16 = 1_000;
 
-/// The first item.
+/// Returns the first item.
 fn first_of<T: Drop>(items: Vec<T>) -> Option<T>
     ensures { IfSome result (λ item. slice_get items.items 0 ≡ Some item) }
 {
     items.into_iter().next()
 }
 
-/// A lane with room for so many frames.
+/// Returns a lane with room for so many frames.
 fn one_lane(alloc: Global, capacity: usize) -> Result<(LaneOut, LaneIn), Fail>
     ensures { IfOk result (λ ends. IsLane ends.0 ends.1) }
 {
@@ -35,7 +35,7 @@ fn one_lane(alloc: Global, capacity: usize) -> Result<(LaneOut, LaneIn), Fail>
     Ok((out, end))
 }
 
-/// Sends one byte, where there is room; false where there is none, or no memory.
+/// Sends one byte, where there is room. Returns false where there is none, or where memory runs out.
 fn send_byte(alloc: Global, out: &mut LaneOut, byte: u8) -> bool
     ensures { SameOut out.old out.new }
 {
@@ -49,7 +49,7 @@ fn send_byte(alloc: Global, out: &mut LaneOut, byte: u8) -> bool
     true
 }
 
-/// Gives a text back, where there is one.
+/// Gives a buffer back, where there is one.
 fn give_back(end: &mut LaneIn, text: Option<Vec<u8>>) -> bool {
     let Some(text) = text else {
         return false;
@@ -58,7 +58,7 @@ fn give_back(end: &mut LaneIn, text: Option<Vec<u8>>) -> bool {
     true
 }
 
-/// The first byte of a frame, or 0 where there is none.
+/// Returns the first byte of a frame, or 0 where there is none.
 fn first_byte(frame: Option<Vec<u8>>) -> u8 {
     match frame {
         Some(frame) => frame.first().copied().unwrap_or(0),
@@ -161,7 +161,7 @@ fn send_each(alloc: Global, outs: Vec<Vec<LaneOut>>) -> Result<(), Fail> {
     Ok(())
 }
 
-/// The first byte of each lane, stream by stream.
+/// Returns the first byte of each lane, stream by stream.
 fn take_each(alloc: Global, ins: Vec<Vec<LaneIn>>) -> Result<Vec<u8>, AllocError> {
     let mut bytes = Vec::new(alloc);
     for row in ins {
@@ -191,7 +191,7 @@ fn columns_are_of_the_same_lanes(rt: HostRuntime) -> Result<(), Fail> {
     Ok(())
 }
 
-/// The thread gives back the same end.
+/// The thread gives back the end that it was given.
 #[derive(Drop)]
 struct Sends {
     out: Snapshot<LaneOut>,
@@ -201,7 +201,7 @@ impl Promise<LaneOut> for Sends {
     ghost kept_by = { λ p out. SameOut p.out.value out };
 }
 
-/// Sends the numbers below `FRAMES`, as room allows.
+/// Sends the numbers below `FRAMES`, as room allows. Returns the end.
 fn send_numbers(alloc: Global, mut out: LaneOut) -> LaneOut
     ensures { SameOut out result }
 {
@@ -249,7 +249,7 @@ struct Taken {
     count: u16,
 }
 
-/// The thread gives back the same end.
+/// The thread gives back the end that it was given.
 #[derive(Drop)]
 struct Takes {
     end: Snapshot<LaneIn>,
@@ -295,7 +295,7 @@ fn start_taking(rt: &impl Threads, end: LaneIn) -> Result<PromisedHandle<Taken, 
     Ok(handle)
 }
 
-/// Whether there is a frame, and it is this number.
+/// Returns whether there is a frame, and it is this number.
 fn is_number(frame: Option<Vec<u8>>, number: u16) -> bool {
     match frame {
         Some(frame) => frame.as_slice() == number.to_le_bytes().as_slice(),

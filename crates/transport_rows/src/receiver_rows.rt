@@ -23,14 +23,14 @@ fn shape() -> Shape
     }
 }
 
-/// The first item.
+/// Returns the first item.
 fn first_of<T: Drop>(items: Vec<T>) -> Option<T>
     ensures { IfSome result (λ item. slice_get items.items 0 ≡ Some item) }
 {
     items.into_iter().next()
 }
 
-/// The ends of new lanes, each with room for 4 frames.
+/// Returns the ends of new lanes, each with room for 4 frames.
 fn new_ends(alloc: Global) -> Result<(Vec<LaneOut>, Vec<LaneIn>), Fail>
     ensures { IfOk result (λ ends. AreNewEnds ends.0.items ends.1.items) }
 {
@@ -56,7 +56,7 @@ fn new_stream(alloc: Global) -> Result<Stream, Fail> {
     Ok(Stream { outs, receiver })
 }
 
-/// Sends a text on one of the lanes; false where there is no such lane, or no room.
+/// Sends some bytes on one of the lanes. Returns false where there is no such lane, or no room.
 fn send(outs: &mut Vec<LaneOut>, worker: usize, text: Vec<u8>) -> bool
     ensures { map (λ out. out.lane) outs.new.items ≡ map (λ out. out.lane) outs.old.items }
 {
@@ -77,7 +77,7 @@ impl Stream {
         send(&mut self.outs, worker, text)
     }
 
-    /// Sends a copy of a text; false where that takes more memory than there is, too.
+    /// Sends a copy of some bytes. Returns false also where memory runs out for the copy.
     fn send_text(&mut self, alloc: Global, worker: usize, text: &[u8]) -> bool {
         match Vec::from_slice(alloc, text) {
             Ok(text) => self.send(worker, text),
@@ -85,7 +85,7 @@ impl Stream {
         }
     }
 
-    /// Sends the spelling of a page, each of whose bytes is this one.
+    /// Sends the encoding of a page, each of whose bytes is this one.
     fn send_page(&mut self, alloc: Global, worker: usize, page: u32, stamp: u32, byte: u8) -> bool
         requires page { page < 4 }
         requires stamp { stamp ≤ 5 }
@@ -106,7 +106,7 @@ impl Stream {
     }
 }
 
-/// The spelling of a page, each of whose bytes is this one.
+/// Returns the encoding of a page, each of whose bytes is this one.
 fn spelled(alloc: Global, page: u32, stamp: u32, byte: u8) -> Result<Vec<u8>, FrameError>
     requires page { page < 4 }
     requires stamp { stamp ≤ 5 }
@@ -116,7 +116,7 @@ fn spelled(alloc: Global, page: u32, stamp: u32, byte: u8) -> Result<Vec<u8>, Fr
     Ok(text)
 }
 
-/// Whether the part has the page, and each of its bytes is this one.
+/// Returns whether the part has the page, and each of its bytes is this one.
 fn is_filled(part: &Part, page: u32, byte: u8) -> bool {
     match part.frame(page).map(|frame| &frame.body) {
         Some(Body::Zero) => byte == 0,
@@ -197,7 +197,7 @@ fn what_is_left_may_be_refused(rt: HostRuntime) -> Result<(), Fail> {
     Ok(())
 }
 
-/// The spellings of pages 1 and 2 as one text.
+/// Returns the encodings of pages 1 and 2 as one run of bytes.
 fn two_pages(alloc: Global) -> Result<Vec<u8>, Fail> {
     let mut two = spelled(alloc, 1, 5, 7)?;
     two.extend_from_slice(&spelled(alloc, 2, 5, 7)?)?;
@@ -216,14 +216,14 @@ fn a_text_is_of_one_frame(rt: HostRuntime) -> Result<(), Fail> {
     Ok(())
 }
 
-/// An end of a lane, and a receiver that takes from the other.
+/// Returns an end of a lane, and a receiver that takes from the other.
 fn one_out(alloc: Global) -> Result<(LaneOut, Receiver), Fail> {
     let (outs, ends) = new_ends(alloc)?;
     let out = first_of(outs).ok_or("an end that sends")?;
     Ok((out, Receiver::new(alloc, shape(), ends)))
 }
 
-/// Sends a text and takes it, and answers the room of the text that came back, if one did.
+/// Sends some bytes and takes them. Returns the capacity of the buffer that came back, if one did.
 fn pass_text(
     out: &mut LaneOut,
     receiver: &mut Receiver,
@@ -239,7 +239,7 @@ fn pass_text(
     Ok(out.spare().map(|text| text.capacity()))
 }
 
-/// The same with the spelling of page 1.
+/// Sends the encoding of page 1 and takes it. Returns the capacity of the buffer that came back, if one did.
 fn pass(
     alloc: Global,
     out: &mut LaneOut,

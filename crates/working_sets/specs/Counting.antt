@@ -92,6 +92,6 @@ pub record CanAdd (s : Counting) (tick page : ℕ) : Type 0 where
 abbrev pub hot_of : List PageMark → ℕ → List ℕ
 hot_of marks hot = filter (λ page. nat_le hot (slice_index_or marks page unmarked).windows) (range_with_len 0 (length marks))
 
--- what is told after the last write
+-- the tables after the last write
 abbrev pub finished : Counting → ℕ → WorkingSets
 finished s hot = record { windows = with_row s.rows s.row; hot = hot_of s.marks hot }

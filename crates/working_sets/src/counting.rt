@@ -8,7 +8,7 @@ use crate::window::{Tables, Window};
 use std::alloc::{AllocError, Global};
 use std::marker::Model;
 
-/// Where a page was written so far.
+/// In which windows a page was written so far.
 #[derive(Clone, Copy)]
 pub(crate) struct Mark {
     /// 1 more than the number of the last window that it is in, or 0.
@@ -28,7 +28,7 @@ impl Model for Mark {
 }
 
 impl Mark {
-    /// Whether the page is in at least so many windows.
+    /// Returns whether the page is in at least so many windows.
     pub(crate) fn is_hot(&self, hot: u64) -> bool
         ensures { result ≡ nat_le hot self.now.windows }
     {
@@ -54,7 +54,7 @@ impl Model for Pass {
     ghost view = { λ p. record { window = p.window; end = p.end; rows = p.rows.items; row = p.row; marks = p.marks.items } };
 }
 
-/// The row of a window with no write.
+/// Returns the row of a window without writes.
 fn blank_row(number: u64) -> Window
     ensures { result ≡ blank number }
 {
@@ -67,7 +67,7 @@ fn blank_row(number: u64) -> Window
     }
 }
 
-/// A row after one more write to a page whose mark has this last window.
+/// Returns a row after one more write, to a page whose mark has this last window.
 fn row_after(row: Window, last: u64) -> Window
     requires { HasRoom row }
     ensures { result ≡ counted row last }
@@ -81,7 +81,7 @@ fn row_after(row: Window, last: u64) -> Window
     }
 }
 
-/// A page's mark after a write in this window.
+/// Returns a page's mark after a write in this window.
 fn mark_after(mark: Mark, number: u64) -> Mark
     requires number { number + 1 < 2 ^ 64 }
     requires windows { mark.windows + 1 < 2 ^ 64 }
@@ -93,7 +93,7 @@ fn mark_after(mark: Mark, number: u64) -> Mark
     }
 }
 
-/// Keeps a row that has a write.
+/// Appends a row that has a write.
 fn push_row(rows: &mut Vec<Window>, row: Window) -> Result<(), AllocError>
     ensures { OnOk result (rows.new.items ≡ with_row rows.old.items row) }
 {
@@ -105,7 +105,7 @@ fn push_row(rows: &mut Vec<Window>, row: Window) -> Result<(), AllocError>
 }
 
 impl Pass {
-    /// A pass before any write, over so many pages and windows of so many ticks.
+    /// Returns a pass before any write, over so many pages and windows of so many ticks.
     pub(crate) fn new(alloc: Global, window: u64, pages: u32) -> Result<Pass, AllocError>
         ensures { IfOk result (λ pass. pass ≡ started window pages) }
     {
@@ -123,7 +123,7 @@ impl Pass {
         })
     }
 
-    /// Closes the open window where this tick is behind it, and opens that of the tick.
+    /// Closes the open window where this tick is behind it, and opens the window of the tick.
     fn turn(&mut self, tick: u64) -> Result<(), AllocError>
         requires tick { tick < 2 ^ 40 }
         requires some { 1 ≤ self.old.window }
@@ -152,7 +152,7 @@ impl Pass {
         self.row = row_after(self.row, mark.last);
     }
 
-    /// Counts the next write.
+    /// Counts the next write: at `tick`, to `page`.
     pub(crate) fn add(&mut self, tick: u64, page: u32) -> Result<(), AllocError>
         requires { CanAdd self.old tick page }
         ensures { OnOk result (self.new ≡ written (turned self.old tick) page) }
@@ -162,7 +162,7 @@ impl Pass {
         Ok(())
     }
 
-    /// What the writes so far come to, with the pages that are in at least so many windows.
+    /// Returns the tables of the writes so far, with the pages that are in at least so many windows.
     pub(crate) fn finish(self, alloc: Global, hot: u64) -> Result<Tables, AllocError>
         requires { length self.marks < 2 ^ 32 }
         ensures { IfOk result (λ tables. tables ≡ finished self hot) }

@@ -6,13 +6,14 @@ ghost use Rattle.working_sets.specs.declared.error.TablesError.TheVariants.{Memo
 use std::alloc::{AllocError, AllocFailed};
 use thiserror::Error;
 
-/// A refusal.
+/// Why tables could not be made.
 #[derive(Clone, Copy, Debug, PartialEq, Eq, Error)]
 pub enum TablesError {
-    /// A growth was refused.
+    /// Memory ran out.
     #[error("memory")]
     Memory,
-    /// A thread could not be started. No call answers it: where no thread is to be had, its work is done on the caller's.
+    /// A thread could not be started. No call returns it: where a thread cannot be started, the caller's thread does
+    /// the work.
     #[error("thread")]
     Thread,
 }

@@ -1,4 +1,4 @@
-//! Tables of what is touched.
+//! The tables of a trace.
 
 ghost use Rattle.std.specs.Prelude.{◌≡◌, IfErr, IfOk};
 ghost use Rattle.migration_model.specs.Windows.{working_sets_of};
@@ -11,8 +11,8 @@ use std::alloc::Global;
 use std::thread::Threads;
 use trace_codec::Timeline;
 
-/// The rows of the windows of a trace, and its hot pages. It goes once over the touches, whatever the length of a
-/// window. `Memory` is answered where the marks of the pages, the rows or the hot pages found no room.
+/// Returns the rows of the windows of a trace, and its hot pages. It passes once over the touches, whatever the length
+/// of a window. The error is `Memory`, where memory runs out for the marks of the pages, the rows or the hot pages.
 pub fn tables<T: Timeline>(
     alloc: Global,
     timeline: &T,
@@ -30,7 +30,7 @@ pub fn tables<T: Timeline>(
     Ok(pass.finish(alloc, asked.hot)?)
 }
 
-/// The same tables, whatever the number of workers, 1 to 16.
+/// Returns the tables of `tables`, whatever the number of workers, 1 to 16.
 pub fn par_tables<R: Threads + Sync, T: Timeline + Sync>(
     _rt: &R,
     alloc: Global,

@@ -1,8 +1,8 @@
-//! Rows of windows, and what is told of a trace.
+//! Rows of windows, and the tables of a trace.
 
 use std::marker::Model;
 
-/// What is told of one window.
+/// The row of one window: how many writes and pages it has, and how many of the pages were written before.
 #[derive(Clone, Copy, Debug, PartialEq, Eq)]
 pub struct Window {
     /// The window's number, from 0: the ticks before it divided by the length of a window.
@@ -27,7 +27,7 @@ impl Model for Window {
     ghost inverse = { λ w. record { number = w.number; writes = w.writes; pages = w.pages; again = w.again; fresh = w.fresh } };
 }
 
-/// What is told of a trace.
+/// The tables of a trace: its writable working sets by windows (after Clark and others 2005, section 4).
 #[derive(Debug, Drop)]
 pub struct Tables {
     /// The rows of the windows with at least one write, by rising number.

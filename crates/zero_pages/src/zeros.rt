@@ -4,10 +4,10 @@ ghost use Rattle.std.specs.Prelude.{◌≡◌, ◌↔◌, All, IsTrue, length};
 
 use std::simd::prelude::*;
 
-/// How many bytes are looked at together.
+/// How many bytes are tested together.
 const LANES: usize = 64;
 
-/// Whether each of 64 bytes is 0.
+/// Returns whether each of 64 bytes is 0.
 fn lanes_are_zero(block: &[u8]) -> bool
     requires { length block.now ≡ 64 }
     ensures { IsTrue result ↔ All (λ byte. byte ≡ 0) block.now }
@@ -16,7 +16,7 @@ fn lanes_are_zero(block: &[u8]) -> bool
     lanes.simd_ne(u8x64::splat(0)).to_bitmask() == 0
 }
 
-/// Whether each of twice 64 bytes is 0.
+/// Returns whether each byte of two blocks of 64 is 0.
 fn pair_is_zero(first: &[u8], second: &[u8]) -> bool
     requires first { length first.now ≡ 64 }
     requires second { length second.now ≡ 64 }
@@ -25,7 +25,7 @@ fn pair_is_zero(first: &[u8], second: &[u8]) -> bool
     lanes_are_zero(first) && lanes_are_zero(second)
 }
 
-/// The same of fewer bytes, one after the other.
+/// Returns whether each byte is 0, tested one after the other.
 fn rest_is_zero(rest: &[u8]) -> bool
     ensures { IsTrue result ↔ All (λ byte. byte ≡ 0) rest.now }
 {
@@ -36,10 +36,10 @@ fn rest_is_zero(rest: &[u8]) -> bool
     seen == 0
 }
 
-/// Whether each byte is 0. That is so of no bytes at all. It takes no memory.
+/// Returns whether each byte is 0. That is so of no bytes at all. It allocates nothing.
 ///
-/// 64 bytes are looked at together, of the first half and of the second in turn, and it ends at the first of these blocks that
-/// has another byte. Two places that memory is read from in turn take less time than one.
+/// It tests 64 bytes together, of the first half and of the second in turn, and ends at the first of these blocks that
+/// has another byte. To read memory at two addresses in turn takes less time than at one.
 pub fn is_zero(bytes: &[u8]) -> bool
     ensures { IsTrue result ↔ All (λ byte. byte ≡ 0) bytes.now }
 {

@@ -7,7 +7,7 @@ use Rattle.dirty_words.specs.Facts.{first_copier}
 use Rattle.dirty_words.specs.Seats.{CopyView, copy_table}
 use Rattle.live_seats.specs.Desks.{DeskView, IsDesk}
 use Rattle.live_engine.specs.Lists.{rows_of}
-use Rattle.live_engine.specs.Seated.{EachAt}
+use Rattle.live_engine.specs.Seated.{EachAt, copy_task}
 use Rattle.live_engine.proofs.Each.{each_push}
 use Rattle.live_engine.proofs.FirstSeats.{copier_at, rest_of, row_first, one_longer}
 use Rattle.live_engine.proofs.threads.start_copiers.Goals as goal
@@ -35,7 +35,7 @@ loop-seat-preserved g c =
     let first = copier_at c.args.round.now.table.now c.args.seats.items c.loop-seat.yielded (into_iter_items c.loop-seat.seat-iterator) (into_iter_items c.next.new.self) c.in-Some.seat
     c.requires.seats c.in-Some.ensures.steps.0 c.loop-seat.invariant.rest in
     let items : c.push_reserved.new.self.items ≡ before ++ handle ∷ [] = c.push_reserved.ensures.items ∙ ap (λ hs. hs ++ handle ∷ []) c.reserve.ensures.items in
-    let number : handle.promise.number ≡ length before = c.in_ok-handle.ensures.3 ∙ ap (λ (s : CopyView). s.facts.number) first ∙ sym c.loop-seat.invariant.count in
+    let number : c.in-Some.seat.facts.number ≡ length before = ap (λ (s : CopyView). s.facts.number) first ∙ sym c.loop-seat.invariant.count in
     let passed = c.loop-seat.invariant.passed in
     let desk : DeskView = c.in-Some-pop_front.desk in
     let left : List DeskView = c.pop_front.new.self.items in
@@ -54,6 +54,6 @@ loop-seat-preserved g c =
         rest_of passed.0 c.loop-seat.desks.items left c.args.desks.items desk c.in-Some-pop_front.ensures.items passed.2,
       );
       desks = All-rest (IsDesk (g.W.WriteLog.trace c.args.round.now.trace.now) c.args.round.now.streams) c.in-Some-pop_front.desk c.pop_front.new.self.items c.loop-seat.desks.items (c.in-Some-pop_front.ensures.items) c.loop-seat.invariant.desks;
-      started = subst (λ hs. EachAt (λ h i. (g.W.WriteLog.trace h.promise.trace.now ≡ (g.W.WriteLog.trace c.args.round.now.trace.now)) × (h.promise.table.now ≡ c.args.round.now.table.now) × (h.promise.skip ≡ c.args.round.now.skip) × (h.promise.number ≡ i) × (h.promise.streams ≡ c.args.round.now.streams) × (h.promise.outs.value.items ≡ slice_index_or (rows_of c.args.desks.items) i [])) hs) (sym items)
-          (each_push (λ h i. (g.W.WriteLog.trace h.promise.trace.now ≡ (g.W.WriteLog.trace c.args.round.now.trace.now)) × (h.promise.table.now ≡ c.args.round.now.table.now) × (h.promise.skip ≡ c.args.round.now.skip) × (h.promise.number ≡ i) × (h.promise.streams ≡ c.args.round.now.streams) × (h.promise.outs.value.items ≡ slice_index_or (rows_of c.args.desks.items) i [])) before handle c.loop-seat.invariant.started (c.in_ok-handle.ensures.0, c.in_ok-handle.ensures.1, c.in_ok-handle.ensures.2, number, c.in_ok-handle.ensures.4, c.in_ok-handle.ensures.5 ∙ outs));
+      started = subst (λ hs. EachAt (λ h i. h.promise ≡ copy_task (g.W.WriteLog.trace c.args.round.now.trace.now) c.args.round.now.skip c.args.round.now.table.now c.args.round.now.streams i (slice_index_or (rows_of c.args.desks.items) i [])) hs) (sym items)
+          (each_push (λ h i. h.promise ≡ copy_task (g.W.WriteLog.trace c.args.round.now.trace.now) c.args.round.now.skip c.args.round.now.table.now c.args.round.now.streams i (slice_index_or (rows_of c.args.desks.items) i [])) before handle c.loop-seat.invariant.started (c.in_ok-handle.ensures.promised ∙ (λ i. copy_task (g.W.WriteLog.trace c.args.round.now.trace.now) c.args.round.now.skip c.args.round.now.table.now c.args.round.now.streams (number i) (outs i))));
     }

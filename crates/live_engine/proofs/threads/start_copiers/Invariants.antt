@@ -3,7 +3,7 @@ use Rattle.std.specs.List.{All}
 use Rattle.std.specs.Vec.Iter.{into_iter_items}
 use Rattle.live_seats.specs.Desks.{DeskView, IsDesk}
 use Rattle.live_engine.specs.Lists.{rows_of}
-use Rattle.live_engine.specs.Seated.{EachAt}
+use Rattle.live_engine.specs.Seated.{EachAt, copy_task}
 use Rattle.live_engine.proofs.threads.start_copiers.Given as goal
 
 abbrev pub invariant-loop-seat : goal.invariant-loop-seat
@@ -15,5 +15,5 @@ invariant-loop-seat g l = record {
   count_left : length l.desks.items ≡ length (into_iter_items l.seat-iterator);
   passed : (front : List DeskView) × (length front ≡ length l.yielded) × (front ++ l.desks.items ≡ l.fn.desks.items);
   desks : All (IsDesk (g.W.WriteLog.trace l.round.trace.now) l.round.streams) l.desks.items;
-  started : EachAt (λ h i. (g.W.WriteLog.trace h.promise.trace.now ≡ (g.W.WriteLog.trace l.round.trace.now)) × (h.promise.table.now ≡ l.round.table.now) × (h.promise.skip ≡ l.round.skip) × (h.promise.number ≡ i) × (h.promise.streams ≡ l.round.streams) × (h.promise.outs.value.items ≡ slice_index_or (rows_of l.fn.desks.items) i [])) l.handles.items;
+  started : EachAt (λ h i. h.promise ≡ copy_task (g.W.WriteLog.trace l.round.trace.now) l.round.skip l.round.table.now l.round.streams i (slice_index_or (rows_of l.fn.desks.items) i [])) l.handles.items;
 }

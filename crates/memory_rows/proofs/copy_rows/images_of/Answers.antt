@@ -1,5 +1,5 @@
 use Rattle.std.proofs.Common.{◌≡◌, subst, sym, ap, ◌∙◌, arith}
-use Rattle.dirty_core.specs.Pages.{in_words}
+use Rattle.page_bitmap.specs.Pages.{in_words}
 use Rattle.dirty_words.specs.Seats.{ClosedView}
 use Rattle.migration_model.specs.Final.{shape_of_trace}
 use Rattle.migration_model.specs.Frames.{GuestShape, shape_with}

@@ -16,7 +16,7 @@ loop-stream-init c =
       adds = adds-none c.args.columns.now.items;
     }
 
--- the place of the next end
+-- the slot of the next end
 place : (front : List (ℕ × OutView)) (next : OutView) (old rest row : List OutView) (n stream : ℕ) → old ≡ next ∷ rest
     → map (λ (p : ℕ × OutView). p.1) front ++ old ≡ row → n ≡ length front → stream ≡ n → (stream ≡ length (map (λ (p : ℕ × OutView). p.1) front)) × (stream < length row)
 place front next old rest row n stream steps all count is =

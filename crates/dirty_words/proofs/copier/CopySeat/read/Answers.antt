@@ -1,8 +1,8 @@
 use Rattle.std.proofs.Common.{◌≡◌, ℕ, ◌+◌, ◌-◌, ◌*◌, ◌/◌, ◌%◌, ◌^◌, ◌<◌, length, get_or, set, bit_and, refl, sym, ap, subst, ◌∙◌, arith}
 use Rattle.std.specs.Prelude.{IsTrue}
-use Rattle.dirty_core.specs.Pages.{in_words}
+use Rattle.page_bitmap.specs.Pages.{in_words}
 use Rattle.dirty_words.specs.Facts.{CopyFacts, CopyFits, after_read}
-use Rattle.dirty_core.proofs.Bits.{shifted_page_bit}
+use Rattle.page_bitmap.proofs.Bits.{shifted_page_bit}
 use Rattle.dirty_words.specs.Plays.{lone_copier, copier_in}
 use Rattle.dirty_words.specs.Invariants.{copy_facts}
 use Rattle.dirty_words.proofs.Steps.{word_low}

@@ -1,7 +1,7 @@
 use Rattle.std.proofs.Common.{◌≡◌, ◌*◌, ◌%◌, ◌^◌, Bool, not, ◌&&◌, ◌||◌, subst, sym, ap, ◌∙◌, true}
 use Rattle.std.proofs.lemmas.Bool.{eqb-true}
-use Rattle.dirty_core.specs.Pages.{in_words}
-use Rattle.dirty_core.proofs.Bits.{one_bit}
+use Rattle.page_bitmap.specs.Pages.{in_words}
+use Rattle.page_bitmap.proofs.Bits.{one_bit}
 use Rattle.live_seats.proofs.copier.Round.restore.Goals as goal
 
 pub restore-requires-clause-held : goal.restore-requires-clause-held

@@ -5,8 +5,8 @@ use Rattle.migration_model.proofs.Pages.{length-page_at}
 use Rattle.page_cache.specs.Cache.{KeptPage}
 use Rattle.live_seats.proofs.copier.Round.spell.Goals as goal
 
-pub spell_frame-requires-clause-whole : goal.spell_frame-requires-clause-whole
-spell_frame-requires-clause-whole g c =
+pub append_frame-requires-clause-whole : goal.append_frame-requires-clause-whole
+append_frame-requires-clause-whole g c =
     let trace = (g.W.WriteLog.trace c.args.self.now.trace.now) in
     let stamp = c.min-stamp.result in
     let bytes = ap (λ (o : Option (List ℕ)). unwrap_or o []) (c.in-Some.ensures ∙ ap (option_map (λ (k : KeptPage). k.bytes)) c.in_ok-keep.ensures.last) in

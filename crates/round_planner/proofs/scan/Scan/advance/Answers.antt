@@ -1,6 +1,6 @@
 use Rattle.std.proofs.Common.{◌≡◌, ◌≤◌, ℕ, List, subst, sym, arith, length}
 use Rattle.round_planner.specs.Scanning.{IsScan}
-use Rattle.round_planner.proofs.Scans.{whole_again}
+use Rattle.page_bitmap.proofs.Bits.{whole_again}
 use Rattle.round_planner.proofs.scan.Scan.advance.Goals as goal
 
 pub returns-clause-walked : goal.returns-clause-walked

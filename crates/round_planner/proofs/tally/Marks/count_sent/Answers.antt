@@ -3,7 +3,7 @@ use Rattle.std.proofs.lemmas.Bool.{le-leb, lt-leb, and_right, and_from}
 use Rattle.migration_model.specs.Rounds.{IsSent}
 use Rattle.round_planner.specs.Indexing.{HasSent}
 use Rattle.round_planner.specs.Scanning.{IsPageList}
-use Rattle.round_planner.proofs.PageLists.{few_pages}
+use Rattle.page_bitmap.proofs.Listed.{few_pages}
 use Rattle.round_planner.proofs.Skims.{all_is_sent}
 use Rattle.round_planner.proofs.tally.Marks.count_sent.Goals as goal
 

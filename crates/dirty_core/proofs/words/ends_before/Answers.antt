@@ -1,7 +1,0 @@
-use Rattle.std.proofs.Common.{arith, length, ◌-◌}
-use Rattle.dirty_core.proofs.Bits.{ends}
-use Rattle.dirty_core.proofs.words.ends_before.Goals as goal
-
-pub returns-else-used-eq0 : goal.returns-else-used-eq0
-returns-else-used-eq0 c = ends c.args.words.now c.args.pages c.requires.some c.requires.words c.if-used-eq0.false
-    (omega (arith, c.type_inv.words (length c.args.words.now - 1)))

@@ -1,9 +1,0 @@
-use Rattle.std.proofs.Common.{ap, ◌∙◌}
-use Rattle.std.specs.Prelude.{◌&&◌, not}
-use Rattle.dirty_core.specs.Pages.{in_words}
-use Rattle.dirty_core.proofs.Bits.{one_bit}
-use Rattle.dirty_core.proofs.words.remove_page.Goals as goal
-
-pub returns-clause-pages : goal.returns-clause-pages
-returns-clause-pages c page =
-    c.remove_bits.ensures.pages page ∙ ap (λ b. in_words c.args.words.now.items page && not b) (one_bit c.args.page page)

@@ -1,0 +1,28 @@
+//! Waiting for threads of which each owes what its promise says.
+#![tactic(auto)]
+
+ghost use Rattle.std.specs.Prelude.{◌≡◌, IfOk, length};
+ghost use Rattle.std.specs.PromisedHandle.{KeepsEach};
+
+use std::alloc::AllocError;
+use std::thread::{Promise, PromisedHandle, Threads, join_promised};
+
+/// Waits until all these threads have ended, and returns what they made, in order. Where memory runs out they are waited
+/// for as well, and what they made goes.
+pub fn join_all<R: Threads, T: Drop, P: Promise<T>>(
+    rt: &R,
+    handles: Vec<PromisedHandle<T, P>>,
+) -> Result<Vec<T>, AllocError>
+    ensures count { IfOk result (λ made. length made.items ≡ length handles.items) }
+    ensures each { IfOk result (λ made. KeepsEach P.Promise (length handles.items) handles.items made.items) }
+{
+    match join_promised(rt, handles) {
+        Ok(made) => Ok(made),
+        Err(refused) => {
+            for handle in refused.value {
+                drop(handle.join(rt));
+            }
+            Err(AllocError)
+        }
+    }
+}

@@ -1,9 +1,0 @@
-use Rattle.std.proofs.Common.{◌≡◌, ◌+◌, ◌++◌, length, map}
-use Rattle.live_engine.specs.Lists.{rows_of}
-use Rattle.live_engine.proofs.arriving.take_lanes.Given as goal
-
-abbrev pub invariant-loop : goal.invariant-loop
-invariant-loop l = record {
-  count : length l.desks.items + l.counter ≡ length l.fn.desks.items;
-  rows : map (λ row. row.items) l.rows.items ++ rows_of l.desks.items ≡ rows_of l.fn.desks.items;
-}

@@ -1,0 +1,131 @@
+//! The program over words, a source and two sinks.
+
+ghost use Rattle.std.specs.Prelude.{◌≡◌, ◌≤◌, ◌⊎◌, List, ℕ, false, true};
+ghost use Rattle.std.specs.Io.KnownBytes.{Appends};
+ghost use Rattle.migration_jobs.specs.Output.{IsOutput};
+
+use arrayvec::ArrayString;
+use job_words::{WordsError, WordsRefusal, job_of};
+use live_engine::OpenGate;
+use migration_jobs::{Job, RunError, Sink, run, write_out};
+use std::alloc::Global;
+use std::fmt::Write;
+use std::sync::Wait;
+use std::thread::Threads;
+use trace_codec::Source;
+
+/// Writes a text of faults. Where that fails nobody can be told.
+fn show<E: Sink>(faults: &mut E, text: &str)
+    requires { E.has_failed faults.old ≡ false }
+{
+    let _ = write_out(faults, text.as_bytes());
+}
+
+/// Writes the fault line of an error, and returns the error's status, 1. It allocates nothing.
+fn fault<E: Sink>(faults: &mut E, error: &RunError) -> u8
+    requires { E.has_failed faults.old ≡ false }
+    ensures { result ≡ 1 }
+{
+    let mut line = ArrayString::<64>::new();
+    let _ = write!(line, "precopy: {error}\n");
+    show(faults, line.as_str());
+    1
+}
+
+/// Runs a job, and returns the program's status.
+fn run_job<R: Threads + Wait + Sync, S: Source, K: Sink, E: Sink>(
+    rt: &R,
+    alloc: Global,
+    job: &Job,
+    source: &mut S,
+    sink: &mut K,
+    faults: &mut E,
+) -> u8
+    requires unread { S.has_failed source.old ≡ false }
+    requires unwritten { K.has_failed sink.old ≡ false }
+    requires untold { E.has_failed faults.old ≡ false }
+    ensures status { result ≤ 1 }
+    ensures flushed { result ≡ 0 → K.is_flushed sink.new ≡ true }
+    ensures written { result ≡ 0 → (output : List ℕ) × IsOutput (S.remaining source.old) job.now output
+        × Appends (K.contents sink.old) (K.contents sink.new) output }
+{
+    match run(rt, alloc, job, source, sink, &OpenGate) {
+        Ok(()) => 0,
+        Err(error) => fault(faults, &error),
+    }
+}
+
+/// Writes the text of a request for help, and returns the program's status.
+fn run_help<K: Sink, E: Sink>(text: &str, sink: &mut K, faults: &mut E) -> u8
+    requires unwritten { K.has_failed sink.old ≡ false }
+    requires untold { E.has_failed faults.old ≡ false }
+    ensures status { result ≤ 1 }
+    ensures flushed { result ≡ 0 → K.is_flushed sink.new ≡ true }
+{
+    match write_out(sink, text.as_bytes()) {
+        Ok(()) => 0,
+        Err(error) => fault(faults, &error),
+    }
+}
+
+/// Writes the line of refused words, and returns the program's status, 2. It allocates nothing.
+fn refuse_line<E: Sink>(refusal: &WordsRefusal, faults: &mut E) -> u8
+    requires { E.has_failed faults.old ≡ false }
+    ensures { result ≡ 2 }
+{
+    let mut line = ArrayString::<64>::new();
+    let _ = write!(line, "precopy: {refusal}\n");
+    show(faults, line.as_str());
+    2
+}
+
+/// Writes why words make no job, and returns the program's status.
+pub fn refuse<K: Sink, E: Sink>(error: WordsError, sink: &mut K, faults: &mut E) -> u8
+    requires unwritten { K.has_failed sink.old ≡ false }
+    requires untold { E.has_failed faults.old ≡ false }
+    ensures status { result ≤ 2 }
+    ensures flushed { result ≡ 0 → K.is_flushed sink.new ≡ true }
+    ensures refused { result ≡ 2 → sink.new ≡ sink.old }
+{
+    match error {
+        WordsError::Help(text) => run_help(text.as_str(), sink, faults),
+        WordsError::Memory => fault(faults, &RunError::Memory),
+        WordsError::Usage(text) => {
+            show(faults, text.as_str());
+            2
+        }
+        WordsError::Refused(refusal) => refuse_line(&refusal, faults),
+    }
+}
+
+/// Runs the program: `words` are its name and its arguments, and the trace comes from `source`. The output and a
+/// request for help go to `sink`, and the line of a fault or the text of a refused command line to `faults`.
+///
+/// Returns the program's status: 0 is success, 1 a run that failed, 2 a refused command line. A failure of `faults` is
+/// passed over.
+pub fn start<R: Threads + Wait + Sync, S: Source, K: Sink, E: Sink>(
+    rt: &R,
+    alloc: Global,
+    words: Vec<String>,
+    source: &mut S,
+    sink: &mut K,
+    faults: &mut E,
+) -> u8
+    requires unread { S.has_failed source.old ≡ false }
+    requires unwritten { K.has_failed sink.old ≡ false }
+    requires untold { E.has_failed faults.old ≡ false }
+    ensures status { result ≤ 2 }
+    // Nothing that was written is kept back.
+    ensures flushed { result ≡ 0 → K.is_flushed sink.new ≡ true }
+    // What was written is the output of a job over what was read; or else, as after a request for help, nothing was
+    // read.
+    ensures written { result ≡ 0 → ((job : Job) × (output : List ℕ) × IsOutput (S.remaining source.old) job output
+        × Appends (K.contents sink.old) (K.contents sink.new) output) ⊎ (source.new ≡ source.old) }
+    // Words are refused before any byte of the trace is read, and nothing is written then.
+    ensures refused { result ≡ 2 → (source.new ≡ source.old) × (sink.new ≡ sink.old) }
+{
+    match job_of(alloc, &words) {
+        Ok(job) => run_job(rt, alloc, &job, source, sink, faults),
+        Err(error) => refuse(error, sink, faults),
+    }
+}

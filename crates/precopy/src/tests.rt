@@ -1,0 +1,130 @@
+//! Worked examples of the command line: what is written, what is told, and the status.
+
+ghost use Rattle.std.specs.Prelude.{◌≡◌, false};
+
+use crate::starting::start;
+use migration_jobs::TestSink;
+use std::alloc::{AllocError, Global};
+use std::sync::Wait;
+use std::test::Fail;
+use std::thread::Threads;
+use trace_codec::TestSource;
+
+/// Pages of 16 bytes, 4 pages, 5 writes: of pages 0 and 1 at ticks 0 and 5, of page 1 at tick 1200, of pages 3 and 1 at
+/// tick 2500.
+pub(crate) static TRACE: [u8; 102] = [
+    0x50, 0x43, 0x57, 0x54, 1, 4, 0, 0, 4, 0, 0, 0, 5, 0, 0, 0, //
+    0, 0, 0, 0, 0, 0, 0, 0, 0, 0, 0, 0, 0, 0, 1, 0, 1, //
+    5, 0, 0, 0, 0, 0, 0, 0, 1, 0, 0, 0, 15, 0, 1, 0, 2, //
+    0xb0, 4, 0, 0, 0, 0, 0, 0, 1, 0, 0, 0, 0, 0, 1, 0, 3, //
+    0xc4, 9, 0, 0, 0, 0, 0, 0, 3, 0, 0, 0, 2, 0, 2, 0, 4, 5, //
+    0xc4, 9, 0, 0, 0, 0, 0, 0, 1, 0, 0, 0, 0, 0, 1, 0, 0,
+];
+
+/// Its memory after all writes.
+pub(crate) static MEMORY: [u8; 64] = [
+    1, 0, 0, 0, 0, 0, 0, 0, 0, 0, 0, 0, 0, 0, 0, 0, //
+    0, 0, 0, 0, 0, 0, 0, 0, 0, 0, 0, 0, 0, 0, 0, 2, //
+    0, 0, 0, 0, 0, 0, 0, 0, 0, 0, 0, 0, 0, 0, 0, 0, //
+    0, 0, 4, 5, 0, 0, 0, 0, 0, 0, 0, 0, 0, 0, 0, 0,
+];
+
+/// Its memory before tick 2000.
+pub(crate) static MEMORY_AT_2000: [u8; 64] = [
+    1, 0, 0, 0, 0, 0, 0, 0, 0, 0, 0, 0, 0, 0, 0, 0, //
+    3, 0, 0, 0, 0, 0, 0, 0, 0, 0, 0, 0, 0, 0, 0, 2, //
+    0, 0, 0, 0, 0, 0, 0, 0, 0, 0, 0, 0, 0, 0, 0, 0, //
+    0, 0, 0, 0, 0, 0, 0, 0, 0, 0, 0, 0, 0, 0, 0, 0,
+];
+
+/// The first `len` bytes of the trace with `patch` over those from `place` on, and `more` behind them.
+pub(crate) fn changed(
+    alloc: Global,
+    len: usize,
+    place: usize,
+    patch: &[u8],
+    more: &[u8],
+) -> Result<Vec<u8>, AllocError> {
+    let mut bytes = Vec::new(alloc);
+    for (i, byte) in TRACE.iter().enumerate() {
+        if i >= len {
+            break;
+        }
+        let byte = if place <= i && i - place < patch.len() {
+            patch[i - place]
+        } else {
+            *byte
+        };
+        bytes.push(byte)?;
+    }
+    bytes.extend_from_slice(more)?;
+    Ok(bytes)
+}
+
+fn words(alloc: Global, command: &str) -> Result<Vec<String>, AllocError> {
+    let mut words = Vec::new(alloc);
+    words.push("precopy".to_string(alloc)?)?;
+    words.push(command.to_string(alloc)?)?;
+    Ok(words)
+}
+
+pub(crate) fn sink(alloc: Global) -> TestSink
+    ensures { result.has_failed ≡ false }
+{
+    TestSink::new(Vec::new(alloc), usize::MAX, None, false)
+}
+
+/// The whole trace.
+pub(crate) fn whole(alloc: Global) -> Result<Vec<u8>, AllocError> {
+    Vec::from_slice(alloc, &TRACE)
+}
+
+/// What a command with these words does over some bytes: its status, its output and its faults.
+pub(crate) fn told<R: Threads + Wait + Sync>(
+    rt: &R,
+    alloc: Global,
+    command: &str,
+    bytes: Vec<u8>,
+    more: &[&str],
+) -> Result<(u8, TestSink, TestSink), AllocError> {
+    let mut words = words(alloc, command)?;
+    for word in more {
+        words.push(word.to_string(alloc)?)?;
+    }
+    let mut source = TestSource::new(bytes, 102, None);
+    let mut output = sink(alloc);
+    let mut faults = sink(alloc);
+    let status = start(rt, alloc, words, &mut source, &mut output, &mut faults);
+    Ok((status, output, faults))
+}
+
+#[test]
+fn says_why_it_ends(rt: HostRuntime) -> Result<(), Fail> {
+    let alloc = rt.alloc();
+    let cases: [(&str, usize, &[u8], u8, &str); 4] = [
+        ("image", 102, &[], 0, ""),
+        ("image", 102, &[0], 1, "precopy: trace E14\n"),
+        ("image", 101, &[], 1, "precopy: trace E8 record 4\n"),
+        ("--help", 102, &[], 0, ""),
+    ];
+    for (command, len, more, expected, line) in cases {
+        let bytes = changed(alloc, len, 0, &[], more)?;
+        let (status, output, faults) = told(&rt, alloc, command, bytes, &[])?;
+        let is_written = !output.bytes().is_empty();
+        let is_told = faults.bytes() == line.as_bytes();
+        assert_eq!(rt;
+            (status, is_written, is_told),
+            (expected, expected == 0, true),
+            "{command}"
+        );
+    }
+    Ok(())
+}
+
+#[test]
+fn unknown_words_are_told(rt: HostRuntime) -> Result<(), Fail> {
+    let alloc = rt.alloc();
+    let (status, output, faults) = told(&rt, alloc, "memory", whole(alloc)?, &[])?;
+    assert!(rt; status == 2 && output.bytes().is_empty() && !faults.bytes().is_empty());
+    Ok(())
+}

@@ -1,0 +1,115 @@
+//! What a part takes.
+
+ghost use Rattle.std.specs.Prelude.{◌≡◌, IfOk};
+ghost use Rattle.migration_model.specs.Frames.{IsFrame};
+ghost use Rattle.page_message.specs.Shapes.{shape_of};
+
+use crate::fixtures::{FOURTH, SECOND, THIRD, ZEROS, frame_at, part_of, show_part};
+use anyhow::Result;
+use collector::{Fate, Part, PartError, merge};
+use page_message::Frame;
+use std::alloc::Global;
+use std::io;
+use trace_codec::Shape;
+
+fn shape() -> Shape {
+    Shape {
+        shift: 4,
+        pages: 4,
+        writes: 5,
+    }
+}
+
+/// So many pages that the table of a part grows in several steps before it has a place for the last one.
+fn wide() -> Shape {
+    Shape {
+        shift: 4,
+        pages: 65,
+        writes: 5,
+    }
+}
+
+/// What a part returns for a frame.
+fn accepted(part: &mut Part, frame: Frame) -> Result<Fate, PartError>
+    requires { IsFrame part.old.shape frame }
+    ensures { part.new.shape ≡ part.old.shape }
+{
+    part.accept(frame)
+}
+
+/// A part has two pages. It gets a third one far behind them, and then an older frame of the first, for which it needs
+/// no memory.
+pub(crate) fn drive_accept(rt: &impl Print, alloc: Global) -> Result<()> {
+    let shape = wide();
+    let mut part = part_of(alloc, &shape, &[(1, 2, SECOND), (2, 0, ZEROS)])?;
+    let new = frame_at(alloc, &shape, 64, 4, &FOURTH)?;
+    let old = frame_at(alloc, &shape, 1, 1, &THIRD)?;
+    let second_new = frame_at(alloc, &shape, 64, 4, &FOURTH)?;
+    println!(rt; "ready")?;
+    let fate_of_new = accepted(&mut part, new);
+    let fate_of_old = accepted(&mut part, old);
+    println!(rt; "accept {fate_of_new:?}, of an older frame {fate_of_old:?}")?;
+    show_part(rt, &part)?;
+    let again = accepted(&mut part, second_new);
+    println!(rt; "again {again:?}")?;
+    Ok(show_part(rt, &part)?)
+}
+
+/// Frames of pages 2, 3, 1, 1, 1 and 0: the first of page 1 has zeros, so that the second needs room for its bytes, and
+/// the third stands in that room.
+static STREAM: [u8; 118] = [
+    2, 0, 0, 0, 0, 0, 0, 0, 0, //
+    3, 0, 0, 0, 4, 0, 0, 0, 1, 0, 0, 4, 5, 0, 0, 0, 0, 0, 0, 0, 0, 0, 0, 0, 0, //
+    1, 0, 0, 0, 0, 0, 0, 0, 0, //
+    1, 0, 0, 0, 2, 0, 0, 0, 1, 0, 0, 0, 0, 0, 0, 0, 0, 0, 0, 0, 0, 0, 0, 0, 2, //
+    1, 0, 0, 0, 3, 0, 0, 0, 1, 3, 0, 0, 0, 0, 0, 0, 0, 0, 0, 0, 0, 0, 0, 0, 2, //
+    0, 0, 0, 0, 1, 0, 0, 0, 1, 1, 0, 0, 0, 0, 0, 0, 0, 0, 0, 0, 0, 0, 0, 0, 0,
+];
+
+/// An empty part gets six frames in one stream.
+pub(crate) fn drive_accept_bytes(rt: &impl Print, alloc: Global) -> Result<()> {
+    let mut part = Part::new(alloc, shape());
+    println!(rt; "ready")?;
+    let taken = part.accept_bytes(&STREAM);
+    println!(rt; "accept_bytes {taken:?}")?;
+    show_part(rt, &part)?;
+    let again = part.accept_bytes(&STREAM);
+    println!(rt; "again {again:?}")?;
+    Ok(show_part(rt, &part)?)
+}
+
+/// Two parts that agree: one has pages 1 and 2, the other pages 1, 2 and 64.
+fn two_parts(alloc: Global, shape: &Shape) -> Result<(Part, Part)>
+    ensures { IfOk result (λ parts. (parts.0.shape ≡ shape_of shape.now) × (parts.1.shape ≡ shape_of shape.now)) }
+{
+    let first = part_of(alloc, shape, &[(1, 3, THIRD), (2, 0, ZEROS)])?;
+    let second = part_of(
+        alloc,
+        shape,
+        &[(1, 2, SECOND), (2, 0, ZEROS), (64, 4, FOURTH)],
+    )?;
+    Ok((first, second))
+}
+
+fn show_merged(rt: &impl Print, merged: Result<Part, PartError>) -> io::Result<()> {
+    match merged {
+        Ok(part) => {
+            println!(rt; "merged")?;
+            show_part(rt, &part)
+        }
+        Err(error) => println!(rt; "merge {error:?}"),
+    }
+}
+
+/// Two parts are merged, and the table of the first has to grow.
+pub(crate) fn drive_merge(rt: &impl Print, alloc: Global) -> Result<()> {
+    let shape = wide();
+    let (first, second) = two_parts(alloc, &shape)?;
+    println!(rt; "ready")?;
+    let merged = merge(first, second);
+    show_merged(rt, merged)?;
+    let (first, second) = two_parts(alloc, &shape)?;
+    let merged = merge(first, second);
+    println!(rt; "again")?;
+    Ok(show_merged(rt, merged)?)
+}

@@ -1,0 +1,15 @@
+//! Traces read from a source piece by piece, or held as their bytes: what reports, sweeps and live runs read.
+//!
+//! [`TouchLog`] keeps when each write was and to which page, and nothing of what is written; tables, plans and sweeps
+//! need it alone. [`HeldTrace`] keeps the bytes of the trace and the offset of each record; a live run needs it.
+#![tactic(auto)]
+
+mod front_records;
+mod held_trace;
+mod log_reader;
+mod pieces;
+mod text_reading;
+mod touch_log;
+
+pub use held_trace::HeldTrace;
+pub use touch_log::TouchLog;

@@ -1,0 +1,126 @@
+//! A trace without the bytes of its writes.
+
+ghost use Rattle.std.specs.Prelude.{◌≡◌, ◌↔◌, [], ℕ, List, Err, IfErr, IfOk, MatchResult, Some, false, length, nat_lt, true};
+ghost use Rattle.migration_model.specs.Trace.{GuestTrace, Spells};
+ghost use Rattle.migration_model.specs.Touches.{AreTouches, GuestTouches, touches_in, touches_with};
+ghost use Rattle.trace_readers.specs.Pieces.{IsLogOf};
+ghost use Rattle.trace_codec.specs.Refusals.{RefusesUnlessMemory};
+ghost use Rattle.trace_codec.specs.Source.{IsOutside, SourceRefuses};
+
+use crate::log_reader::log_of_source;
+use std::alloc::Global;
+use std::marker::Model;
+use trace_codec::{Shape, Source, Timeline, Touch, TraceError, TraceReader};
+
+/// How many bytes the shortest record has: its 16 bytes of numbers, and one byte that is written.
+pub(crate) const SHORTEST_RECORD: usize = 17;
+
+/// When each write of a trace was, and to which page: 16 bytes a write, however long the writes are.
+#[derive(Debug, Drop)]
+pub struct TouchLog {
+    pub(crate) shape: Shape,
+    pub(crate) touches: Vec<Touch>,
+}
+
+impl Model for TouchLog {
+    ghost Value = { GuestTouches };
+
+    ghost view = { λ l. touches_with l.shape.shift l.shape.pages l.touches.items };
+
+    ghost invariant = { λ l. (length l.touches.items ≡ l.shape.writes) × AreTouches l.shape.pages l.touches.items };
+}
+
+/// Returns the log of the writes that a reader has in front of it, with slots reserved for `room` of them.
+fn log_of_reader(
+    alloc: Global,
+    reader: TraceReader<'_>,
+    room: usize,
+) -> Result<TouchLog, TraceError>
+    requires { reader.writes ≡ [] }
+    ensures made { IfOk result (λ log. (trace : GuestTrace) × Spells reader.entry.bytes trace × (log ≡ touches_in trace)) }
+    ensures refused { IfErr result (RefusesUnlessMemory reader.entry.bytes) }
+{
+    let mut reader = reader;
+    let shape = reader.shape();
+    let mut touches = Vec::with_capacity(alloc, room)?;
+    for _ in 0..shape.writes {
+        let write = reader.read_record()?;
+        touches.push(Touch {
+            tick: write.tick,
+            page: write.page,
+        })?;
+    }
+    reader.finish()?;
+    Ok(TouchLog { shape, touches })
+}
+
+/// Returns the log of the trace that the bytes encode.
+fn log_of_bytes(alloc: Global, bytes: &[u8]) -> Result<TouchLog, TraceError>
+    ensures made { IfOk result (λ log. (trace : GuestTrace) × Spells bytes.now trace × (log ≡ touches_in trace)) }
+    ensures refused { IfErr result (RefusesUnlessMemory bytes.now) }
+{
+    let reader = TraceReader::new(bytes)?;
+    let claimed = reader.shape().writes as usize;
+    log_of_reader(alloc, reader, claimed.min(bytes.len() / SHORTEST_RECORD))
+}
+
+impl TouchLog {
+    /// Reads the touches of a trace from its bytes, in one pass over the records. It never returns `E17`. It allocates
+    /// no more than the bytes' length, whatever the header claims.
+    pub fn parse(alloc: Global, bytes: &[u8]) -> Result<TouchLog, TraceError>
+        ensures made { IfOk result (λ log. (trace : GuestTrace) × Spells bytes.now trace × (log ≡ touches_in trace)) }
+        ensures refused { IfErr result (RefusesUnlessMemory bytes.now) }
+        ensures only { (trace : GuestTrace) → Spells bytes.now trace → IfErr result (λ e. e ≡ TraceError.Memory) }
+    {
+        log_of_bytes(alloc, bytes)
+    }
+
+    /// Reads the touches of the trace that a source holds, piece by piece in one buffer of 256 KiB; it never holds the
+    /// bytes whole. It reads the source to its end, or past the longest trace and no further, also where it found a
+    /// refusal before. Any failed read is `E17`, whatever came before it.
+    pub fn read<S: Source>(alloc: Global, source: &mut S) -> Result<TouchLog, TraceError>
+        requires { S.has_failed source.old ≡ false }
+        ensures found { IfOk result (IsLogOf (S.remaining source.old)) }
+        ensures refused { IfErr result (SourceRefuses (S.remaining source.old)) }
+        ensures only { (bytes : List ℕ) (trace : GuestTrace) → S.remaining source.old ≡ Some bytes → Spells bytes trace
+            → MatchResult result (λ log. log ≡ touches_in trace) IsOutside }
+        ensures failed { (result ≡ Err TraceError.ReadFault) ↔ (S.has_failed source.new ≡ true) }
+    {
+        log_of_source(alloc, source)
+    }
+
+    /// Returns the sizes of the trace.
+    pub fn shape(&self) -> Shape
+        ensures shift { result.shift ≡ self.now.shift }
+        ensures pages { result.pages ≡ self.now.pages }
+        ensures writes { result.writes ≡ length self.now.touches }
+    {
+        self.shape
+    }
+}
+
+impl Timeline for TouchLog {
+    ghost touches = { λ l. l.touches };
+
+    ghost pages = { λ l. l.pages };
+
+    fn page_count(&self) -> u32 {
+        self.shape.pages
+    }
+
+    fn touch_count(&self) -> usize {
+        self.touches.len()
+    }
+
+    fn touch(&self, index: usize) -> Touch {
+        self.touches[index]
+    }
+
+    fn before(&self, tick: u64) -> usize {
+        self.touches.as_slice().partition_point(
+            |touch: &Touch| -> bool
+                ensures { result ≡ nat_lt touch.now.tick tick }
+            { touch.tick < tick },
+        )
+    }
+}
