@@ -95,6 +95,22 @@ class Tables:
             ratios = ["Precopy / fast", "Beside one case", "Plain / precopy"]
             table(["Trace", "Cases", "Workers", *times, *ratios, *(f"{it}, MB" for it in TITLES.values())], rows)
 
+    def of_released(self, traces, jobs):
+        """One row for each command and program: a trace with releases beside the same trace without them."""
+        rows = []
+        for job in jobs:
+            for program in job.programs:
+                least = [self.least(trace, job.name, program) for trace in traces]
+                if any(math.isnan(it) for it in least):
+                    continue
+                shown = [self.time(trace, job.name, program) for trace in traces]
+                rows.append([job.name, TITLES[program], *shown, f"{least[0] / least[1]:.2f}"])
+        if rows:
+            print("### Released pages\n")
+            print("Half of the writes are releases; in the other trace a write of one byte stands for each.\n")
+            names = [it.capitalize() for it in traces]
+            table(["Command", "Program", *(f"{it}, ms" for it in names), " / ".join(names)], rows)
+
     def of_growth(self, title, series, jobs, unit):
         """`series` is a list of traces and counts. One row for each command and program."""
         rows = []

@@ -4,8 +4,8 @@ and not from the program; but for help, which is what the program writes where n
 import struct
 
 
-def header(pages, writes):
-    return b"PCWT" + bytes([1, 4, 0, 0]) + struct.pack("<II", pages, writes)
+def header(pages, writes, shift=4):
+    return b"PCWT" + bytes([1, shift, 0, 0]) + struct.pack("<II", pages, writes)
 
 
 def record(tick, page, offset, data):
@@ -70,6 +70,18 @@ case 7 min 2 max 4 inc 2 threshold 1 limit 8 skip 0 rounds 2 stop few at 2334 do
 best 0
 """
 
+# 8,193 pages of 4,096 bytes: one page more than memory that `image` makes whole.
+LARGE_PAGES = 8193
+LARGE = header(LARGE_PAGES, 3, shift=12) + b"".join(
+    [
+        record(0, 0, 0, b"\x01"),
+        record(4, 5000, 16, b"\x02\x03"),
+        record(9, 8192, 4095, b"\x04"),
+    ]
+)
+LARGE_MEMORY = b"\x01" + bytes(20480015) + b"\x02\x03" + bytes(13078509) + b"\x04"
+assert len(LARGE_MEMORY) == LARGE_PAGES * 4096
+
 PLAN = "--min 2 --max 4 --inc 1 --threshold 1 --rounds 8".split()
 TABLES = "--window 1000 --hot 2".split()
 THREADS = "--workers 2 --streams 2 --replayers 2".split()
@@ -109,6 +121,7 @@ class Misuse(Job):
 
 
 IMAGE = Job("image", ["image"], A_IMAGE)
+LARGE_IMAGE = Job("image, 8,193 pages", ["image"], LARGE_MEMORY, "large", savers=1)
 REPORT = Job("report", ["report", *PLAN, *TABLES], A_REPORT)
 SWEEP = Job("sweep", ["sweep", *CASES], A_SWEEP)
 LIVE = Job("live", ["live", *PLAN, *THREADS], A_IMAGE, is_live=True)

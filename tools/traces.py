@@ -1,4 +1,7 @@
-"""Traces of version 1, as docs/FORMATS.md defines them: their limits, reading with all refusals, and writing."""
+"""Traces, as docs/FORMATS.md defines them: their limits, reading with all refusals, and writing.
+
+A write with no bytes releases its page: the whole page becomes zeros. Only traces of version 2 have such writes.
+"""
 
 import errno
 import os
@@ -8,7 +11,8 @@ import sys
 import tempfile
 from typing import NamedTuple
 
-MAGIC = b"PCWT\x01"
+MAGIC = b"PCWT"
+PLAIN, WITH_RELEASES = 1, 2
 HEADER = 16
 RECORD = struct.Struct("<QIHH")
 TICKS = 1 << 40
@@ -41,6 +45,7 @@ def told(fault):
 class Trace(NamedTuple):
     """What a header says, and the bytes that it stands in."""
 
+    version: int
     shift: int
     pages: int
     writes: int
@@ -51,7 +56,10 @@ class Trace(NamedTuple):
         return 1 << self.shift
 
     def records(self):
-        """Yields tick, page, offset and data of each write, or raises the first cause of a refusal."""
+        """Yields tick, page, offset and data of each write, or raises the first cause of a refusal.
+
+        A release has offset 0 and no data.
+        """
         at, last, end = HEADER, 0, len(self.text)
         for number in range(self.writes):
             if end - at < RECORD.size:
@@ -75,7 +83,7 @@ class Trace(NamedTuple):
             return "E10"
         if page >= self.pages:
             return "E11"
-        if length == 0:
+        if length == 0 and (self.version == PLAIN or offset):
             return "E12"
         return "E13" if offset + length > self.size else None
 
@@ -83,7 +91,7 @@ class Trace(NamedTuple):
         """The bytes of all pages after all writes."""
         memory = bytearray(self.pages << self.shift)
         for _, page, offset, data in self.records():
-            at = (page << self.shift) + offset
+            at, data = (page << self.shift) + offset, data or bytes(self.size)
             memory[at : at + len(data)] = data
         return memory
 
@@ -96,8 +104,8 @@ def read(text):
         raise Refused("E1")
     pages, writes = struct.unpack_from("<II", text, 8)
     for name, holds in (
-        ("E2", text[:4] == MAGIC[:4]),
-        ("E3", text[4] == 1),
+        ("E2", text[:4] == MAGIC),
+        ("E3", text[4] in (PLAIN, WITH_RELEASES)),
         ("E4", LEAST_SHIFT <= text[5] <= GREATEST_SHIFT),
         ("E5", text[6:8] == b"\0\0"),
         ("E6", 1 <= pages <= Limits().pages),
@@ -105,7 +113,7 @@ def read(text):
     ):
         if not holds:
             raise Refused(name)
-    return Trace(text[5], pages, writes, text)
+    return Trace(text[4], text[5], pages, writes, text)
 
 
 class Pending:
@@ -152,13 +160,17 @@ class Pending:
 
 
 class Writer(Pending):
-    """Writes a trace. Some writes are taken together, or none of them is; so the trace is valid after each call."""
+    """Writes a trace. Some writes are taken together, or none of them is; so the trace is valid after each call.
+
+    It has version 1 where no write is a release, unless finish() is told otherwise.
+    """
 
     def __init__(self, path, limits=Limits()):
         super().__init__(path)
         self.limits = limits
         self.writes = 0
         self.size = HEADER
+        self.version = PLAIN
         try:
             self.write(bytes(HEADER))
         except OSError:
@@ -170,10 +182,14 @@ class Writer(Pending):
         return self.limits.writes - self.writes, self.limits.bytes - self.size
 
     def append(self, records):
-        """Appends (tick, page, offset, data) in this order; raises Full, and appends none, where they do not fit."""
-        parts = []
+        """Appends (tick, page, offset, data) in this order; raises Full, and appends none, where they do not fit.
+
+        No data, at offset 0, is a release.
+        """
+        parts, version = [], self.version
         for tick, page, offset, data in records:
             parts += RECORD.pack(tick, page, offset, len(data)), data
+            version = version if data else WITH_RELEASES
         text, (writes, room) = b"".join(parts), self.room()
         if len(parts) // 2 > writes:
             raise Full(f"a trace has at most {self.limits.writes:,} writes")
@@ -185,10 +201,11 @@ class Writer(Pending):
             os.ftruncate(self.descriptor, self.size)
             os.lseek(self.descriptor, self.size, os.SEEK_SET)
             raise Full(f"{self.path}: {fault.strerror}") from fault
+        self.version = version
         self.writes += len(parts) // 2
         self.size += len(text)
 
-    def finish(self, shift, pages):
-        header = MAGIC + bytes([shift, 0, 0]) + struct.pack("<II", pages, self.writes)
+    def finish(self, shift, pages, version=None):
+        header = MAGIC + bytes([version or self.version, shift, 0, 0]) + struct.pack("<II", pages, self.writes)
         os.pwrite(self.descriptor, header, 0)
         super().finish()

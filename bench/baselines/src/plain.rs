@@ -9,6 +9,7 @@ mod words;
 
 use words::{Job, Settings};
 
+/// A write of no bytes releases its page: the whole page becomes zeros.
 struct GuestWrite {
     tick: u64,
     page: u32,
@@ -54,7 +55,9 @@ impl Trace {
     fn read(text: &[u8]) -> Result<Trace, String> {
         demand(text.len() <= 1 << 28, "it is too long")?;
         let mut text = Bytes(text);
-        demand(text.take(5)? == b"PCWT\x01", "magic or version")?;
+        demand(text.take(4)? == b"PCWT", "magic")?;
+        let version = text.number(1)?;
+        demand((1..=2).contains(&version), "version")?;
         let shift = text.number(1)?;
         demand((4..=12).contains(&shift) && text.number(2)? == 0, "page shift or reserved bytes")?;
         let (pages, count) = (text.number(4)? as u32, text.number(4)?);
@@ -66,7 +69,8 @@ impl Trace {
             demand(before <= write.tick && write.tick < 1 << 40, "a tick")?;
             demand(write.page < pages, "a page")?;
             let length = write.bytes.len();
-            demand(length > 0 && write.offset + length <= trace.page_size, "a length")?;
+            let is_release = version == 2 && length == 0 && write.offset == 0;
+            demand(is_release || length > 0 && write.offset + length <= trace.page_size, "a length")?;
             trace.writes.push(write);
         }
         demand(text.0.is_empty(), "bytes behind the last record")?;
@@ -83,7 +87,11 @@ impl Trace {
         let mut memory = vec![0; self.pages as usize * self.page_size];
         for write in &self.writes {
             let at = write.page as usize * self.page_size + write.offset;
-            memory[at..at + write.bytes.len()].copy_from_slice(&write.bytes);
+            if write.bytes.is_empty() {
+                memory[at..at + self.page_size].fill(0);
+            } else {
+                memory[at..at + write.bytes.len()].copy_from_slice(&write.bytes);
+            }
         }
         memory
     }

@@ -5,7 +5,7 @@ ghost use Rattle.std.specs.Prelude.{◌≤◌};
 use std::alloc::{AllocError, Global};
 use std::test::Fail;
 use trace_codec::{
-    Shape, TestSource, Timeline, TraceError, WriteLog, checked_write, decode, shape_of,
+    Shape, TestSource, Timeline, TraceError, WriteLog, checked_write, decode, read_header,
 };
 use trace_readers::HeldTrace;
 
@@ -95,16 +95,17 @@ fn holds_each_write(rt: HostRuntime) -> Result<(), Fail> {
 
 #[test]
 fn header_and_first_record_are_tested(rt: HostRuntime) -> Result<(), Fail> {
-    let shape = shape_of(&TRACE)?;
-    let (tick, behind) = checked_write(shape, 0, 0, &TRACE[16..])?;
-    let late = checked_write(shape, 1, 7, &TRACE[16..]).err();
+    let header = read_header(&TRACE)?;
+    let shape = header.shape;
+    let (tick, behind) = checked_write(header, 0, 0, &TRACE[16..])?;
+    let late = checked_write(header, 1, 7, &TRACE[16..]).err();
     assert_eq!(rt;
         (
-            (shape.shift, shape.pages, shape.writes),
+            (header.version, shape.shift, shape.pages, shape.writes),
             (tick, behind.len()),
             late
         ),
-        ((4, 4, 5), (0, 69), Some(TraceError::TickOrder(7)))
+        ((1, 4, 4, 5), (0, 69), Some(TraceError::TickOrder(7)))
     );
     Ok(())
 }

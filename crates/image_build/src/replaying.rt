@@ -1,14 +1,15 @@
 //! Memory as the writes of a trace leave it.
 
 ghost use Rattle.std.specs.Prelude.{◌≡◌, ◌+◌, ◌*◌, ◌^◌, ◌≤◌, [], IfErr, IfOk, MatchResult, length, vec_len};
-ghost use Rattle.migration_model.specs.Memory.{image_before, image_of, put, zeros};
+ghost use Rattle.migration_model.specs.Memory.{bytes_put, image_before, image_of, put, zeros};
 ghost use Rattle.migration_model.specs.Trace.{GuestTrace, Spells};
 ghost use Rattle.image_build.specs.Replay.{RefusesReplay};
+ghost use Rattle.trace_codec.specs.Writes.{shown};
 
 use crate::error::{ImageError, ReplayError};
 use crate::image::Image;
 use std::alloc::{AllocError, Global};
-use trace_codec::{Shape, Trace, TraceReader, TraceView};
+use trace_codec::{Shape, Trace, TraceReader, TraceView, WriteView};
 
 /// Returns memory of this shape before any write: zeros.
 fn blank(alloc: Global, shape: Shape) -> Result<Vec<u8>, AllocError>
@@ -17,19 +18,14 @@ fn blank(alloc: Global, shape: Shape) -> Result<Vec<u8>, AllocError>
     Vec::from_elem(alloc, 0, (shape.pages as usize) << shape.shift)
 }
 
-/// Returns the offset in memory of an offset of a page.
-pub(crate) fn place_of(shape: Shape, page: u32, offset: u16) -> usize
-    ensures { result ≡ page * 2 ^ shape.shift + offset }
+/// Puts a write over memory of this shape, in which it stands at its offset of its page.
+pub(crate) fn write_over(memory: &mut Vec<u8>, shape: Shape, write: &WriteView<'_>)
+    requires { write.now.page * 2 ^ shape.shift + write.now.offset + length (bytes_put shape.shift (shown write.now)) ≤ vec_len memory.old }
+    ensures { memory.new.items
+        ≡ put memory.old.items (write.now.page * 2 ^ shape.shift + write.now.offset) (bytes_put shape.shift (shown write.now)) }
 {
-    page as usize * shape.page_size() + offset as usize
-}
-
-/// Writes bytes over those that stand from an offset on.
-pub(crate) fn write_over(memory: &mut Vec<u8>, place: usize, bytes: &[u8])
-    requires { place + length bytes.now ≤ vec_len memory.old }
-    ensures { memory.new.items ≡ put memory.old.items place bytes.now }
-{
-    memory[place..place + bytes.len()].copy_from_slice(bytes);
+    let start = write.page as usize * shape.page_size() + write.offset as usize;
+    write.put_at(shape, memory, start);
 }
 
 /// Returns the memory after all writes of a trace. The only error is that memory runs out.
@@ -39,8 +35,7 @@ pub fn replay(alloc: Global, trace: &Trace) -> Result<Image, ImageError>
     let shape = trace.shape();
     let mut memory = blank(alloc, shape)?;
     for write in &trace.writes {
-        let place = place_of(shape, write.page, write.offset);
-        write_over(&mut memory, place, &write.bytes);
+        write_over(&mut memory, shape, &write.view());
     }
     Ok(Image::of(shape.shift, shape.pages, memory))
 }
@@ -53,8 +48,7 @@ pub fn replay_before(alloc: Global, trace: &Trace, tick: u64) -> Result<Image, I
     let mut memory = blank(alloc, shape)?;
     for write in &trace.writes {
         if write.tick < tick {
-            let place = place_of(shape, write.page, write.offset);
-            write_over(&mut memory, place, &write.bytes);
+            write_over(&mut memory, shape, &write.view());
         }
     }
     Ok(Image::of(shape.shift, shape.pages, memory))
@@ -66,8 +60,7 @@ fn view_memory(alloc: Global, trace: &TraceView<'_>) -> Result<Image, AllocError
     let shape = trace.shape();
     let mut memory = blank(alloc, shape)?;
     for write in trace.records() {
-        let place = place_of(shape, write.page, write.offset);
-        write_over(&mut memory, place, write.bytes);
+        write_over(&mut memory, shape, &write);
     }
     Ok(Image::of(shape.shift, shape.pages, memory))
 }
@@ -90,8 +83,7 @@ fn replay_reader(alloc: Global, reader: TraceReader<'_>) -> Result<Image, Replay
     let mut memory = blank(alloc, shape)?;
     for _ in 0..shape.writes {
         let write = reader.read_record()?;
-        let place = place_of(shape, write.page, write.offset);
-        write_over(&mut memory, place, write.bytes);
+        write_over(&mut memory, shape, &write);
     }
     reader.finish()?;
     Ok(Image::of(shape.shift, shape.pages, memory))

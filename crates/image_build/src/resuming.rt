@@ -8,7 +8,7 @@ ghost use Rattle.page_versions.specs.Index.{IsIndexOf};
 ghost use Rattle.page_versions.specs.Pages.{write_at};
 
 use crate::image::Image;
-use crate::replaying::{place_of, write_over};
+use crate::replaying::write_over;
 use page_versions::PageIndex;
 use trace_codec::WriteLog;
 
@@ -22,8 +22,7 @@ fn write_all<W: WriteLog>(memory: &mut Vec<u8>, trace: &W, places: &[u32])
     let shape = trace.shape();
     for place in places {
         let write = trace.write(*place as usize - 1);
-        let start = place_of(shape, write.page, write.offset);
-        write_over(memory, start, write.bytes);
+        write_over(memory, shape, &write);
     }
 }
 

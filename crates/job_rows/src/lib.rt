@@ -2,9 +2,13 @@
 #![tactic(auto)]
 
 #[cfg(test)]
+mod image_tests;
+#[cfg(test)]
 mod live_tests;
 #[cfg(test)]
 mod piece_tests;
+#[cfg(test)]
+mod released_tests;
 #[cfg(test)]
 mod sweep_tests;
 #[cfg(test)]

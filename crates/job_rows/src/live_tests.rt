@@ -15,7 +15,7 @@ use std::thread::Threads;
 use trace_codec::{TestSource, TraceError};
 
 /// Returns slow rates, by which the plan of the tests' trace has three rounds and stops at tick 3667.
-fn slow() -> Asked {
+pub(crate) fn slow() -> Asked {
     Asked {
         min: 2,
         max: 4,
@@ -34,7 +34,7 @@ fn slow() -> Asked {
 }
 
 /// Returns what a live run over some bytes writes.
-fn shown<R: Threads + Wait + Sync, G: Gate>(
+pub(crate) fn shown<R: Threads + Wait + Sync, G: Gate>(
     rt: &R,
     alloc: Global,
     bytes: Vec<u8>,

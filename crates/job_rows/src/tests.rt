@@ -164,7 +164,7 @@ fn refuses_headers(rt: HostRuntime) -> Result<(), Fail> {
         (0, 0, &[], TraceError::ShortHeader),
         (15, 0, &[], TraceError::ShortHeader),
         (102, 0, &[0x51], TraceError::BadMagic),
-        (102, 4, &[2], TraceError::BadVersion),
+        (102, 4, &[3], TraceError::BadVersion),
         (102, 5, &[3], TraceError::BadShift),
         (102, 5, &[13], TraceError::BadShift),
         (102, 6, &[1], TraceError::BadReserved),
@@ -268,10 +268,15 @@ fn tells_that_a_flush_failed(rt: HostRuntime) -> Result<(), Fail> {
     Ok(())
 }
 
-/// What the writes of the trace are refused for in a guest of so many pages of this size.
-fn refusal_of_writes(alloc: Global, shift: u8, pages: u32) -> Result<Option<TraceError>, Fail> {
+/// What the writes of the trace are refused for in this version, in a guest of so many pages of this size.
+fn refusal_of_writes(
+    alloc: Global,
+    version: u8,
+    shift: u8,
+    pages: u32,
+) -> Result<Option<TraceError>, Fail> {
     let Trace { writes, .. } = decode(alloc, &TRACE)?;
-    Ok(Trace::new(shift, pages, writes).err())
+    Ok(Trace::new(version, shift, pages, writes).err())
 }
 
 #[test]
@@ -279,15 +284,17 @@ fn traces_from_writes(rt: HostRuntime) -> Result<(), Fail> {
     let alloc = rt.alloc();
     assert_eq!(rt;
         (
-            refusal_of_writes(alloc, 4, 4)?,
-            refusal_of_writes(alloc, 4, 3)?,
-            Trace::new(13, 4, Vec::new(alloc)).err(),
-            Trace::new(4, 0, Vec::new(alloc)).err(),
-            Trace::new(4, 1, Vec::new(alloc)).err()
+            refusal_of_writes(alloc, 1, 4, 4)?,
+            refusal_of_writes(alloc, 2, 4, 3)?,
+            refusal_of_writes(alloc, 0, 13, 3)?,
+            Trace::new(1, 13, 4, Vec::new(alloc)).err(),
+            Trace::new(1, 4, 0, Vec::new(alloc)).err(),
+            Trace::new(1, 4, 1, Vec::new(alloc)).err()
         ),
         (
             None,
             Some(TraceError::PageOutOfRange(3)),
+            Some(TraceError::BadVersion),
             Some(TraceError::BadShift),
             Some(TraceError::BadPages),
             None

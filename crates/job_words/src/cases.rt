@@ -14,10 +14,7 @@ const MAX_DIGITS: usize = 13;
 
 /// Returns the command with the options and the cases of a sweep. It takes any number of cases: too many are refused
 /// later.
-pub(crate) fn with_cases<'a>(
-    alloc: Global,
-    command: Command<'a>,
-) -> Result<Command<'a>, AllocError> {
+pub fn with_cases<'a>(alloc: Global, command: Command<'a>) -> Result<Command<'a>, AllocError> {
     let command = with_sweep(alloc, command)?;
     let cases = Arg::new(alloc, "case")
         .value_name("CASE")
@@ -82,7 +79,7 @@ fn case_of(options: &Asked, number: usize, word: &str) -> Result<Settings, Words
 }
 
 /// Returns the settings of all cases, in order, or why the first that is refused has none.
-pub(crate) fn cases_of(
+pub fn cases_of(
     alloc: Global,
     options: &Asked,
     words: &[&str],

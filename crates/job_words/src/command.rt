@@ -100,7 +100,7 @@ fn commands<'a>(alloc: Global) -> Result<Command<'a>, AllocError> {
 }
 
 /// Returns the error for a refusal by `clap`, with `clap`'s text.
-fn refusal_of(alloc: Global, error: &clap::Error) -> WordsError {
+pub fn refusal_of(alloc: Global, error: &clap::Error) -> WordsError {
     if error.kind() == ErrorKind::OutOfMemory {
         return WordsError::Memory;
     }

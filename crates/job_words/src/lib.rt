@@ -5,4 +5,6 @@ mod cases;
 mod command;
 mod options;
 
-pub use command::{WordsError, WordsRefusal, job_of, words};
+pub use cases::{cases_of, with_cases};
+pub use command::{WordsError, WordsRefusal, job_of, refusal_of, words};
+pub use options::{flag, number, settings_of, sweep_options, with_report, with_sweep};

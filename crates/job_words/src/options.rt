@@ -80,7 +80,7 @@ fn option<'a>(alloc: Global, name: &'a str, help: &'a str) -> Arg<'a> {
 }
 
 /// Returns an option that takes a whole number.
-fn number<'a>(alloc: Global, name: &'a str, help: &'a str) -> Arg<'a> {
+pub fn number<'a>(alloc: Global, name: &'a str, help: &'a str) -> Arg<'a> {
     option(alloc, name, help)
         .value_name("N")
         .action(ArgAction::Set)
@@ -88,7 +88,7 @@ fn number<'a>(alloc: Global, name: &'a str, help: &'a str) -> Arg<'a> {
 }
 
 /// Returns an option that is there or is not.
-fn flag<'a>(alloc: Global, name: &'a str, help: &'a str) -> Arg<'a> {
+pub fn flag<'a>(alloc: Global, name: &'a str, help: &'a str) -> Arg<'a> {
     option(alloc, name, help).action(ArgAction::SetTrue)
 }
 
@@ -116,10 +116,7 @@ fn with_pace<'a>(alloc: Global, command: Command<'a>) -> Result<Command<'a>, All
 }
 
 /// Returns the command with the options of a report.
-pub(crate) fn with_report<'a>(
-    alloc: Global,
-    command: Command<'a>,
-) -> Result<Command<'a>, AllocError> {
+pub fn with_report<'a>(alloc: Global, command: Command<'a>) -> Result<Command<'a>, AllocError> {
     let command = with_pace(alloc, command)?;
     with_numbers(alloc, command, &REPORT)
 }
@@ -139,10 +136,7 @@ pub(crate) fn with_live<'a>(
 }
 
 /// Returns the command with the options of a sweep.
-pub(crate) fn with_sweep<'a>(
-    alloc: Global,
-    command: Command<'a>,
-) -> Result<Command<'a>, AllocError> {
+pub fn with_sweep<'a>(alloc: Global, command: Command<'a>) -> Result<Command<'a>, AllocError> {
     with_numbers(alloc, command, &SWEEP)
 }
 
@@ -152,7 +146,7 @@ fn given(matches: &ArgMatches, name: &str, default: u64) -> u64 {
 }
 
 /// Returns what the options of a sweep ask for in each of its cases.
-pub(crate) fn sweep_options(matches: &ArgMatches) -> Asked {
+pub fn sweep_options(matches: &ArgMatches) -> Asked {
     Asked {
         start: given(matches, "start", DEFAULTS.start),
         workers: given(matches, "workers", DEFAULTS.workers),
@@ -161,7 +155,7 @@ pub(crate) fn sweep_options(matches: &ArgMatches) -> Asked {
 }
 
 /// Returns the settings that a command's options make, or the first that is out of its range.
-pub(crate) fn settings_of(matches: &ArgMatches) -> Result<Settings, SettingsError> {
+pub fn settings_of(matches: &ArgMatches) -> Result<Settings, SettingsError> {
     Settings::new(Asked {
         min: given(matches, "min", DEFAULTS.min),
         max: given(matches, "max", DEFAULTS.max),

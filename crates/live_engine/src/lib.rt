@@ -1,4 +1,19 @@
 //! Migrates a running guest: replayers change its pages while copiers send them, and receivers take them.
+//!
+//! [`live_run`] returns the guest's memory at the plan's stop tick and after all writes; under every schedule these are
+//! what the trace's writes leave. [`migrate`] leaves the memory in the parts that arrived, for a caller that writes it
+//! page by page. A [`Gate`] is called at each [`Point`]; it may look on or wait there, and so choose a schedule.
+//!
+//! ```
+//! // Three copiers, two streams and four replayers; `rt` may start threads and wait.
+//! let settings = Settings::new(Asked { workers: 3, streams: 2, replayers: 4, ..asked })?;
+//! let live = live_run(rt, alloc, &trace, &settings, &OpenGate)?;
+//! for round in &live.rounds {
+//!     println!(rt; "sent {}, deferred {}", round.sent.len(), round.deferred.len())?;
+//! }
+//! ```
+//!
+//! Tests make these calls: `many_threads_and_streams_make_the_same_memory` of the crate `live_schedules`.
 #![tactic(auto)]
 
 mod crew;

@@ -48,7 +48,7 @@ fn guest(alloc: Global) -> Result<Trace, Fail> {
             bytes: Vec::from_slice(alloc, bytes)?,
         })?;
     }
-    Ok(Trace::new(4, 4, writes)?)
+    Ok(Trace::new(1, 4, 4, writes)?)
 }
 
 pub(crate) fn asked() -> Asked {
@@ -181,7 +181,7 @@ fn guest_of_65_pages(alloc: Global) -> Result<Trace, Fail> {
         offset: 0,
         bytes: Vec::from_slice(alloc, &[7])?,
     })?;
-    Ok(Trace::new(4, 65, writes)?)
+    Ok(Trace::new(1, 4, 65, writes)?)
 }
 
 #[test]
@@ -312,7 +312,7 @@ fn busy_guest(alloc: Global, count: u32) -> Result<Trace, Fail> {
             )?,
         })?;
     }
-    Ok(Trace::new(6, 300, writes)?)
+    Ok(Trace::new(1, 6, 300, writes)?)
 }
 
 /// Runs with sixteen workers, streams and replayers, and lanes of so many frames: both memories come out right.
@@ -364,7 +364,7 @@ fn wide_guest(alloc: Global) -> Result<Trace, Fail> {
             bytes: Vec::from_slice(alloc, &[1, (page % 251) as u8])?,
         })?;
     }
-    Ok(Trace::new(12, 600, writes)?)
+    Ok(Trace::new(1, 12, 600, writes)?)
 }
 
 #[test]

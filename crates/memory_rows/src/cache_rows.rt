@@ -11,7 +11,12 @@ use std::thread::Threads;
 use trace_codec::Trace;
 
 /// Returns the page of a trace at a version, from the cache.
-fn page_at(cache: &mut PageCache<'_, Trace>, trace: &Trace, page: u32, version: u32) -> Option<Page>
+pub(crate) fn page_at(
+    cache: &mut PageCache<'_, Trace>,
+    trace: &Trace,
+    page: u32,
+    version: u32,
+) -> Option<Page>
     requires { cache.old.trace ≡ trace.now }
     ensures { cache.new.trace ≡ trace.now }
 {
@@ -22,7 +27,7 @@ fn page_at(cache: &mut PageCache<'_, Trace>, trace: &Trace, page: u32, version: 
     page_of(&bytes)
 }
 
-fn new_cache<'a>(
+pub(crate) fn new_cache<'a>(
     alloc: Global,
     trace: &'a Trace,
     index: &'a PageIndex,

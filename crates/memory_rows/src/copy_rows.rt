@@ -107,7 +107,12 @@ fn stamps(parts: &[Part]) -> [Option<u32>; 4] {
 }
 
 /// Returns the image of an image's pages at these versions after all other writes of the trace.
-fn resumed(image: Image, trace: &Trace, index: &PageIndex, versions: &[u32]) -> Option<Image> {
+pub(crate) fn resumed(
+    image: Image,
+    trace: &Trace,
+    index: &PageIndex,
+    versions: &[u32],
+) -> Option<Image> {
     if !index.is_of(trace)
         || !image.fits(&trace.shape())
         || versions.len() != trace.pages as usize
@@ -203,7 +208,7 @@ fn wide_guest(alloc: Global) -> Result<Trace, Fail> {
             })?;
         }
     }
-    Ok(Trace::new(4, 1500, writes)?)
+    Ok(Trace::new(1, 4, 1500, writes)?)
 }
 
 /// Returns the versions of all pages after all writes, each of them marked.

@@ -44,12 +44,22 @@ pub(crate) static AT_END: [u8; 64] = [
 /// Returns a trace of 4 pages of 16 bytes, which writes pages 0 and 1 at ticks 0 and 5, page 1 at tick 1200, and pages
 /// 3 and 1 at tick 2500. Or all of this so many ticks later.
 pub(crate) fn guest(alloc: Global, later: u64) -> Result<Trace, Fail> {
+    guest_with_last(alloc, 1, later, &[0])
+}
+
+/// Returns this trace in version 2, but that its last write releases page 1.
+pub(crate) fn releasing_guest(alloc: Global) -> Result<Trace, Fail> {
+    guest_with_last(alloc, 2, 0, &[])
+}
+
+/// Returns this trace in a version, so many ticks later, with these bytes for its last write.
+fn guest_with_last(alloc: Global, version: u8, later: u64, last: &[u8]) -> Result<Trace, Fail> {
     let cases: [(u64, u32, u16, &[u8]); 5] = [
         (0, 0, 0, &[1]),
         (5, 1, 15, &[2]),
         (1200, 1, 0, &[3]),
         (2500, 3, 2, &[4, 5]),
-        (2500, 1, 0, &[0]),
+        (2500, 1, 0, last),
     ];
     let mut writes = Vec::new(alloc);
     for (tick, page, offset, bytes) in cases {
@@ -60,7 +70,7 @@ pub(crate) fn guest(alloc: Global, later: u64) -> Result<Trace, Fail> {
             bytes: Vec::from_slice(alloc, bytes)?,
         })?;
     }
-    Ok(Trace::new(4, 4, writes)?)
+    Ok(Trace::new(version, 4, 4, writes)?)
 }
 
 /// Returns these bytes, where they are a page.

@@ -33,7 +33,7 @@ fn writes_after<'a>(
 }
 
 /// Returns the page of a trace at a version, from the index.
-fn page_at(
+pub(crate) fn page_at(
     alloc: Global,
     index: &PageIndex,
     trace: &Trace,
@@ -108,7 +108,7 @@ fn guest_of_one_page(alloc: Global) -> Result<Trace, Fail> {
             bytes: Vec::from_slice(alloc, &[offset as u8 + 1, 255])?,
         })?;
     }
-    Ok(Trace::new(4, 1, writes)?)
+    Ok(Trace::new(1, 4, 1, writes)?)
 }
 
 /// Returns this guest's page after so many writes: 1, 2, 3 and so on, and then 255.
@@ -169,7 +169,7 @@ fn pages_in_one_room(rt: HostRuntime) -> Result<(), Fail> {
 }
 
 /// Brings a page on to a later version. Returns its bytes, and how far it has come then.
-fn brought_on(
+pub(crate) fn brought_on(
     alloc: Global,
     index: &PageIndex,
     trace: &Trace,
@@ -216,7 +216,7 @@ fn another_trace(rt: HostRuntime) -> Result<(), Fail> {
     let trace = guest(alloc, 0)?;
     let index = PageIndex::build(&rt, alloc, &trace)?;
     let later = guest(alloc, 1)?;
-    let empty = Trace::new(4, 4, Vec::new(alloc))?;
+    let empty = Trace::new(1, 4, 4, Vec::new(alloc))?;
     assert!(rt; !index.is_of(&later) && !index.is_of(&empty));
     Ok(())
 }

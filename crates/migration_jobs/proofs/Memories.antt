@@ -4,7 +4,8 @@ use Rattle.std.proofs.Math.Nat.{mul-le-mul_right}
 use Rattle.std.proofs.lemmas.List.{length-take-le, length-drop, length-replicate}
 use Rattle.migration_model.specs.Trace.{GuestTrace, IsTrace}
 use Rattle.migration_model.specs.Memory.{GuestMemory, IsMemory, image_of, page_of}
-use Rattle.migration_model.proofs.Pages.{length-applied}
+use Rattle.migration_model.specs.Versions.{page_at}
+use Rattle.migration_model.proofs.Pages.{length-applied, zero_page}
 use Rattle.migration_jobs.specs.Shown.{memory_shown}
 use Rattle.job_kinds.specs.declared.job.Show.{Show}
 use Rattle.job_kinds.specs.declared.job.Show.TheVariants as shows
@@ -14,10 +15,11 @@ pub record IsAsLarge (trace : GuestTrace) (memory : GuestMemory) : Type 0 where
   pub pages : memory.pages ≡ trace.pages
   pub len : length memory.bytes ≡ memory.pages * 2 ^ memory.shift
 
-image_large : (trace : GuestTrace) → IsTrace trace → IsAsLarge trace (image_of trace)
+-- the memory after all writes is as large as the trace says
+pub image_large : (trace : GuestTrace) → IsTrace trace → IsAsLarge trace (image_of trace)
 image_large trace is =
     let none = replicate (trace.pages * 2 ^ trace.shift) 0 in
-    let after = length-applied trace.shift trace.pages trace.writes none (length-replicate (trace.pages * 2 ^ trace.shift) 0) is.writes.each in
+    let after = length-applied trace.version trace.shift trace.pages trace.writes none (length-replicate (trace.pages * 2 ^ trace.shift) 0) is.writes.each in
     subst (IsAsLarge trace) (sym after.1) (record { shift = refl; pages = refl; len = after.2 })
 
 -- the memory that is shown is as large as the trace says
@@ -37,3 +39,7 @@ length-page memory page len low =
     let width : page * n + n - page * n ≡ n = omega arith in
     ap (λ (k : ℕ). length (take k (drop (page * n) memory.bytes))) width
     ∙ length-take-le n (drop (page * n) memory.bytes) (omega (arith, end, len, length-drop (page * n) memory.bytes))
+
+-- before any write a page is zeros
+pub page_at_first : (trace : GuestTrace) (page : ℕ) → page < trace.pages → page_at trace page 0 ≡ replicate (2 ^ trace.shift) 0
+page_at_first trace page low = zero_page trace.shift trace.pages page low

@@ -2,8 +2,11 @@
 #![tactic(auto)]
 
 mod error;
+mod imaging;
 mod live;
 mod output;
+mod paged_memory;
+mod replayed;
 mod running;
 mod shown;
 mod sink;

@@ -6,6 +6,8 @@ ghost use Rattle.migration_jobs.specs.Bytes.{bytes_in};
 ghost use Rattle.migration_jobs.specs.Sink.{AppendsPart};
 
 use crate::error::RunError;
+use crate::paged_memory::{PagedMemory, fill_piece};
+use crate::replayed::Replayed;
 use crate::shown::Shown;
 use crate::sink::Sink;
 use std::alloc::Global;
@@ -17,6 +19,8 @@ pub(crate) enum Output {
     Text(Vec<u8>),
     /// The memory of a live run, written page by page.
     Memory(Shown),
+    /// The memory after all writes of a trace, written page by page.
+    Replayed(Replayed),
 }
 
 /// Memory is written in pieces of so many bytes: they stay in the processor's cache between making and writing.
@@ -73,20 +77,20 @@ pub fn write_out<K: Sink>(sink: &mut K, bytes: &[u8]) -> Result<(), RunError>
 }
 
 /// Writes all of some memory, in pieces that are made one after the other.
-fn write_pieces<K: Sink>(
+fn write_pieces<K: Sink, M: PagedMemory>(
     sink: &mut K,
-    memory: &Shown,
-    room: &mut Vec<u8>,
+    memory: &M,
+    buffer: &mut Vec<u8>,
     piece: &mut Vec<u8>,
     pages: u32,
 ) -> Result<(), RunError>
     requires unfailed { K.has_failed sink.old ≡ false }
-    requires room { length room.old.items ≡ 2 ^ memory.now.shift }
+    requires long { length buffer.old.items ≡ 2 ^ (M.memory memory.now).shift }
     requires some { 1 ≤ pages }
-    requires capacity { pages * 2 ^ memory.now.shift ≤ vec_capacity piece.old }
-    ensures written { OnOk result (Appends (K.contents sink.old) (K.contents sink.new) memory.now.bytes) }
+    requires capacity { pages * 2 ^ (M.memory memory.now).shift ≤ vec_capacity piece.old }
+    ensures written { OnOk result (Appends (K.contents sink.old) (K.contents sink.new) (M.memory memory.now).bytes) }
     ensures unfailed { OnOk result (K.has_failed sink.new ≡ false) }
-    ensures part { OnErr result (AppendsPart (K.contents sink.old) (K.contents sink.new) memory.now.bytes) }
+    ensures part { OnErr result (AppendsPart (K.contents sink.old) (K.contents sink.new) (M.memory memory.now).bytes) }
     ensures error { IfErr result (λ e. e ≡ RunError.Write) }
     ensures failed { OnErr result (K.has_failed sink.new ≡ true) }
 {
@@ -94,7 +98,7 @@ fn write_pieces<K: Sink>(
     let mut first = 0;
     while first < all {
         let end = first + pages.min(all - first);
-        memory.fill(first, end, room, piece);
+        fill_piece(memory, first, end, buffer, piece);
         write_all(sink, piece)?;
         first = end;
     }
@@ -103,23 +107,27 @@ fn write_pieces<K: Sink>(
 
 /// Writes all of some memory and flushes. It allocates its buffers before it writes the first byte, and nothing after
 /// that.
-fn write_memory<K: Sink>(alloc: Global, sink: &mut K, memory: &Shown) -> Result<(), RunError>
+fn write_memory<K: Sink, M: PagedMemory>(
+    alloc: Global,
+    sink: &mut K,
+    memory: &M,
+) -> Result<(), RunError>
     requires { K.has_failed sink.old ≡ false }
-    ensures written { OnOk result (Appends (K.contents sink.old) (K.contents sink.new) memory.now.bytes) }
+    ensures written { OnOk result (Appends (K.contents sink.old) (K.contents sink.new) (M.memory memory.now).bytes) }
     ensures flushed { OnOk result (K.is_flushed sink.new ≡ true) }
     ensures unfailed { OnOk result (K.has_failed sink.new ≡ false) }
-    ensures part { IfErr result (λ e. e ≡ RunError.Write → AppendsPart (K.contents sink.old) (K.contents sink.new) memory.now.bytes) }
+    ensures part { IfErr result (λ e. e ≡ RunError.Write → AppendsPart (K.contents sink.old) (K.contents sink.new) (M.memory memory.now).bytes) }
     ensures refused { IfErr result (λ e. e ≢ RunError.Write → sink.new ≡ sink.old) }
     ensures error { IfErr result (λ e. (e ≡ RunError.Write) ⊎ (e ≡ RunError.Memory)) }
     ensures failed { IfErr result (λ e. e ≡ RunError.Write → K.has_failed sink.new ≡ true) }
 {
     let shape = memory.shape();
     let pages = (PIECE >> shape.shift) as u32;
-    let mut room = Vec::from_elem(alloc, 0, shape.page_size()).or(Err(RunError::Memory))?;
+    let mut buffer = Vec::from_elem(alloc, 0, shape.page_size()).or(Err(RunError::Memory))?;
     let mut piece = Vec::with_capacity(alloc, (pages as usize) << shape.shift).or(Err(
         RunError::Memory,
     ))?;
-    write_pieces(sink, memory, &mut room, &mut piece, pages)?;
+    write_pieces(sink, memory, &mut buffer, &mut piece, pages)?;
     flush(sink)
 }
 
@@ -141,5 +149,6 @@ pub(crate) fn write_output<K: Sink>(
     match output {
         Output::Text(text) => write_out(sink, text),
         Output::Memory(memory) => write_memory(alloc, sink, memory),
+        Output::Replayed(memory) => write_memory(alloc, sink, memory),
     }
 }

@@ -3,22 +3,20 @@
 ghost use Rattle.std.specs.Prelude.{◌≡◌, ◌≢◌, ◌↔◌, ℕ, List, IfErr, IfOk, OnErr, OnOk, Err, Some, false, true};
 ghost use Rattle.std.specs.Io.KnownBytes.{Appends, Keeps};
 ghost use Rattle.migration_model.specs.Trace.{GuestTrace, IsTrace, Spells};
-ghost use Rattle.migration_model.specs.Memory.{image_of};
 ghost use Rattle.migration_model.specs.Rounds.{IsPlan};
 ghost use Rattle.migration_model.specs.Touches.{touches_in};
 ghost use Rattle.migration_model.specs.Windows.{working_sets_of};
 ghost use Rattle.trace_codec.specs.declared.error.TraceError.TheVariants.{ReadFault};
 ghost use Rattle.trace_codec.specs.Source.{SourceSpells};
-ghost use Rattle.image_build.specs.Replay.{RefusesReplay};
 ghost use Rattle.migration_jobs.specs.Sink.{AppendsPart};
-ghost use Rattle.migration_jobs.specs.Output.{IsOutput, IsOutsideRun, IsRefusalOf, IsReport, IsSweep, RefusesRun, RefusesText};
+ghost use Rattle.migration_jobs.specs.Output.{IsOutput, IsOutsideRun, IsRefusalOf, IsReport, IsSweep, RefusesRun};
 ghost use Rattle.migration_jobs.specs.Bytes.{bytes_in};
 
 use crate::error::RunError;
+use crate::imaging::image_output;
 use crate::live::live_output;
 use crate::output::{Output, write_output};
 use crate::sink::Sink;
-use image_build::{ReplayError, replay_bytes};
 use job_kinds::Job;
 use live_engine::Gate;
 use rate_limit::Settings;
@@ -28,53 +26,13 @@ use std::sync::Wait;
 use std::thread;
 use std::thread::Threads;
 use sweep_report::{report_text, sweep, sweep_text};
-use trace_codec::{Source, Timeline, read_bytes};
+use trace_codec::{Source, Timeline};
 use trace_readers::TouchLog;
 use working_sets::{Tables, TablesError, par_tables};
 
 /// How many touches there have to be for tables and plan to be made side by side: fewer take less time than to start a
 /// thread.
 const WORTH_A_THREAD: usize = 1 << 18;
-
-/// Returns a replay's error as one of a run.
-fn run_error_of(error: ReplayError) -> RunError
-    ensures refused { (bytes : List ℕ) → RefusesReplay bytes error → RefusesText bytes result }
-    ensures memory { error ≡ ReplayError.Memory → result ≡ RunError.Memory }
-{
-    match error {
-        ReplayError::Trace(error) => RunError::Trace(error),
-        ReplayError::Memory => RunError::Memory,
-    }
-}
-
-/// Returns the memory after all writes of the trace that the bytes encode.
-fn image_of_bytes(alloc: Global, bytes: &[u8]) -> Result<Vec<u8>, RunError>
-    ensures made { IfOk result (λ v. (trace : GuestTrace) × Spells bytes.now trace × (v.items ≡ (image_of trace).bytes)) }
-    ensures refused { IfErr result (RefusesText bytes.now) }
-    ensures only { (trace : GuestTrace) → Spells bytes.now trace → IfErr result (λ e. e ≡ RunError.Memory) }
-{
-    match replay_bytes(alloc, bytes) {
-        Ok(image) => Ok(image.into_bytes()),
-        Err(error) => Err(run_error_of(error)),
-    }
-}
-
-/// Returns the memory after all writes of the trace that a source holds.
-fn image_output<S: Source>(alloc: Global, source: &mut S) -> Result<Vec<u8>, RunError>
-    requires { S.has_failed source.old ≡ false }
-    ensures made { IfOk result (λ v. (trace : GuestTrace) × IsTrace trace × SourceSpells (S.remaining source.old) trace × (v.items ≡ (image_of trace).bytes)) }
-    ensures refused { IfErr result (RefusesRun (S.remaining source.old)) }
-    ensures own { IfErr result (λ e. (job : Job) → IsRefusalOf job e) }
-    ensures unwritten { IfErr result (λ e. e ≢ RunError.Write) }
-    ensures only { (bytes : List ℕ) (trace : GuestTrace) → S.remaining source.old ≡ Some bytes → Spells bytes trace
-        → IfErr result IsOutsideRun }
-    ensures read_failed { (result ≡ Err (RunError.Trace ReadFault)) ↔ (S.has_failed source.new ≡ true) }
-{
-    match read_bytes(alloc, source) {
-        Ok(bytes) => image_of_bytes(alloc, &bytes),
-        Err(error) => Err(RunError::Trace(error)),
-    }
-}
 
 /// Returns the tables of a log, and its plan: made side by side, where there are two workers and enough to do.
 fn tables_and_plan<R: Threads + Sync>(
@@ -209,7 +167,7 @@ fn read_output<R: Threads + Wait + Sync, S: Source, G: Gate>(
     ensures read_failed { (result ≡ Err (RunError.Trace ReadFault)) ↔ (S.has_failed source.new ≡ true) }
 {
     match job {
-        Job::Image => Ok(Output::Text(image_output(alloc, source)?)),
+        Job::Image => image_output(rt, alloc, source),
         Job::Report(settings) => Ok(Output::Text(report_output(rt, alloc, settings, source)?)),
         Job::Live(settings, show) => {
             let memory = live_output(rt, alloc, settings, *show, source, gate)?;

@@ -20,13 +20,13 @@ pub record HasPlaces (write : GuestWrite) : Type 0 where
 pub page_size_high : (shift : ℕ) → shift ≤ 12 → 2 ^ shift ≤ 4_096
 page_size_high shift low = pow-le-pow_right (omega arith) low
 
-pub HasPlaces-from_guest : (shift pages : ℕ) (write : GuestWrite) → IsGuestSize shift pages → IsGuestWrite shift pages write → HasPlaces write
-HasPlaces-from_guest shift pages write size fits =
+pub HasPlaces-from_guest : (version shift pages : ℕ) (write : GuestWrite) → IsGuestSize shift pages → IsGuestWrite version shift pages write → HasPlaces write
+HasPlaces-from_guest version shift pages write size fits =
     let small = page_size_high shift size.shift_high in
     record {
       tick = omega (arith, fits.tick);
       page = omega (arith, fits.page, size.pages_high);
-      offset = omega (arith, fits.within, fits.some, small);
+      offset = omega (arith, fits.within, small);
       len = omega (arith, fits.within, small);
     }
 

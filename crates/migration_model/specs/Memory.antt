@@ -1,5 +1,5 @@
 -- A guest's memory as one flat list of bytes, and what writes leave in it. This project's own.
-use Rattle.std.specs.Prelude.{◌≡◌, ℕ, ◌+◌, ◌*◌, ◌^◌, List, ◌++◌, length, take, drop, replicate, nat_lt}
+use Rattle.std.specs.Prelude.{◌≡◌, ◌==◌, ℕ, ◌+◌, ◌*◌, ◌^◌, if◌then◌else◌, List, ◌++◌, length, take, drop, replicate, nat_lt}
 use Rattle.std.specs.List.{fold, filter, between}
 use Rattle.migration_model.specs.Trace.{GuestWrite, GuestTrace, IsGuestSize}
 
@@ -25,9 +25,14 @@ zeros shift pages = memory_with shift pages (replicate (pages * 2 ^ shift) 0)
 abbrev pub put : List ℕ → ℕ → List ℕ → List ℕ
 put memory place bytes = take place memory ++ (bytes ++ drop (place + length bytes) memory)
 
--- memory after one more write: its bytes stand from the offset of its page on, and all others are left
+-- what a write puts in its page: its bytes, or, where it has none, zeros for the whole page, which it releases
+abbrev pub bytes_put : ℕ → GuestWrite → List ℕ
+bytes_put shift write = if length write.bytes == 0 then replicate (2 ^ shift) 0 else write.bytes
+
+-- memory after one more write: what it puts stands from the offset of its page on, and all other bytes are left
 abbrev pub apply : GuestMemory → GuestWrite → GuestMemory
-apply memory write = record memory { bytes = put memory.bytes (write.page * 2 ^ memory.shift + write.offset) write.bytes }
+apply memory write =
+    record memory { bytes = put memory.bytes (write.page * 2 ^ memory.shift + write.offset) (bytes_put memory.shift write) }
 
 -- memory after these writes, in order, to zeros
 abbrev pub replay : ℕ → ℕ → List GuestWrite → GuestMemory

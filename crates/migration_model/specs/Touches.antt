@@ -44,12 +44,13 @@ pages_written pages touches from to = filter (is_written touches from to) (range
 
 -- a trace without the bytes of its writes
 pub record GuestTouches : Type 0 where
+  pub version : ℕ
   pub shift : ℕ
   pub pages : ℕ
   pub touches : List GuestTouch
 
-abbrev pub touches_with : ℕ → ℕ → List GuestTouch → GuestTouches
-touches_with shift pages touches = record { shift = shift; pages = pages; touches = touches }
+abbrev pub touches_with : ℕ → ℕ → ℕ → List GuestTouch → GuestTouches
+touches_with version shift pages touches = record { version = version; shift = shift; pages = pages; touches = touches }
 
 abbrev pub touches_in : GuestTrace → GuestTouches
-touches_in trace = touches_with trace.shift trace.pages (touches_of trace)
+touches_in trace = touches_with trace.version trace.shift trace.pages (touches_of trace)

@@ -1,19 +1,21 @@
 -- Recorded traces of guest writes, and the one encoding of each. The format is this project's own.
-use Rattle.std.specs.Prelude.{◌≡◌, ℕ, ◌+◌, ◌^◌, ◌<◌, ◌≤◌, List, [], ◌∷◌, ◌++◌, length}
+use Rattle.std.specs.Prelude.{◌≡◌, ◌⊎◌, ℕ, ◌+◌, ◌^◌, ◌<◌, ◌≤◌, List, [], ◌∷◌, ◌++◌, length}
 use Rattle.std.specs.Int.{w16, w32, w64}
 use Rattle.std.specs.List.{All, flat_map, fold}
 use Rattle.std.specs.List.Sorted.{IsNonDecreasingBy}
 use Rattle.migration_model.specs.Numbers.{text_of}
 
--- one write of the guest: at a tick, these bytes from an offset of a page on
+-- One write of the guest: at a tick, these bytes from an offset of a page on. One with no bytes releases its page, as a
+-- guest does that gives memory back to its hypervisor.
 pub record GuestWrite : Type 0 where
   pub tick : ℕ
   pub page : ℕ
   pub offset : ℕ
   pub bytes : List ℕ
 
--- a guest of pages of 2 ^ shift bytes, and its writes in order
+-- a guest of pages of 2 ^ shift bytes, and its writes in order, in a version of the format
 pub record GuestTrace : Type 0 where
+  pub version : ℕ
   pub shift : ℕ
   pub pages : ℕ
   pub writes : List GuestWrite
@@ -21,8 +23,8 @@ pub record GuestTrace : Type 0 where
 abbrev pub write_with : ℕ → ℕ → ℕ → List ℕ → GuestWrite
 write_with tick page offset bytes = record { tick = tick; page = page; offset = offset; bytes = bytes }
 
-abbrev pub trace_with : ℕ → ℕ → List GuestWrite → GuestTrace
-trace_with shift pages writes = record { shift = shift; pages = pages; writes = writes }
+abbrev pub trace_with : ℕ → ℕ → ℕ → List GuestWrite → GuestTrace
+trace_with version shift pages writes = record { version = version; shift = shift; pages = pages; writes = writes }
 
 -- the sizes that a guest may have
 pub record IsGuestSize (shift pages : ℕ) : Type 0 where
@@ -31,16 +33,17 @@ pub record IsGuestSize (shift pages : ℕ) : Type 0 where
   pub pages_low : 1 ≤ pages
   pub pages_high : pages ≤ 65_536
 
--- a write that a guest of this size may make: some bytes, within one of its pages
-pub record IsGuestWrite (shift pages : ℕ) (write : GuestWrite) : Type 0 where
+-- A write that a guest of this size may make: some bytes, within one of its pages, or, in version 2, none, from the
+-- page's start on.
+pub record IsGuestWrite (version shift pages : ℕ) (write : GuestWrite) : Type 0 where
   pub tick : write.tick < 2 ^ 40
   pub page : write.page < pages
-  pub some : 1 ≤ length write.bytes
+  pub some : (1 ≤ length write.bytes) ⊎ ((version ≡ 2) × (write.offset ≡ 0))
   pub within : write.offset + length write.bytes ≤ 2 ^ shift
 
 -- writes of such a guest in order: no tick is below one before it
-pub record AreGuestWrites (shift pages : ℕ) (writes : List GuestWrite) : Type 0 where
-  pub each : All (IsGuestWrite shift pages) writes
+pub record AreGuestWrites (version shift pages : ℕ) (writes : List GuestWrite) : Type 0 where
+  pub each : All (IsGuestWrite version shift pages) writes
   pub in_order : IsNonDecreasingBy (λ write. write.tick) writes
 
 -- the number of the last of a list, or 0 where there is none
@@ -56,22 +59,24 @@ unfoldable pub write_text : GuestWrite → List ℕ
 write_text write = text_of w64 write.tick ++ (text_of w32 write.page ++ (text_of w16 write.offset
     ++ (text_of w16 (length write.bytes) ++ write.bytes)))
 
--- the first bytes of each trace: "PCWT" and the version 1
+-- the first bytes of each trace: "PCWT"
 abbrev pub magic : List ℕ
-magic = 80 ∷ 67 ∷ 87 ∷ 84 ∷ 1 ∷ []
+magic = 80 ∷ 67 ∷ 87 ∷ 84 ∷ []
 
--- the header of a trace: those bytes, the shift, two bytes 0, and how many pages and writes there are
-unfoldable pub header_text : ℕ → ℕ → ℕ → List ℕ
-header_text shift pages writes = magic ++ shift ∷ 0 ∷ 0 ∷ (text_of w32 pages ++ text_of w32 writes)
+-- the header of a trace: those bytes, the version, the shift, two bytes 0, and how many pages and writes there are
+unfoldable pub header_text : ℕ → ℕ → ℕ → ℕ → List ℕ
+header_text version shift pages writes = magic ++ version ∷ shift ∷ 0 ∷ 0 ∷ (text_of w32 pages ++ text_of w32 writes)
 
 unfoldable pub trace_text : GuestTrace → List ℕ
-trace_text trace = header_text trace.shift trace.pages (length trace.writes) ++ flat_map write_text trace.writes
+trace_text trace = header_text trace.version trace.shift trace.pages (length trace.writes) ++ flat_map write_text trace.writes
 
--- what a trace may be: sizes, writes and length within the limits of the format
+-- what a trace may be: version, sizes, writes and length within the limits of the format
 pub record IsTrace (trace : GuestTrace) : Type 0 where
+  pub version_low : 1 ≤ trace.version
+  pub version_high : trace.version ≤ 2
   pub size : IsGuestSize trace.shift trace.pages
   pub count : length trace.writes ≤ 2 ^ 20
-  pub writes : AreGuestWrites trace.shift trace.pages trace.writes
+  pub writes : AreGuestWrites trace.version trace.shift trace.pages trace.writes
   pub short : length (trace_text trace) ≤ 2 ^ 28
 
 -- these bytes are the encoding of this trace

@@ -46,11 +46,11 @@ places_between q xs earlier later rise low =
 -- the page's writes between two versions make it the one from the other
 pub later_page : (trace : GuestTrace) (index : GuestIndex) (page earlier later : ℕ) → IsTrace trace → IsIndexOf index trace → page < index.pages
     → earlier ≤ later → earlier ≤ length trace.writes
-    → fold (λ bytes place. overwrite bytes (write_at trace.writes place)) (page_at trace page earlier)
+    → fold (λ bytes place. overwrite trace.shift bytes (write_at trace.writes place)) (page_at trace page earlier)
     (filter (λ (v : ℕ). leb v later) (filter (λ (v : ℕ). ltb earlier v) (places_in index.touches page)))
     ≡ page_at trace page later
 later_page trace index page earlier later is of low rise within =
-    let step : List ℕ → ℕ → List ℕ = λ bytes place. overwrite bytes (write_at trace.writes place) in
+    let step : List ℕ → ℕ → List ℕ = λ bytes place. overwrite trace.shift bytes (write_at trace.writes place) in
     let places = places_in index.touches page in
     let between = filter (λ (v : ℕ). leb v later) (filter (λ (v : ℕ). ltb earlier v) places) in
     let split : filter (λ (v : ℕ). leb v later) places ≡ filter (λ (v : ℕ). leb v earlier) places ++ between =

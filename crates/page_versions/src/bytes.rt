@@ -1,24 +1,23 @@
 //! A page's bytes from its own writes.
 
-ghost use Rattle.std.specs.Prelude.{◌≡◌, ◌+◌, ◌^◌, ◌≤◌, ◌∷◌, [], List, OnOk, fold, length, map, take};
+ghost use Rattle.std.specs.Prelude.{◌≡◌, ◌^◌, ◌≤◌, ◌∷◌, [], List, OnOk, fold, length, map, take};
 ghost use Rattle.std.specs.List.{All};
-ghost use Rattle.migration_model.specs.Memory.{put};
 ghost use Rattle.migration_model.specs.Trace.{GuestWrite, IsTrace};
-ghost use Rattle.page_versions.specs.Pages.{bytes_by, overwrite, put_all, write_at};
+ghost use Rattle.page_versions.specs.Pages.{IsLost, PutsWithin, bytes_by, overwrite, put_all, write_at};
 ghost use Rattle.trace_codec.specs.Writes.{shown};
 
 use crate::error::IndexError;
 use std::marker::Model;
-use trace_codec::{WriteLog, WriteView};
+use trace_codec::{LAST_VERSION, Shape, WriteLog, WriteView};
 
-/// Writes a write's bytes over those of its page.
-fn write_over(bytes: &mut [u8], write: &WriteView<'_>)
-    requires { write.now.offset + length write.now.bytes.now ≤ length bytes.old }
-    ensures room { length bytes.new ≡ length bytes.old }
-    ensures put { bytes.new ≡ put bytes.old write.now.offset write.now.bytes.now }
+/// Puts a write over the bytes of its page.
+fn put_one(shape: Shape, bytes: &mut [u8], write: &WriteView<'_>)
+    requires room { length bytes.old ≡ 2 ^ shape.shift }
+    requires within { PutsWithin shape.shift (shown write.now) }
+    ensures room { length bytes.new ≡ 2 ^ shape.shift }
+    ensures put { bytes.new ≡ overwrite shape.shift bytes.old (shown write.now) }
 {
-    let start = write.offset as usize;
-    bytes[start..start + write.bytes.len()].copy_from_slice(write.bytes);
+    write.put_at(shape, bytes, write.offset as usize);
 }
 
 /// One to four writes that were looked up, in the order in which they are put over a page.
@@ -41,24 +40,25 @@ impl<'a> Model for UpToFour<'a> {
 
 impl<'a> UpToFour<'a> {
     /// Puts the writes over the bytes of their page, one after the other.
-    fn put_over(&self, bytes: &mut [u8])
-        requires { All (λ write. write.offset + length write.bytes ≤ length bytes.old) self.now }
-        ensures room { length bytes.new ≡ length bytes.old }
-        ensures put { bytes.new ≡ fold overwrite bytes.old self.now }
+    fn put_over(&self, shape: Shape, bytes: &mut [u8])
+        requires room { length bytes.old ≡ 2 ^ shape.shift }
+        requires within { All (PutsWithin shape.shift) self.now }
+        ensures room { length bytes.new ≡ 2 ^ shape.shift }
+        ensures put { bytes.new ≡ fold (overwrite shape.shift) bytes.old self.now }
     {
-        write_over(bytes, &self.first);
+        put_one(shape, bytes, &self.first);
         if self.count == 1 {
             return;
         }
-        write_over(bytes, &self.second);
+        put_one(shape, bytes, &self.second);
         if self.count == 2 {
             return;
         }
-        write_over(bytes, &self.third);
+        put_one(shape, bytes, &self.third);
         if self.count == 3 {
             return;
         }
-        write_over(bytes, &self.fourth);
+        put_one(shape, bytes, &self.fourth);
     }
 }
 
@@ -91,7 +91,7 @@ fn put_four<W: WriteLog>(bytes: &mut [u8], trace: &W, places: &[u32])
     ensures room { length bytes.new ≡ 2 ^ (W.trace trace.now).shift }
     ensures put { bytes.new ≡ put_all (W.trace trace.now) bytes.old places.now }
 {
-    look_up(trace, places).put_over(bytes);
+    look_up(trace, places).put_over(trace.shape(), bytes);
 }
 
 /// Puts the writes at five to eight places over the bytes. It looks all of them up before it puts the first, for the
@@ -108,18 +108,40 @@ fn put_eight<W: WriteLog>(bytes: &mut [u8], trace: &W, places: &[u32])
     let (front, back) = places.split_at(4);
     let earlier = look_up(trace, front);
     let later = look_up(trace, back);
-    earlier.put_over(bytes);
-    later.put_over(bytes);
+    let shape = trace.shape();
+    earlier.put_over(shape, bytes);
+    later.put_over(shape, bytes);
 }
 
-/// Puts the writes at these places over the bytes of their page, up to eight at a time.
+/// Returns how many of the places come before the last that releases the page, or 0 where none does. What the writes
+/// before it leave of the page is lost.
+fn released_at<W: WriteLog>(trace: &W, places: &[u32]) -> usize
+    requires is_trace { IsTrace (W.trace trace.now) }
+    requires places { All (λ place. (1 ≤ place) × (place ≤ length (W.trace trace.now).writes)) places.now }
+    ensures bound { result ≤ length places.now }
+    ensures lost { IsLost (W.trace trace.now) result places.now }
+{
+    if trace.version() < LAST_VERSION {
+        return 0;
+    }
+    let mut index = places.len();
+    while index > 0 {
+        index -= 1;
+        if trace.write(places[index] as usize - 1).is_release() {
+            return index;
+        }
+    }
+    0
+}
+
+/// Puts the writes at these places over the bytes of their page, from the last release on, up to eight at a time.
 pub(crate) fn put_writes<W: WriteLog>(bytes: &mut [u8], trace: &W, places: &[u32])
     requires room { length bytes.old ≡ 2 ^ (W.trace trace.now).shift }
     requires places { All (λ place. (1 ≤ place) × (place ≤ length (W.trace trace.now).writes)) places.now }
     requires is_trace { IsTrace (W.trace trace.now) }
     ensures { bytes.new ≡ put_all (W.trace trace.now) bytes.old places.now }
 {
-    let mut rest = places;
+    let (_, mut rest) = places.split_at(released_at(trace, places));
     while rest.len() > 4 {
         let (front, behind) = rest.split_at(rest.len().min(8));
         put_eight(bytes, trace, front);

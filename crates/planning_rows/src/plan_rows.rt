@@ -18,7 +18,7 @@ fn guest(alloc: Global, pages: u32, touches: &[(u64, u32)]) -> Result<Trace, Fai
             bytes: Vec::from_slice(alloc, &[1])?,
         })?;
     }
-    Ok(Trace::new(4, pages, writes)?)
+    Ok(Trace::new(1, 4, pages, writes)?)
 }
 
 const TOUCHES: [(u64, u32); 5] = [(0, 0), (5, 1), (1200, 1), (2500, 3), (2500, 1)];

@@ -111,7 +111,7 @@ fn guest(alloc: Global) -> Result<Trace, Fail> {
             bytes: Vec::from_slice(alloc, &[1])?,
         })?;
     }
-    Ok(Trace::new(4, 4, writes)?)
+    Ok(Trace::new(1, 4, 4, writes)?)
 }
 
 fn case(max: u64, threshold: u64) -> Result<Settings, Fail> {
@@ -213,7 +213,7 @@ fn busy_guest(alloc: Global) -> Result<Trace, Fail> {
             bytes: Vec::from_slice(alloc, &[1])?,
         })?;
     }
-    Ok(Trace::new(4, 64, writes)?)
+    Ok(Trace::new(1, 4, 64, writes)?)
 }
 
 /// Returns cases of different rates, half of them with skips.

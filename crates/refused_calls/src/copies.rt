@@ -88,7 +88,7 @@ fn wide_guest(alloc: Global) -> anyhow::Result<Trace> {
             })?;
         }
     }
-    Ok(Trace::new(4, PAGES, writes)?)
+    Ok(Trace::new(1, 4, PAGES, writes)?)
 }
 
 /// The versions of all pages after all writes, each of them marked.

@@ -46,7 +46,7 @@ pub(crate) fn guest(alloc: Global) -> Result<Trace> {
             bytes: Vec::from_slice(alloc, bytes)?,
         })?;
     }
-    Ok(Trace::new(4, 4, writes)?)
+    Ok(Trace::new(1, 4, 4, writes)?)
 }
 
 /// The frame of a page of the guest.

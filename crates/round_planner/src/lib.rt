@@ -1,4 +1,20 @@
 //! The planned rounds of a pre-copy migration, after Clark and others (2005), sections 4, 5.3 and 5.4.
+//!
+//! [`plan`] makes the whole plan of a trace: its rounds with their pages, why and when they end, what is left, and the
+//! downtime. A [`Planner`] makes the sums of many plans of one trace, for sweeps, and cannot fail.
+//!
+//! ```
+//! let settings = Settings::new(asked)?;
+//! let made = plan(alloc, &trace, &settings)?;
+//! println!(rt; "stop at {}, {} pages left, down {} ticks", made.stop, made.last.len(), made.down)?;
+//!
+//! // The sums of a second plan, with pages skipped: the index of the trace is made once.
+//! let index = RoundIndex::build(alloc, &trace)?;
+//! let mut planner = Planner::new(alloc, &trace)?;
+//! let outcome = planner.outcome(&trace, &index, &Settings::new(Asked { skip: true, ..asked })?);
+//! ```
+//!
+//! Tests make these calls: `worked_plans` of the crate `planning_rows`.
 #![tactic(auto)]
 
 mod error;

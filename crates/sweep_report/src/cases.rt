@@ -47,8 +47,8 @@ fn push_outcome(text: &mut Vec<u8>, line: &Line) -> Result<(), AllocError>
     Ok(())
 }
 
-/// Appends the line of a case.
-fn push_case(text: &mut Vec<u8>, number: usize, line: &Line) -> Result<(), AllocError>
+/// Appends the line of a case: its number, its settings and the sums of its plan.
+pub fn push_case(text: &mut Vec<u8>, number: usize, line: &Line) -> Result<(), AllocError>
     ensures { OnOk result (text.new.items ≡ text.old.items ++ case_line number line.now) }
 {
     push_settings(text, number, &line.settings)?;
@@ -74,10 +74,11 @@ fn is_lesser(line: &Line, other: &Line) -> bool
     line.down < other.down || line.down == other.down && line.total < other.total
 }
 
-/// Returns the index of the best of some lines.
-fn best(lines: &[Line]) -> usize
+/// Returns the index of the best of some lines: the first with the least pair of downtime and pages sent.
+pub fn best_case(lines: &[Line]) -> usize
     requires { 1 ≤ length lines.now }
-    ensures { result ≡ best_of lines.now }
+    ensures value { result ≡ best_of lines.now }
+    ensures inside { result < length lines.now }
 {
     let mut best = 0;
     for number in 1..lines.len() {
@@ -106,6 +107,6 @@ pub fn sweep_text(alloc: Global, lines: &[Line]) -> Result<Vec<u8>, SweepError>
         return Ok(text);
     }
     push_cases(&mut text, lines)?;
-    push_best(&mut text, best(lines))?;
+    push_best(&mut text, best_case(lines))?;
     Ok(text)
 }

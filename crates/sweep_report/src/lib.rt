@@ -8,8 +8,9 @@ mod lines;
 mod report;
 mod sweeping;
 
-pub use cases::sweep_text;
+pub use cases::{best_case, push_case, sweep_text};
 pub use error::SweepError;
 pub use line::Line;
+pub use lines::{end_line, push_field};
 pub use report::report_text;
 pub use sweeping::sweep;

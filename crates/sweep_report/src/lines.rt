@@ -11,7 +11,7 @@ use working_sets::Window;
 
 /// Appends some words and a number behind them.
 #[tactic(auto, unfolding(crate::specs::Lines::field))]
-pub(crate) fn push_field(text: &mut Vec<u8>, words: &str, number: u64) -> Result<(), AllocError>
+pub fn push_field(text: &mut Vec<u8>, words: &str, number: u64) -> Result<(), AllocError>
     ensures { OnOk result (text.new.items ≡ text.old.items ++ field words.now number) }
 {
     text.extend_from_slice(words.as_bytes())?;
@@ -20,7 +20,7 @@ pub(crate) fn push_field(text: &mut Vec<u8>, words: &str, number: u64) -> Result
 }
 
 /// Ends a line.
-pub(crate) fn end_line(text: &mut Vec<u8>) -> Result<(), AllocError>
+pub fn end_line(text: &mut Vec<u8>) -> Result<(), AllocError>
     ensures { OnOk result (text.new.items ≡ text.old.items ++ 10 ∷ []) }
 {
     Ok(text.push(b'\n')?)

@@ -20,16 +20,18 @@ both false b is = absurd cc
 
 pub record IsHeader (bytes : List ℕ) : Type 0 where
   pub short : length bytes ≤ 2 ^ 28
+  pub version_low : 1 ≤ get_or bytes 4 0
+  pub version_high : get_or bytes 4 0 ≤ 2
   pub size : IsGuestSize (get_or bytes 5 0) (number_in w32 (drop 8 bytes))
   pub few : number_in w32 (drop 12 bytes) ≤ 2 ^ 20
-  pub text : bytes ≡ header_text (get_or bytes 5 0) (number_in w32 (drop 8 bytes)) (number_in w32 (drop 12 bytes)) ++ drop 16 bytes
+  pub text : bytes ≡ header_text (get_or bytes 4 0) (get_or bytes 5 0) (number_in w32 (drop 8 bytes)) (number_in w32 (drop 12 bytes)) ++ drop 16 bytes
 
--- eight bytes at the front, each of them known but the sixth
+-- eight bytes at the front, each of them known but the fifth and the sixth
 front_is : (bytes : List ℕ) → 16 ≤ length bytes → get_or bytes 0 0 ≡ 80 → get_or bytes 1 0 ≡ 67 → get_or bytes 2 0 ≡ 87 → get_or bytes 3 0 ≡ 84
-    → get_or bytes 4 0 ≡ 1 → get_or bytes 6 0 ≡ 0 → get_or bytes 7 0 ≡ 0
-    → bytes ≡ 80 ∷ 67 ∷ 87 ∷ 84 ∷ 1 ∷ get_or bytes 5 0 ∷ 0 ∷ 0 ∷ drop 8 bytes
-front_is (b0 ∷ b1 ∷ b2 ∷ b3 ∷ b4 ∷ b5 ∷ b6 ∷ b7 ∷ rest) long a b c d e f g = λ i. a i ∷ b i ∷ c i ∷ d i ∷ e i ∷ b5 ∷ f i ∷ g i ∷ rest
-front_is _ long a b c d e f g = absurd (omega arith)
+    → get_or bytes 6 0 ≡ 0 → get_or bytes 7 0 ≡ 0
+    → bytes ≡ 80 ∷ 67 ∷ 87 ∷ 84 ∷ get_or bytes 4 0 ∷ get_or bytes 5 0 ∷ 0 ∷ 0 ∷ drop 8 bytes
+front_is (b0 ∷ b1 ∷ b2 ∷ b3 ∷ b4 ∷ b5 ∷ b6 ∷ b7 ∷ rest) long a b c d f g = λ i. a i ∷ b i ∷ c i ∷ d i ∷ b4 ∷ b5 ∷ f i ∷ g i ∷ rest
+front_is _ long a b c d f g = absurd (omega arith)
 
 -- the bytes behind them: two numbers, and the rest
 sizes_are : (bytes : List ℕ) → IsBytes bytes → 16 ≤ length bytes
@@ -54,13 +56,16 @@ IsHeader-from_none bytes fits none =
     let m012 = both _ _ (granted _ magic.0) in
     let m01 = both _ _ m012.0 in
     let m0 = both _ _ m01.0 in
+    let v = both _ _ (granted _ version.0) in
     let s = both _ _ (granted _ shift.0) in
     let r = both _ _ (granted _ reserved.0) in
     let p = both _ _ (granted _ pages.0) in
     let front = front_is bytes (ltb-false _ _ long.0) (eqb-true _ _ m0.0) (eqb-true _ _ m0.1) (eqb-true _ _ m01.1) (eqb-true _ _ m012.1)
-    (eqb-true _ _ (granted _ version.0)) (eqb-true _ _ r.0) (eqb-true _ _ r.1) in
+    (eqb-true _ _ r.0) (eqb-true _ _ r.1) in
     record {
       short = ltb-false _ _ short.0;
+      version_low = leb-true _ _ v.0;
+      version_high = leb-true _ _ v.1;
       size = record {
         shift_low = leb-true _ _ s.0;
         shift_high = leb-true _ _ s.1;
@@ -68,5 +73,5 @@ IsHeader-from_none bytes fits none =
         pages_high = leb-true _ _ p.1;
       };
       few = ltb-false _ _ few.0;
-      text = front ∙ ap (λ (rest : List ℕ). 80 ∷ 67 ∷ 87 ∷ 84 ∷ 1 ∷ get_or bytes 5 0 ∷ 0 ∷ 0 ∷ rest) (sizes_are bytes fits (ltb-false _ _ long.0));
+      text = front ∙ ap (λ (rest : List ℕ). 80 ∷ 67 ∷ 87 ∷ 84 ∷ get_or bytes 4 0 ∷ get_or bytes 5 0 ∷ 0 ∷ 0 ∷ rest) (sizes_are bytes fits (ltb-false _ _ long.0));
     }

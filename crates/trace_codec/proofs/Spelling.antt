@@ -22,6 +22,6 @@ write_parts write tick page offset len bytes old new last tick_is page_is offset
     ∙ (λ i. old ++ (text_of w64 (tick_is i) ++ (text_of w32 (page_is i) ++ (text_of w16 (offset_is i) ++ (text_of w16 (len_is i) ++ bytes_are i)))))
 
 pub text_is : (trace : GuestTrace) (bytes : List ℕ) (writes : List GuestWrite)
-    → bytes ≡ header_text trace.shift trace.pages (length trace.writes) ++ flat_map write_text writes → writes ≡ trace.writes → bytes ≡ trace_text trace
+    → bytes ≡ header_text trace.version trace.shift trace.pages (length trace.writes) ++ flat_map write_text writes → writes ≡ trace.writes → bytes ≡ trace_text trace
 unfolding trace_text
-text_is trace bytes writes is all = is ∙ ap (λ (ws : List GuestWrite). header_text trace.shift trace.pages (length trace.writes) ++ flat_map write_text ws) all
+text_is trace bytes writes is all = is ∙ ap (λ (ws : List GuestWrite). header_text trace.version trace.shift trace.pages (length trace.writes) ++ flat_map write_text ws) all

@@ -15,54 +15,56 @@ HoldsWrites zero bytes = Unit {0}
 HoldsWrites (suc n) bytes = (16 + length_in bytes ≤ length bytes) × HoldsWrites n (rest_after bytes)
 
 -- the first n writes in the bytes are right, the last of them at this tick, and `rest` is the bytes behind them
-pub record ReadsTo (shift pages n : ℕ) (bytes : List ℕ) (last : ℕ) (rest : List ℕ) : Type 0 where
+pub record ReadsTo (version shift pages n : ℕ) (bytes : List ℕ) (last : ℕ) (rest : List ℕ) : Type 0 where
   pub holds : HoldsWrites n bytes
-  pub fit : AreGuestWrites shift pages (writes_in n bytes)
+  pub fit : AreGuestWrites version shift pages (writes_in n bytes)
   pub last_is : last ≡ last_tick (writes_in n bytes)
   pub below : All (λ write. write.tick ≤ last) (writes_in n bytes)
   pub rest_is : rest ≡ rest_of n bytes
 
 -- so many writes are in the bytes, all of them right, and nothing else
-pub record IsBody (shift pages count : ℕ) (bytes : List ℕ) : Type 0 where
+pub record IsBody (version shift pages count : ℕ) (bytes : List ℕ) : Type 0 where
   pub holds : HoldsWrites count bytes
-  pub fit : AreGuestWrites shift pages (writes_in count bytes)
+  pub fit : AreGuestWrites version shift pages (writes_in count bytes)
   pub all : rest_of count bytes ≡ []
 
 -- the first cause why the bytes are not so many right writes
-abbrev pub RefusesBody : ℕ → ℕ → ℕ → List ℕ → TraceError → Type 0
-RefusesBody shift pages count bytes e =
-    ((n : ℕ) × (last : ℕ) × (rest : List ℕ) × (n < count) × ReadsTo shift pages n bytes last rest
-    × (write_refusal shift pages last n rest ≡ Some e))
-    ⊎ ((last : ℕ) × (rest : List ℕ) × ReadsTo shift pages count bytes last rest × (0 < length rest) × (e ≡ TrailingBytes))
+abbrev pub RefusesBody : ℕ → ℕ → ℕ → ℕ → List ℕ → TraceError → Type 0
+RefusesBody version shift pages count bytes e =
+    ((n : ℕ) × (last : ℕ) × (rest : List ℕ) × (n < count) × ReadsTo version shift pages n bytes last rest
+    × (write_refusal version shift pages last n rest ≡ Some e))
+    ⊎ ((last : ℕ) × (rest : List ℕ) × ReadsTo version shift pages count bytes last rest × (0 < length rest) × (e ≡ TrailingBytes))
 
--- the sizes in the first 16 bytes, and the bytes behind them
-pub record IsCut (bytes : List ℕ) (shift pages count : ℕ) (body : List ℕ) : Type 0 where
+-- the version and the sizes in the first 16 bytes, and the bytes behind them
+pub record IsCut (bytes : List ℕ) (version shift pages count : ℕ) (body : List ℕ) : Type 0 where
   pub fits : IsBytes bytes
   pub header : header_refusal bytes ≡ None
+  pub version_is : version ≡ slice_index bytes 4
   pub shift_is : shift ≡ slice_index bytes 5
   pub pages_is : pages ≡ number_in w32 (drop 8 bytes)
   pub count_is : count ≡ number_in w32 (drop 12 bytes)
   pub body_is : body ≡ drop 16 bytes
 
 -- what a trace that is read in place keeps: it is a trace, and the bytes hold its writes
-pub record IsView (shift pages count : ℕ) (bytes : List ℕ) : Type 0 where
-  pub is_trace : IsTrace (trace_with shift pages (writes_in count bytes))
+pub record IsView (version shift pages count : ℕ) (bytes : List ℕ) : Type 0 where
+  pub is_trace : IsTrace (trace_with version shift pages (writes_in count bytes))
   pub holds : HoldsWrites count bytes
 
--- a reader on its way: all of the bytes, the sizes in their header, and the writes that were read
+-- a reader on its way: all of the bytes, the version and the sizes in their header, and the writes that were read
 pub record ReaderState : Type 0 where
   pub bytes : List ℕ
+  pub version : ℕ
   pub shift : ℕ
   pub pages : ℕ
   pub count : ℕ
   pub writes : List GuestWrite
 
-abbrev pub reader_state : List ℕ → ℕ → ℕ → ℕ → List GuestWrite → ReaderState
-reader_state bytes shift pages count writes =
-    record { bytes = bytes; shift = shift; pages = pages; count = count; writes = writes }
+abbrev pub reader_state : List ℕ → ℕ → ℕ → ℕ → ℕ → List GuestWrite → ReaderState
+reader_state bytes version shift pages count writes =
+    record { bytes = bytes; version = version; shift = shift; pages = pages; count = count; writes = writes }
 
 -- what a reader keeps: the header is right, and so are the first n writes
-pub record IsReading (bytes : List ℕ) (shift pages count n last : ℕ) (rest : List ℕ) : Type 0 where
-  pub cut : IsCut bytes shift pages count (drop 16 bytes)
-  pub reads : ReadsTo shift pages n (drop 16 bytes) last rest
+pub record IsReading (bytes : List ℕ) (version shift pages count n last : ℕ) (rest : List ℕ) : Type 0 where
+  pub cut : IsCut bytes version shift pages count (drop 16 bytes)
+  pub reads : ReadsTo version shift pages n (drop 16 bytes) last rest
   pub few : n ≤ count

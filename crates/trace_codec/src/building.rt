@@ -5,13 +5,15 @@ ghost use Rattle.migration_model.specs.Trace.{AreGuestWrites, IsTrace, trace_wit
 ghost use Rattle.trace_codec.specs.Refusals.{is_short, record_refusal, RefusesRecord, RefusesTrace, sizes_refusal};
 
 use crate::error::TraceError;
-use crate::fields::{MAX_LENGTH, MAX_PAGES, MAX_WRITES, TICK_LIMIT};
-use crate::shape::Shape;
+use crate::limits::{
+    MAX_LENGTH, MAX_WRITES, TICK_LIMIT, is_empty_write, is_page_count, is_shift, is_version,
+};
+use crate::shape::{Header, Shape};
 use crate::write::Write;
 
 /// Returns whether the encoding of a trace of these writes has at most `MAX_LENGTH` bytes.
 fn has_short_text(writes: &[Write]) -> bool
-    ensures { (shift pages : ℕ) → result ≡ is_short (trace_with shift pages writes.now) }
+    ensures { (version shift pages : ℕ) → result ≡ is_short (trace_with version shift pages writes.now) }
 {
     let mut length = 16;
     for write in writes {
@@ -23,11 +25,12 @@ fn has_short_text(writes: &[Write]) -> bool
     true
 }
 
-/// Tests write `index` of a guest of this shape; the write before it was at tick `before`.
-fn check_record(shape: Shape, before: u64, index: u32, write: &Write) -> Result<(), TraceError>
-    ensures refused { IfErr result (λ e. record_refusal shape.shift shape.pages before index write.now ≡ Some e) }
-    ensures accepted { OnOk result (record_refusal shape.shift shape.pages before index write.now ≡ None) }
+/// Tests write `index` of a trace with this header; the write before it was at tick `before`.
+fn check_record(header: Header, before: u64, index: u32, write: &Write) -> Result<(), TraceError>
+    ensures refused { IfErr result (λ e. record_refusal header.version header.shape.shift header.shape.pages before index write.now ≡ Some e) }
+    ensures accepted { OnOk result (record_refusal header.version header.shape.shift header.shape.pages before index write.now ≡ None) }
 {
+    let shape = header.shape;
     if write.tick < before {
         return Err(TraceError::TickOrder(index));
     }
@@ -38,7 +41,7 @@ fn check_record(shape: Shape, before: u64, index: u32, write: &Write) -> Result<
         return Err(TraceError::PageOutOfRange(index));
     }
     let len = write.bytes.len();
-    if len == 0 {
+    if is_empty_write(header.version, write.offset, len) {
         return Err(TraceError::EmptyWrite(index));
     }
     if shape.page_size() < write.offset as usize + len {
@@ -47,55 +50,71 @@ fn check_record(shape: Shape, before: u64, index: u32, write: &Write) -> Result<
     Ok(())
 }
 
-/// Tests all writes of a guest of this shape, in order.
-fn check_records(shape: Shape, writes: &[Write]) -> Result<(), TraceError>
-    requires { length writes.now ≡ shape.writes }
-    ensures refused { IfErr result (RefusesRecord shape.shift shape.pages writes.now) }
-    ensures accepted { OnOk result (AreGuestWrites shape.shift shape.pages writes.now) }
+/// Tests all writes of a trace with this header, in order.
+fn check_records(header: Header, writes: &[Write]) -> Result<(), TraceError>
+    requires { length writes.now ≡ header.shape.writes }
+    ensures refused { IfErr result (RefusesRecord header.version header.shape.shift header.shape.pages writes.now) }
+    ensures accepted { OnOk result (AreGuestWrites header.version header.shape.shift header.shape.pages writes.now) }
 {
     let mut last = 0;
-    for index in 0..shape.writes {
+    for index in 0..header.shape.writes {
         let write = &writes[index as usize];
-        check_record(shape, last, index, write)?;
+        check_record(header, last, index, write)?;
         last = write.tick;
     }
     Ok(())
 }
 
-/// Returns the sizes of a trace, or what they are refused for. `short` says whether its encoding is short enough.
-fn shape_for(short: bool, shift: u8, pages: u32, writes: usize) -> Result<Shape, TraceError>
-    ensures refused { IfErr result (λ e. sizes_refusal short shift pages writes ≡ Some e) }
-    ensures accepted { OnOk result (sizes_refusal short shift pages writes ≡ None) }
-    ensures shift { IfOk result (λ s. s.shift ≡ shift) }
-    ensures pages { IfOk result (λ s. s.pages ≡ pages) }
-    ensures writes { IfOk result (λ s. s.writes ≡ writes) }
+/// Returns the header of a trace, or what it is refused for. `short` says whether the trace's encoding is short enough.
+fn header_for(
+    short: bool,
+    version: u8,
+    shift: u8,
+    pages: u32,
+    writes: usize,
+) -> Result<Header, TraceError>
+    ensures refused { IfErr result (λ e. sizes_refusal short version shift pages writes ≡ Some e) }
+    ensures accepted { OnOk result (sizes_refusal short version shift pages writes ≡ None) }
+    ensures version { IfOk result (λ h. h.version ≡ version) }
+    ensures shift { IfOk result (λ h. h.shape.shift ≡ shift) }
+    ensures pages { IfOk result (λ h. h.shape.pages ≡ pages) }
+    ensures writes { IfOk result (λ h. h.shape.writes ≡ writes) }
 {
     if !short {
         return Err(TraceError::TooLong);
     }
-    if !(4 <= shift && shift <= 12) {
+    if !is_version(version) {
+        return Err(TraceError::BadVersion);
+    }
+    if !is_shift(shift) {
         return Err(TraceError::BadShift);
     }
-    if !(1 <= pages && pages <= MAX_PAGES) {
+    if !is_page_count(pages) {
         return Err(TraceError::BadPages);
     }
     if writes > MAX_WRITES as usize {
         return Err(TraceError::TooManyWrites);
     }
-    Ok(Shape {
+    let shape = Shape {
         shift,
         pages,
         writes: writes as u32,
-    })
+    };
+    Ok(Header { version, shape })
 }
 
-/// Tests the sizes and the writes of a trace, in the order of refusals that `Trace::new` names.
-pub(crate) fn check_trace(shift: u8, pages: u32, writes: &[Write]) -> Result<(), TraceError>
-    ensures refused { IfErr result (RefusesTrace (trace_with shift pages writes.now)) }
-    ensures accepted { OnOk result (IsTrace (trace_with shift pages writes.now)) }
+/// Tests the version, the sizes and the writes of a trace, in the order of refusals that `Trace::new` names.
+pub(crate) fn check_trace(
+    version: u8,
+    shift: u8,
+    pages: u32,
+    writes: &[Write],
+) -> Result<(), TraceError>
+    ensures refused { IfErr result (RefusesTrace (trace_with version shift pages writes.now)) }
+    ensures accepted { OnOk result (IsTrace (trace_with version shift pages writes.now)) }
 {
     let short = has_short_text(writes);
-    let shape = shape_for(short, shift, pages, writes.len())?;
-    check_records(shape, writes)?;
+    let header = header_for(short, version, shift, pages, writes.len())?;
+    check_records(header, writes)?;
     Ok(())
 }

@@ -13,11 +13,11 @@ use std::alloc::{AllocError, Global};
 
 /// Returns the 16 bytes in front of the records.
 #[tactic(auto, unfolding(migration_model::specs::Trace::header_text, migration_model::specs::Numbers::text_of))]
-fn header_of(shift: u8, pages: u32, writes: u32) -> [u8; 16]
-    ensures { result ≡ header_text shift pages writes }
+fn header_of(version: u8, shift: u8, pages: u32, writes: u32) -> [u8; 16]
+    ensures { result ≡ header_text version shift pages writes }
 {
     let mut header = [
-        b'P', b'C', b'W', b'T', 1, shift, 0, 0, 0, 0, 0, 0, 0, 0, 0, 0,
+        b'P', b'C', b'W', b'T', version, shift, 0, 0, 0, 0, 0, 0, 0, 0, 0, 0,
     ];
     LittleEndian::write_u32(&mut header[8..], pages);
     LittleEndian::write_u32(&mut header[12..], writes);
@@ -48,7 +48,7 @@ fn push_write(text: &mut Vec<u8>, write: &Write) -> Result<(), AllocError>
     Ok(())
 }
 
-/// Returns the encoding of a trace: the bytes from which `decode` reads it. The only error is `E16`.
+/// Returns the encoding of a trace in its own version: the bytes from which `decode` reads it. The only error is `E16`.
 pub fn encode(alloc: Global, trace: &Trace) -> Result<Vec<u8>, TraceError>
     ensures text { IfOk result (λ bytes. bytes.items ≡ trace_text trace.now) }
     ensures spells { IfOk result (λ bytes. Spells bytes.items trace.now) }
@@ -56,7 +56,8 @@ pub fn encode(alloc: Global, trace: &Trace) -> Result<Vec<u8>, TraceError>
 {
     let shape = trace.shape();
     let mut text = Vec::new(alloc);
-    text.extend_from_slice(&header_of(shape.shift, shape.pages, shape.writes))?;
+    let header = header_of(trace.version, shape.shift, shape.pages, shape.writes);
+    text.extend_from_slice(&header)?;
     for write in &trace.writes {
         push_write(&mut text, write)?;
     }

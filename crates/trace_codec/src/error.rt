@@ -17,7 +17,7 @@ pub enum TraceError {
     /// Bytes 0 to 3 are not `PCWT`.
     #[error("E2")]
     BadMagic,
-    /// Byte 4 is not 1.
+    /// The version is not 1 or 2.
     #[error("E3")]
     BadVersion,
     /// Byte 5 is not 4 to 12.
@@ -44,7 +44,7 @@ pub enum TraceError {
     /// A page is not below the number of pages.
     #[error("E11 record {0}")]
     PageOutOfRange(u32),
-    /// A length is 0.
+    /// A length is 0, and the write is no release: in version 1, or in version 2 from an offset other than 0 on.
     #[error("E12 record {0}")]
     EmptyWrite(u32),
     /// Offset plus length is more than the page size.

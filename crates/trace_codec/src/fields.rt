@@ -4,23 +4,14 @@ ghost use Rattle.std.specs.Prelude.{◌≡◌, ◌≤◌, ◌+◌, length, drop,
 ghost use Rattle.std.specs.Int.{w16, w32, w64};
 ghost use Rattle.migration_model.specs.Numbers.{number_in};
 ghost use Rattle.migration_model.specs.TraceReading.{tick_in, rest_after};
-ghost use Rattle.trace_codec.specs.Refusals.{header_refusal, write_refusal};
+ghost use Rattle.trace_codec.specs.Refusals.{header_refusal, is_magic, write_refusal};
 
 use crate::error::TraceError;
-use crate::shape::Shape;
+use crate::limits::{
+    MAX_LENGTH, MAX_WRITES, TICK_LIMIT, is_empty_write, is_page_count, is_shift, is_version,
+};
+use crate::shape::{Header, Shape};
 use byteorder::{ByteOrder, LittleEndian};
-
-/// The most bytes that a trace may have, `2^28`.
-pub const MAX_LENGTH: usize = 268_435_456;
-
-/// No tick of a trace reaches this one, `2^40`.
-pub const TICK_LIMIT: u64 = 1_099_511_627_776;
-
-/// The most pages that a guest may have.
-pub const MAX_PAGES: u32 = 65_536;
-
-/// The most writes that a trace may have, `2^20`.
-pub const MAX_WRITES: u32 = 1_048_576;
 
 #[tactic(auto, unfolding(migration_model::specs::Numbers::number_in))]
 pub(crate) fn u64_in(bytes: &[u8]) -> u64
@@ -46,15 +37,24 @@ pub(crate) fn u16_in(bytes: &[u8]) -> u16
     LittleEndian::read_u16(bytes)
 }
 
-/// Returns the sizes that the first 16 bytes hold, or what they are refused for: `E15` for more than `MAX_LENGTH`
-/// bytes, then `E1` to `E7`.
-pub fn shape_of(bytes: &[u8]) -> Result<Shape, TraceError>
+/// Returns whether the bytes begin with "PCWT".
+fn has_magic(bytes: &[u8]) -> bool
+    requires { 4 ≤ length bytes.now }
+    ensures { result ≡ is_magic bytes.now }
+{
+    bytes[0] == b'P' && bytes[1] == b'C' && bytes[2] == b'W' && bytes[3] == b'T'
+}
+
+/// Returns the version and the sizes that the first 16 bytes hold, or what they are refused for: `E15` for more than
+/// `MAX_LENGTH` bytes, then `E1` to `E7`.
+pub fn read_header(bytes: &[u8]) -> Result<Header, TraceError>
     ensures refused { IfErr result (λ e. header_refusal bytes.now ≡ Some e) }
     ensures accepted { OnOk result (header_refusal bytes.now ≡ None) }
     ensures long { OnOk result (16 ≤ length bytes.now) }
-    ensures shift { IfOk result (λ s. s.shift ≡ slice_index bytes.now 5) }
-    ensures pages { IfOk result (λ s. s.pages ≡ number_in w32 (drop 8 bytes.now)) }
-    ensures writes { IfOk result (λ s. s.writes ≡ number_in w32 (drop 12 bytes.now)) }
+    ensures version { IfOk result (λ h. h.version ≡ slice_index bytes.now 4) }
+    ensures shift { IfOk result (λ h. h.shape.shift ≡ slice_index bytes.now 5) }
+    ensures pages { IfOk result (λ h. h.shape.pages ≡ number_in w32 (drop 8 bytes.now)) }
+    ensures writes { IfOk result (λ h. h.shape.writes ≡ number_in w32 (drop 12 bytes.now)) }
 {
     if bytes.len() > MAX_LENGTH {
         return Err(TraceError::TooLong);
@@ -62,48 +62,51 @@ pub fn shape_of(bytes: &[u8]) -> Result<Shape, TraceError>
     if bytes.len() < 16 {
         return Err(TraceError::ShortHeader);
     }
-    if !(bytes[0] == b'P' && bytes[1] == b'C' && bytes[2] == b'W' && bytes[3] == b'T') {
+    if !has_magic(bytes) {
         return Err(TraceError::BadMagic);
     }
-    if bytes[4] != 1 {
+    let version = bytes[4];
+    if !is_version(version) {
         return Err(TraceError::BadVersion);
     }
     let shift = bytes[5];
-    if !(4 <= shift && shift <= 12) {
+    if !is_shift(shift) {
         return Err(TraceError::BadShift);
     }
     if !(bytes[6] == 0 && bytes[7] == 0) {
         return Err(TraceError::BadReserved);
     }
     let pages = u32_in(&bytes[8..]);
-    if !(1 <= pages && pages <= MAX_PAGES) {
+    if !is_page_count(pages) {
         return Err(TraceError::BadPages);
     }
     let writes = u32_in(&bytes[12..]);
     if writes > MAX_WRITES {
         return Err(TraceError::TooManyWrites);
     }
-    Ok(Shape {
+    let shape = Shape {
         shift,
         pages,
         writes,
-    })
+    };
+    Ok(Header { version, shape })
 }
 
-/// Tests the write at the front, which is write `index` of a trace of this shape; the write before it was at tick
+/// Tests the write at the front, which is write `index` of a trace with this header; the write before it was at tick
 /// `before`. Returns its tick and the bytes behind it, or what it is refused for, `E8` to `E13`.
 #[tactic(auto, unfolding(migration_model::specs::TraceReading::rest_after))]
 pub fn checked_write<'a>(
-    shape: Shape,
+    header: Header,
     before: u64,
     index: u32,
     bytes: &'a [u8],
 ) -> Result<(u64, &'a [u8]), TraceError>
-    ensures refused { IfErr result (λ e. write_refusal shape.shift shape.pages before index bytes.now ≡ Some e) }
-    ensures accepted { OnOk result (write_refusal shape.shift shape.pages before index bytes.now ≡ None) }
+    ensures refused { IfErr result (λ e. write_refusal header.version header.shape.shift header.shape.pages before index bytes.now ≡ Some e) }
+    ensures accepted { OnOk result (write_refusal header.version header.shape.shift header.shape.pages before index bytes.now ≡ None) }
     ensures tick { IfOk result (λ found. found.0 ≡ tick_in bytes.now) }
     ensures rest { IfOk result (λ found. found.1.now ≡ rest_after bytes.now) }
 {
+    let shape = header.shape;
     if bytes.len() < 16 {
         return Err(TraceError::ShortRecord(index));
     }
@@ -122,10 +125,11 @@ pub fn checked_write<'a>(
     if u32_in(&bytes[8..]) >= shape.pages {
         return Err(TraceError::PageOutOfRange(index));
     }
-    if len == 0 {
+    let offset = u16_in(&bytes[12..]);
+    if is_empty_write(header.version, offset, len as usize) {
         return Err(TraceError::EmptyWrite(index));
     }
-    if shape.page_size() < u16_in(&bytes[12..]) as usize + len as usize {
+    if shape.page_size() < offset as usize + len as usize {
         return Err(TraceError::OutOfPage(index));
     }
     let (_, rest) = bytes.split_at(end);

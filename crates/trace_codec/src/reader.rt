@@ -8,9 +8,9 @@ ghost use Rattle.trace_codec.specs.Refusals.{Refuses};
 ghost use Rattle.trace_codec.specs.Writes.{shown};
 
 use crate::error::TraceError;
-use crate::fields::{checked_write, shape_of};
+use crate::fields::{checked_write, read_header};
 use crate::records::first_write;
-use crate::shape::Shape;
+use crate::shape::{Header, Shape};
 use crate::write::WriteView;
 use std::marker::Model;
 
@@ -19,7 +19,7 @@ use std::marker::Model;
 #[derive(Drop)]
 pub struct TraceReader<'a> {
     bytes: &'a [u8],
-    shape: Shape,
+    header: Header,
     index: u32,
     last: u64,
     rest: &'a [u8],
@@ -28,9 +28,9 @@ pub struct TraceReader<'a> {
 impl<'a> Model for TraceReader<'a> {
     ghost Value = { ReaderState };
 
-    ghost view = { λ r. reader_state r.bytes.now r.shape.shift r.shape.pages r.shape.writes (writes_in r.index (drop 16 r.bytes.now)) };
+    ghost view = { λ r. reader_state r.bytes.now r.header.version r.header.shape.shift r.header.shape.pages r.header.shape.writes (writes_in r.index (drop 16 r.bytes.now)) };
 
-    ghost invariant = { λ r. IsReading r.bytes.now r.shape.shift r.shape.pages r.shape.writes r.index r.last r.rest.now };
+    ghost invariant = { λ r. IsReading r.bytes.now r.header.version r.header.shape.shift r.header.shape.pages r.header.shape.writes r.index r.last r.rest.now };
 }
 
 impl<'a> TraceReader<'a> {
@@ -40,15 +40,25 @@ impl<'a> TraceReader<'a> {
         ensures writes { IfOk result (λ r. r.writes ≡ []) }
         ensures refused { IfErr result (Refuses bytes.entry.now) }
     {
-        let shape = shape_of(bytes)?;
+        let header = read_header(bytes)?;
         let (_, rest) = bytes.split_at(16);
         Ok(TraceReader {
             bytes,
-            shape,
+            header,
             index: 0,
             last: 0,
             rest,
         })
+    }
+
+    /// Returns the version and the sizes that the header claims.
+    pub fn header(&self) -> Header
+        ensures version { result.version ≡ self.now.version }
+        ensures shift { result.shape.shift ≡ self.now.shift }
+        ensures pages { result.shape.pages ≡ self.now.pages }
+        ensures writes { result.shape.writes ≡ self.now.count }
+    {
+        self.header
     }
 
     /// Returns the sizes that the header claims.
@@ -57,7 +67,7 @@ impl<'a> TraceReader<'a> {
         ensures pages { result.pages ≡ self.now.pages }
         ensures writes { result.writes ≡ self.now.count }
     {
-        self.shape
+        self.header.shape
     }
 
     /// Returns the next write, within the guest's pages and not before the one in front of it. After a refusal the
@@ -65,12 +75,12 @@ impl<'a> TraceReader<'a> {
     pub fn read_record(&mut self) -> Result<WriteView<'a>, TraceError>
         requires { length self.old.writes < self.old.count }
         ensures read { IfOk result (λ write. self.new ≡ record self.old { writes = self.old.writes ++ shown write ∷ [] }) }
-        ensures fits { IfOk result (λ write. IsGuestWrite self.old.shift self.old.pages (shown write)) }
-        ensures order { IfOk result (λ write. AreGuestWrites self.old.shift self.old.pages (self.old.writes ++ shown write ∷ [])) }
+        ensures fits { IfOk result (λ write. IsGuestWrite self.old.version self.old.shift self.old.pages (shown write)) }
+        ensures order { IfOk result (λ write. AreGuestWrites self.old.version self.old.shift self.old.pages (self.old.writes ++ shown write ∷ [])) }
         ensures refused { IfErr result (Refuses self.old.bytes) }
         ensures kept { OnErr result (self.new ≡ self.old) }
     {
-        let (tick, rest) = checked_write(self.shape, self.last, self.index, self.rest)?;
+        let (tick, rest) = checked_write(self.header, self.last, self.index, self.rest)?;
         let (write, _) = first_write(self.rest);
         self.index += 1;
         self.last = tick;
@@ -81,7 +91,7 @@ impl<'a> TraceReader<'a> {
     /// Tests that nothing stands behind the last write.
     pub fn finish(self) -> Result<(), TraceError>
         requires { length self.writes ≡ self.count }
-        ensures spelled { OnOk result (Spells self.entry.bytes (trace_with self.entry.shift self.entry.pages self.entry.writes)) }
+        ensures spelled { OnOk result (Spells self.entry.bytes (trace_with self.entry.version self.entry.shift self.entry.pages self.entry.writes)) }
         ensures refused { IfErr result (Refuses self.entry.bytes) }
     {
         if !self.rest.is_empty() {

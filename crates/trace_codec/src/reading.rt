@@ -7,7 +7,7 @@ ghost use Rattle.trace_codec.specs.Source.{ReadsFrom, ReadsWhole, IsOutside, Sou
 
 use crate::decoding::decode;
 use crate::error::TraceError;
-use crate::fields::MAX_LENGTH;
+use crate::limits::MAX_LENGTH;
 use crate::source::Source;
 use crate::trace::Trace;
 use std::alloc::{AllocError, Global};

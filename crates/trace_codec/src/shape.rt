@@ -1,4 +1,4 @@
-//! The sizes of a trace.
+//! The sizes of a trace, and what its header holds.
 
 ghost use Rattle.std.specs.Prelude.{◌≡◌, ◌≤◌, ◌^◌};
 
@@ -16,6 +16,17 @@ pub struct Shape {
     pub ghost pages_low: { 1 ≤ pages },
     pub ghost pages_high: { pages ≤ 65_536 },
     pub ghost writes_high: { writes ≤ 2 ^ 20 },
+}
+
+/// What the header of a trace holds.
+#[derive(Clone, Copy, Debug, PartialEq, Eq)]
+pub struct Header {
+    /// The version of the format: 1, or 2, in which a write of no bytes releases its page.
+    pub version: u8,
+    /// The sizes of the trace.
+    pub shape: Shape,
+    pub ghost version_low: { 1 ≤ version },
+    pub ghost version_high: { version ≤ 2 },
 }
 
 impl Shape {

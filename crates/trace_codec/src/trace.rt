@@ -14,6 +14,8 @@ use std::marker::Model;
 /// value is valid: it has an encoding in the trace format.
 #[derive(Debug, Drop)]
 pub struct Trace {
+    /// The version of its format: 1, or 2, in which a write of no bytes releases its page.
+    pub version: u8,
     /// The page shift: a page has `2^shift` bytes.
     pub shift: u8,
     /// How many pages the guest has.
@@ -25,22 +27,24 @@ pub struct Trace {
 impl Model for Trace {
     ghost Value = { GuestTrace };
 
-    ghost view = { λ t. trace_with t.shift t.pages t.writes.items };
+    ghost view = { λ t. trace_with t.version t.shift t.pages t.writes.items };
 
-    ghost invariant = { λ t. IsTrace (trace_with t.shift t.pages t.writes.items) };
+    ghost invariant = { λ t. IsTrace (trace_with t.version t.shift t.pages t.writes.items) };
 }
 
 impl Trace {
     /// Returns the trace of these writes. It is refused for `E15` where its encoding would be too long, then for its
-    /// sizes (`E4`, `E6`, `E7`) and then record by record (`E9` to `E13`); records count from 0. It allocates nothing.
-    pub fn new(shift: u8, pages: u32, writes: Vec<Write>) -> Result<Trace, TraceError>
-        ensures made { IfOk result (λ trace. trace ≡ trace_with shift pages writes.items) }
+    /// version (`E3`) and its sizes (`E4`, `E6`, `E7`), and then record by record (`E9` to `E13`); records count from 0.
+    /// It allocates nothing.
+    pub fn new(version: u8, shift: u8, pages: u32, writes: Vec<Write>) -> Result<Trace, TraceError>
+        ensures made { IfOk result (λ trace. trace ≡ trace_with version shift pages writes.items) }
         ensures valid { IfOk result IsTrace }
-        ensures refused { IfErr result (RefusesTrace (trace_with shift pages writes.items)) }
-        ensures accepted { IsTrace (trace_with shift pages writes.items) → IsOk result }
+        ensures refused { IfErr result (RefusesTrace (trace_with version shift pages writes.items)) }
+        ensures accepted { IsTrace (trace_with version shift pages writes.items) → IsOk result }
     {
-        check_trace(shift, pages, &writes)?;
+        check_trace(version, shift, pages, &writes)?;
         Ok(Trace {
+            version,
             shift,
             pages,
             writes,

@@ -7,22 +7,22 @@ ghost use Rattle.trace_codec.specs.Reading.{IsBody, IsView, RefusesBody};
 ghost use Rattle.trace_codec.specs.Refusals.{Refuses};
 
 use crate::error::TraceError;
-use crate::fields::{checked_write, shape_of};
+use crate::fields::{checked_write, read_header};
 use crate::records::Records;
-use crate::shape::Shape;
+use crate::shape::{Header, Shape};
 use crate::trace::Trace;
 use std::alloc::{AllocError, Global};
 use std::marker::Model;
 
-/// Tests the writes of a trace of this shape, behind which the bytes may hold nothing.
-fn check_writes(shape: Shape, bytes: &[u8]) -> Result<(), TraceError>
-    ensures refused { IfErr result (RefusesBody shape.shift shape.pages shape.writes bytes.now) }
-    ensures accepted { OnOk result (IsBody shape.shift shape.pages shape.writes bytes.now) }
+/// Tests the writes of a trace with this header, behind which the bytes may hold nothing.
+fn check_writes(header: Header, bytes: &[u8]) -> Result<(), TraceError>
+    ensures refused { IfErr result (RefusesBody header.version header.shape.shift header.shape.pages header.shape.writes bytes.now) }
+    ensures accepted { OnOk result (IsBody header.version header.shape.shift header.shape.pages header.shape.writes bytes.now) }
 {
     let mut last = 0;
     let mut rest = bytes;
-    for index in 0..shape.writes {
-        let (tick, after) = checked_write(shape, last, index, rest)?;
+    for index in 0..header.shape.writes {
+        let (tick, after) = checked_write(header, last, index, rest)?;
         last = tick;
         rest = after;
     }
@@ -35,16 +35,16 @@ fn check_writes(shape: Shape, bytes: &[u8]) -> Result<(), TraceError>
 /// A trace that is read in place, from the bytes that encode it: nothing is copied, and nothing is allocated.
 #[derive(Drop)]
 pub struct TraceView<'a> {
-    shape: Shape,
+    header: Header,
     body: &'a [u8],
 }
 
 impl<'a> Model for TraceView<'a> {
     ghost Value = { GuestTrace };
 
-    ghost view = { λ v. trace_with v.shape.shift v.shape.pages (writes_in v.shape.writes v.body.now) };
+    ghost view = { λ v. trace_with v.header.version v.header.shape.shift v.header.shape.pages (writes_in v.header.shape.writes v.body.now) };
 
-    ghost invariant = { λ v. IsView v.shape.shift v.shape.pages v.shape.writes v.body.now };
+    ghost invariant = { λ v. IsView v.header.version v.header.shape.shift v.header.shape.pages v.header.shape.writes v.body.now };
 }
 
 impl<'a> TraceView<'a> {
@@ -52,10 +52,10 @@ impl<'a> TraceView<'a> {
         ensures found { IfOk result (λ trace. Spells bytes.now trace) }
         ensures refused { IfErr result (Refuses bytes.now) }
     {
-        let shape = shape_of(bytes)?;
+        let header = read_header(bytes)?;
         let (_, body) = bytes.split_at(16);
-        check_writes(shape, body)?;
-        Ok(TraceView { shape, body })
+        check_writes(header, body)?;
+        Ok(TraceView { header, body })
     }
 
     /// Reads a trace from its bytes, in one pass over the records. It never returns `E16` or `E17`.
@@ -67,6 +67,13 @@ impl<'a> TraceView<'a> {
         TraceView::whole(bytes)
     }
 
+    /// Returns the version of the trace's format.
+    pub fn version(&self) -> u8
+        ensures { result ≡ self.now.version }
+    {
+        self.header.version
+    }
+
     /// Returns the sizes of the trace.
     pub fn shape(&self) -> Shape
         ensures shift { result.shift ≡ self.now.shift }
@@ -74,27 +81,29 @@ impl<'a> TraceView<'a> {
         ensures writes { result.writes ≡ length self.now.writes }
         ensures is_trace { IsTrace self.now }
     {
-        self.shape
+        self.header.shape
     }
 
     /// Returns an iterator over the writes, in order.
     pub fn records(&self) -> Records<'a>
         ensures { result ≡ self.now.writes }
     {
-        Records::of(self.shape.writes, self.body)
+        Records::of(self.header.shape.writes, self.body)
     }
 
     /// Returns the trace with a copy of each write's bytes. The only error is that memory runs out.
     pub fn to_trace(&self, alloc: Global) -> Result<Trace, AllocError>
         ensures { IfOk result (λ trace. trace ≡ self.now) }
     {
-        let mut writes = Vec::with_capacity(alloc, self.shape.writes as usize)?;
+        let Header { version, shape } = self.header;
+        let mut writes = Vec::with_capacity(alloc, shape.writes as usize)?;
         for record in self.records() {
             writes.push(record.to_write(alloc)?)?;
         }
         Ok(Trace {
-            shift: self.shape.shift,
-            pages: self.shape.pages,
+            version,
+            shift: shape.shift,
+            pages: shape.pages,
             writes,
         })
     }

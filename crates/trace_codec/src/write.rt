@@ -1,12 +1,15 @@
 //! One guest write.
 
-ghost use Rattle.std.specs.Prelude.{◌≡◌, IfOk};
+ghost use Rattle.std.specs.Prelude.{◌≡◌, ◌==◌, ◌+◌, ◌≤◌, IfOk, length};
+ghost use Rattle.migration_model.specs.Memory.{bytes_put, put};
 ghost use Rattle.migration_model.specs.Trace.{GuestWrite, write_with};
 
+use crate::shape::Shape;
 use std::alloc::{AllocError, Global};
 use std::marker::Model;
 
-/// A guest write: at tick `tick`, `bytes` from `offset` of `page` on.
+/// A guest write: at tick `tick`, `bytes` from `offset` of `page` on. One with no bytes, from offset 0 on, releases its
+/// page: the whole page becomes zeros.
 #[derive(Debug, Drop)]
 pub struct Write {
     /// The tick of the write.
@@ -15,7 +18,7 @@ pub struct Write {
     pub page: u32,
     /// The offset in the page, in bytes.
     pub offset: u16,
-    /// The bytes that are written.
+    /// The bytes that are written; none where the page is released.
     pub bytes: Vec<u8>,
 }
 
@@ -47,7 +50,7 @@ impl Write {
     }
 }
 
-/// A guest write whose bytes are borrowed from a trace.
+/// A guest write whose bytes are borrowed from a trace; one with no bytes releases its page.
 #[derive(Clone, Copy, Debug)]
 pub struct WriteView<'a> {
     /// The tick of the write.
@@ -56,12 +59,32 @@ pub struct WriteView<'a> {
     pub page: u32,
     /// The offset in the page, in bytes.
     pub offset: u16,
-    /// The bytes that are written.
+    /// The bytes that are written; none where the page is released.
     pub bytes: &'a [u8],
 }
 
 impl<'a> WriteView<'a> {
     ghost use Rattle.trace_codec.specs.Writes.{shown};
+
+    /// Returns whether the write releases its page.
+    pub fn is_release(&self) -> bool
+        ensures { result ≡ (length (shown self.now).bytes == 0) }
+    {
+        self.bytes.is_empty()
+    }
+
+    /// Puts the write over the bytes from an offset on, of a guest of this shape: the bytes that are written, or zeros
+    /// for a whole page where the write releases it.
+    pub fn put_at(&self, shape: Shape, bytes: &mut [u8], start: usize)
+        requires { start + length (bytes_put shape.shift (shown self.now)) ≤ length bytes.old }
+        ensures { bytes.new ≡ put bytes.old start (bytes_put shape.shift (shown self.now)) }
+    {
+        if self.is_release() {
+            bytes[start..start + shape.page_size()].fill(0);
+            return;
+        }
+        bytes[start..start + self.bytes.len()].copy_from_slice(self.bytes);
+    }
 
     /// Returns this write with a copy of its bytes. The only error is that memory runs out.
     pub fn to_write(&self, alloc: Global) -> Result<Write, AllocError>

@@ -15,6 +15,10 @@ pub trait WriteLog: Timeline {
     // The trace.
     ghost trace: { Self → GuestTrace };
 
+    /// Returns the version of the trace's format.
+    fn version(&self) -> u8
+        ensures { result ≡ (trace self.now).version };
+
     /// Returns the sizes of the trace.
     fn shape(&self) -> Shape
         ensures shift { result.shift ≡ (trace self.now).shift }
@@ -34,6 +38,10 @@ pub trait WriteLog: Timeline {
 
 impl WriteLog for Trace {
     ghost trace = { λ t. t };
+
+    fn version(&self) -> u8 {
+        self.version
+    }
 
     fn shape(&self) -> Shape {
         self.shape()

@@ -11,7 +11,7 @@ use Rattle.trace_readers.specs.Texts.{IsHeldText, IsTested, IsTestedBefore, held
 use Rattle.trace_codec.specs.declared.error.TraceError.{TraceError}
 use Rattle.trace_codec.specs.declared.error.TraceError.TheVariants.{TrailingBytes}
 use Rattle.trace_readers.specs.declared.front_records.FrontRecords.{FrontRecords}
-use Rattle.trace_codec.specs.declared.shape.Shape.{Shape}
+use Rattle.trace_codec.specs.declared.shape.Header.{Header}
 use Rattle.trace_readers.proofs.Logs.{behind_is, behind_twice}
 use Rattle.trace_readers.proofs.Longer.{header_long, positions_longer, reading_longer}
 use Rattle.trace_codec.proofs.Readers.{end_refused, end_spelled, read_refused, reads_on}
@@ -27,39 +27,40 @@ behind_next text rest behind end within here whole is =
     let front : end ≡ length text - length rest = omega (arith, size, within) in
     (omega (arith, next.0, size), behind_twice text rest behind (omega (arith, size)) (here ∙ ap (λ k. drop k text) front) next.0 next.1)
 
-pub behind_within : (shift pages before i : ℕ) (text rest behind : List ℕ) (end : ℕ) → end ≤ length text → rest ≡ drop end text → behind ≡ rest_after rest
-    → write_refusal shift pages before i rest ≡ None → length behind ≤ length text
-behind_within shift pages before i text rest behind end within here is none =
-    (behind_next text rest behind end within here (IsRight-from_none shift pages before i rest none).whole is).0
+pub behind_within : (version shift pages before i : ℕ) (text rest behind : List ℕ) (end : ℕ) → end ≤ length text → rest ≡ drop end text → behind ≡ rest_after rest
+    → write_refusal version shift pages before i rest ≡ None → length behind ≤ length text
+behind_within version shift pages before i text rest behind end within here is none =
+    (behind_next text rest behind end within here (IsRight-from_none version shift pages before i rest none).whole is).0
 
 -- after one more record
-pub tested_more : (text : List ℕ) (old new : FrontRecords) (index : ℕ) (rest behind : List ℕ) → index ≡ length old.positions.items → index < old.shape.writes
-    → rest ≡ drop old.end text → behind ≡ rest_after rest → new.shape ≡ old.shape → new.positions.items ≡ old.positions.items ++ old.end ∷ []
-    → new.last ≡ tick_in rest → new.end ≡ length text - length behind → write_refusal old.shape.shift old.shape.pages old.last index rest ≡ None
+pub tested_more : (text : List ℕ) (old new : FrontRecords) (index : ℕ) (rest behind : List ℕ) → index ≡ length old.positions.items → index < old.header.shape.writes
+    → rest ≡ drop old.end text → behind ≡ rest_after rest → new.header ≡ old.header → new.positions.items ≡ old.positions.items ++ old.end ∷ []
+    → new.last ≡ tick_in rest → new.end ≡ length text - length behind → write_refusal old.header.version old.header.shape.shift old.header.shape.pages old.last index rest ≡ None
     → IsTested text old → IsTested text new
-tested_more text old new index rest behind count low here is shape positions last end none on =
+tested_more text old new index rest behind count low here is header positions last end none on =
     let n = length old.positions.items in
-    let accepted : write_refusal old.shape.shift old.shape.pages old.last n (drop old.end text) ≡ None = rw (count, here) at none in
-    let right = IsRight-from_none _ _ _ index rest none in
+    let accepted : write_refusal old.header.version old.header.shape.shift old.header.shape.pages old.last n (drop old.end text) ≡ None = rw (count, here) at none in
+    let right = IsRight-from_none _ _ _ _ index rest none in
     let next = behind_next text rest behind old.end on.within here right.whole is in
-    let reads = reads_on text old.shape.shift old.shape.pages old.shape.writes n old.last (drop old.end text) on.reads (omega (arith, count, low)) accepted in
+    let reads = reads_on text old.header.version old.header.shape.shift old.header.shape.pages old.header.shape.writes n old.last (drop old.end text) on.reads (omega (arith, count, low)) accepted in
     let len : length new.positions.items ≡ n + 1 = omega (arith, ap length positions, length-append old.positions.items (old.end ∷ [])) in
-    let shift = ap (λ (s : Shape). s.shift) shape in
-    let pages = ap (λ (s : Shape). s.pages) shape in
-    let writes = ap (λ (s : Shape). s.writes) shape in
+    let version = ap (λ (h : Header). h.version) header in
+    let shift = ap (λ (h : Header). h.shape.shift) header in
+    let pages = ap (λ (h : Header). h.shape.pages) header in
+    let writes = ap (λ (h : Header). h.shape.writes) header in
     let left : drop new.end text ≡ rest_after rest = ap (λ k. drop k text) end ∙ sym next.1 ∙ is in
     record {
-      reads = rw (shift, pages, writes, len, last, left, here) reads;
+      reads = rw (version, shift, pages, writes, len, last, left, here) reads;
       found = rw (len, positions) (positions_more text n old.positions.items old.end on.found on.reads.reads.rest_is);
       within = omega (arith, end);
     }
 
 -- where the next one is refused
 pub tested_refused : (text : List ℕ) (front : FrontRecords) (index : ℕ) (rest : List ℕ) (e : TraceError) → index ≡ length front.positions.items
-    → index < front.shape.writes → rest ≡ drop front.end text
-    → write_refusal front.shape.shift front.shape.pages front.last index rest ≡ Some e → IsTested text front → Refuses text e
+    → index < front.header.shape.writes → rest ≡ drop front.end text
+    → write_refusal front.header.version front.header.shape.shift front.header.shape.pages front.last index rest ≡ Some e → IsTested text front → Refuses text e
 tested_refused text front index rest e count low here is on =
-    read_refused text _ _ _ _ _ (drop front.end text) e on.reads (omega (arith, count, low)) (rw (count, here) at is)
+    read_refused text _ _ _ _ _ _ (drop front.end text) e on.reads (omega (arith, count, low)) (rw (count, here) at is)
 
 -- records that were tested are right in longer bytes too
 pub tested_longer : (text : List ℕ) (front : FrontRecords) → IsTestedBefore text front → IsBytes text → length text ≤ 2 ^ 28 → IsTested text front
@@ -72,7 +73,7 @@ tested_longer text front before fits short =
     let rest : drop front.end (old ++ more) ≡ drop front.end old ++ more = drop-append-le front.end old more on.within in
     let longer : IsTested (old ++ more) front =
     record {
-      reads = rw rest (reading_longer old more _ _ _ _ _ (drop front.end old) on.reads long (rw whole fits) (rw whole short));
+      reads = rw rest (reading_longer old more _ _ _ _ _ _ (drop front.end old) on.reads long (rw whole fits) (rw whole short));
       found = positions_longer old more _ _ on.found long on.reads.reads.holds;
       within = omega (arith, on.within, length-append old more);
     } in
@@ -88,18 +89,18 @@ begun_now text (Err e) on = tt
 
 -- ---- where all records are tested
 
-pub tested_trailing : (text : List ℕ) (front : FrontRecords) → length front.positions.items ≡ front.shape.writes → front.end < length text
+pub tested_trailing : (text : List ℕ) (front : FrontRecords) → length front.positions.items ≡ front.header.shape.writes → front.end < length text
     → IsTested text front → Refuses text TrailingBytes
 tested_trailing text front all more on =
-    end_refused text _ _ _ _ _ (drop front.end text) on.reads all (omega (arith, more, length-drop front.end text))
+    end_refused text _ _ _ _ _ _ (drop front.end text) on.reads all (omega (arith, more, length-drop front.end text))
 
-pub tested_spelled : (text : List ℕ) (front : FrontRecords) → length front.positions.items ≡ front.shape.writes → length text ≤ front.end
-    → IsTested text front → Spells text (held_trace front.shape.shift front.shape.pages front.shape.writes text)
+pub tested_spelled : (text : List ℕ) (front : FrontRecords) → length front.positions.items ≡ front.header.shape.writes → length text ≤ front.end
+    → IsTested text front → Spells text (held_trace front.header.version front.header.shape.shift front.header.shape.pages front.header.shape.writes text)
 tested_spelled text front all end on =
-    rw all at (end_spelled text _ _ _ _ _ (drop front.end text) on.reads all (omega (arith, end, length-drop front.end text)))
+    rw all at (end_spelled text _ _ _ _ _ _ (drop front.end text) on.reads all (omega (arith, end, length-drop front.end text)))
 
-pub tested_held : (text : List ℕ) (front : FrontRecords) → length front.positions.items ≡ front.shape.writes → length text ≤ front.end
-    → IsTested text front → IsHeldText front.shape.shift front.shape.pages front.shape.writes text front.positions.items
+pub tested_held : (text : List ℕ) (front : FrontRecords) → length front.positions.items ≡ front.header.shape.writes → length text ≤ front.end
+    → IsTested text front → IsHeldText front.header.version front.header.shape.shift front.header.shape.pages front.header.shape.writes text front.positions.items
 tested_held text front all end on =
     record {
       is_view = record { is_trace = (tested_spelled text front all end on).is_trace; holds = rw all at on.reads.reads.holds };

@@ -14,7 +14,7 @@ use Rattle.std.specs.Prelude.{IfErr, IfOk, IfSome, MatchResult}
 use Rattle.trace_codec.specs.declared.error.TraceError.{TraceError}
 use Rattle.trace_codec.specs.declared.error.TraceError.TheVariants.{TooLong, TrailingBytes}
 use Rattle.trace_readers.specs.declared.log_reader.LogReader.{LogReader}
-use Rattle.trace_codec.specs.declared.shape.Shape.{Shape}
+use Rattle.trace_codec.specs.declared.shape.Header.{Header}
 use Rattle.migration_model.proofs.Touches.{AreTouches-from_trace}
 use Rattle.migration_model.proofs.Traces.{one_trace_lem}
 use Rattle.trace_codec.proofs.Never.{never_refused}
@@ -27,18 +27,19 @@ map_push : (f : GuestWrite → GuestTouch) (xs : List GuestWrite) (x : GuestWrit
 map_push f [] x = refl
 map_push f (y ∷ xs) x = ap (λ (ts : List GuestTouch). f y ∷ ts) (map_push f xs x)
 
-pub logged_more : (text : List ℕ) (old new : LogReader) (bytes rest : List ℕ) (index : ℕ) → index ≡ length old.touches.items → index < old.shape.writes → new.shape ≡ old.shape
+pub logged_more : (text : List ℕ) (old new : LogReader) (bytes rest : List ℕ) (index : ℕ) → index ≡ length old.touches.items → index < old.header.shape.writes → new.header ≡ old.header
     → new.touches.items ≡ old.touches.items ++ touch_of (write_in bytes) ∷ [] → new.last ≡ tick_in bytes → rest ≡ rest_after bytes
-    → write_refusal old.shape.shift old.shape.pages old.last index bytes ≡ None → IsLogged text old bytes → IsLogged text new rest
-logged_more text old new bytes rest index here low shape touches last rest_is none on =
+    → write_refusal old.header.version old.header.shape.shift old.header.shape.pages old.last index bytes ≡ None → IsLogged text old bytes → IsLogged text new rest
+logged_more text old new bytes rest index here low header touches last rest_is none on =
     let n = length old.touches.items in
-    let next = reads_on text old.shape.shift old.shape.pages old.shape.writes n old.last bytes on.reads (omega (arith, here, low)) (subst (λ i. write_refusal old.shape.shift old.shape.pages old.last i bytes ≡ None) here none) in
+    let next = reads_on text old.header.version old.header.shape.shift old.header.shape.pages old.header.shape.writes n old.last bytes on.reads (omega (arith, here, low)) (subst (λ i. write_refusal old.header.version old.header.shape.shift old.header.shape.pages old.last i bytes ≡ None) here none) in
     let len : length new.touches.items ≡ n + 1 = omega (arith, ap length touches, length-append old.touches.items (touch_of (write_in bytes) ∷ [])) in
-    let shift = ap (λ (s : Shape). s.shift) shape in
-    let pages = ap (λ (s : Shape). s.pages) shape in
-    let writes = ap (λ (s : Shape). s.writes) shape in
+    let version = ap (λ (h : Header). h.version) header in
+    let shift = ap (λ (h : Header). h.shape.shift) header in
+    let pages = ap (λ (h : Header). h.shape.pages) header in
+    let writes = ap (λ (h : Header). h.shape.writes) header in
     record {
-      reads = rw (shift, pages, writes, len, last, rest_is) next;
+      reads = rw (version, shift, pages, writes, len, last, rest_is) next;
       touched = touches
           ∙ (λ i. on.touched i ++ touch_of (write_in (on.reads.reads.rest_is i)) ∷ [])
           ∙ sym (map_push touch_of (writes_in n (drop 16 text)) _)
@@ -46,10 +47,10 @@ logged_more text old new bytes rest index here low shape touches last rest_is no
           ∙ ap (λ k. map touch_of (writes_in k (drop 16 text))) (sym len);
     }
 
-pub logged_refused : (text : List ℕ) (reader : LogReader) (bytes : List ℕ) (index : ℕ) (e : TraceError) → index ≡ length reader.touches.items → index < reader.shape.writes
-    → write_refusal reader.shape.shift reader.shape.pages reader.last index bytes ≡ Some e → IsLogged text reader bytes → Refuses text e
+pub logged_refused : (text : List ℕ) (reader : LogReader) (bytes : List ℕ) (index : ℕ) (e : TraceError) → index ≡ length reader.touches.items → index < reader.header.shape.writes
+    → write_refusal reader.header.version reader.header.shape.shift reader.header.shape.pages reader.last index bytes ≡ Some e → IsLogged text reader bytes → Refuses text e
 logged_refused text reader bytes index e here low is on =
-    read_refused text _ _ _ _ _ bytes e on.reads (omega (arith, here, low)) (subst (λ i. write_refusal reader.shape.shift reader.shape.pages reader.last i bytes ≡ Some e) here is)
+    read_refused text _ _ _ _ _ _ bytes e on.reads (omega (arith, here, low)) (subst (λ i. write_refusal reader.header.version reader.header.shape.shift reader.header.shape.pages reader.last i bytes ≡ Some e) here is)
 
 -- the bytes behind a write are the last of the bytes
 pub behind_is : (bytes rest : List ℕ) → 16 + length_in bytes ≤ length bytes → rest ≡ rest_after bytes
@@ -70,9 +71,9 @@ behind_twice bytes rest behind low is lower next =
     let all : taken + more ≡ length bytes - length behind = omega arith in
     next ∙ ap (drop more) is ∙ drop-drop more taken bytes ∙ ap (λ k. drop k bytes) all
 
-pub logged_trailing : (text : List ℕ) (reader : LogReader) (rest : List ℕ) → reader.shape.writes ≤ length reader.touches.items → 0 < length rest
+pub logged_trailing : (text : List ℕ) (reader : LogReader) (rest : List ℕ) → reader.header.shape.writes ≤ length reader.touches.items → 0 < length rest
     → IsLogged text reader rest → Refuses text TrailingBytes
-logged_trailing text reader rest all more on = end_refused text _ _ _ _ _ rest on.reads (omega (arith, all, on.reads.few)) more
+logged_trailing text reader rest all more on = end_refused text _ _ _ _ _ _ rest on.reads (omega (arith, all, on.reads.few)) more
 
 -- ---- the log of longer bytes
 
@@ -81,7 +82,7 @@ logged_longer : (text more : List ℕ) (reader : LogReader) (rest : List ℕ) �
 logged_longer text more reader rest on fits short =
     let long = header_long text on.reads.cut.header in
     record {
-      reads = reading_longer text more _ _ _ _ _ rest on.reads long fits short;
+      reads = reading_longer text more _ _ _ _ _ _ rest on.reads long fits short;
       touched = on.touched ∙ ap (map touch_of) (sym (writes_longer text more _ long on.reads.reads.holds));
     }
 
@@ -107,7 +108,7 @@ logging_more old mid new start reader before taken after more count step read on
 pub logging_all : (old mid new : Option (List ℕ)) (start reader : LogReader) (before taken after : PiecesState) (more : Bool) → more ≡ false
     → before.count ≤ 2 ^ 28 → taken.count ≡ before.count → taken.rest ≡ []
     → ((text : List ℕ) → IsLogged text start before.rest → IsLogged text reader taken.rest)
-    → ((text : List ℕ) → IsLogged text start before.rest → length reader.touches.items ≡ reader.shape.writes)
+    → ((text : List ℕ) → IsLogged text start before.rest → length reader.touches.items ≡ reader.header.shape.writes)
     → HasRead mid new taken after more → IsLogging old mid start before → IsAllLogged old reader
 logging_all old mid new start reader before taken after more ended short count none step all read on =
     let text = on.text in
@@ -116,20 +117,20 @@ logging_all old mid new start reader before taken after more ended short count n
     let first = on.logged (omega (arith, short, on.came.count_is)) in
     let end = step text first in
     let n = length reader.touches.items in
-    let spells = end_spelled text reader.shape.shift reader.shape.pages reader.shape.writes n reader.last taken.rest end.reads (all text first) (ap length none) in
+    let spells = end_spelled text reader.header.version reader.header.shape.shift reader.header.shape.pages reader.header.shape.writes n reader.last taken.rest end.reads (all text first) (ap length none) in
     record {
-      trace = trace_with reader.shape.shift reader.shape.pages (writes_in n (drop 16 text));
+      trace = trace_with reader.header.version reader.header.shape.shift reader.header.shape.pages (writes_in n (drop 16 text));
       count = all text first;
       is_trace = spells.is_trace;
       held = spelled_whole old new text _ (last.0, λ low. last.1) spells;
-      log_is = ap (touches_with reader.shape.shift reader.shape.pages) end.touched;
+      log_is = ap (touches_with reader.header.version reader.header.shape.shift reader.header.shape.pages) end.touched;
     }
 
 -- ---- the start and the end
 
 -- before the first write
-reads_none : (shift pages : ℕ) (body : List ℕ) → ReadsTo shift pages 0 body 0 body
-reads_none shift pages body =
+reads_none : (version shift pages : ℕ) (body : List ℕ) → ReadsTo version shift pages 0 body 0 body
+reads_none version shift pages body =
     record {
       holds = tt;
       fit = record { each = λ k d low. absurd (omega arith); in_order = λ i j d order low. absurd (omega arith) };
@@ -140,7 +141,7 @@ reads_none shift pages body =
 
 -- behind the header
 pub logging_none : (old new : Option (List ℕ)) (reader : LogReader) (pieces : PiecesState) → reader.touches.items ≡ [] → reader.last ≡ 0
-    → HasHeader old new reader.shape.shift reader.shape.pages reader.shape.writes pieces → IsLogging old new reader pieces
+    → HasHeader old new reader.header.version reader.header.shape.shift reader.header.shape.pages reader.header.shape.writes pieces → IsLogging old new reader pieces
 logging_none old new reader pieces none last header =
     let count = ap length none in
     record {
@@ -150,7 +151,7 @@ logging_none old new reader pieces none last header =
       logged = λ short. record {
         reads = record {
           cut = rw header.cut.body_is at header.cut;
-          reads = rw (none, last, header.cut.body_is) (reads_none reader.shape.shift reader.shape.pages (drop 16 header.text));
+          reads = rw (none, last, header.cut.body_is) (reads_none reader.header.version reader.header.shape.shift reader.header.shape.pages (drop 16 header.text));
           few = omega (arith, count);
         };
         touched = rw none refl;
@@ -164,14 +165,14 @@ logging_long old new reader pieces long on = long_refused old new on.text on.cam
 
 -- the log of all writes
 pub all_fit : (old : Option (List ℕ)) (reader : LogReader) → IsAllLogged old reader
-    → (length reader.touches.items ≡ reader.shape.writes) × AreTouches reader.shape.pages reader.touches.items
+    → (length reader.touches.items ≡ reader.header.shape.writes) × AreTouches reader.header.shape.pages reader.touches.items
 all_fit old reader all =
     let pages = ap (λ (l : GuestTouches). l.pages) all.log_is in
     let touches = ap (λ (l : GuestTouches). l.touches) all.log_is in
     (all.count, rw (pages, touches) (AreTouches-from_trace all.trace all.is_trace))
 
 pub all_found : (old : Option (List ℕ)) (reader : LogReader) → IsAllLogged old reader
-    → IsLogOf old (touches_with reader.shape.shift reader.shape.pages reader.touches.items)
+    → IsLogOf old (touches_with reader.header.version reader.header.shape.shift reader.header.shape.pages reader.touches.items)
 all_found old reader all = (all.trace, all.is_trace, all.held, all.log_is)
 
 -- of a source whose bytes encode a trace, that is the log

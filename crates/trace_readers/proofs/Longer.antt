@@ -85,8 +85,8 @@ known : (e : TraceError) → wants_bytes e ≡ false → (e ≡ ReadFault → �
 known e some fault = record { some = some; fault = fault }
 
 -- why a write is refused that stands whole
-whole_causes : (shift pages before i : ℕ) (bytes : List ℕ) → 16 + length_in bytes ≤ length bytes → Each IsKnown (write_refusal shift pages before i bytes)
-whole_causes shift pages before i bytes long =
+whole_causes : (version shift pages before i : ℕ) (bytes : List ℕ) → 16 + length_in bytes ≤ length bytes → Each IsKnown (write_refusal version shift pages before i bytes)
+whole_causes version shift pages before i bytes long =
     each_else IsKnown _ _ _ (le-ltb (length bytes) 16 (omega arith))
     (each_else IsKnown _ _ _ (le-ltb (length bytes) (16 + length_in bytes) long)
     (each_or IsKnown _ _ _ (known (TickOrder i) refl (λ same. absurd cc))
@@ -99,8 +99,8 @@ whole_causes shift pages before i bytes long =
 abbrev IsCutOff : ℕ → TraceError → Type 0
 IsCutOff i e = e ≡ ShortRecord i
 
-cut_short : (shift pages before i : ℕ) (bytes : List ℕ) → length bytes < 16 + length_in bytes → Each (IsCutOff i) (write_refusal shift pages before i bytes)
-cut_short shift pages before i bytes cut =
+cut_short : (version shift pages before i : ℕ) (bytes : List ℕ) → length bytes < 16 + length_in bytes → Each (IsCutOff i) (write_refusal version shift pages before i bytes)
+cut_short version shift pages before i bytes cut =
     each_or (IsCutOff i) _ _ _ refl
     (each_here (IsCutOff i) _ _ _ (lt-ltb (length bytes) (16 + length_in bytes) cut) refl)
 
@@ -109,15 +109,15 @@ pub record IsRecordCause (bytes : List ℕ) (e : TraceError) : Type 0 where
   pub room : wants_bytes e ≡ true → length bytes < 65_551
   pub fault : e ≡ ReadFault → ⊥
 
-pub record_cause : (shift pages before i : ℕ) (bytes : List ℕ) (e : TraceError) → IsBytes bytes → write_refusal shift pages before i bytes ≡ Some e → IsRecordCause bytes e
-record_cause shift pages before i bytes e fits is =
+pub record_cause : (version shift pages before i : ℕ) (bytes : List ℕ) (e : TraceError) → IsBytes bytes → write_refusal version shift pages before i bytes ≡ Some e → IsRecordCause bytes e
+record_cause version shift pages before i bytes e fits is =
     let low : length_in bytes < 65_536 = wide16.below (drop 14 bytes) (IsBytes-drop 14 bytes fits) in
     elim (cases_lt (length bytes) (16 + length_in bytes)) [
       | inl cut ↦
-          let short : e ≡ ShortRecord i = cut_short shift pages before i bytes cut e is in
+          let short : e ≡ ShortRecord i = cut_short version shift pages before i bytes cut e is in
           record { room = λ wants. omega (arith, cut, low); fault = λ same. absurd cc }
       | inr long ↦
-          let k = whole_causes shift pages before i bytes long e is in
+          let k = whole_causes version shift pages before i bytes long e is in
           record { room = λ wants. let some = k.some in absurd cc; fault = k.fault }
     ]
 
@@ -146,9 +146,9 @@ header_longer bytes more long short =
 length_longer : (bytes more : List ℕ) → 16 ≤ length bytes → length_in (bytes ++ more) ≡ length_in bytes
 length_longer bytes more long = number16 14 bytes more (omega arith)
 
-write_longer : (shift pages before i : ℕ) (bytes more : List ℕ) → 16 + length_in bytes ≤ length bytes
-    → write_refusal shift pages before i (bytes ++ more) ≡ write_refusal shift pages before i bytes
-write_longer shift pages before i bytes more long =
+write_longer : (version shift pages before i : ℕ) (bytes more : List ℕ) → 16 + length_in bytes ≤ length bytes
+    → write_refusal version shift pages before i (bytes ++ more) ≡ write_refusal version shift pages before i bytes
+write_longer version shift pages before i bytes more long =
     let size = length-append bytes more in
     let len = length_longer bytes more (omega arith) in
     let whole : 16 + length_in bytes ≤ length (bytes ++ more) = omega (arith, size) in
@@ -166,9 +166,10 @@ write_longer shift pages before i bytes more long =
 -- longer bytes have the same beginning
 begins_longer : (bytes more : List ℕ) → length (bytes ++ more) ≤ 2 ^ 28 → Begins bytes → Begins (bytes ++ more)
 begins_longer bytes more short b =
-    let head = header_text b.shift b.pages b.count in
+    let head = header_text b.version b.shift b.pages b.count in
     let body = flat_map write_text b.writes in
     record {
+      version = b.version;
       shift = b.shift;
       pages = b.pages;
       count = b.count;
@@ -193,9 +194,9 @@ stays bytes more e (in_header is) some short = elim (cases_lt (length bytes) 16)
   | inr long ↦ in_header (header_longer bytes more long short ∙ is)
 ]
 stays bytes more e (in_write b left is) some short = elim (cases_lt (length b.rest) (16 + length_in b.rest)) [
-  | inl cut ↦ let short : e ≡ ShortRecord (length b.writes) = cut_short b.shift b.pages (last_tick b.writes) (length b.writes) b.rest cut e is in absurd cc
+  | inl cut ↦ let short : e ≡ ShortRecord (length b.writes) = cut_short b.version b.shift b.pages (last_tick b.writes) (length b.writes) b.rest cut e is in absurd cc
   | inr long ↦
-      in_write (begins_longer bytes more short b) left (write_longer b.shift b.pages (last_tick b.writes) (length b.writes) b.rest more long ∙ is)
+      in_write (begins_longer bytes more short b) left (write_longer b.version b.shift b.pages (last_tick b.writes) (length b.writes) b.rest more long ∙ is)
 ]
 stays bytes more e (behind b all left is) some short = behind (begins_longer bytes more short b) all (omega (arith, length-append b.rest more)) is
 
@@ -239,16 +240,17 @@ SameFront-from (suc n) bytes more holds =
     }
 
 -- what was read of some bytes is read of longer ones
-pub reading_longer : (bytes more : List ℕ) (shift pages count n last : ℕ) (rest : List ℕ) → IsReading bytes shift pages count n last rest
+pub reading_longer : (bytes more : List ℕ) (version shift pages count n last : ℕ) (rest : List ℕ) → IsReading bytes version shift pages count n last rest
     → 16 ≤ length bytes → IsBytes (bytes ++ more) → length (bytes ++ more) ≤ 2 ^ 28
-    → IsReading (bytes ++ more) shift pages count n last (rest ++ more)
-reading_longer bytes more shift pages count n last rest on long fits short =
+    → IsReading (bytes ++ more) version shift pages count n last (rest ++ more)
+reading_longer bytes more version shift pages count n last rest on long fits short =
     let body : drop 16 (bytes ++ more) ≡ drop 16 bytes ++ more = drop-append-le 16 bytes more long in
     let same = SameFront-from n (drop 16 bytes) more on.reads.holds in
     record {
       cut = record {
         fits = fits;
         header = header_longer bytes more long short ∙ on.cut.header;
+        version_is = on.cut.version_is ∙ sym (at 4 bytes more (omega arith));
         shift_is = on.cut.shift_is ∙ sym (at 5 bytes more (omega arith));
         pages_is = on.cut.pages_is ∙ sym (number32 8 bytes more (omega arith));
         count_is = on.cut.count_is ∙ sym (number32 12 bytes more (omega arith));

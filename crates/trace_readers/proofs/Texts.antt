@@ -41,30 +41,30 @@ positions_more bytes count positions position before here =
 
 -- ---- the writes of a trace that is held as its bytes
 
-pub count_of : (trace : GuestTrace) (shift pages count : ℕ) (bytes : List ℕ) → held_trace shift pages count bytes ≡ trace → length trace.writes ≡ count
-count_of trace shift pages count bytes is = sym (ap (λ (t : GuestTrace). length t.writes) is) ∙ length-writes_in count (drop 16 bytes)
+pub count_of : (trace : GuestTrace) (version shift pages count : ℕ) (bytes : List ℕ) → held_trace version shift pages count bytes ≡ trace → length trace.writes ≡ count
+count_of trace version shift pages count bytes is = sym (ap (λ (t : GuestTrace). length t.writes) is) ∙ length-writes_in count (drop 16 bytes)
 
 -- an index of a write of the trace is an index of a record of the bytes
-pub within_count : (trace : GuestTrace) (shift pages count n : ℕ) (bytes : List ℕ) → held_trace shift pages count bytes ≡ trace → n < length trace.writes → n < count
-within_count trace shift pages count n bytes is low = omega (arith, count_of trace shift pages count bytes is)
+pub within_count : (trace : GuestTrace) (version shift pages count n : ℕ) (bytes : List ℕ) → held_trace version shift pages count bytes ≡ trace → n < length trace.writes → n < count
+within_count trace version shift pages count n bytes is low = omega (arith, count_of trace version shift pages count bytes is)
 
 -- the record at an offset is whole, and the offset is within the bytes
-pub held_whole : (shift pages count n d : ℕ) (bytes positions : List ℕ) → IsHeldText shift pages count bytes positions → n < count
+pub held_whole : (version shift pages count n d : ℕ) (bytes positions : List ℕ) → IsHeldText version shift pages count bytes positions → n < count
     → 16 + length_in (drop (get_or positions n d) bytes) ≤ length (drop (get_or positions n d) bytes)
-held_whole shift pages count n d bytes positions held low =
+held_whole version shift pages count n d bytes positions held low =
     rw (held.are_positions.stands n d low) (whole_at count n (drop 16 bytes) held.is_view.holds low)
 
-pub held_within : (shift pages count n d : ℕ) (bytes positions : List ℕ) → IsHeldText shift pages count bytes positions → n < count
+pub held_within : (version shift pages count n d : ℕ) (bytes positions : List ℕ) → IsHeldText version shift pages count bytes positions → n < count
     → get_or positions n d ≤ length bytes
-held_within shift pages count n d bytes positions held low =
+held_within version shift pages count n d bytes positions held low =
     let position = get_or positions n d in
-    let whole : 16 + length_in (drop position bytes) ≤ length (drop position bytes) = held_whole shift pages count n d bytes positions held low in
+    let whole : 16 + length_in (drop position bytes) ≤ length (drop position bytes) = held_whole version shift pages count n d bytes positions held low in
     omega (arith, whole, length-drop position bytes)
 
-pub held_write : (trace : GuestTrace) (shift pages count n d : ℕ) (bytes positions : List ℕ) → IsHeldText shift pages count bytes positions
-    → held_trace shift pages count bytes ≡ trace → n < count
+pub held_write : (trace : GuestTrace) (version shift pages count n d : ℕ) (bytes positions : List ℕ) → IsHeldText version shift pages count bytes positions
+    → held_trace version shift pages count bytes ≡ trace → n < count
     → write_in (drop (get_or positions n d) bytes) ≡ get_or trace.writes n no_write
-held_write trace shift pages count n d bytes positions held is low =
+held_write trace version shift pages count n d bytes positions held is low =
     ap write_in (held.are_positions.stands n d low)
     ∙ sym (write_at count n (drop 16 bytes) no_write low)
     ∙ ap (λ (t : GuestTrace). get_or t.writes n no_write) is

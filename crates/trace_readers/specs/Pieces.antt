@@ -40,11 +40,11 @@ pub record IsUntaken (old new : Option (List ℕ)) (pieces : PiecesState) : Type
   pub came : CameAs old new pieces.count pieces.rest
   pub fits : IsBytes pieces.rest
 
--- the header was taken, and these are the sizes in it
-pub record HasHeader (old new : Option (List ℕ)) (shift pages writes : ℕ) (pieces : PiecesState) : Type 0 where
+-- the header was taken, and these are the version and the sizes in it
+pub record HasHeader (old new : Option (List ℕ)) (version shift pages writes : ℕ) (pieces : PiecesState) : Type 0 where
   pub text : List ℕ
   pub came : CameAs old new pieces.count text
-  pub cut : IsCut text shift pages writes pieces.rest
+  pub cut : IsCut text version shift pages writes pieces.rest
 
 -- whether more bytes may end this refusal
 abbrev pub wants_bytes : TraceError → Bool
@@ -55,7 +55,7 @@ wants_bytes e = false
 -- the reader has logged the touches of the first writes of these bytes, the last of them at its last tick, and `rest`
 -- is the bytes behind them
 pub record IsLogged (text : List ℕ) (reader : LogReader) (rest : List ℕ) : Type 0 where
-  pub reads : IsReading text reader.shape.shift reader.shape.pages reader.shape.writes (length reader.touches.items) reader.last rest
+  pub reads : IsReading text reader.header.version reader.header.shape.shift reader.header.shape.pages reader.header.shape.writes (length reader.touches.items) reader.last rest
   pub touched : reader.touches.items ≡ map touch_of (writes_in (length reader.touches.items) (drop 16 text))
 
 -- the reader has logged the bytes that came, unless they are longer than a trace may be
@@ -68,10 +68,10 @@ pub record IsLogging (old new : Option (List ℕ)) (reader : LogReader) (pieces 
 -- the source has come to its end, and all writes were logged
 pub record IsAllLogged (old : Option (List ℕ)) (reader : LogReader) : Type 0 where
   pub trace : GuestTrace
-  pub count : length reader.touches.items ≡ reader.shape.writes
+  pub count : length reader.touches.items ≡ reader.header.shape.writes
   pub is_trace : IsTrace trace
   pub held : SourceSpells old trace
-  pub log_is : touches_with reader.shape.shift reader.shape.pages reader.touches.items ≡ touches_in trace
+  pub log_is : touches_with reader.header.version reader.header.shape.shift reader.header.shape.pages reader.touches.items ≡ touches_in trace
 
 -- the log of a trace that the source holds
 abbrev pub IsLogOf : Option (List ℕ) → GuestTouches → Type 0

@@ -6,8 +6,8 @@ use Rattle.trace_codec.specs.Reading.{IsReading, IsView}
 use Rattle.trace_readers.specs.declared.front_records.FrontRecords.{FrontRecords}
 
 -- the trace whose writes, so many, stand behind the header in these bytes
-abbrev pub held_trace : ℕ → ℕ → ℕ → List ℕ → GuestTrace
-held_trace shift pages count bytes = trace_with shift pages (writes_in count (drop 16 bytes))
+abbrev pub held_trace : ℕ → ℕ → ℕ → ℕ → List ℕ → GuestTrace
+held_trace version shift pages count bytes = trace_with version shift pages (writes_in count (drop 16 bytes))
 
 -- the offsets of the first records of a trace, so many: at each of them begin the bytes behind the records before
 pub record ArePositions (bytes : List ℕ) (count : ℕ) (positions : List ℕ) : Type 0 where
@@ -16,14 +16,14 @@ pub record ArePositions (bytes : List ℕ) (count : ℕ) (positions : List ℕ) 
 
 -- what a trace that is held as its bytes keeps: the bytes hold its writes behind the header, and these are the offsets
 -- of all
-pub record IsHeldText (shift pages count : ℕ) (bytes positions : List ℕ) : Type 0 where
-  pub is_view : IsView shift pages count (drop 16 bytes)
+pub record IsHeldText (version shift pages count : ℕ) (bytes positions : List ℕ) : Type 0 where
+  pub is_view : IsView version shift pages count (drop 16 bytes)
   pub are_positions : ArePositions bytes count positions
 
 -- the first records of these bytes are right, the last of them at its last tick: these are their offsets, and there
 -- they end
 pub record IsTested (text : List ℕ) (front : FrontRecords) : Type 0 where
-  pub reads : IsReading text front.shape.shift front.shape.pages front.shape.writes (length front.positions.items) front.last (drop front.end text)
+  pub reads : IsReading text front.header.version front.header.shape.shift front.header.shape.pages front.header.shape.writes (length front.positions.items) front.last (drop front.end text)
   pub found : ArePositions text (length front.positions.items) front.positions.items
   pub within : front.end ≤ length text
 

@@ -6,13 +6,13 @@ ghost use Rattle.trace_codec.specs.Refusals.{RefusesUnlessMemory};
 ghost use Rattle.trace_readers.specs.Texts.{IsHeldText, IsTested, held_trace};
 
 use std::alloc::Global;
-use trace_codec::{Shape, TraceError, checked_write, shape_of};
+use trace_codec::{Header, TraceError, checked_write, read_header};
 
 /// The first records of a trace's bytes, all of them right: the offset of each, the tick of the last, and the offset
 /// of the first record that is not tested yet.
 #[derive(Drop)]
 pub(crate) struct FrontRecords {
-    pub(crate) shape: Shape,
+    pub(crate) header: Header,
     last: u64,
     end: usize,
     pub(crate) positions: Vec<u32>,
@@ -25,10 +25,10 @@ impl FrontRecords {
         ensures tested { IfOk result (IsTested bytes.now) }
         ensures refused { IfErr result (RefusesUnlessMemory bytes.now) }
     {
-        let shape = shape_of(bytes)?;
-        let positions = Vec::with_capacity(alloc, most.min(shape.writes as usize))?;
+        let header = read_header(bytes)?;
+        let positions = Vec::with_capacity(alloc, most.min(header.shape.writes as usize))?;
         Ok(FrontRecords {
-            shape,
+            header,
             last: 0,
             end: 16,
             positions,
@@ -38,15 +38,15 @@ impl FrontRecords {
     /// Tests the next record.
     fn test_record(&mut self, bytes: &[u8]) -> Result<(), TraceError>
         requires tested { IsTested bytes.now self.old }
-        requires left { length self.old.positions.items < self.old.shape.writes }
-        ensures shape { self.new.shape ≡ self.old.shape }
+        requires left { length self.old.positions.items < self.old.header.shape.writes }
+        ensures header { self.new.header ≡ self.old.header }
         ensures tested { IsTested bytes.now self.new }
         ensures one_more { OnOk result (length self.new.positions.items ≡ length self.old.positions.items + 1) }
         ensures refused { IfErr result (RefusesUnlessMemory bytes.now) }
     {
         let index = self.positions.len() as u32;
         let (_, rest) = bytes.split_at(self.end);
-        let (tick, behind) = checked_write(self.shape, self.last, index, rest)?;
+        let (tick, behind) = checked_write(self.header, self.last, index, rest)?;
         self.positions.push(self.end as u32)?;
         self.last = tick;
         self.end = bytes.len() - behind.len();
@@ -57,12 +57,12 @@ impl FrontRecords {
     /// is refused. The records tested by then stay so, and bytes that come behind them may end the refusal.
     pub(crate) fn go_on(&mut self, bytes: &[u8]) -> Result<(), TraceError>
         requires { IsTested bytes.now self.old }
-        ensures shape { self.new.shape ≡ self.old.shape }
+        ensures header { self.new.header ≡ self.old.header }
         ensures tested { IsTested bytes.now self.new }
-        ensures all { OnOk result (length self.new.positions.items ≡ self.new.shape.writes) }
+        ensures all { OnOk result (length self.new.positions.items ≡ self.new.header.shape.writes) }
         ensures refused { IfErr result (RefusesUnlessMemory bytes.now) }
     {
-        while self.positions.len() < self.shape.writes as usize {
+        while self.positions.len() < self.header.shape.writes as usize {
             self.test_record(bytes)?;
         }
         Ok(())
@@ -71,8 +71,8 @@ impl FrontRecords {
     /// Returns all records of a whole trace, behind which no bytes follow.
     pub(crate) fn all(self, bytes: &[u8]) -> Result<FrontRecords, TraceError>
         requires { IsTested bytes.now self }
-        ensures spelled { IfOk result (λ all. Spells bytes.now (held_trace all.shape.shift all.shape.pages all.shape.writes bytes.now)) }
-        ensures held { IfOk result (λ all. IsHeldText all.shape.shift all.shape.pages all.shape.writes bytes.now all.positions.items) }
+        ensures spelled { IfOk result (λ all. Spells bytes.now (held_trace all.header.version all.header.shape.shift all.header.shape.pages all.header.shape.writes bytes.now)) }
+        ensures held { IfOk result (λ all. IsHeldText all.header.version all.header.shape.shift all.header.shape.pages all.header.shape.writes bytes.now all.positions.items) }
         ensures refused { IfErr result (RefusesUnlessMemory bytes.now) }
     {
         let mut front = self;

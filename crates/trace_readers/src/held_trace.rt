@@ -14,13 +14,15 @@ use crate::text_reading::{ComingText, read_text};
 use crate::touch_log::SHORTEST_RECORD;
 use std::alloc::Global;
 use std::marker::Model;
-use trace_codec::{Shape, Source, Timeline, Touch, TraceError, WriteLog, WriteView, first_write};
+use trace_codec::{
+    Header, Shape, Source, Timeline, Touch, TraceError, WriteLog, WriteView, first_write,
+};
 
 /// A trace that is held as its bytes, with the offset of each record: 4 bytes a write beside the bytes of the trace,
 /// and no other copy of what is written.
 #[derive(Debug, Drop)]
 pub struct HeldTrace {
-    shape: Shape,
+    header: Header,
     bytes: Vec<u8>,
     positions: Vec<u32>,
 }
@@ -28,9 +30,9 @@ pub struct HeldTrace {
 impl Model for HeldTrace {
     ghost Value = { GuestTrace };
 
-    ghost view = { λ t. held_trace t.shape.shift t.shape.pages t.shape.writes t.bytes.items };
+    ghost view = { λ t. held_trace t.header.version t.header.shape.shift t.header.shape.pages t.header.shape.writes t.bytes.items };
 
-    ghost invariant = { λ t. IsHeldText t.shape.shift t.shape.pages t.shape.writes t.bytes.items t.positions.items };
+    ghost invariant = { λ t. IsHeldText t.header.version t.header.shape.shift t.header.shape.pages t.header.shape.writes t.bytes.items t.positions.items };
 }
 
 impl HeldTrace {
@@ -47,7 +49,7 @@ impl HeldTrace {
         };
         let all = front.all(&bytes)?;
         Ok(HeldTrace {
-            shape: all.shape,
+            header: all.header,
             bytes,
             positions: all.positions,
         })
@@ -82,6 +84,13 @@ impl HeldTrace {
         HeldTrace::of_text(alloc, text)
     }
 
+    /// Returns the version of the trace's format.
+    pub fn version(&self) -> u8
+        ensures { result ≡ self.now.version }
+    {
+        self.header.version
+    }
+
     /// Returns the sizes of the trace.
     pub fn shape(&self) -> Shape
         ensures shift { result.shift ≡ self.now.shift }
@@ -89,7 +98,7 @@ impl HeldTrace {
         ensures writes { result.writes ≡ length self.now.writes }
         ensures is_trace { IsTrace self.now }
     {
-        self.shape
+        self.header.shape
     }
 
     /// Returns the bytes from the record of write `index` on.
@@ -109,7 +118,7 @@ impl Timeline for HeldTrace {
     ghost pages = { λ t. t.pages };
 
     fn page_count(&self) -> u32 {
-        self.shape.pages
+        self.header.shape.pages
     }
 
     fn touch_count(&self) -> usize {
@@ -141,6 +150,10 @@ impl Timeline for HeldTrace {
 
 impl WriteLog for HeldTrace {
     ghost trace = { λ t. t };
+
+    fn version(&self) -> u8 {
+        self.version()
+    }
 
     fn shape(&self) -> Shape {
         self.shape()

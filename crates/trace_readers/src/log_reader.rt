@@ -10,13 +10,13 @@ use crate::pieces::Pieces;
 use crate::touch_log::TouchLog;
 use std::alloc::Global;
 use trace_codec::{
-    MAX_LENGTH, Shape, Source, Touch, TraceError, checked_write, first_write, shape_of,
+    Header, MAX_LENGTH, Source, Touch, TraceError, checked_write, first_write, read_header,
 };
 
 /// The touches of the first writes of a trace, the last of them at tick `last`.
 #[derive(Drop)]
 pub(crate) struct LogReader {
-    shape: Shape,
+    header: Header,
     last: u64,
     touches: Vec<Touch>,
 }
@@ -24,8 +24,8 @@ pub(crate) struct LogReader {
 impl LogReader {
     /// Takes the write at the front of the bytes, and returns the bytes behind it.
     fn take_record<'a>(&mut self, bytes: &'a [u8]) -> Result<&'a [u8], TraceError>
-        requires { length self.old.touches.items < self.old.shape.writes }
-        ensures shape { self.new.shape ≡ self.old.shape }
+        requires { length self.old.touches.items < self.old.header.shape.writes }
+        ensures header { self.new.header ≡ self.old.header }
         ensures logged { IfOk result (λ rest. (text : List ℕ) → IsLogged text self.old bytes.now → IsLogged text self.new rest.now) }
         ensures within { IfOk result (λ rest. length rest.now ≤ length bytes.now) }
         ensures rest { IfOk result (λ rest. rest.now ≡ drop (length bytes.now - length rest.now) bytes.now) }
@@ -36,7 +36,7 @@ impl LogReader {
         ensures fault { IfErr result (λ e. e ≢ TraceError.ReadFault) }
     {
         let index = self.touches.len() as u32;
-        let (tick, rest) = checked_write(self.shape, self.last, index, bytes)?;
+        let (tick, rest) = checked_write(self.header, self.last, index, bytes)?;
         let (write, _) = first_write(bytes);
         self.touches.push(Touch {
             tick: write.tick,
@@ -51,14 +51,14 @@ impl LogReader {
     fn take_records(&mut self, bytes: &[u8]) -> (usize, Result<(), TraceError>)
         ensures within { result.0 ≤ length bytes.now }
         ensures logged { (text : List ℕ) → IsLogged text self.old bytes.now → IsLogged text self.new (drop result.0 bytes.now) }
-        ensures all { OnOk result.1 ((text : List ℕ) → IsLogged text self.old bytes.now → length self.new.touches.items ≡ self.new.shape.writes) }
+        ensures all { OnOk result.1 ((text : List ℕ) → IsLogged text self.old bytes.now → length self.new.touches.items ≡ self.new.header.shape.writes) }
         ensures none { OnOk result.1 (drop result.0 bytes.now ≡ []) }
         ensures refused { IfErr result.1 (λ e. (text : List ℕ) → IsLogged text self.old bytes.now → RefusesUnlessMemory text e) }
         ensures room { IfErr result.1 (λ e. wants_bytes e ≡ true → length (drop result.0 bytes.now) < 65_551) }
         ensures fault { IfErr result.1 (λ e. e ≢ TraceError.ReadFault) }
     {
         let mut rest = bytes;
-        while self.touches.len() < self.shape.writes as usize {
+        while self.touches.len() < self.header.shape.writes as usize {
             match self.take_record(rest) {
                 Ok(behind) => rest = behind,
                 Err(cause) => return (bytes.len() - rest.len(), Err(cause)),
@@ -93,21 +93,21 @@ fn fill_front<S: Source>(source: &mut S, pieces: &mut Pieces) -> Result<bool, Tr
     Ok(false)
 }
 
-/// Returns the sizes in the header of a source, and takes its bytes from the pieces.
-fn read_shape<S: Source>(source: &mut S, pieces: &mut Pieces) -> Result<Shape, TraceError>
+/// Returns the header of a source, and takes its bytes from the pieces.
+fn take_header<S: Source>(source: &mut S, pieces: &mut Pieces) -> Result<Header, TraceError>
     requires unfailed { S.has_failed source.old ≡ false }
     requires none { pieces.old ≡ pieces_state [] 0 }
-    ensures header { IfOk result (λ s. HasHeader (S.remaining source.old) (S.remaining source.new) s.shift s.pages s.writes pieces.new) }
+    ensures header { IfOk result (λ h. HasHeader (S.remaining source.old) (S.remaining source.new) h.version h.shape.shift h.shape.pages h.shape.writes pieces.new) }
     ensures refused { IfErr result (SourceRefuses (S.remaining source.old)) }
     ensures failed { (result ≡ Err TraceError.ReadFault) ↔ (S.has_failed source.new ≡ true) }
 {
     if fill_front(source, pieces)? {
         return Err(TraceError::ShortHeader);
     }
-    match shape_of(pieces.rest()) {
-        Ok(shape) => {
+    match read_header(pieces.rest()) {
+        Ok(header) => {
             pieces.take(16);
-            Ok(shape)
+            Ok(header)
         }
         Err(cause) => Err(pieces.read_on(source, cause)),
     }
@@ -152,16 +152,16 @@ pub(crate) fn log_of_source<S: Source>(
     ensures failed { (result ≡ Err TraceError.ReadFault) ↔ (S.has_failed source.new ≡ true) }
 {
     let mut pieces = Pieces::new(alloc)?;
-    let shape = read_shape(source, &mut pieces)?;
+    let header = take_header(source, &mut pieces)?;
     let mut reader = LogReader {
-        shape,
+        header,
         last: 0,
         touches: Vec::new(alloc),
     };
     while pieces.count() <= MAX_LENGTH {
         if !read_piece(source, &mut pieces, &mut reader)? {
             return Ok(TouchLog {
-                shape: reader.shape,
+                header: reader.header,
                 touches: reader.touches,
             });
         }

@@ -10,24 +10,24 @@ ghost use Rattle.trace_codec.specs.Source.{IsOutside, SourceRefuses};
 use crate::log_reader::log_of_source;
 use std::alloc::Global;
 use std::marker::Model;
-use trace_codec::{Shape, Source, Timeline, Touch, TraceError, TraceReader};
+use trace_codec::{Header, Shape, Source, Timeline, Touch, TraceError, TraceReader};
 
-/// How many bytes the shortest record has: its 16 bytes of numbers, and one byte that is written.
-pub(crate) const SHORTEST_RECORD: usize = 17;
+/// How many bytes the shortest record has: that of a release, which has its 16 bytes of numbers alone.
+pub(crate) const SHORTEST_RECORD: usize = 16;
 
 /// When each write of a trace was, and to which page: 16 bytes a write, however long the writes are.
 #[derive(Debug, Drop)]
 pub struct TouchLog {
-    pub(crate) shape: Shape,
+    pub(crate) header: Header,
     pub(crate) touches: Vec<Touch>,
 }
 
 impl Model for TouchLog {
     ghost Value = { GuestTouches };
 
-    ghost view = { λ l. touches_with l.shape.shift l.shape.pages l.touches.items };
+    ghost view = { λ l. touches_with l.header.version l.header.shape.shift l.header.shape.pages l.touches.items };
 
-    ghost invariant = { λ l. (length l.touches.items ≡ l.shape.writes) × AreTouches l.shape.pages l.touches.items };
+    ghost invariant = { λ l. (length l.touches.items ≡ l.header.shape.writes) × AreTouches l.header.shape.pages l.touches.items };
 }
 
 /// Returns the log of the writes that a reader has in front of it, with slots reserved for `room` of them.
@@ -41,9 +41,9 @@ fn log_of_reader(
     ensures refused { IfErr result (RefusesUnlessMemory reader.entry.bytes) }
 {
     let mut reader = reader;
-    let shape = reader.shape();
+    let header = reader.header();
     let mut touches = Vec::with_capacity(alloc, room)?;
-    for _ in 0..shape.writes {
+    for _ in 0..header.shape.writes {
         let write = reader.read_record()?;
         touches.push(Touch {
             tick: write.tick,
@@ -51,7 +51,7 @@ fn log_of_reader(
         })?;
     }
     reader.finish()?;
-    Ok(TouchLog { shape, touches })
+    Ok(TouchLog { header, touches })
 }
 
 /// Returns the log of the trace that the bytes encode.
@@ -89,13 +89,20 @@ impl TouchLog {
         log_of_source(alloc, source)
     }
 
+    /// Returns the version of the trace's format.
+    pub fn version(&self) -> u8
+        ensures { result ≡ self.now.version }
+    {
+        self.header.version
+    }
+
     /// Returns the sizes of the trace.
     pub fn shape(&self) -> Shape
         ensures shift { result.shift ≡ self.now.shift }
         ensures pages { result.pages ≡ self.now.pages }
         ensures writes { result.writes ≡ length self.now.touches }
     {
-        self.shape
+        self.header.shape
     }
 }
 
@@ -105,7 +112,7 @@ impl Timeline for TouchLog {
     ghost pages = { λ l. l.pages };
 
     fn page_count(&self) -> u32 {
-        self.shape.pages
+        self.header.shape.pages
     }
 
     fn touch_count(&self) -> usize {

@@ -6,7 +6,7 @@
 //! comes back over a lane when a newer version has taken its place.
 
 use crate::lanes::{lane, Giver, Taker};
-use crate::pages::{fetch, Body, Index, Rooms, ZEROS};
+use crate::pages::{fetch, Body, Index, Rooms, RELEASE, ZEROS};
 use crate::plan::{Plan, Planner, Touches};
 use crate::trace::{Reader, Refused, Sizes};
 use crate::words::Settings;
@@ -42,7 +42,7 @@ impl Guest {
         let open = |sizes: Sizes| (Touches::new(sizes), crate::memory::zeros::<u32>(sizes.writes));
         let (sizes, text, (touches, positions)) = Reader::whole(open, |made, number, write| {
             made.0.come(write);
-            made.1[number] = write.at as u32;
+            made.1[number] = if write.length == 0 { RELEASE } else { write.at as u32 };
         })?;
         let (plan, index) = scope(|scope| {
             let index = scope.spawn(|| Index::new(&touches, positions));

@@ -1,7 +1,7 @@
 //! The end of a live run: the guest resumes where it arrived, and its memory is written page by page.
 
 use crate::live::Guest;
-use crate::pages::{fetch, put_all, Body, Rooms};
+use crate::pages::{behind_release, fetch, put_all, Body, Rooms};
 use crate::trace::{file, Refused};
 use std::io::{IoSlice, Write};
 use std::sync::atomic::Ordering::Relaxed;
@@ -24,7 +24,10 @@ fn resume(guest: &Guest, first: usize, pages: &mut [Body], rooms: &mut Rooms) {
         if number + 1 < pages.len() {
             fetch(guest.text, rest(guest, first + number + 1));
         }
-        let writes = rest(guest, first + number);
+        let (released, writes) = behind_release(rest(guest, first + number));
+        if released && !pages[number].is_zeros() {
+            unsafe { pages[number].0.write_bytes(0, rooms.size) }
+        }
         if writes.is_empty() {
             continue;
         }

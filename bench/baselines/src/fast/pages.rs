@@ -22,6 +22,9 @@ impl Body {
     }
 }
 
+/// Stands for where the bytes of a release are: it has none.
+pub const RELEASE: u32 = 0;
+
 /// For each page its writes in order: the place of each, from 1, and where its bytes stand in the text.
 pub struct Index {
     starts: Vec<u32>,
@@ -95,6 +98,8 @@ impl Rooms {
 
     /// The body with more writes on top, in a room of its own. The text has some bytes behind its end that may be read.
     pub fn with_writes(&mut self, text: &[u8], old: Body, writes: &[(u32, u32)]) -> Body {
+        let (released, writes) = behind_release(writes);
+        let old = if released { ZEROS } else { old };
         if old.is_zeros() && writes.is_empty() {
             return ZEROS;
         }
@@ -120,16 +125,24 @@ impl Rooms {
     }
 }
 
+/// Whether some of these writes is a release, and those behind the last one.
+pub fn behind_release(writes: &[(u32, u32)]) -> (bool, &[(u32, u32)]) {
+    match writes.iter().rposition(|(_, at)| *at == RELEASE) {
+        Some(number) => (true, &writes[number + 1..]),
+        None => (false, writes),
+    }
+}
+
 const AHEAD: usize = 16;
 
 /// Fetches what the first of these writes need.
 pub fn fetch(text: &[u8], writes: &[(u32, u32)]) {
     for (_, at) in writes.iter().take(AHEAD) {
-        prefetch(text.as_ptr().wrapping_add(*at as usize - 4));
+        prefetch(text.as_ptr().wrapping_add(*at as usize).wrapping_sub(4));
     }
 }
 
-/// Puts writes on a body, in order.
+/// Puts writes on a body, in order. None of them is a release.
 pub unsafe fn put_all(text: &[u8], writes: &[(u32, u32)], body: Body, size: usize) {
     for (number, (_, at)) in writes.iter().enumerate() {
         if let Some((_, later)) = writes.get(number + AHEAD) {

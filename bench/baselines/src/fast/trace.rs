@@ -25,6 +25,8 @@ pub fn file(number: i32) -> ManuallyDrop<File> {
 
 #[derive(Clone, Copy)]
 pub struct Sizes {
+    /// Whether it is version 2, in which a write of no bytes at offset 0 releases its page.
+    releases: bool,
     pub shift: u32,
     pub pages: usize,
     pub writes: usize,
@@ -33,10 +35,12 @@ pub struct Sizes {
 impl Sizes {
     fn read(header: &[u8]) -> Result<Sizes, Refused> {
         let word = |at| unsafe { number::<u32>(header, at) } as usize;
-        if header.len() < HEADER || header[..5] != *b"PCWT\x01" || header[6..8] != [0, 0] {
+        let is_header = header.len() == HEADER && header[..4] == *b"PCWT" && header[6..8] == [0, 0];
+        if !is_header || !(1..=2).contains(&header[4]) {
             return Err("the header of the trace is refused".into());
         }
-        let sizes = Sizes { shift: header[5] as u32, pages: word(8), writes: word(12) };
+        let (releases, shift) = (header[4] == 2, header[5] as u32);
+        let sizes = Sizes { releases, shift, pages: word(8), writes: word(12) };
         let fits = (4..=12).contains(&sizes.shift) && (1..=65_536).contains(&sizes.pages) && sizes.writes <= 1 << 20;
         fits.then_some(sizes).ok_or("the sizes of the trace are refused".into())
     }
@@ -44,9 +48,13 @@ impl Sizes {
     pub fn page_size(&self) -> usize {
         1 << self.shift
     }
+
+    pub fn has_releases(&self) -> bool {
+        self.releases
+    }
 }
 
-/// One write. Its bytes stand in the buffer from `at` on.
+/// One write. Its bytes stand in the buffer from `at` on. One of no bytes releases its page.
 #[derive(Clone, Copy)]
 pub struct Write {
     pub tick: u64,
@@ -76,14 +84,15 @@ impl Reader {
     /// Takes records from the front of the bytes, until none is left or the next one is cut. Tells where it ended.
     #[inline(always)]
     fn take(&mut self, bytes: &[u8], mut each: impl FnMut(&[u8], Write)) -> Result<usize, Refused> {
-        let (size, pages) = (self.sizes.page_size(), self.sizes.pages);
+        let (size, pages, releases) = (self.sizes.page_size(), self.sizes.pages, self.sizes.releases);
         let (mut at, mut done, mut tick) = (0, self.done, self.tick);
         while done < self.sizes.writes && bytes.len() - at >= RECORD {
             let (next, page) = unsafe { (number::<u64>(bytes, at), number::<u32>(bytes, at + 8)) };
             let place = unsafe { number::<u32>(bytes, at + 12) } as usize;
             let (offset, length) = (place & 0xffff, place >> 16);
             let bad = (next < tick) | (next >= 1 << 40) | (page as usize >= pages);
-            if bad | (length == 0) | (offset + length > size) {
+            let empty = (length == 0) & !(releases & (offset == 0));
+            if bad | empty | (offset + length > size) {
                 return Err(format!("record {done} of the trace is refused"));
             }
             let end = at + RECORD + length;

@@ -9,17 +9,19 @@ use Rattle.image_build.proofs.replaying.view_memory.Goals as goal
 pub write_over-requires : goal.write_over-requires
 write_over-requires c =
     let shape = c.shape-shape.result in
+    let version = c.args.trace.now.version in
     let before = rw c.in-Some.ensures.steps at c.loop-write.invariant.becomes in
-    let fits = All-head (IsGuestWrite shape.shift shape.pages) (shown c.in-Some.write) c.next.new.self (rw c.in-Some.ensures.steps at c.loop-write.invariant.fit) in
-    omega (arith, c.place_of-place.ensures, write_fits shape.shift shape.pages c.loop-write.memory.items (shown c.in-Some.write) before.len fits, c.loop-write.memory.ok.0)
+    let fits = All-head (IsGuestWrite version shape.shift shape.pages) (shown c.in-Some.write) c.next.new.self (rw c.in-Some.ensures.steps at c.loop-write.invariant.fit) in
+    omega (arith, write_fits version shape.shift shape.pages c.loop-write.memory.items (shown c.in-Some.write) before.len fits, c.loop-write.memory.ok.0)
 
 pub loop-write-preserved : goal.loop-write-preserved
 loop-write-preserved c =
     let shape = c.shape-shape.result in
+    let version = c.args.trace.now.version in
     let fit = rw c.in-Some.ensures.steps at c.loop-write.invariant.fit in
-    let fits = All-head (IsGuestWrite shape.shift shape.pages) (shown c.in-Some.write) c.next.new.self fit in
+    let fits = All-head (IsGuestWrite version shape.shift shape.pages) (shown c.in-Some.write) c.next.new.self fit in
     record {
-      becomes = Becomes-next shape.shift shape.pages c.loop-write.memory.items c.write_over.new.memory.items (shown c.in-Some.write) c.next.new.self (image_of c.args.trace.now)
-          (rw c.in-Some.ensures.steps at c.loop-write.invariant.becomes) fits (rw c.place_of-place.ensures at c.write_over.ensures);
-      fit = All-tail (IsGuestWrite shape.shift shape.pages) (shown c.in-Some.write) c.next.new.self fit;
+      becomes = Becomes-next version shape.shift shape.pages c.loop-write.memory.items c.write_over.new.memory.items (shown c.in-Some.write) c.next.new.self (image_of c.args.trace.now)
+          (rw c.in-Some.ensures.steps at c.loop-write.invariant.becomes) fits c.write_over.ensures;
+      fit = All-tail (IsGuestWrite version shape.shift shape.pages) (shown c.in-Some.write) c.next.new.self fit;
     }

@@ -7,5 +7,5 @@ use Rattle.image_build.proofs.replaying.view_memory.Given as goal
 abbrev pub invariant-loop-write : goal.invariant-loop-write
 invariant-loop-write l = record {
   becomes : Becomes l.shape.shift l.shape.pages l.memory.items l.write-iterator (image_of l.trace);
-  fit : All (IsGuestWrite l.shape.shift l.shape.pages) l.write-iterator;
+  fit : All (IsGuestWrite l.trace.version l.shape.shift l.shape.pages) l.write-iterator;
 }

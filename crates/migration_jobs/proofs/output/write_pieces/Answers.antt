@@ -5,15 +5,15 @@ use Rattle.migration_jobs.proofs.output.write_pieces.Goals as goal
 
 pub returns-in_err-write_all-clause-part : goal.returns-in_err-write_all-clause-part
 returns-in_err-write_all-clause-part g c =
-    let memory = c.args.memory.now in
+    let memory = g.M.PagedMemory.memory c.args.memory.now in
     let n = 2 ^ memory.shift in
     let first = c.loop-first.first in
     on_err c.from_residual.result (wrote_part _ _ _ (first * n) ((first + c.min.result) * n) memory.bytes c.loop-first.invariant.written
-    (rw (c.deref.ensures.value ∙ c.fill.ensures.filled) at c.in_err-write_all.ensures.part))
+    (rw (c.deref.ensures.value ∙ c.fill_piece.ensures.filled) at c.in_err-write_all.ensures.part))
 
 pub loop-first-preserved : goal.loop-first-preserved
 loop-first-preserved g c =
-    let memory = c.args.memory.now in
+    let memory = g.M.PagedMemory.memory c.args.memory.now in
     let n = 2 ^ memory.shift in
     let first = c.loop-first.first in
     let before = c.loop-first.invariant in
@@ -22,8 +22,8 @@ loop-first-preserved g c =
     record {
       within = omega (arith, before.within, c.min.ensures);
       written = wrote_more _ _ _ (first * n) ((first + c.min.result) * n) memory.bytes rise before.written
-          (rw (c.deref.ensures.value ∙ c.fill.ensures.filled) at c.in_ok-write_all.ensures.written);
+          (rw (c.deref.ensures.value ∙ c.fill_piece.ensures.filled) at c.in_ok-write_all.ensures.written);
       unfailed = c.in_ok-write_all.ensures.unfailed;
-      room = c.fill.ensures.room;
-      capacity = omega (arith, before.capacity, c.fill.ensures.capacity);
+      long = c.fill_piece.ensures.long;
+      capacity = omega (arith, before.capacity, c.fill_piece.ensures.capacity);
     }

@@ -5,13 +5,15 @@ use Rattle.std.specs.Prelude.{vec_capacity}
 use Rattle.migration_jobs.proofs.output.write_pieces.Given as goal
 
 abbrev pub invariant-loop-first : goal.invariant-loop-first
-invariant-loop-first g l = record {
-  within : l.first ≤ l.all;
-  written : Appends (g.K.Sink.contents l.fn.sink) (g.K.Sink.contents l.sink) (between 0 (l.first * 2 ^ l.memory.shift) l.memory.bytes);
-  unfailed : g.K.Sink.has_failed l.sink ≡ false;
-  room : length l.room.items ≡ 2 ^ l.memory.shift;
-  capacity : l.pages * 2 ^ l.memory.shift ≤ vec_capacity l.piece;
-}
+invariant-loop-first g l =
+    let memory = g.M.PagedMemory.memory l.memory in
+    record {
+      within : l.first ≤ l.all;
+      written : Appends (g.K.Sink.contents l.fn.sink) (g.K.Sink.contents l.sink) (between 0 (l.first * 2 ^ memory.shift) memory.bytes);
+      unfailed : g.K.Sink.has_failed l.sink ≡ false;
+      long : length l.buffer.items ≡ 2 ^ memory.shift;
+      capacity : l.pages * 2 ^ memory.shift ≤ vec_capacity l.piece;
+    }
 
 abbrev pub decreases-loop-first : goal.decreases-loop-first
 decreases-loop-first g l = l.all - l.first

@@ -1,13 +1,16 @@
 use Rattle.std.proofs.Common.{sym, subst}
-use Rattle.std.proofs.lemmas.Result.{err_from_is_err_and}
+use Rattle.std.specs.Prelude.{IfOk}
+use Rattle.std.proofs.lemmas.Result.{IfOk-weaker, err_from_is_err_and}
+use Rattle.migration_jobs.specs.Bytes.{bytes_in}
 use Rattle.migration_jobs.specs.Output.{IsLiveJob, IsOutput, IsRefusalOf}
 use Rattle.migration_jobs.proofs.Runs.{made_run}
 use Rattle.migration_jobs.proofs.running.read_output.Goals as goal
 
-pub returns-in_ok-image_output-in-Image-clause-made : goal.returns-in_ok-image_output-in-Image-clause-made
-returns-in_ok-image_output-in-Image-clause-made g c =
+pub returns-in-Image-clause-made : goal.returns-in-Image-clause-made
+returns-in-Image-clause-made g c =
     let known = g.S.Source.remaining c.args.source.now in
-    subst (λ j. IsOutput known j c.in_ok-image_output-in-Image.field-0.items) (sym c.in-Image.is) (made_run _ c.in_ok-image_output-in-Image.field-0.items known c.in_ok-image_output-in-Image.ensures.made)
+    subst (λ j. IfOk c.image_output.result (λ output. IsOutput known j (bytes_in output))) (sym c.in-Image.is)
+    (IfOk-weaker c.image_output.result _ _ (λ output made. made_run _ (bytes_in output) known made) c.image_output.ensures.made)
 
 pub returns-in_ok-report_output-in-Report-clause-made : goal.returns-in_ok-report_output-in-Report-clause-made
 returns-in_ok-report_output-in-Report-clause-made g c =
@@ -24,14 +27,9 @@ returns-in_ok-sweep_output-in-Sweep-clause-made g c =
     let known = g.S.Source.remaining c.args.source.now in
     subst (λ j. IsOutput known j c.in_ok-sweep_output-in-Sweep.field-0.items) (sym c.in-Sweep.is) (made_run _ c.in_ok-sweep_output-in-Sweep.field-0.items known (rw c.deref.ensures.value at c.in_ok-sweep_output-in-Sweep.ensures.made))
 
-pub returns-in_err-image_output-in-Image-clause-own : goal.returns-in_err-image_output-in-Image-clause-own
-returns-in_err-image_output-in-Image-clause-own g c =
-    let p = err_from_is_err_and c.from_residual.result c.from_residual.ensures.1 in
-    rw p.1 (subst (IsRefusalOf c.args.job.now) (sym p.2) (c.in_err-image_output-in-Image.ensures.own _))
-
 pub returns-in_err-report_output-in-Report-clause-own : goal.returns-in_err-report_output-in-Report-clause-own
 returns-in_err-report_output-in-Report-clause-own g c =
-    let p = err_from_is_err_and c.from_residual-in_err-report_output-in-Report.result c.from_residual-in_err-report_output-in-Report.ensures.1 in
+    let p = err_from_is_err_and c.from_residual.result c.from_residual.ensures.1 in
     rw p.1 (subst (IsRefusalOf c.args.job.now) (sym p.2) (c.in_err-report_output-in-Report.ensures.own _))
 
 pub returns-in_err-memory-in-Live-clause-own : goal.returns-in_err-memory-in-Live-clause-own

@@ -10,7 +10,7 @@ loop-rest-preserved g c =
     let P : ℕ → Type 0 = λ place. (1 ≤ place) × (place ≤ length trace.writes) in
     record {
       room = c.put_eight.ensures.room;
-      places = rw c.split_at.ensures.back (All-drop P c.min.result rest c.loop-rest.invariant.places);
-      made = rw (c.put_eight.ensures.put, c.split_at.ensures.front, c.split_at.ensures.back)
+      places = rw c.split_at-in-loop-rest.ensures.back (All-drop P c.min.result rest c.loop-rest.invariant.places);
+      made = rw (c.put_eight.ensures.put, c.split_at-in-loop-rest.ensures.front, c.split_at-in-loop-rest.ensures.back)
           (put_in_two trace c.loop-rest.bytes c.min.result rest ∙ c.loop-rest.invariant.made);
     }

@@ -11,9 +11,9 @@ returns-then-length-gt-MAX_LENGTH c =
     c.loop-write.invariant.sum (omega (arith, c.len.ensures, ap (λ w. length w.bytes) c.write.view_is)) c.if-length-gt-MAX_LENGTH.true
 
 pub returns : goal.returns
-returns c shift pages =
+returns c version shift pages =
     let writes = c.args.writes.now in
     let high : length writes ≤ c.loop-write.write-index = omega arith in
-    counted_short shift pages c.loop-write.length writes
+    counted_short version shift pages c.loop-write.length writes
     (c.loop-write.invariant.sum ∙ ap (λ ws. 16 + sum_by (λ (w : GuestWrite). 16 + length w.bytes) ws) (take_all c.loop-write.write-index writes high))
     c.loop-write.invariant.short

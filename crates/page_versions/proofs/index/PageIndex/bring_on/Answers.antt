@@ -45,7 +45,7 @@ pub returns-clause-bytes : goal.returns-clause-bytes
 returns-clause-bytes g c =
     let trace = g.W.WriteLog.trace c.args.trace.now in
     let from = c.args.from.version in
-    let step : List GuestWrite → List ℕ → ℕ → List ℕ = λ writes bytes place. overwrite bytes (write_at writes place) in
+    let step : List GuestWrite → List ℕ → ℕ → List ℕ = λ writes bytes place. overwrite trace.shift bytes (write_at writes place) in
     let between : List ℕ → List ℕ = λ l. filter (λ (v : ℕ). leb v c.args.to) (filter (λ (v : ℕ). ltb from v) l) in
     c.put_writes.ensures
     ∙ ap (λ (l : List ℕ). fold (step trace.writes) c.args.bytes.now l) (c.places_between-writes.ensures.places ∙ ap between c.part.ensures)

@@ -12,7 +12,7 @@ returns-in_err-tick-clause-refused c =
 
 pub overflow_sub-self : goal.overflow_sub-self
 overflow_sub-self c =
-    behind_within _ _ _ c.len-index.result c.args.bytes.now _ c.in_ok-tick.behind.now c.args.self.now.end c.requires.tested.within c.split_at.ensures.back c.in_ok-tick.ensures.rest c.in_ok-tick.ensures.accepted
+    behind_within _ _ _ _ c.len-index.result c.args.bytes.now _ c.in_ok-tick.behind.now c.args.self.now.end c.requires.tested.within c.split_at.ensures.back c.in_ok-tick.ensures.rest c.in_ok-tick.ensures.accepted
 
 pub returns-clause-tested : goal.returns-clause-tested
 returns-clause-tested c =

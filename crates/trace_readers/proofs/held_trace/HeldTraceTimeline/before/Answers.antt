@@ -7,7 +7,7 @@ use Rattle.trace_readers.proofs.held_trace.HeldTraceTimeline.before.Goals as goa
 
 pub loop-low-init : goal.loop-low-init
 loop-low-init c =
-    let count = count_of _ _ _ _ c.self.inside.bytes.items c.self.view_is in
+    let count = count_of _ _ _ _ _ c.self.inside.bytes.items c.self.view_is in
     let all : c.len-high.result ≡ length (touches_of c.args.self.now) =
     omega (arith, count, c.self.invariant.are_positions.count_is, length-map c.args.self.now.writes touch_of, c.len-high.ensures) in
     record { order = omega arith; bound = omega (arith, all); earlier = λ k d low. absurd (omega arith); later = λ k d high low. absurd (omega (arith, all)) }

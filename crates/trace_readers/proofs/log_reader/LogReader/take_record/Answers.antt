@@ -16,7 +16,7 @@ returns-in_err-tick-clause-refused c =
 pub returns-in_err-tick-clause-room : goal.returns-in_err-tick-clause-room
 returns-in_err-tick-clause-room c =
     let p = err_from_is_err_and c.from_residual.result c.from_residual.ensures.1 in
-    rw (p.1, p.2) (record_cause _ _ _ _ c.args.bytes.now _ (λ i. omega (arith, c.type_inv.bytes i)) c.in_err-tick.ensures.refused).room
+    rw (p.1, p.2) (record_cause _ _ _ _ _ c.args.bytes.now _ (λ i. omega (arith, c.type_inv.bytes i)) c.in_err-tick.ensures.refused).room
 
 pub returns-clause-logged : goal.returns-clause-logged
 returns-clause-logged c text on =
@@ -27,10 +27,10 @@ returns-clause-logged c text on =
 
 pub returns-clause-within : goal.returns-clause-within
 returns-clause-within c =
-    let right = IsRight-from_none _ _ _ _ c.args.bytes.now c.in_ok-tick.ensures.accepted in
+    let right = IsRight-from_none _ _ _ _ _ c.args.bytes.now c.in_ok-tick.ensures.accepted in
     (behind_is c.args.bytes.now c.in_ok-tick.rest.now right.whole c.in_ok-tick.ensures.rest).0
 
 pub returns-clause-rest : goal.returns-clause-rest
 returns-clause-rest c =
-    let right = IsRight-from_none _ _ _ _ c.args.bytes.now c.in_ok-tick.ensures.accepted in
+    let right = IsRight-from_none _ _ _ _ _ c.args.bytes.now c.in_ok-tick.ensures.accepted in
     (behind_is c.args.bytes.now c.in_ok-tick.rest.now right.whole c.in_ok-tick.ensures.rest).1

@@ -10,4 +10,4 @@ invariant-loop-self l = record {
 }
 
 abbrev pub decreases-loop-self : goal.decreases-loop-self
-decreases-loop-self l = l.self.shape.writes - length l.self.touches.items
+decreases-loop-self l = l.self.header.shape.writes - length l.self.touches.items

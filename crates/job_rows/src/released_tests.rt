@@ -1,0 +1,216 @@
+//! Traces of version 2, in which a write of no bytes releases its page.
+
+ghost use Rattle.std.specs.Prelude.{◌≡◌, ◌≤◌, IfOk, false};
+
+use crate::live_tests::{shown, slow};
+use crate::tests::{MEMORY, MEMORY_AT_2000, TRACE, ran, sink};
+use image_build::{replay, replay_before, replay_bytes, replay_view};
+use live_engine::OpenGate;
+use migration_jobs::{Job, Show};
+use rate_limit::{Asked, Settings};
+use std::alloc::{AllocError, Global};
+use std::test::Fail;
+use trace_codec::{TestSource, Trace, TraceError, TraceView, decode, encode, read_trace};
+use trace_readers::{HeldTrace, TouchLog};
+
+/// The tests' trace in version 2, but that its last write releases page 1.
+static RELEASED: [u8; 101] = [
+    0x50, 0x43, 0x57, 0x54, 2, 4, 0, 0, 4, 0, 0, 0, 5, 0, 0, 0, //
+    0, 0, 0, 0, 0, 0, 0, 0, 0, 0, 0, 0, 0, 0, 1, 0, 1, //
+    5, 0, 0, 0, 0, 0, 0, 0, 1, 0, 0, 0, 15, 0, 1, 0, 2, //
+    0xb0, 4, 0, 0, 0, 0, 0, 0, 1, 0, 0, 0, 0, 0, 1, 0, 3, //
+    0xc4, 9, 0, 0, 0, 0, 0, 0, 3, 0, 0, 0, 2, 0, 2, 0, 4, 5, //
+    0xc4, 9, 0, 0, 0, 0, 0, 0, 1, 0, 0, 0, 0, 0, 0, 0,
+];
+
+/// Its memory after all writes.
+static MEMORY_RELEASED: [u8; 64] = [
+    1, 0, 0, 0, 0, 0, 0, 0, 0, 0, 0, 0, 0, 0, 0, 0, //
+    0, 0, 0, 0, 0, 0, 0, 0, 0, 0, 0, 0, 0, 0, 0, 0, //
+    0, 0, 0, 0, 0, 0, 0, 0, 0, 0, 0, 0, 0, 0, 0, 0, //
+    0, 0, 4, 5, 0, 0, 0, 0, 0, 0, 0, 0, 0, 0, 0, 0,
+];
+
+/// Its report by the tests' slow rates.
+const REPORT: &str = "trace pages 4 size 16 writes 5
+window 0 writes 2 pages 2 again 0 fresh 2
+window 1 writes 1 pages 1 again 1 fresh 0
+window 2 writes 2 pages 2 again 1 fresh 1
+hot 2 pages 1
+page 1
+round 0 from 0 to 2000 rate 2 pages 4 sent 4 dirtied 2
+round 1 from 2000 to 3000 rate 2 pages 2 sent 2 dirtied 2
+round 2 from 3000 to 3667 rate 3 pages 2 sent 2 dirtied 0
+stop few at 3667 pages 0 down 0 total 8
+";
+
+/// Returns the bytes with one of them changed.
+fn with_byte(alloc: Global, bytes: &[u8], offset: usize, byte: u8) -> Result<Vec<u8>, AllocError> {
+    let mut bytes = Vec::from_slice(alloc, bytes)?;
+    if offset < bytes.len() {
+        bytes[offset] = byte;
+    }
+    Ok(bytes)
+}
+
+fn source(alloc: Global, bytes: &[u8], greatest: usize) -> Result<TestSource, AllocError>
+    requires { 1 ≤ greatest }
+    ensures { IfOk result (λ source. source.has_failed ≡ false) }
+{
+    Ok(TestSource::new(Vec::from_slice(alloc, bytes)?, greatest, None))
+}
+
+/// Returns the versions that all readers tell.
+fn versions(alloc: Global, bytes: &[u8]) -> Result<[u8; 6], Fail> {
+    let held = HeldTrace::parse(alloc, Vec::from_slice(alloc, bytes)?)?;
+    Ok([
+        decode(alloc, bytes)?.version,
+        TraceView::parse(bytes)?.version(),
+        held.version(),
+        HeldTrace::read(alloc, &mut source(alloc, bytes, 20)?)?.version(),
+        TouchLog::parse(alloc, bytes)?.version(),
+        TouchLog::read(alloc, &mut source(alloc, bytes, 20)?)?.version(),
+    ])
+}
+
+#[test]
+fn readers_tell_the_version(rt: HostRuntime) -> Result<(), Fail> {
+    let alloc = rt.alloc();
+    let later = with_byte(alloc, &TRACE, 4, 2)?;
+    assert_eq!(rt;
+        [
+            versions(alloc, &TRACE)?,
+            versions(alloc, &later)?,
+            versions(alloc, &RELEASED)?
+        ],
+        [[1; 6], [2; 6], [2; 6]]
+    );
+    Ok(())
+}
+
+/// Returns what all readers refuse the bytes for.
+fn refusals(alloc: Global, bytes: &[u8]) -> Result<[Option<TraceError>; 7], AllocError> {
+    Ok([
+        decode(alloc, bytes).err(),
+        read_trace(alloc, &mut source(alloc, bytes, 20)?).err(),
+        TraceView::parse(bytes).err(),
+        HeldTrace::parse(alloc, Vec::from_slice(alloc, bytes)?).err(),
+        HeldTrace::read(alloc, &mut source(alloc, bytes, 20)?).err(),
+        TouchLog::parse(alloc, bytes).err(),
+        TouchLog::read(alloc, &mut source(alloc, bytes, 20)?).err(),
+    ])
+}
+
+#[test]
+fn refuses_what_is_no_release(rt: HostRuntime) -> Result<(), Fail> {
+    let alloc = rt.alloc();
+    let cases = [
+        (4, 1, TraceError::EmptyWrite(4)),
+        (97, 1, TraceError::EmptyWrite(4)),
+        (4, 3, TraceError::BadVersion),
+        (4, 0, TraceError::BadVersion),
+    ];
+    for (offset, byte, error) in cases {
+        let bytes = with_byte(alloc, &RELEASED, offset, byte)?;
+        assert_eq!(rt; refusals(alloc, &bytes)?, [Some(error); 7]);
+    }
+    Ok(())
+}
+
+/// Returns whether each way to memory makes this memory of the bytes.
+fn makes(alloc: Global, bytes: &[u8], memory: &[u8]) -> Result<bool, Fail> {
+    let view = TraceView::parse(bytes)?;
+    let of_trace = replay(alloc, &decode(alloc, bytes)?)?;
+    let of_view = replay_view(alloc, &view)?;
+    let of_bytes = replay_bytes(alloc, bytes)?;
+    Ok(of_trace.bytes() == memory && of_view.bytes() == memory && of_bytes.bytes() == memory)
+}
+
+#[test]
+fn a_released_page_is_zeros(rt: HostRuntime) -> Result<(), Fail> {
+    let alloc = rt.alloc();
+    let before = replay_before(alloc, &decode(alloc, &RELEASED)?, 2000)?;
+    let later = with_byte(alloc, &TRACE, 4, 2)?;
+    assert!(rt; makes(alloc, &RELEASED, &MEMORY_RELEASED)? && makes(alloc, &later, &MEMORY)?);
+    assert!(rt; before.bytes() == MEMORY_AT_2000.as_slice());
+    Ok(())
+}
+
+#[test]
+fn encodes_its_own_version(rt: HostRuntime) -> Result<(), Fail> {
+    let alloc = rt.alloc();
+    let later = with_byte(alloc, &TRACE, 4, 2)?;
+    let released = encode(alloc, &decode(alloc, &RELEASED)?)?;
+    let again = encode(alloc, &decode(alloc, &later)?)?;
+    assert!(rt; released.as_slice() == RELEASED.as_slice() && again == later);
+    Ok(())
+}
+
+/// Returns what the writes of the trace with a release are refused for in this version.
+fn refusal_of_writes(alloc: Global, version: u8) -> Result<Option<TraceError>, Fail> {
+    let Trace { writes, .. } = decode(alloc, &RELEASED)?;
+    Ok(Trace::new(version, 4, 4, writes).err())
+}
+
+#[test]
+fn traces_from_writes_with_a_release(rt: HostRuntime) -> Result<(), Fail> {
+    let alloc = rt.alloc();
+    let found = [
+        refusal_of_writes(alloc, 2)?,
+        refusal_of_writes(alloc, 1)?,
+        refusal_of_writes(alloc, 3)?,
+    ];
+    let expected = [
+        None,
+        Some(TraceError::EmptyWrite(4)),
+        Some(TraceError::BadVersion),
+    ];
+    assert_eq!(rt; found, expected);
+    Ok(())
+}
+
+#[test]
+fn jobs_take_a_release_for_a_write(rt: HostRuntime) -> Result<(), Fail> {
+    let alloc = rt.alloc();
+    let (image, memory) = ran(
+        &rt,
+        alloc,
+        &Job::Image,
+        source(alloc, &RELEASED, 7)?,
+        sink(alloc),
+    );
+    let job = Job::Report(Settings::new(slow())?);
+    let (report, text) = ran(&rt, alloc, &job, source(alloc, &RELEASED, 7)?, sink(alloc));
+    assert_eq!(rt; (image, report), (Ok(()), Ok(())));
+    assert!(rt; memory.bytes() == MEMORY_RELEASED.as_slice() && text.bytes() == REPORT.as_bytes());
+    Ok(())
+}
+
+#[test]
+fn live_runs_leave_a_released_page_zeros(rt: HostRuntime) -> Result<(), Fail> {
+    let alloc = rt.alloc();
+    let many = Asked {
+        workers: 3,
+        streams: 2,
+        replayers: 4,
+        ..slow()
+    };
+    let early = Asked {
+        max: 2,
+        rounds: 1,
+        ..slow()
+    };
+    let cases: [(Asked, Show, &[u8]); 5] = [
+        (slow(), Show::Stop, &MEMORY_RELEASED),
+        (slow(), Show::End, &MEMORY_RELEASED),
+        (many, Show::Stop, &MEMORY_RELEASED),
+        (early, Show::Stop, &MEMORY_AT_2000),
+        (early, Show::End, &MEMORY_RELEASED),
+    ];
+    for (asked, show, memory) in cases {
+        let bytes = Vec::from_slice(alloc, &RELEASED)?;
+        let output = shown(&rt, alloc, bytes, asked, show, &OpenGate)?;
+        assert!(rt; output.bytes() == memory);
+    }
+    Ok(())
+}

@@ -1,0 +1,25 @@
+//! `precopy-view`: what precopy tells of a trace, for people and for programs.
+#![tactic(auto)]
+
+#[cfg(test)]
+mod advice_tests;
+mod starting;
+#[cfg(test)]
+mod tests;
+
+use crate::starting::{refuse, start};
+use migration_jobs::FromWrite;
+use std::process::ExitCode;
+use trace_codec::FromRead;
+use view_words::words;
+
+fn main(rt: HostRuntime) -> ExitCode {
+    let mut source = FromRead::new(rt.stdin());
+    let mut sink = FromWrite::new(rt.stdout());
+    let mut faults = FromWrite::new(rt.stderr());
+    let status = match words(&rt) {
+        Ok(words) => start(&rt, rt.alloc(), words, &mut source, &mut sink, &mut faults),
+        Err(error) => refuse(error, &mut sink, &mut faults),
+    };
+    ExitCode::from(status)
+}

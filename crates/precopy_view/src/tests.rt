@@ -1,0 +1,222 @@
+//! Worked examples of the command line: what is written, what is told, and the status.
+
+ghost use Rattle.std.specs.Prelude.{◌≡◌, false};
+
+use crate::starting::start;
+use migration_jobs::TestSink;
+use std::alloc::{AllocError, Global};
+use std::test::Fail;
+use std::thread::Threads;
+use trace_codec::TestSource;
+
+/// Pages of 16 bytes, 4 pages, 5 writes: of pages 0 and 1 at ticks 0 and 5, of page 1 at tick 1200, of pages 3 and 1 at
+/// tick 2500.
+static TRACE: [u8; 102] = [
+    0x50, 0x43, 0x57, 0x54, 1, 4, 0, 0, 4, 0, 0, 0, 5, 0, 0, 0, //
+    0, 0, 0, 0, 0, 0, 0, 0, 0, 0, 0, 0, 0, 0, 1, 0, 1, //
+    5, 0, 0, 0, 0, 0, 0, 0, 1, 0, 0, 0, 15, 0, 1, 0, 2, //
+    0xb0, 4, 0, 0, 0, 0, 0, 0, 1, 0, 0, 0, 0, 0, 1, 0, 3, //
+    0xc4, 9, 0, 0, 0, 0, 0, 0, 3, 0, 0, 0, 2, 0, 2, 0, 4, 5, //
+    0xc4, 9, 0, 0, 0, 0, 0, 0, 1, 0, 0, 0, 0, 0, 1, 0, 0,
+];
+
+fn sink(alloc: Global) -> TestSink
+    ensures { result.has_failed ≡ false }
+{
+    TestSink::new(Vec::new(alloc), usize::MAX, None, false)
+}
+
+/// What the program does with these words over the first bytes of the trace, so many: its status, its output and its
+/// faults.
+fn told<R: Threads + Sync>(
+    rt: &R,
+    alloc: Global,
+    len: usize,
+    more: &[&str],
+) -> Result<(u8, TestSink, TestSink), AllocError> {
+    let mut words = Vec::new(alloc);
+    words.push("precopy-view".to_string(alloc)?)?;
+    for word in more {
+        words.push(word.to_string(alloc)?)?;
+    }
+    let mut bytes = Vec::new(alloc);
+    for byte in TRACE.iter().take(len) {
+        bytes.push(*byte)?;
+    }
+    let mut source = TestSource::new(bytes, 102, None);
+    let mut output = sink(alloc);
+    let mut faults = sink(alloc);
+    let status = start(rt, alloc, words, &mut source, &mut output, &mut faults);
+    Ok((status, output, faults))
+}
+
+/// The rounds of the worked report as a document.
+static REPORT: &str = "{\"trace\":{\"pages\":4,\"size\":16,\"writes\":5},\"windows\":[\
+{\"window\":0,\"writes\":2,\"pages\":2,\"again\":0,\"fresh\":2},\
+{\"window\":1,\"writes\":1,\"pages\":1,\"again\":1,\"fresh\":0},\
+{\"window\":2,\"writes\":2,\"pages\":2,\"again\":1,\"fresh\":1}],\
+\"hot\":{\"windows\":2,\"pages\":[1]},\"rounds\":[\
+{\"round\":0,\"from\":0,\"to\":2000,\"rate\":2,\"pages\":4,\"sent\":4,\"dirtied\":2},\
+{\"round\":1,\"from\":2000,\"to\":3000,\"rate\":2,\"pages\":2,\"sent\":2,\"dirtied\":2},\
+{\"round\":2,\"from\":3000,\"to\":3667,\"rate\":3,\"pages\":2,\"sent\":2,\"dirtied\":0}],\
+\"stop\":{\"why\":\"few\",\"at\":3667,\"pages\":0,\"down\":0,\"total\":8}}\n";
+
+#[test]
+fn writes_a_report_document(rt: HostRuntime) -> Result<(), Fail> {
+    let words = [
+        "json",
+        "report",
+        "--min=2",
+        "--max=4",
+        "--inc=1",
+        "--threshold=1",
+        "--rounds=8",
+    ];
+    let (status, output, _) = told(&rt, rt.alloc(), 102, &words)?;
+    assert!(rt; status == 0 && output.bytes() == REPORT.as_bytes());
+    Ok(())
+}
+
+/// The worked sweep as a document.
+static SWEEP: &str = "{\"cases\":[\
+{\"case\":0,\"min\":2,\"max\":4,\"inc\":1,\"threshold\":1,\"limit\":8,\"skip\":false,\
+\"rounds\":3,\"stop\":\"few\",\"at\":3667,\"down\":0,\"total\":8},\
+{\"case\":1,\"min\":2,\"max\":2,\"inc\":1,\"threshold\":1,\"limit\":8,\"skip\":false,\
+\"rounds\":2,\"stop\":\"fast\",\"at\":3000,\"down\":1000,\"total\":8},\
+{\"case\":2,\"min\":2,\"max\":4,\"inc\":1,\"threshold\":3,\"limit\":8,\"skip\":false,\
+\"rounds\":1,\"stop\":\"few\",\"at\":2000,\"down\":500,\"total\":6}],\"best\":0}\n";
+
+#[test]
+fn writes_a_sweep_document(rt: HostRuntime) -> Result<(), Fail> {
+    let words = ["json", "sweep", "2,4,1,1,8,0", "2,2,1,1,8,0", "2,4,1,3,8,0"];
+    let (status, output, _) = told(&rt, rt.alloc(), 102, &words)?;
+    assert!(rt; status == 0 && output.bytes() == SWEEP.as_bytes());
+    Ok(())
+}
+
+/// Advice for a downtime of 0 ticks at 4 pages per 1,000 ticks. Only where a round skips page 1 are 6 pages enough.
+static ADVICE: &str = "budget down 0
+grid start 0
+grid max 4
+grid min 4 2 1 1
+grid inc 0 0
+grid threshold 1 1 1 1 1
+grid limit 2 8 30
+grid skip 0 1
+cases 241 fits 4
+case 4 min 4 max 4 inc 0 threshold 1 limit 8 skip 1 rounds 3 stop few at 1500 down 0 total 6
+precopy live --min 4 --max 4 --inc 0 --threshold 1 --rounds 8 --start 0 --skip
+";
+
+#[test]
+fn advises_a_case(rt: HostRuntime) -> Result<(), Fail> {
+    let words = ["advise", "--down=0", "--max=4"];
+    let (status, output, _) = told(&rt, rt.alloc(), 102, &words)?;
+    assert!(rt; status == 0 && output.bytes() == ADVICE.as_bytes());
+    Ok(())
+}
+
+/// The worked report as tables, no line wider than 72 characters.
+static SCREEN: &str = "trace: 4 pages of 16 bytes, 5 writes
+
+windows of 1000 ticks; pages: █ again ▓ earlier ░ fresh
+  window  writes  pages  again  fresh
+       0       2      2      0      2  ░░░░░░░░░░░░░░░░░░░░░░░░░░░░░░░░░
+       1       1      1      1      0  ████████████████
+       2       2      2      1      1  ████████████████░░░░░░░░░░░░░░░░
+
+hot pages, in 2 windows or more: 1
+ 1
+
+rounds, at a rate in pages per 1,000 ticks; pages: █ sent ░ skipped
+  round  from    to  rate  pages  sent  dirtied
+      0     0  2000     2      4     4        2  ███████████████████████
+      1  2000  3000     2      2     2        2  ███████████
+      2  3000  3667     3      2     2        0  ███████████
+
+stop: few, at tick 3667
+left: 0 pages
+downtime: 0 ticks
+sent in all: 8 pages
+";
+
+#[test]
+fn shows_tables(rt: HostRuntime) -> Result<(), Fail> {
+    let words = [
+        "show",
+        "--min=2",
+        "--max=4",
+        "--inc=1",
+        "--threshold=1",
+        "--rounds=8",
+        "--width=72",
+    ];
+    let (status, output, _) = told(&rt, rt.alloc(), 102, &words)?;
+    assert!(rt; status == 0 && output.bytes() == SCREEN.as_bytes());
+    Ok(())
+}
+
+#[test]
+fn draws_a_picture(rt: HostRuntime) -> Result<(), Fail> {
+    let (status, output, _) = told(&rt, rt.alloc(), 102, &["chart"])?;
+    let picture = output.bytes();
+    assert!(rt; status == 0 && picture.starts_with(b"<svg ") && picture.ends_with(b"</svg>\n"));
+    Ok(())
+}
+
+#[test]
+fn says_why_it_ends(rt: HostRuntime) -> Result<(), Fail> {
+    let alloc = rt.alloc();
+    let cases: [(&[&str], usize, u8, &str); 5] = [
+        (
+            &["json", "report"],
+            101,
+            1,
+            "precopy-view: trace E8 record 4\n",
+        ),
+        (
+            &["advise", "--down", "1"],
+            15,
+            1,
+            "precopy-view: trace E1\n",
+        ),
+        (
+            &["json", "report", "--min=0"],
+            15,
+            2,
+            "precopy-view: settings S1\n",
+        ),
+        (&["json", "sweep", "2,4"], 15, 2, "precopy-view: case 0\n"),
+        (
+            &["advise", "--down=1", "--max=0"],
+            15,
+            2,
+            "precopy-view: settings S1\n",
+        ),
+    ];
+    for (words, len, expected, line) in cases {
+        let (status, output, faults) = told(&rt, alloc, len, words)?;
+        assert!(rt;
+            status == expected && output.bytes().is_empty() && faults.bytes() == line.as_bytes(),
+            "{line}"
+        );
+    }
+    Ok(())
+}
+
+#[test]
+fn unknown_words_are_told(rt: HostRuntime) -> Result<(), Fail> {
+    let alloc = rt.alloc();
+    let cases: [&[&str]; 5] = [
+        &[],
+        &["json"],
+        &["advise"],
+        &["report"],
+        &["show", "--width=71"],
+    ];
+    for words in cases {
+        let (status, output, faults) = told(&rt, alloc, 102, words)?;
+        assert!(rt; status == 2 && output.bytes().is_empty() && !faults.bytes().is_empty());
+    }
+    Ok(())
+}

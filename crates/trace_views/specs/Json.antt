@@ -1,0 +1,120 @@
+-- Reports and sweeps as JSON documents: the tokens of each, in order. The names are those of the texts.
+use Rattle.std.specs.Prelude.{ℕ, ◌^◌, Bool, List, [], ◌∷◌, ◌++◌, length, codes}
+use Rattle.std.specs.Fmt.{decimal}
+use Rattle.std.specs.List.{flat_map, enumerate_from}
+use Rattle.json.specs.Token.{Token, begin_object, end_object, begin_array, end_array, key, string, number, boolean}
+use Rattle.json.specs.Print.{print}
+use Rattle.migration_model.specs.Rates.{MigrationSettings, word_of}
+use Rattle.migration_model.specs.Rounds.{PlannedRound, MigrationPlan, total_of}
+use Rattle.migration_model.specs.Sweeps.{PlanOutcome, SweepLine, best_of}
+use Rattle.migration_model.specs.Windows.{WindowRow, WorkingSets}
+
+-- a number, in decimal digits
+abbrev pub number_token : ℕ → Token
+number_token n = number (decimal n)
+
+-- a member whose value is a number, a text, or true or false
+unfoldable pub number_member : List ℕ → ℕ → List Token
+number_member name n = key name ∷ number_token n ∷ []
+
+unfoldable pub text_member : List ℕ → List ℕ → List Token
+text_member name text = key name ∷ string text ∷ []
+
+unfoldable pub flag_member : List ℕ → Bool → List Token
+flag_member name flag = key name ∷ boolean flag ∷ []
+
+-- an object with these members, and an array of these items
+abbrev pub object_of : List (List Token) → List Token
+object_of members = begin_object ∷ (flat_map (λ m. m) members ++ end_object ∷ [])
+
+abbrev pub array_of : List Token → List Token
+array_of items = begin_array ∷ (items ++ end_array ∷ [])
+
+-- a member with a value of several tokens
+abbrev pub member_of : List ℕ → List Token → List Token
+member_of name value = key name ∷ value
+
+-- ---- the parts of a report
+
+-- the sizes of a trace
+abbrev pub trace_object : ℕ → ℕ → ℕ → List Token
+trace_object pages size writes =
+    object_of (number_member (codes "pages") pages ∷ number_member (codes "size") size ∷ number_member (codes "writes") writes ∷ [])
+
+abbrev pub window_object : WindowRow → List Token
+window_object row =
+    object_of (number_member (codes "window") row.number ∷ number_member (codes "writes") row.writes ∷ number_member (codes "pages") row.pages
+    ∷ number_member (codes "again") row.again ∷ number_member (codes "fresh") row.fresh ∷ [])
+
+-- the setting that makes a page hot, and the hot pages
+abbrev pub hot_object : ℕ → List ℕ → List Token
+hot_object hot pages =
+    object_of (number_member (codes "windows") hot ∷ member_of (codes "pages") (array_of (flat_map (λ page. number_token page ∷ []) pages)) ∷ [])
+
+-- a round of a plan, by its number
+abbrev pub round_object : ℕ → PlannedRound → List Token
+round_object n round =
+    object_of (number_member (codes "round") n ∷ number_member (codes "from") round.from ∷ number_member (codes "to") round.to
+    ∷ number_member (codes "rate") round.rate ∷ number_member (codes "pages") (length round.pages)
+    ∷ number_member (codes "sent") (length round.sent) ∷ number_member (codes "dirtied") round.dirtied ∷ [])
+
+-- the rounds of a plan, numbered from the first
+abbrev pub round_objects : List PlannedRound → List Token
+round_objects rounds = flat_map (λ at. round_object at.0 at.1) (enumerate_from 0 rounds)
+
+-- the end of a plan
+abbrev pub stop_object : MigrationPlan → List Token
+stop_object plan =
+    object_of (text_member (codes "why") (word_of plan.reason) ∷ number_member (codes "at") plan.stop ∷ number_member (codes "pages") (length plan.last)
+    ∷ number_member (codes "down") plan.down ∷ number_member (codes "total") (total_of plan) ∷ [])
+
+-- the members of a report on working sets, and on a plan
+abbrev pub sets_members : ℕ → WorkingSets → List Token
+sets_members hot sets =
+    member_of (codes "windows") (array_of (flat_map window_object sets.windows)) ++ member_of (codes "hot") (hot_object hot sets.hot)
+
+abbrev pub plan_members : MigrationPlan → List Token
+plan_members plan =
+    member_of (codes "rounds") (array_of (round_objects plan.rounds)) ++ member_of (codes "stop") (stop_object plan)
+
+-- the facts of a report
+abbrev pub report_object : ℕ → ℕ → ℕ → ℕ → WorkingSets → MigrationPlan → List Token
+report_object shift pages writes hot sets plan =
+    object_of (member_of (codes "trace") (trace_object pages (2 ^ shift) writes) ∷ sets_members hot sets ∷ plan_members plan ∷ [])
+
+-- ---- the parts of a sweep
+
+-- the settings of a case
+abbrev pub settings_members : MigrationSettings → List (List Token)
+settings_members s =
+    number_member (codes "min") s.min ∷ number_member (codes "max") s.max ∷ number_member (codes "inc") s.increment
+    ∷ number_member (codes "threshold") s.threshold ∷ number_member (codes "limit") s.rounds ∷ flag_member (codes "skip") s.skip ∷ []
+
+-- the sums of a case's plan
+abbrev pub outcome_members : PlanOutcome → List (List Token)
+outcome_members outcome =
+    number_member (codes "rounds") outcome.rounds ∷ text_member (codes "stop") (word_of outcome.reason) ∷ number_member (codes "at") outcome.stop
+    ∷ number_member (codes "down") outcome.down ∷ number_member (codes "total") outcome.total ∷ []
+
+-- a case, by its number
+abbrev pub case_object : ℕ → SweepLine → List Token
+case_object n line = object_of (number_member (codes "case") n ∷ (settings_members line.settings ++ outcome_members line.outcome))
+
+-- the cases of a sweep, numbered from the first
+abbrev pub case_objects : List SweepLine → List Token
+case_objects lines = flat_map (λ at. case_object at.0 at.1) (enumerate_from 0 lines)
+
+-- the number of the best case, where there is a case
+abbrev pub best_member : List SweepLine → List Token
+best_member [] = []
+best_member (first ∷ others) = number_member (codes "best") (best_of (first ∷ others))
+
+-- the facts of a sweep: its cases, and the best of them
+abbrev pub sweep_object : List SweepLine → List Token
+sweep_object lines = object_of (member_of (codes "cases") (array_of (case_objects lines)) ∷ best_member lines ∷ [])
+
+-- ---- documents
+
+-- the document of these tokens: one line
+abbrev pub line_of : List Token → List ℕ
+line_of tokens = print tokens ++ 10 ∷ []

@@ -1,0 +1,4 @@
+pub mod Json
+pub mod Advice
+pub mod AdviceText
+pub mod Views

@@ -1,0 +1,45 @@
+-- What a view of a trace shows.
+use Rattle.std.specs.Prelude.{◌≡◌, ℕ, ◌≤◌, List, length, ⊤}
+use Rattle.migration_model.specs.Rates.{MigrationSettings}
+use Rattle.migration_model.specs.Rounds.{IsPlan, MigrationPlan}
+use Rattle.migration_model.specs.Sweeps.{SweepLine, AreLines}
+use Rattle.migration_model.specs.Touches.{GuestTouches}
+use Rattle.migration_model.specs.Windows.{working_sets_of}
+use Rattle.trace_views.specs.Advice.{IsAdvice}
+use Rattle.trace_views.specs.AdviceText.{EndsWithCase, case_of}
+use Rattle.trace_views.specs.Json.{line_of, report_object, sweep_object}
+use Rattle.trace_views.specs.declared.budget.Advice.{Advice}
+use Rattle.trace_views.specs.declared.budget.Budget.{Budget}
+use Rattle.trace_views.specs.declared.view.View.{View}
+use Rattle.trace_views.specs.declared.view.View.TheVariants as views
+
+-- the facts of a report, as a JSON document: the working sets and the plan
+pub record IsReportView (log : GuestTouches) (settings : MigrationSettings) (text : List ℕ) : Type 0 where
+  pub plan : MigrationPlan
+  pub is_plan : IsPlan log.pages log.touches settings plan
+  pub text_is : text
+      ≡ line_of (report_object log.shift log.pages (length log.touches) settings.hot (working_sets_of log.pages log.touches settings) plan)
+
+-- the facts of a sweep, as a JSON document: the sums of each case's plan, and the best of them
+pub record IsSweepView (log : GuestTouches) (cases : List MigrationSettings) (text : List ℕ) : Type 0 where
+  pub lines : List SweepLine
+  pub are_lines : AreLines log.pages log.touches cases lines
+  pub text_is : text ≡ line_of (sweep_object lines)
+
+-- a text of advice for a budget: it ends with the case to take of some cases, each planned by itself
+pub record IsAdviceView (log : GuestTouches) (budget : Budget) (text : List ℕ) : Type 0 where
+  pub cases : List MigrationSettings
+  pub few : length cases ≤ 256
+  pub lines : List SweepLine
+  pub are_lines : AreLines log.pages log.touches cases lines
+  pub advice : Advice
+  pub is_advice : IsAdvice budget lines advice
+  pub text_ends : EndsWithCase lines (case_of advice) text
+
+-- what a view shows of a trace; nothing is said of a picture, or of a report for a terminal
+abbrev pub IsView : GuestTouches → View → List ℕ → Type 0
+IsView log (views.JsonReport settings) text = IsReportView log settings text
+IsView log (views.JsonSweep cases workers) text = IsSweepView log cases.items text
+IsView log (views.Advise budget settings) text = IsAdviceView log budget text
+IsView log (views.Show settings style) text = ⊤
+IsView log (views.Chart settings) text = ⊤

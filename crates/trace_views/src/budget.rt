@@ -1,0 +1,41 @@
+//! What a migration may cost, and what is advised for it.
+
+/// What a migration may cost.
+#[derive(Clone, Copy, Debug, PartialEq, Eq)]
+pub struct Budget {
+    /// The most downtime, in ticks.
+    pub down: u64,
+    /// The most pages sent, over all rounds and after the stop; none where any number will do.
+    pub total: Option<u64>,
+}
+
+/// What is advised of some cases, which are named by their numbers from 0.
+#[derive(Clone, Copy, Debug, PartialEq, Eq)]
+pub enum Advice {
+    /// This case keeps the budget, with the fewest pages sent.
+    Fits(usize),
+    /// No case keeps the budget, though some keep its downtime.
+    OverTotal {
+        /// The case with the least downtime.
+        nearest: usize,
+        /// The case with the fewest pages sent of those that keep the downtime.
+        cheapest: usize,
+    },
+    /// No case keeps the downtime. This one has the least.
+    OverDown(usize),
+}
+
+impl Advice {
+    ghost use Rattle.std.specs.Prelude.{◌≡◌};
+    ghost use Rattle.trace_views.specs.AdviceText.{case_of};
+
+    /// Returns the number of the case that is advised.
+    pub fn case(&self) -> usize
+        ensures { result ≡ case_of self.now }
+    {
+        match self {
+            Advice::Fits(case) | Advice::OverDown(case) => *case,
+            Advice::OverTotal { nearest, .. } => *nearest,
+        }
+    }
+}

@@ -1,0 +1,24 @@
+//! Answers about a trace for people and for programs: reports and sweeps as JSON, advice for a budget.
+//! A view is one of these, or a report as tables or as a picture.
+#![tactic(auto)]
+
+mod advice_writing;
+mod budget;
+mod choosing;
+mod document;
+mod error;
+mod grid;
+mod report_document;
+mod sweep_document;
+mod view;
+mod viewing;
+
+pub use advice_writing::advice_text;
+pub use budget::{Advice, Budget};
+pub use choosing::advise;
+pub use error::ViewError;
+pub use grid::Grid;
+pub use report_document::json_report;
+pub use sweep_document::json_sweep;
+pub use view::View;
+pub use viewing::view_text;

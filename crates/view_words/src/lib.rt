@@ -1,0 +1,8 @@
+//! The words of precopy-view's command line: words in, a view or a refusal out.
+#![tactic(auto)]
+
+mod command;
+mod options;
+
+pub use command::view_of;
+pub use job_words::{WordsError, WordsRefusal, words};
