@@ -53,6 +53,19 @@ def live(**more):
     return lambda trace: ["live", *options(**{**settings_of(trace), "lane": 65_536, **more})]
 
 
+def base_of(trace):
+    return trace.last_tick // 2
+
+
+def live_late(**more):
+    """A live run whose first tick comes a tenth of the ticks behind the base."""
+    return lambda trace: live(start=base_of(trace) + trace.last_tick // 10, **more)(trace)
+
+
+def live_warm(**more):
+    return lambda trace: live_late(base=base_of(trace), **more)(trace)
+
+
 def case(settings, number):
     """Rates up to twenty times apart; every second case skips."""
     least = min(MOST_RATE, settings["min"] << number // 2 % 3)
@@ -88,6 +101,9 @@ SWEEPS = {
 LIVE_1 = Job("live", live(), BOTH, ("image",))
 TWO = {"workers": 2, "streams": 2, "replayers": 2}
 LIVE_2 = Job("live-2", live(**TWO, skip=True, at_stop=True), BOTH)
+# From the same first tick on, to a destination without a page and to one with the memory before the base.
+COLD = Job("live-cold", live_late(), BOTH, ("image",))
+WARM = Job("live-warm", live_warm(), BOTH, ("image",))
 
 
 def odd_sweep(trace):
@@ -101,6 +117,7 @@ def odd_sweep(trace):
 def quick_jobs():
     """Jobs for small traces, in which all settings change."""
     start = {"start": 700, "skip": True, "inc": 3, "rounds": 9}
+    base = {"base": 650, "start": 700}
     after = ("image",)
     return [
         IMAGE,
@@ -110,6 +127,8 @@ def quick_jobs():
         Job("sweep-16", sweep(16, 1)),
         Job("sweep-4-workers", sweep(40, 4)),
         Job("sweep-odd", odd_sweep),
+        Job("report-warm", lambda trace: ["report", *options(**settings_of(trace), **base)]),
+        Job("sweep-warm", lambda trace: [*sweep(16, 2)(trace), *options(**base)]),
         SWEEP_1,
         LIVE_1,
         LIVE_2,
@@ -117,4 +136,8 @@ def quick_jobs():
         Job("live-lane-of-one", live(workers=2, streams=1, replayers=3, lane=1, skip=True), BOTH, after),
         Job("live-start", live(workers=4, streams=2, replayers=5, lane=64, at_stop=True, **start), BOTH),
         Job("live-start-on", live(streams=3, **start), BOTH, after),
+        COLD,
+        WARM,
+        Job("live-warm-stop", live_warm(workers=3, streams=2, replayers=2, skip=True, at_stop=True), BOTH),
+        Job("live-warm-empty", live(base=700, start=700, streams=2, threshold=1, at_stop=True), BOTH),
     ]

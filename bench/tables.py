@@ -111,6 +111,21 @@ class Tables:
             names = [it.capitalize() for it in traces]
             table(["Command", "Program", *(f"{it}, ms" for it in names), " / ".join(names)], rows)
 
+    def of_warm(self, traces, cold, warm):
+        """One row for each trace and program: a warm start beside a cold one with the same first tick."""
+        rows = []
+        for trace in traces:
+            for program in warm.programs:
+                ratio = self.least(trace, warm.name, program) / self.least(trace, cold.name, program)
+                if math.isnan(ratio):
+                    continue
+                row = [trace, TITLES[program], *(self.time(trace, it.name, program) for it in (cold, warm))]
+                rows.append([*row, f"{ratio:.2f}", *(self.memory(trace, it.name, program) for it in (cold, warm))])
+        if rows:
+            print("### Warm starts, `precopy live`\n")
+            print("The first round begins at six tenths of the ticks; the base of a warm start is at half of them.\n")
+            table(["Trace", "Program", "Cold, ms", "Warm, ms", "Warm / cold", "Cold, MB", "Warm, MB"], rows)
+
     def of_growth(self, title, series, jobs, unit):
         """`series` is a list of traces and counts. One row for each command and program."""
         rows = []

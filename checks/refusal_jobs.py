@@ -133,6 +133,13 @@ EARLY = Job(
     A_AT_2000,
     is_live=True,
 )
+# The destination begins with the memory before tick 1200, and the guest stops at tick 1701.
+WARM = Job(
+    "live --at-stop, base 1200",
+    ["live", *PLAN, *THREADS, "--base", "1200", "--start", "1201", "--at-stop"],
+    A_AT_2000,
+    is_live=True,
+)
 WIDE = "2 workers, 2^18 writes"
 WIDE_WORDS = ["--workers", "2", *MANY_CASES.split()]
 WIDE_REPORT = Job(f"report, {WIDE}", ["report", *PLAN, *TABLES, "--workers", "2"], MANY_REPORT, "many", savers=1)
@@ -149,4 +156,4 @@ MISUSES = [
         "report --skip",
     ),
 ]
-JOBS = [IMAGE, REPORT, SWEEP, LIVE, AT_STOP, EARLY]
+JOBS = [IMAGE, REPORT, SWEEP, LIVE, AT_STOP, EARLY, WARM]

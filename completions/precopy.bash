@@ -2,7 +2,7 @@
 
 _precopy() {
     local word=${COMP_WORDS[COMP_CWORD]} before=${COMP_WORDS[COMP_CWORD - 1]} command='' each
-    local pace='--min --max --inc --threshold --rounds --start --skip --workers --help'
+    local pace='--min --max --inc --threshold --rounds --start --base --skip --workers --help'
     COMPREPLY=()
     for each in "${COMP_WORDS[@]:1:COMP_CWORD-1}"; do
         case $each in
@@ -10,7 +10,7 @@ _precopy() {
         esac
     done
     case $before in
-        --min | --max | --inc | --threshold | --rounds | --start | --window | --hot) return ;;
+        --min | --max | --inc | --threshold | --rounds | --start | --base | --window | --hot) return ;;
         --workers | --streams | --replayers)
             mapfile -t COMPREPLY < <(compgen -W '1 2 4 8 16' -- "$word")
             return
@@ -29,7 +29,7 @@ _precopy() {
         image) mapfile -t COMPREPLY < <(compgen -W '--help' -- "$word") ;;
         report) mapfile -t COMPREPLY < <(compgen -W "$pace --window --hot" -- "$word") ;;
         live) mapfile -t COMPREPLY < <(compgen -W "$pace --streams --replayers --lane --at-stop" -- "$word") ;;
-        sweep) mapfile -t COMPREPLY < <(compgen -W '--start --workers --help' -- "$word") ;;
+        sweep) mapfile -t COMPREPLY < <(compgen -W '--start --base --workers --help' -- "$word") ;;
         help) mapfile -t COMPREPLY < <(compgen -W 'image report sweep live' -- "$word") ;;
     esac
 }

@@ -156,7 +156,7 @@ class Copy:
         return b"".join(pages)
 
     def look(self, added):
-        """Looks once at all memory, with chunks that added() gave behind it: chunks that have changed, and their bytes."""
+        """Looks once at all memory, with the chunks of added() behind it: those that have changed, and their bytes."""
         looked = ((chunk, self._bytes(chunk)) for chunk in self.chunks + added)
         return [(chunk, new) for chunk, new in looked if new != chunk.seen]
 

@@ -168,7 +168,10 @@ fn sent_of(trace: &Trace, due: &BTreeSet<u32>, from: u64, rate: u64) -> u64 {
 }
 
 fn plan(trace: &Trace, settings: &Settings) -> Plan {
-    let mut due: BTreeSet<u32> = (0..trace.pages).collect();
+    let mut due: BTreeSet<u32> = match settings.base {
+        Some(base) => trace.between(base, settings.start).iter().map(|it| it.page).collect(),
+        None => (0..trace.pages).collect(),
+    };
     let (mut from, mut rate) = (settings.start, settings.min);
     let mut rounds: Vec<Round> = Vec::new();
     loop {
@@ -179,7 +182,8 @@ fn plan(trace: &Trace, settings: &Settings) -> Plan {
         due = trace.between(from, to).iter().map(|it| it.page).collect();
         let dirtied = due.len() as u64;
         rounds.push(Round { from, to, rate, pages, sent, dirtied });
-        let next = (1000 * dirtied).div_ceil(to - from) + settings.inc;
+        // In a round without ticks nothing is dirtied, so few pages remain.
+        let next = (1000 * dirtied).div_ceil((to - from).max(1)) + settings.inc;
         let why = if dirtied < settings.threshold {
             "few"
         } else if next > settings.max {

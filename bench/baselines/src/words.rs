@@ -10,6 +10,8 @@ pub struct Settings {
     pub window: u64,
     pub hot: u64,
     pub start: u64,
+    /// A warm start: the destination begins with the memory before this tick.
+    pub base: Option<u64>,
     pub workers: usize,
     pub streams: usize,
     pub replayers: usize,
@@ -27,6 +29,7 @@ const DEFAULTS: Settings = Settings {
     window: 1000,
     hot: 2,
     start: 0,
+    base: None,
     workers: 1,
     streams: 1,
     replayers: 1,
@@ -55,6 +58,7 @@ impl Settings {
             && (1..=1 << 40).contains(&self.window)
             && (1..=1 << 20).contains(&self.hot)
             && self.start < 1 << 40
+            && self.base.is_none_or(|base| base <= self.start)
             && [self.workers, self.streams, self.replayers].iter().all(|n| (1..=16).contains(n))
             && (1..=65_536).contains(&self.lane)
     }
@@ -69,6 +73,7 @@ impl Settings {
             "window" => self.window = value,
             "hot" => self.hot = value,
             "start" => self.start = value,
+            "base" => self.base = Some(value),
             "workers" => self.workers = value as usize,
             "streams" => self.streams = value as usize,
             "replayers" => self.replayers = value as usize,
@@ -87,13 +92,13 @@ impl Settings {
     }
 }
 
-const COMMON: [&str; 7] = ["min", "max", "inc", "threshold", "rounds", "start", "workers"];
+const COMMON: [&str; 8] = ["min", "max", "inc", "threshold", "rounds", "start", "base", "workers"];
 
 fn takes(command: &str, option: &str) -> bool {
     match command {
         "report" => COMMON.contains(&option) || ["window", "hot"].contains(&option),
         "live" => COMMON.contains(&option) || ["streams", "replayers", "lane"].contains(&option),
-        "sweep" => ["start", "workers"].contains(&option),
+        "sweep" => ["start", "base", "workers"].contains(&option),
         _ => false,
     }
 }

@@ -1,7 +1,9 @@
 -- A part that is kept as a table of frames by page.
-use Rattle.std.specs.Prelude.{◌≡◌, ℕ, ◌+◌, ◌-◌, ◌≤◌, max, List, ◌++◌, length, map, replicate, slice_index_or, Option, Some, None, IfSome, option_map}
+use Rattle.std.specs.Prelude.{◌≡◌, ℕ, ◌+◌, ◌-◌, ◌<◌, ◌≤◌, max, List, ◌++◌, length, map, replicate, slice_index_or, Option, Some, None, IfSome, option_map}
 use Rattle.migration_model.specs.Frames.{GuestShape, PageFrame, IsFrame}
+use Rattle.migration_model.specs.Memory.{memory_with, page_of}
 use Rattle.migration_model.specs.Parts.{PageCopy, GuestPart, copy_in, with_frame}
+use Rattle.page_message.specs.Framing.{IsFrameOf}
 
 -- the copies that the table has, and none of the pages past its end
 abbrev pub copies_of : GuestShape → List (Option PageFrame) → List (Option PageCopy)
@@ -22,3 +24,12 @@ pub record Grows (old new : List (Option PageFrame)) (page : ℕ) : Type 0 where
 abbrev pub with_slot : GuestPart → Option PageFrame → GuestPart
 with_slot part None = part
 with_slot part (Some frame) = with_frame part frame
+
+-- the first pages of the memory with these bytes stand in the table, so many, each with its stamp
+pub record IsTableOf (shape : GuestShape) (bytes stamps : List ℕ) (count : ℕ)
+    (table : List (Option PageFrame)) : Type 0 where
+  pub count_is : length table ≡ count
+  pub each : (page : ℕ) → page < count
+      → (frame : PageFrame) × (slice_index_or table page None ≡ Some frame)
+      × IsFrameOf shape page (slice_index_or stamps page 0) (page_of (memory_with shape.shift shape.pages bytes) page)
+      frame

@@ -3,6 +3,7 @@
 
 mod error;
 mod fate;
+mod of_image;
 mod part;
 mod table;
 

@@ -41,10 +41,18 @@ impl Part {
     pub fn new(alloc: Global, shape: Shape) -> Part
         ensures { result ≡ empty_part (shape_of shape) }
     {
+        Part::with_table(alloc, shape, Vec::new(alloc))
+    }
+
+    /// Returns the part that has the frames of this table.
+    pub(crate) fn with_table(alloc: Global, shape: Shape, frames: Vec<Option<Frame>>) -> Part
+        requires { IsTable (shape_of shape) frames.items }
+        ensures { result ≡ part_with (shape_of shape) (copies_of (shape_of shape) frames.items) }
+    {
         Part {
             alloc,
             shape,
-            frames: Vec::new(alloc),
+            frames,
         }
     }
 

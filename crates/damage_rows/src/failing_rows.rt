@@ -31,6 +31,7 @@ fn settings() -> Result<Settings, Fail> {
         replayers: 2,
         lane: 1024,
         skip: false,
+        base: None,
     })?)
 }
 

@@ -13,3 +13,5 @@ mod released_tests;
 mod sweep_tests;
 #[cfg(test)]
 mod tests;
+#[cfg(test)]
+mod warm_tests;

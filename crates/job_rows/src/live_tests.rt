@@ -30,6 +30,7 @@ pub(crate) fn slow() -> Asked {
         replayers: 1,
         lane: 1024,
         skip: false,
+        base: None,
     }
 }
 

@@ -20,6 +20,7 @@ const DEFAULTS: Asked = Asked {
     replayers: 1,
     lane: 1024,
     skip: false,
+    base: None,
 };
 
 /// An option that takes a whole number: its name, and its help.
@@ -28,11 +29,17 @@ type Number<'a> = (&'a str, &'a str);
 /// When a migration begins.
 const START: Number<'static> = ("start", "Tick at which the first round begins [default: 0]");
 
+/// Where a warm start begins.
+const BASE: Number<'static> = (
+    "base",
+    "Tick before which the destination has the guest's memory [default: none]",
+);
+
 /// How many threads there may be.
 const WORKERS: Number<'static> = ("workers", "Threads that work side by side [default: 1]");
 
 /// How a migration is paced.
-const PACE: [Number<'static>; 6] = [
+const PACE: [Number<'static>; 7] = [
     (
         "min",
         "Least rate, in pages per 1,000 ticks [default: 1000]",
@@ -51,6 +58,7 @@ const PACE: [Number<'static>; 6] = [
     ),
     ("rounds", "Most rounds [default: 30]"),
     START,
+    BASE,
 ];
 
 /// What a report shows beside the plan.
@@ -72,7 +80,7 @@ const LIVE: [Number<'static>; 4] = [
 ];
 
 /// What all cases of a sweep have in common.
-const SWEEP: [Number<'static>; 2] = [START, WORKERS];
+const SWEEP: [Number<'static>; 3] = [START, BASE, WORKERS];
 
 /// Returns an option of this name.
 fn option<'a>(alloc: Global, name: &'a str, help: &'a str) -> Arg<'a> {
@@ -150,6 +158,7 @@ pub fn sweep_options(matches: &ArgMatches) -> Asked {
     Asked {
         start: given(matches, "start", DEFAULTS.start),
         workers: given(matches, "workers", DEFAULTS.workers),
+        base: matches.get_one::<u64>("base"),
         ..DEFAULTS
     }
 }
@@ -170,5 +179,6 @@ pub fn settings_of(matches: &ArgMatches) -> Result<Settings, SettingsError> {
         replayers: given(matches, "replayers", DEFAULTS.replayers),
         lane: given(matches, "lane", DEFAULTS.lane),
         skip: matches.get_flag("skip"),
+        base: matches.get_one::<u64>("base"),
     })
 }

@@ -1,11 +1,11 @@
 -- What arrives in the parts when all lanes are drained.
-use Rattle.std.proofs.Common.{◌≡◌, ℕ, ◌<◌, ◌≤◌, List, length, map, refl, sym, ap, subst, ◌∙◌, arith, Vec, Global}
+use Rattle.std.proofs.Common.{◌≡◌, ℕ, ◌<◌, ◌≤◌, ◌⊎◌, inl, inr, List, length, map, refl, sym, ap, subst, ◌∙◌, arith, Vec, Global}
 use Rattle.std.specs.Prelude.{Option, Some, None, IfSome, IsSomeAnd, slice_get, slice_index}
 use Rattle.std.specs.List.{All, Contains}
 use Rattle.std.proofs.lemmas.List.{length-map}
 use Rattle.std.proofs.lemmas.Option.{same_Some, slice_get_within, slice_get-get_or}
 use Rattle.migration_model.specs.Trace.{GuestTrace}
-use Rattle.migration_model.specs.Versions.{page_at}
+use Rattle.migration_model.specs.Versions.{page_at, version_before}
 use Rattle.migration_model.specs.Rates.{MigrationSettings}
 use Rattle.migration_model.specs.Rounds.{MigrationPlan, PlannedRound}
 use Rattle.migration_model.specs.Frames.{GuestShape, PageFrame, IsGuestShape, content_of}
@@ -14,6 +14,7 @@ use Rattle.migration_model.specs.Images.{AreNotBeyond, HaveCurrent}
 use Rattle.migration_model.specs.Final.{shape_of_trace}
 use Rattle.migration_model.specs.Live.{LiveRound, LiveRounds}
 use Rattle.migration_model.proofs.Frames.{one_frame_lem}
+use Rattle.migration_model.proofs.Placed.{version_rises}
 use Rattle.dirty_words.specs.Seats.{ClosedView}
 use Rattle.stream_lanes.specs.Ends.{InView, IsSentOn, LaneId, OutView}
 use Rattle.stream_lanes.specs.Grids.{AreColumns}
@@ -22,9 +23,9 @@ use Rattle.live_engine.specs.Lists.{rows_of}
 use Rattle.stream_receivers.specs.Receivers.{AreEnds, AreFrames, HasFrames, ReceiverView}
 use Rattle.stream_receivers.proofs.Had.{has_same}
 use Rattle.live_engine.specs.declared.opening.Team.{Team}
-use Rattle.live_engine.specs.Joining.{AreJoined, HaveCapacity, IsMarked, IsSentBy, lanes_of}
+use Rattle.live_engine.specs.Joining.{AreJoined, HaveCapacity, IsAsInBase, IsCurrentText, IsMarked, IsSentBy, lanes_of}
 use Rattle.live_engine.specs.Receiving.{AreCrossed, HaveArrived, IsSentTo, lanes_in}
-use Rattle.live_engine.specs.Runs.{AllArrived, AreDone, AreOpened, HaveEnded, IsTeamOf}
+use Rattle.live_engine.specs.Runs.{AllCame, AreDone, AreOpened, HaveEnded, IsTeamOf}
 use Rattle.live_engine.proofs.Crossed.{lanes_kept, shapes_kept}
 use Rattle.live_engine.proofs.Each.{all_at, all_there, any_at, any_there, made_of, makes_at, pick, within}
 use Rattle.live_engine.proofs.Running.{fits_pages}
@@ -122,8 +123,8 @@ module _ (copiers streams : ℕ) (rows columns : List (Vec OutView Global)) (rec
 
 -- ---- what all rounds left
 
-module _ (trace : GuestTrace) (copiers streams tick : ℕ) (planned : List PlannedRound) (rounds : List LiveRound) (closed : ClosedView) (rows : List (List OutView))
-    (parts : List GuestPart) (joined : AreJoined trace copiers tick planned rounds closed rows) (sizes : All (λ (row : List OutView). length row ≡ streams) rows)
+module _ (trace : GuestTrace) (base : Option ℕ) (copiers streams tick : ℕ) (planned : List PlannedRound) (rounds : List LiveRound) (closed : ClosedView) (rows : List (List OutView))
+    (parts : List GuestPart) (joined : AreJoined trace base copiers tick planned rounds closed rows) (sizes : All (λ (row : List OutView). length row ≡ streams) rows)
     (come : HaveArrived (shape_of_trace trace) streams rows parts) where
   -- a copy in a part is that of a frame that was sent
   copy_is : (stream page : ℕ) (part : GuestPart) (copy : PageCopy) → slice_get parts stream ≡ Some part → copy_at part page ≡ Some copy
@@ -149,9 +150,9 @@ module _ (trace : GuestTrace) (copiers streams tick : ℕ) (planned : List Plann
         (λ stream part part_there. if_some (copy_at part page) (λ copy there. (copy_is stream page part copy part_there there).1));
   }
 
-  pub current : (page : ℕ) → page < trace.pages → (IsMarked closed.dirty page → ⊥) → HaveCurrent closed.versions parts page
-  current page real unmarked =
-      let found = joined.current page real unmarked in
+  -- a page that was sent as it is
+  sent_current : (page : ℕ) → page < trace.pages → (text : List ℕ) × IsSentBy rows text × IsCurrentText trace closed.versions page text → HaveCurrent closed.versions parts page
+  sent_current page real found =
       let text = found.0 in
       let frame = found.2.frame in
       let row = any_there (λ (outs : List OutView). IsSentOn outs text) rows found.1 in
@@ -171,6 +172,15 @@ module _ (trace : GuestTrace) (copiers streams tick : ℕ) (planned : List Plann
       any_at (λ (part : GuestPart). IsSomeAnd (copy_at part page) (λ copy. copy.stamp ≡ slice_index closed.versions page)) parts stream p.0 part_there
       (some_from (λ copy. copy.stamp ≡ slice_index closed.versions page) (copy_at p.0 page) came.0 there same)
 
+  pub current : (page : ℕ) → page < trace.pages → (IsMarked closed.dirty page → ⊥) → HaveCurrent closed.versions parts page ⊎ IsAsInBase trace base closed.versions page
+  current page real unmarked = elim (joined.current page real unmarked) [ inl sent ↦ inl (sent_current page real sent) | inr as_base ↦ inr as_base ]
+
+-- the versions of a base are no later than those that were left
+base_before : (trace : GuestTrace) (base : Option ℕ) (tick : ℕ) (versions : List ℕ) → ((page : ℕ) → page < trace.pages → slice_index versions page ≡ version_before trace page tick)
+    → IfSome base (λ from. from ≤ tick) → IfSome base (λ from. (page : ℕ) → page < trace.pages → version_before trace page from ≤ slice_index versions page)
+base_before trace None tick versions are low = tt
+base_before trace (Some from) tick versions are low = λ page real. (let up = version_rises trace page from tick low in omega (arith, up, are page real))
+
 -- each desk has an end for each stream
 pub sizes_of : (trace : GuestTrace) (streams : ℕ) (desks : List DeskView) → All (IsDesk trace streams) desks → All (λ (row : List OutView). length row ≡ streams) (rows_of desks)
 sizes_of trace streams desks each = all_at (λ (row : List OutView). length row ≡ streams) (rows_of desks) (λ copier row there.
@@ -187,28 +197,29 @@ still_crossed trace s plan team first desks opened receivers closed rounds are e
     (subst (λ (sends : List (List LaneId)). AreCrossed team.copiers team.streams sends (map lanes_in receivers)) (sym done.lanes)
     (subst (λ (takes : List (List LaneId)). AreCrossed team.copiers team.streams (lanes_of (rows_of first)) takes) (sym (lanes_kept opened receivers same)) are.crossed))
 
--- what was sent has arrived
-pub all_arrived : (trace : GuestTrace) (s : MigrationSettings) (plan : MigrationPlan) (team : Team) (first desks : List DeskView) (opened receivers : List ReceiverView)
+-- what was sent has come
+pub all_came : (trace : GuestTrace) (s : MigrationSettings) (plan : MigrationPlan) (team : Team) (first desks : List DeskView) (opened receivers : List ReceiverView)
     (closed : ClosedView) (rounds : List LiveRound) (parts : List GuestPart) → AreOpened trace team first opened
     → HaveEnded trace s plan team first opened closed rounds desks receivers
     → (All (λ (r : ReceiverView). r.part.shape ≡ shape_of_trace trace) receivers → AreFrames (shape_of_trace trace) (IsSentBy (rows_of desks))
-    → HaveArrived (shape_of_trace trace) team.streams (rows_of desks) parts) → AllArrived trace team.streams closed parts
-all_arrived trace s plan team first desks opened receivers closed rounds parts are ended come_by =
+    → HaveArrived (shape_of_trace trace) team.streams (rows_of desks) parts) → AllCame trace s.base team.streams closed parts
+all_came trace s plan team first desks opened receivers closed rounds parts are ended come_by =
     let done = ended.done in
     let come : HaveArrived (shape_of_trace trace) team.streams (rows_of desks) parts =
     come_by (shapes_kept (shape_of_trace trace) opened receivers ended.same are.shapes) (λ text sent. (let h = done.joined.honest text sent in (h.frame, h.spells))) in
     let sizes = sizes_of trace team.streams desks done.under_way.each in
     record {
-      fits = fits_pages trace plan.stop team plan.rounds rounds closed desks done.under_way done.joined;
+      fits = fits_pages trace s.base plan.stop team plan.rounds rounds closed desks done.under_way done.joined;
+      base_low = base_before trace s.base plan.stop closed.versions done.joined.versions done.joined.base_low;
       count = come.count;
-      not_beyond = not_beyond trace team.copiers team.streams plan.stop plan.rounds rounds closed (rows_of desks) parts done.joined sizes come;
-      current = current trace team.copiers team.streams plan.stop plan.rounds rounds closed (rows_of desks) parts done.joined sizes come;
+      not_beyond = not_beyond trace s.base team.copiers team.streams plan.stop plan.rounds rounds closed (rows_of desks) parts done.joined sizes come;
+      current = current trace s.base team.copiers team.streams plan.stop plan.rounds rounds closed (rows_of desks) parts done.joined sizes come;
     }
 
 -- the rounds keep the law of the settings
 pub keeps_settings : (trace : GuestTrace) (s : MigrationSettings) (plan : MigrationPlan) (team : Team) (first desks : List DeskView) (opened : List ReceiverView)
     (closed : ClosedView) (rounds : List LiveRound) → IsTeamOf s team → AreOpened trace team first opened → AreDone trace s plan team first closed rounds desks
-    → LiveRounds trace s.skip s.workers s.lane plan.rounds rounds
+    → LiveRounds trace s.base s.skip s.workers s.lane plan.rounds rounds
 keeps_settings trace s plan team first desks opened closed rounds team_is are done =
-    subst (λ (n : ℕ). LiveRounds trace s.skip n s.lane plan.rounds rounds) team_is.copiers_are
+    subst (λ (n : ℕ). LiveRounds trace s.base s.skip n s.lane plan.rounds rounds) team_is.copiers_are
     (done.law s.lane (subst (λ (n : ℕ). HaveCapacity n (lanes_of (rows_of first))) team_is.lane_is are.capacity))

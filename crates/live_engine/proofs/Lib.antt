@@ -6,7 +6,10 @@ pub mod ScanOrder
 pub mod Leaving
 pub mod Posted
 pub mod Running
+pub mod FirstDue
+pub mod Warmed
 pub mod Planned
 pub mod Rounding
 pub mod Crossed
 pub mod Arrived
+pub mod Begun

@@ -13,7 +13,7 @@ Remaining trace s plan tick rounds = ((rounds ≡ []) × (plan.stop ≡ tick))
 
 pub all_remain : (trace : GuestTrace) (s : MigrationSettings) (plan : MigrationPlan) → IsPlan trace.pages (touches_of trace) s plan
     → Remaining trace s plan s.start plan.rounds
-all_remain trace s plan is = inr (first_round trace.pages s, refl, is)
+all_remain trace s plan is = inr (first_round trace.pages (touches_of trace) s, refl, is)
 
 pub none_remains : (trace : GuestTrace) (s : MigrationSettings) (plan : MigrationPlan) (tick : ℕ) → Remaining trace s plan tick [] → plan.stop ≡ tick
 none_remains trace s plan tick (inl done) = done.1

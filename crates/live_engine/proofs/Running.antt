@@ -1,8 +1,8 @@
 -- How rounds are joined: what holds after one follows from what held before it and from what it did.
 use Rattle.std.proofs.Common.{◌≡◌, ℕ, zero, suc, ◌+◌, ◌-◌, ◌/◌, ◌<◌, ◌≤◌, ◌⊎◌, inl, inr, Bool, true, false, cond, eqb, leb, ◌&&◌, List, [], ◌∷◌, ◌++◌, length, map, take, get_or, refl, sym, ap, subst, ◌∙◌, arith}
-use Rattle.std.specs.Prelude.{Some, slice_get, slice_index}
+use Rattle.std.specs.Prelude.{Option, Some, None, IfSome, slice_get, slice_index}
 use Rattle.std.specs.List.{All, Contains, count_by, flat_map, sum_by}
-use Rattle.std.proofs.lemmas.Bool.{cases_Bool, cases_lt, and_parts}
+use Rattle.std.proofs.lemmas.Bool.{cases_Bool, cases_lt, and_parts, lt-ltb, le-ltb}
 use Rattle.std.proofs.lemmas.Grind.{flat_map-append}
 use Rattle.std.proofs.lemmas.List.{get_or_append_left, get_or-append-add, get_or-map, length-append, length-map, get_or_default}
 use Rattle.std.proofs.lemmas.List.Elements.{All-head, All-tail}
@@ -12,9 +12,10 @@ use Rattle.migration_model.specs.Trace.{GuestTrace}
 use Rattle.migration_model.specs.Touches.{touches_of, is_written}
 use Rattle.migration_model.specs.Versions.{IsWritten, version_before}
 use Rattle.migration_model.specs.Rounds.{PlannedRound}
-use Rattle.migration_model.specs.Live.{IsPlaceOf, LiveRound, KeepsLaw, LiveRounds, IsSentWith, WasCurrent, IsDue, pages_sent, page_copier, sent_by_copier}
+use Rattle.migration_model.specs.Live.{IsPlaceOf, LiveRound, KeepsLaw, LiveRounds, IsSentWith, IsInBase, WasCurrent, IsDue, pages_sent, page_copier, sent_by_copier}
 use Rattle.migration_model.proofs.Touches.{written_is_lem}
-use Rattle.migration_model.proofs.Placed.{version_is_place, version_rises}
+use Rattle.migration_model.proofs.Placed.{version_rises}
+use Rattle.migration_model.proofs.Warm.{version_low}
 use Rattle.page_bitmap.specs.Pages.{in_words}
 use Rattle.dirty_words.specs.Seats.{ClosedView}
 use Rattle.dirty_words.specs.Closing.{FitsPages}
@@ -24,18 +25,12 @@ use Rattle.live_seats.specs.Outboxes.{frames_sent}
 use Rattle.live_engine.specs.Lists.{rows_of}
 use Rattle.live_engine.specs.declared.opening.Team.{Team}
 use Rattle.live_engine.specs.Runs.{IsUnderWay}
-use Rattle.live_engine.specs.Joining.{IsRound, IsMarked, IsSentBy, lanes_of, HaveCapacity, HaveSentNothing, HavePosted, IsHonestText, IsCurrentText, AreJoined}
+use Rattle.live_engine.specs.Joining.{IsRound, IsMarked, IsSentBy, lanes_of, HaveCapacity, HaveSentNothing, HavePosted, IsHonestText, IsCurrentText, IsAsInBase, AreJoined}
+use Rattle.live_engine.specs.Warm.{is_lacking}
 use Rattle.live_engine.proofs.Each.{all_there, pick}
 use Rattle.live_engine.proofs.ScanOrder.{fst_in}
 use Rattle.live_engine.proofs.Visits.{version_stays}
 use Rattle.live_seats.proofs.Basics.{false_leb, false_true, in_none}
-
--- a version is no greater than the number of writes
-version_low : (trace : GuestTrace) (page tick : ℕ) → version_before trace page tick ≤ length trace.writes
-version_low trace page tick = elim (version_is_place trace page tick) [
-  | inl none ↦ omega (arith, none)
-  | inr is ↦ (let low = slice_get_within trace.writes (version_before trace page tick - 1) is.write is.there in omega (arith, low, is.some))
-]
 
 and_none : (a b : Bool) → b ≡ false → (a && b) ≡ false
 and_none true b e = e
@@ -113,10 +108,10 @@ take_whole [] = refl
 take_whole (x ∷ xs) = ap (λ l. x ∷ l) (take_whole xs)
 
 -- the law over rounds of which one more keeps it
-pub law_more : (trace : GuestTrace) (skip : Bool) (copiers lane : ℕ) (planned : List PlannedRound) (rounds : List LiveRound) (plan : PlannedRound) (round : LiveRound)
-    → LiveRounds trace skip copiers lane planned rounds → KeepsLaw trace skip copiers lane planned rounds plan round
-    → LiveRounds trace skip copiers lane (planned ++ plan ∷ []) (rounds ++ round ∷ [])
-law_more trace skip copiers lane planned rounds plan round law keeps =
+pub law_more : (trace : GuestTrace) (base : Option ℕ) (skip : Bool) (copiers lane : ℕ) (planned : List PlannedRound) (rounds : List LiveRound) (plan : PlannedRound) (round : LiveRound)
+    → LiveRounds trace base skip copiers lane planned rounds → KeepsLaw trace base skip copiers lane planned rounds plan round
+    → LiveRounds trace base skip copiers lane (planned ++ plan ∷ []) (rounds ++ round ∷ [])
+law_more trace base skip copiers lane planned rounds plan round law keeps =
     let lp : length (planned ++ plan ∷ []) ≡ length planned + 1 = length-append planned (plan ∷ []) in
     let lr : length (rounds ++ round ∷ []) ≡ length rounds + 1 = length-append rounds (round ∷ []) in
     record {
@@ -129,8 +124,8 @@ law_more trace skip copiers lane planned rounds plan round law keeps =
             | inl inside ↦
                 let inside_rounds : i < length rounds = omega (arith, inside, law.count) in
                 let old = law.each i p r (at_front planned plan p i inside p_there) (at_front rounds round r i inside_rounds r_there) in
-                subst (λ (ps : List PlannedRound). KeepsLaw trace skip copiers lane ps (take i (rounds ++ round ∷ [])) p r) (sym (planned_take (omega (arith, inside))))
-                (subst (λ (rs : List LiveRound). KeepsLaw trace skip copiers lane (take i planned) rs p r) (sym (rounds_take (omega (arith, inside_rounds)))) old)
+                subst (λ (ps : List PlannedRound). KeepsLaw trace base skip copiers lane ps (take i (rounds ++ round ∷ [])) p r) (sym (planned_take (omega (arith, inside))))
+                (subst (λ (rs : List LiveRound). KeepsLaw trace base skip copiers lane (take i planned) rs p r) (sym (rounds_take (omega (arith, inside_rounds)))) old)
             | inr behind ↦
                 let here : i ≡ length planned = omega (arith, behind, low, lp) in
                 let here_rounds : i ≡ length rounds = here ∙ sym law.count in
@@ -138,21 +133,27 @@ law_more trace skip copiers lane planned rounds plan round law keeps =
                 let r_is : round ≡ r = at_end rounds round r (ap (slice_get (rounds ++ round ∷ [])) (sym here_rounds) ∙ r_there) in
                 let planned_is : take i (planned ++ plan ∷ []) ≡ planned = planned_take (omega (arith, here)) ∙ ap (λ (k : ℕ). take k planned) here ∙ take_whole planned in
                 let rounds_is : take i (rounds ++ round ∷ []) ≡ rounds = rounds_take (omega (arith, here_rounds)) ∙ ap (λ (k : ℕ). take k rounds) here_rounds ∙ take_whole rounds in
-                subst (λ (ps : List PlannedRound). KeepsLaw trace skip copiers lane ps (take i (rounds ++ round ∷ [])) p r) (sym planned_is)
-                (subst (λ (rs : List LiveRound). KeepsLaw trace skip copiers lane planned rs p r) (sym rounds_is)
-                (subst (λ (x : PlannedRound). KeepsLaw trace skip copiers lane planned rounds x r) p_is (subst (λ (y : LiveRound). KeepsLaw trace skip copiers lane planned rounds plan y) r_is keeps)))
+                subst (λ (ps : List PlannedRound). KeepsLaw trace base skip copiers lane ps (take i (rounds ++ round ∷ [])) p r) (sym planned_is)
+                (subst (λ (rs : List LiveRound). KeepsLaw trace base skip copiers lane planned rs p r) (sym rounds_is)
+                (subst (λ (x : PlannedRound). KeepsLaw trace base skip copiers lane planned rounds x r) p_is (subst (λ (y : LiveRound). KeepsLaw trace base skip copiers lane planned rounds plan y) r_is keeps)))
           ];
     }
 
 -- ---- what was sent earlier
 
-current_before : (trace : GuestTrace) (from to page : ℕ) (rounds : List LiveRound) (round : LiveRound) → version_before trace page to ≡ version_before trace page from
-    → WasCurrent trace from rounds page → WasCurrent trace to (rounds ++ round ∷ []) page
-current_before trace from to page rounds round same is =
+in_base_after : (trace : GuestTrace) (base : Option ℕ) (from to page : ℕ) → version_before trace page to ≡ version_before trace page from
+    → IsInBase trace base from page → IsInBase trace base to page
+in_base_after trace None from to page same is = is
+in_base_after trace (Some base) from to page same is = omega (arith, same, is)
+
+current_before : (trace : GuestTrace) (base : Option ℕ) (from to page : ℕ) (rounds : List LiveRound) (round : LiveRound) → version_before trace page to ≡ version_before trace page from
+    → WasCurrent trace base from rounds page → WasCurrent trace base to (rounds ++ round ∷ []) page
+current_before trace base from to page rounds round same (inl is) = inl (in_base_after trace base from to page same is)
+current_before trace base from to page rounds round same (inr is) =
     let low = is.2 in
     let len : length (rounds ++ round ∷ []) ≡ length rounds + 1 = length-append rounds (round ∷ []) in
     let sent = is.4 in
-    let stamp = sent.4.1 in (
+    let stamp = sent.4.1 in inr (
       is.0,
       is.1,
       omega (arith, low, len),
@@ -160,11 +161,11 @@ current_before trace from to page rounds round same is =
       (sent.0, sent.1, sent.2, sent.3, (sent.4.0, omega (arith, stamp, same))),
     )
 
-current_now : (trace : GuestTrace) (to page : ℕ) (rounds : List LiveRound) (round : LiveRound) → IsSentWith round page (version_before trace page to)
-    → WasCurrent trace to (rounds ++ round ∷ []) page
-current_now trace to page rounds round sent =
+current_now : (trace : GuestTrace) (base : Option ℕ) (to page : ℕ) (rounds : List LiveRound) (round : LiveRound) → IsSentWith round page (version_before trace page to)
+    → WasCurrent trace base to (rounds ++ round ∷ []) page
+current_now trace base to page rounds round sent =
     let len : length (rounds ++ round ∷ []) ≡ length rounds + 1 = length-append rounds (round ∷ []) in
-    let index : length rounds + 0 ≡ length rounds = omega arith in (
+    let index : length rounds + 0 ≡ length rounds = omega arith in inr (
       length rounds,
       round,
       omega (arith, len),
@@ -172,8 +173,16 @@ current_now trace to page rounds round sent =
       (sent.0, (page, version_before trace page to), sent.1, sent.2, (refl, omega arith)),
     )
 
+later_tick : (base : Option ℕ) (from to : ℕ) → from ≤ to → IfSome base (λ tick. tick ≤ from) → IfSome base (λ tick. tick ≤ to)
+later_tick None from to le low = tt
+later_tick (Some base) from to le low = omega (arith, le, low)
+
+as_in_base : (trace : GuestTrace) (base : Option ℕ) (page : ℕ) (old new : List ℕ) → slice_index new page ≡ slice_index old page → IsAsInBase trace base old page → IsAsInBase trace base new page
+as_in_base trace None page old new same is = is
+as_in_base trace (Some base) page old new same is = same ∙ is
+
 -- whether a page was written is decided
-written_or_not : (trace : GuestTrace) (from to page : ℕ) → IsWritten trace from to page ⊎ (IsWritten trace from to page → ⊥)
+pub written_or_not : (trace : GuestTrace) (from to page : ℕ) → IsWritten trace from to page ⊎ (IsWritten trace from to page → ⊥)
 written_or_not trace from to page = elim (cases_Bool (is_written (touches_of trace) from to page)) [
   | inl hit ↦ inl ((written_is_lem trace from to page).0 hit)
   | inr not_hit ↦ inr (λ is. false_true (sym not_hit ∙ (written_is_lem trace from to page).1 is))
@@ -185,9 +194,9 @@ marked_or_not dirty page = elim (cases_Bool (in_words dirty page)) [
   | inr not_hit ↦ inr (λ is. false_true (sym not_hit ∙ is))
 ]
 
-module _ (trace : GuestTrace) (skip : Bool) (copiers from to : ℕ) (planned : List PlannedRound) (rounds : List LiveRound) (plan : PlannedRound) (round : LiveRound)
+module _ (trace : GuestTrace) (base : Option ℕ) (skip : Bool) (copiers from to : ℕ) (planned : List PlannedRound) (rounds : List LiveRound) (plan : PlannedRound) (round : LiveRound)
     (old new : ClosedView) (before after : List (List OutView)) (le : from ≤ to) (from_is : plan.from ≡ from) (to_is : plan.to ≡ to)
-    (joined : AreJoined trace copiers from planned rounds old before) (is : IsRound trace skip copiers old.dirty from to new round)
+    (joined : AreJoined trace base copiers from planned rounds old before) (is : IsRound trace skip copiers old.dirty from to new round)
     (posted : HavePosted trace copiers round before after) where
   written_now : (page : ℕ) → IsWritten trace from to page → IsWritten trace plan.from plan.to page
   written_now page w = subst (λ (a : ℕ). IsWritten trace a plan.to page) (sym from_is) (subst (λ (b : ℕ). IsWritten trace from b page) (sym to_is) w)
@@ -237,13 +246,14 @@ module _ (trace : GuestTrace) (skip : Bool) (copiers from to : ℕ) (planned : L
         }
   ]
 
-  current_after : (page : ℕ) → page < trace.pages → (IsMarked new.dirty page → ⊥) → (text : List ℕ) × IsSentBy after text × IsCurrentText trace new.versions page text
+  current_after : (page : ℕ) → page < trace.pages → (IsMarked new.dirty page → ⊥)
+      → ((text : List ℕ) × IsSentBy after text × IsCurrentText trace new.versions page text) ⊎ IsAsInBase trace base new.versions page
   current_after page real unmarked = elim (sent_or_before page real unmarked) [
     | inl sent ↦
         let version : ℕ = version_before trace page to in
         let found = posted.all page version sent in
         let spells = found.2 in
-        let stamp = spells.is_frame.stamp_is in (
+        let stamp = spells.is_frame.stamp_is in inl (
           found.0,
           found.1,
           record {
@@ -254,17 +264,16 @@ module _ (trace : GuestTrace) (skip : Bool) (copiers from to : ℕ) (planned : L
           },
         )
     | inr earlier ↦
-        let found = joined.current page real earlier.1 in
-        let current = found.2 in (
-          found.0,
-          posted.kept found.0 found.1,
-          record {
-            frame = current.frame;
-            spells = current.spells;
-            page_is = current.page_is;
-            stamp_is = omega (arith, current.stamp_is, joined.versions page real, is.versions page real, earlier.0);
-          },
-        )
+        let same : slice_index new.versions page ≡ slice_index old.versions page = is.versions page real ∙ earlier.0 ∙ sym (joined.versions page real) in
+        elim (joined.current page real earlier.1) [
+          | inl found ↦
+              let current = found.2 in inl (
+                found.0,
+                posted.kept found.0 found.1,
+                record { frame = current.frame; spells = current.spells; page_is = current.page_is; stamp_is = current.stamp_is ∙ sym same },
+              )
+          | inr first ↦ inr (as_in_base trace base page old.versions new.versions same first)
+        ]
   ]
 
   count_after : (copier : ℕ) (outs : List OutView) → slice_get after copier ≡ Some outs → frames_sent outs ≤ sent_by_copier copiers (rounds ++ round ∷ []) copier
@@ -278,14 +287,15 @@ module _ (trace : GuestTrace) (skip : Bool) (copiers from to : ℕ) (planned : L
       let two = posted.count copier was.0 outs was_there there in
       omega (arith, one, two, sent_more copiers rounds round copier)
 
-  pub joined_more : AreJoined trace copiers to (planned ++ plan ∷ []) (rounds ++ round ∷ []) new after
+  pub joined_more : AreJoined trace base copiers to (planned ++ plan ∷ []) (rounds ++ round ∷ []) new after
   joined_more = record {
+    base_low = later_tick base from to le joined.base_low;
     versions = is.versions;
     honest = honest_after;
     current = current_after;
     was_sent = λ page real unmarked. elim (sent_or_before page real unmarked) [
-      | inl sent ↦ current_now trace to page rounds round sent
-      | inr before ↦ current_before trace from to page rounds round before.0 (joined.was_sent page real before.1)
+      | inl sent ↦ current_now trace base to page rounds round sent
+      | inr before ↦ current_before trace base from to page rounds round before.0 (joined.was_sent page real before.1)
     ];
     put_off = λ page real put_off.
         let last = is_last rounds round put_off.0 put_off.1 in
@@ -300,7 +310,7 @@ module _ (trace : GuestTrace) (skip : Bool) (copiers from to : ℕ) (planned : L
     count = count_after;
   }
 
-  pub keeps_law : (lane : ℕ) → HaveCapacity lane (lanes_of before) → (1 ≤ length rounds ⊎ (skip ≡ false)) → KeepsLaw trace skip copiers lane planned rounds plan round
+  pub keeps_law : (lane : ℕ) → HaveCapacity lane (lanes_of before) → (1 ≤ length rounds ⊎ (skip ≡ false)) → KeepsLaw trace base skip copiers lane planned rounds plan round
   keeps_law lane capacity later_or_all = record {
     sent_order = is.sent_order;
     skipped_order = is.skipped_order;
@@ -316,7 +326,7 @@ module _ (trace : GuestTrace) (skip : Bool) (copiers from to : ℕ) (planned : L
         let least = full.4 in
         omega (arith, holds, sent, bound, least);
     due = λ page real due.
-        let due_from : IsDue trace from rounds page = subst (λ (a : ℕ). IsDue trace a rounds page) from_is due in
+        let due_from : IsDue trace base from rounds page = subst (λ (a : ℕ). IsDue trace base a rounds page) from_is due in
         elim (marked_or_not old.dirty page) [
           | inl marked ↦ is.found page real marked
           | inr unmarked ↦ elim due_from [
@@ -329,7 +339,10 @@ module _ (trace : GuestTrace) (skip : Bool) (copiers from to : ℕ) (planned : L
           o.0,
           elim o.1 [
             | inl marked ↦ elim (joined.marked page o.0 marked) [
-              | inl none ↦ inl (inr (λ was. (let low = was.2 in let l : length rounds ≡ 0 = ap length none in omega (arith, low, l))))
+              | inl none ↦ inl (inr (λ was. elim was [
+                | inl first ↦ none.1 (subst (λ (a : ℕ). IsInBase trace base a page) from_is first)
+                | inr sent ↦ (let low = sent.2 in let l : length rounds ≡ 0 = ap length none.0 in omega (arith, low, l))
+              ]))
               | inr either ↦ elim either [
                 | inl put_off ↦ inl (inl put_off)
                 | inr written ↦ inr (inl written)
@@ -355,26 +368,47 @@ module _ (trace : GuestTrace) (skip : Bool) (copiers from to : ℕ) (planned : L
 
 -- ---- the beginning
 
--- nothing was sent, all pages are marked, and the versions are those before the first round
-pub joined_first : (trace : GuestTrace) (copiers tick : ℕ) (closed : ClosedView) (rows : List (List OutView)) → ((page : ℕ) → page < trace.pages → slice_index closed.versions page ≡ version_before trace page tick)
-    → ((page : ℕ) → page < trace.pages → IsMarked closed.dirty page) → HaveSentNothing rows → AreJoined trace copiers tick [] [] closed rows
-joined_first trace copiers tick closed rows versions all none = record {
+-- the versions before the first round, from those of the base
+at_first : (trace : GuestTrace) (base : Option ℕ) (tick page : ℕ) → IfSome base (λ from. from ≤ tick)
+    → ((is_lacking trace base tick page ≡ true) × (IsInBase trace base tick page → ⊥))
+    ⊎ ((is_lacking trace base tick page ≡ false) × IsInBase trace base tick page × ((versions : List ℕ) → slice_index versions page ≡ version_before trace page tick → IsAsInBase trace base versions page))
+at_first trace None tick page low = inl (refl, λ is. is)
+at_first trace (Some base) tick page low = elim (cases_lt (version_before trace page base) (version_before trace page tick)) [
+  | inl newer ↦ inl (lt-ltb _ _ newer, λ is. omega (arith, newer, is))
+  | inr same ↦ inr (le-ltb _ _ same, same, λ versions is. (let up = version_rises trace page base tick low in omega (arith, is, same, up)))
+]
+
+-- nothing was sent, the pages that the destination lacks are marked, and the versions are those before the first round
+pub joined_first : (trace : GuestTrace) (base : Option ℕ) (copiers tick : ℕ) (closed : ClosedView) (rows : List (List OutView)) → IfSome base (λ from. from ≤ tick)
+    → ((page : ℕ) → page < trace.pages → slice_index closed.versions page ≡ version_before trace page tick)
+    → ((page : ℕ) → page < trace.pages → in_words closed.dirty page ≡ is_lacking trace base tick page) → HaveSentNothing rows → AreJoined trace base copiers tick [] [] closed rows
+joined_first trace base copiers tick closed rows low versions marks none = record {
+  base_low = low;
   versions = versions;
   honest = λ text sent. absurd (nothing_sent rows text none sent);
-  current = λ page real unmarked. absurd (unmarked (all page real));
-  was_sent = λ page real unmarked. absurd (unmarked (all page real));
+  current = λ page real unmarked. elim (at_first trace base tick page low) [
+    | inl lacks ↦ absurd (unmarked (marks page real ∙ lacks.0))
+    | inr has ↦ inr (has.2 closed.versions (versions page real))
+  ];
+  was_sent = λ page real unmarked. elim (at_first trace base tick page low) [
+    | inl lacks ↦ absurd (unmarked (marks page real ∙ lacks.0))
+    | inr has ↦ inl has.1
+  ];
   put_off = λ page real put_off. absurd (none-some put_off.0 put_off.1);
-  marked = λ page real marked. inl refl;
+  marked = λ page real marked. elim (at_first trace base tick page low) [
+    | inl lacks ↦ inl (refl, lacks.1)
+    | inr has ↦ absurd (false_true (sym has.0 ∙ sym (marks page real) ∙ marked))
+  ];
   count = λ copier outs there. omega (arith, no_frames outs (all_there (All (λ (out : OutView). out.sent ≡ [])) rows copier outs none there));
 }
 
-pub law_first : (trace : GuestTrace) (skip : Bool) (copiers lane : ℕ) → LiveRounds trace skip copiers lane [] []
-law_first trace skip copiers lane = record { count = refl; each = λ i p r p_there r_there. absurd (none-some p p_there) }
+pub law_first : (trace : GuestTrace) (base : Option ℕ) (skip : Bool) (copiers lane : ℕ) → LiveRounds trace base skip copiers lane [] []
+law_first trace base skip copiers lane = record { count = refl; each = λ i p r p_there r_there. absurd (none-some p p_there) }
 
 -- where skipping is on in one round it is on
-law_of_all : (trace : GuestTrace) (now skip : Bool) (copiers lane : ℕ) (planned : List PlannedRound) (rounds : List LiveRound) (plan : PlannedRound) (round : LiveRound)
-    → (now ≡ true → skip ≡ true) → KeepsLaw trace now copiers lane planned rounds plan round → KeepsLaw trace skip copiers lane planned rounds plan round
-law_of_all trace now skip copiers lane planned rounds plan round on is = record {
+law_of_all : (trace : GuestTrace) (base : Option ℕ) (now skip : Bool) (copiers lane : ℕ) (planned : List PlannedRound) (rounds : List LiveRound) (plan : PlannedRound) (round : LiveRound)
+    → (now ≡ true → skip ≡ true) → KeepsLaw trace base now copiers lane planned rounds plan round → KeepsLaw trace base skip copiers lane planned rounds plan round
+law_of_all trace base now skip copiers lane planned rounds plan round on is = record {
   sent_order = is.sent_order;
   skipped_order = is.skipped_order;
   deferred_order = is.deferred_order;
@@ -388,30 +422,30 @@ law_of_all trace now skip copiers lane planned rounds plan round on is = record 
 }
 
 -- the law after a round in which pages may be skipped only where skipping is on and a round came before
-pub law_next : (trace : GuestTrace) (skip now : Bool) (copiers lane : ℕ) (planned : List PlannedRound) (rounds : List LiveRound) (plan : PlannedRound) (round : LiveRound)
-    (old new : ClosedView) (before after : List (List OutView)) → now ≡ (skip && leb 1 (length rounds)) → plan.from ≤ plan.to → AreJoined trace copiers plan.from planned rounds old before
+pub law_next : (trace : GuestTrace) (base : Option ℕ) (skip now : Bool) (copiers lane : ℕ) (planned : List PlannedRound) (rounds : List LiveRound) (plan : PlannedRound) (round : LiveRound)
+    (old new : ClosedView) (before after : List (List OutView)) → now ≡ (skip && leb 1 (length rounds)) → plan.from ≤ plan.to → AreJoined trace base copiers plan.from planned rounds old before
     → IsRound trace now copiers old.dirty plan.from plan.to new round → HavePosted trace copiers round before after → HaveCapacity lane (lanes_of before)
-    → LiveRounds trace skip copiers lane planned rounds → LiveRounds trace skip copiers lane (planned ++ plan ∷ []) (rounds ++ round ∷ [])
-law_next trace skip now copiers lane planned rounds plan round old new before after now_is le joined is posted capacity law =
+    → LiveRounds trace base skip copiers lane planned rounds → LiveRounds trace base skip copiers lane (planned ++ plan ∷ []) (rounds ++ round ∷ [])
+law_next trace base skip now copiers lane planned rounds plan round old new before after now_is le joined is posted capacity law =
     let first_or_later : (1 ≤ length rounds) ⊎ (now ≡ false) = elim (cases_lt 0 (length rounds)) [
       | inl later ↦ inl (omega (arith, later))
       | inr first ↦ inr (now_is ∙ and_none skip (leb 1 (length rounds)) (false_leb 1 (length rounds) (omega (arith, first))))
     ] in
-    law_more trace skip copiers lane planned rounds plan round law
-    (law_of_all trace now skip copiers lane planned rounds plan round (λ on. (and_parts skip (leb 1 (length rounds)) (sym now_is ∙ on)).0)
-    (keeps_law trace now copiers plan.from plan.to planned rounds plan round old new before after le refl refl joined is posted lane capacity first_or_later))
+    law_more trace base skip copiers lane planned rounds plan round law
+    (law_of_all trace base now skip copiers lane planned rounds plan round (λ on. (and_parts skip (leb 1 (length rounds)) (sym now_is ∙ on)).0)
+    (keeps_law trace base now copiers plan.from plan.to planned rounds plan round old new before after le refl refl joined is posted lane capacity first_or_later))
 
-pub joined_next : (trace : GuestTrace) (now : Bool) (copiers : ℕ) (planned : List PlannedRound) (rounds : List LiveRound) (plan : PlannedRound) (round : LiveRound)
-    (old new : ClosedView) (before after : List (List OutView)) → plan.from ≤ plan.to → AreJoined trace copiers plan.from planned rounds old before
+pub joined_next : (trace : GuestTrace) (base : Option ℕ) (now : Bool) (copiers : ℕ) (planned : List PlannedRound) (rounds : List LiveRound) (plan : PlannedRound) (round : LiveRound)
+    (old new : ClosedView) (before after : List (List OutView)) → plan.from ≤ plan.to → AreJoined trace base copiers plan.from planned rounds old before
     → IsRound trace now copiers old.dirty plan.from plan.to new round → HavePosted trace copiers round before after
-    → AreJoined trace copiers plan.to (planned ++ plan ∷ []) (rounds ++ round ∷ []) new after
-joined_next trace now copiers planned rounds plan round old new before after le joined is posted =
-    joined_more trace now copiers plan.from plan.to planned rounds plan round old new before after le refl refl joined is posted
+    → AreJoined trace base copiers plan.to (planned ++ plan ∷ []) (rounds ++ round ∷ []) new after
+joined_next trace base now copiers planned rounds plan round old new before after le joined is posted =
+    joined_more trace base now copiers plan.from plan.to planned rounds plan round old new before after le refl refl joined is posted
 
 -- what the last round closed fits the trace
-pub fits_pages : (trace : GuestTrace) (tick : ℕ) (team : Team) (planned : List PlannedRound) (rounds : List LiveRound) (closed : ClosedView) (desks : List DeskView)
-    → IsUnderWay trace team closed desks → AreJoined trace team.copiers tick planned rounds closed (rows_of desks) → FitsPages closed trace.pages (length trace.writes)
-fits_pages trace tick team planned rounds closed desks under_way joined = record {
+pub fits_pages : (trace : GuestTrace) (base : Option ℕ) (tick : ℕ) (team : Team) (planned : List PlannedRound) (rounds : List LiveRound) (closed : ClosedView) (desks : List DeskView)
+    → IsUnderWay trace team closed desks → AreJoined trace base team.copiers tick planned rounds closed (rows_of desks) → FitsPages closed trace.pages (length trace.writes)
+fits_pages trace base tick team planned rounds closed desks under_way joined = record {
   versions = under_way.size;
   low = λ page d low.
       let real : page < trace.pages = omega (arith, low, under_way.size) in

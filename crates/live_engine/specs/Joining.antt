@@ -1,12 +1,12 @@
 -- What a round leaves, and how rounds are joined.
-use Rattle.std.specs.Prelude.{◌≡◌, ◌⊎◌, ℕ, ◌+◌, ◌<◌, ◌≤◌, Bool, true, IsTrue, List, [], ◌∷◌, map, slice_get, slice_index, Some}
+use Rattle.std.specs.Prelude.{◌≡◌, ◌⊎◌, ℕ, ◌+◌, ◌<◌, ◌≤◌, Bool, true, IsTrue, List, [], ◌∷◌, map, slice_get, slice_index, Option, Some, IfSome, IsSomeAnd}
 use Rattle.std.specs.List.{All, Any, Contains}
 use Rattle.migration_model.specs.Trace.{GuestTrace}
 use Rattle.migration_model.specs.Versions.{IsWritten, version_before, page_at}
 use Rattle.migration_model.specs.Rounds.{PlannedRound}
 use Rattle.migration_model.specs.Frames.{PageFrame, SpellsFrame, content_of}
 use Rattle.migration_model.specs.Final.{shape_of_trace}
-use Rattle.migration_model.specs.Live.{IsPlaceOf, LiveRound, IsSentWith, IsListed, IsInScanOrder, WasCurrent, IsPutOff, IsWrittenLast}
+use Rattle.migration_model.specs.Live.{IsPlaceOf, LiveRound, IsSentWith, IsListed, IsInScanOrder, IsInBase, WasCurrent, IsPutOff, IsWrittenLast}
 use Rattle.migration_model.specs.Live.{pages_sent, page_copier, sent_by_copier}
 use Rattle.page_bitmap.specs.Pages.{in_words}
 use Rattle.dirty_words.specs.Seats.{ClosedView}
@@ -80,18 +80,25 @@ pub record IsCurrentText (trace : GuestTrace) (versions : List ℕ) (page : ℕ)
   pub page_is : frame.page ≡ page
   pub stamp_is : frame.stamp ≡ slice_index versions page
 
+-- the destination began with a base, and the page has its version of then
+abbrev pub IsAsInBase : GuestTrace → Option ℕ → List ℕ → ℕ → Type 0
+IsAsInBase trace base versions page = IsSomeAnd base (λ from. slice_index versions page ≡ version_before trace page from)
+
 -- What holds after so many rounds, when the next begins at this tick: the versions are those before it; each frame that
--- was sent is honest and nowhere beyond them; each page that isn't marked was sent as it is now.
-pub record AreJoined (trace : GuestTrace) (copiers tick : ℕ) (planned : List PlannedRound) (rounds : List LiveRound)
+-- was sent is honest and nowhere beyond them; each page that isn't marked was sent as it is now, or is as in the base.
+-- Before the first round only pages are marked that are not as in the base.
+pub record AreJoined (trace : GuestTrace) (base : Option ℕ) (copiers tick : ℕ) (planned : List PlannedRound) (rounds : List LiveRound)
     (closed : ClosedView) (rows : List (List OutView)) : Type 0 where
+  pub base_low : IfSome base (λ from. from ≤ tick)
   pub versions : (page : ℕ) → page < trace.pages → slice_index closed.versions page ≡ version_before trace page tick
   pub honest : (text : List ℕ) → IsSentBy rows text → IsHonestText trace closed.versions text
   pub current : (page : ℕ) → page < trace.pages → ¬ IsMarked closed.dirty page
-      → (text : List ℕ) × IsSentBy rows text × IsCurrentText trace closed.versions page text
-  pub was_sent : (page : ℕ) → page < trace.pages → ¬ IsMarked closed.dirty page → WasCurrent trace tick rounds page
+      → ((text : List ℕ) × IsSentBy rows text × IsCurrentText trace closed.versions page text)
+      ⊎ IsAsInBase trace base closed.versions page
+  pub was_sent : (page : ℕ) → page < trace.pages → ¬ IsMarked closed.dirty page → WasCurrent trace base tick rounds page
   pub put_off : (page : ℕ) → page < trace.pages → IsPutOff rounds page → IsMarked closed.dirty page
   pub marked : (page : ℕ) → page < trace.pages → IsMarked closed.dirty page
-      → (rounds ≡ []) ⊎ (IsPutOff rounds page ⊎ IsWrittenLast trace planned page)
+      → ((rounds ≡ []) × (¬ IsInBase trace base tick page)) ⊎ (IsPutOff rounds page ⊎ IsWrittenLast trace planned page)
   -- no copier sent more frames than are listed of its pages
   pub count : (copier : ℕ) (outs : List OutView) → slice_get rows copier ≡ Some outs
       → frames_sent outs ≤ sent_by_copier copiers rounds copier

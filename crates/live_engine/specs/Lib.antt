@@ -2,4 +2,5 @@ pub mod Seated
 pub mod Joining
 pub mod Lists
 pub mod Runs
+pub mod Warm
 pub mod Receiving

@@ -1,5 +1,5 @@
 -- A live run between two rounds, and when it has ended.
-use Rattle.std.specs.Prelude.{◌≡◌, ℕ, ◌*◌, ◌^◌, ◌<◌, ◌≤◌, List, length, map, slice_index_or}
+use Rattle.std.specs.Prelude.{◌≡◌, ℕ, ◌*◌, ◌^◌, ◌<◌, ◌≤◌, ◌⊎◌, List, Option, IfSome, length, map, slice_index_or}
 use Rattle.std.specs.List.{All}
 use Rattle.migration_model.specs.Trace.{GuestTrace, IsTrace}
 use Rattle.migration_model.specs.Memory.{GuestMemory, image_before, image_of}
@@ -11,6 +11,7 @@ use Rattle.migration_model.specs.Final.{shape_of_trace}
 use Rattle.migration_model.specs.Images.{AreNotBeyond, HaveCurrent}
 use Rattle.migration_model.specs.Parts.{GuestPart}
 use Rattle.migration_model.specs.Resumed.{AtVersions}
+use Rattle.migration_model.specs.Versions.{version_before}
 use Rattle.page_versions.specs.Index.{GuestIndex, IsIndexOf}
 use Rattle.dirty_core.specs.Start.{IsStart, start_with}
 use Rattle.dirty_words.specs.Closing.{FitsPages}
@@ -18,7 +19,7 @@ use Rattle.dirty_words.specs.Seats.{ClosedView}
 use Rattle.live_seats.specs.Desks.{DeskView, IsDesk}
 use Rattle.stream_receivers.specs.Receivers.{ReceiverView}
 use Rattle.live_engine.specs.declared.opening.Team.{Team}
-use Rattle.live_engine.specs.Joining.{AreJoined, HaveCapacity, HaveSentNothing, IsMarked, lanes_of}
+use Rattle.live_engine.specs.Joining.{AreJoined, HaveCapacity, HaveSentNothing, IsAsInBase, IsMarked, lanes_of}
 use Rattle.live_engine.specs.Lists.{rows_of}
 use Rattle.live_engine.specs.Receiving.{AreCrossed, identity_of, lanes_in}
 
@@ -58,6 +59,7 @@ pub record AreOpened (trace : GuestTrace) (team : Team) (desks : List DeskView) 
   pub desks_are : AreNewDesks trace team desks
   pub crossed : AreCrossed team.copiers team.streams (lanes_of (rows_of desks)) (map lanes_in receivers)
   pub capacity : HaveCapacity team.lane (lanes_of (rows_of desks))
+  pub is_trace : IsTrace trace
   pub shapes : All (λ receiver. receiver.part.shape ≡ shape_of_trace trace) receivers
 
 -- all planned rounds are done, by copiers that had these desks before
@@ -65,9 +67,9 @@ pub record AreDone (trace : GuestTrace) (s : MigrationSettings) (plan : Migratio
     (closed : ClosedView) (rounds : List LiveRound) (desks : List DeskView) : Type 0 where
   pub under_way : IsUnderWay trace team closed desks
   pub lanes : lanes_of (rows_of desks) ≡ lanes_of (rows_of before)
-  pub joined : AreJoined trace team.copiers plan.stop plan.rounds rounds closed (rows_of desks)
+  pub joined : AreJoined trace s.base team.copiers plan.stop plan.rounds rounds closed (rows_of desks)
   pub law : (lane : ℕ) → HaveCapacity lane (lanes_of (rows_of before))
-      → LiveRounds trace s.skip team.copiers lane plan.rounds rounds
+      → LiveRounds trace s.base s.skip team.copiers lane plan.rounds rounds
 
 -- what a run begins with: an index of the trace, a team, the plan, and a desk for each copier
 pub record MayBegin (trace : GuestTrace) (index : GuestIndex) (s : MigrationSettings) (plan : MigrationPlan) (team : Team)
@@ -84,7 +86,19 @@ pub record HaveEnded (trace : GuestTrace) (s : MigrationSettings) (plan : Migrat
   pub done : AreDone trace s plan team before closed rounds desks
   pub same : map identity_of receivers ≡ map identity_of opened
 
--- all that was sent has arrived in the parts, and no page that isn't marked is older there than at the stop
+-- All that was sent has come to the parts. A page that isn't marked is no older there than at the stop, or has the version
+-- that it had in the base.
+pub record AllCame (trace : GuestTrace) (base : Option ℕ) (streams : ℕ) (closed : ClosedView) (parts : List GuestPart) : Type 0 where
+  pub fits : FitsPages closed trace.pages (length trace.writes)
+  pub base_low : IfSome base (λ from. (page : ℕ) → page < trace.pages
+      → version_before trace page from ≤ slice_index_or closed.versions page 0)
+  pub count : length parts ≡ streams
+  pub not_beyond : AreNotBeyond trace (shape_of_trace trace) closed.versions parts
+  pub current : (page : ℕ) → page < trace.pages → ¬ IsMarked closed.dirty page
+      → HaveCurrent closed.versions parts page ⊎ IsAsInBase trace base closed.versions page
+
+-- All that was sent, and what the destination began with, is in the parts, and no page that isn't marked is older there than
+-- at the stop.
 pub record AllArrived (trace : GuestTrace) (streams : ℕ) (closed : ClosedView) (parts : List GuestPart) : Type 0 where
   pub fits : FitsPages closed trace.pages (length trace.writes)
   pub count : length parts ≡ streams
@@ -111,7 +125,7 @@ pub record IsStopped (trace : GuestTrace) (s : MigrationSettings) (stop : ℕ) (
   pub stop_is : stop ≡ plan.stop
   pub at_stop_is : at_stop ≡ image_before trace plan.stop
   pub stopped : IsStoppedAt trace versions index at_stop
-  pub law : LiveRounds trace s.skip s.workers s.lane plan.rounds rounds
+  pub law : LiveRounds trace s.base s.skip s.workers s.lane plan.rounds rounds
 
 -- A live run that answers: by the plan, it has the memory at the plan's stop tick and after all writes, and its rounds keep
 -- the law.
@@ -122,4 +136,4 @@ pub record IsLiveRun (trace : GuestTrace) (s : MigrationSettings) (stop : ℕ) (
   pub stop_is : stop ≡ plan.stop
   pub at_stop_is : at_stop ≡ image_before trace plan.stop
   pub at_end_is : at_end ≡ image_of trace
-  pub law : LiveRounds trace s.skip s.workers s.lane plan.rounds rounds
+  pub law : LiveRounds trace s.base s.skip s.workers s.lane plan.rounds rounds

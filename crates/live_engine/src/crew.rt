@@ -1,6 +1,6 @@
 //! What carries a migration out: the crew, and its rounds.
 
-ghost use Rattle.std.specs.Prelude.{◌≡◌, ◌&&◌, nat_le, ◌<◌, ◌≤◌, ◌++◌, ◌∷◌, ℕ, [], List, IfOk, map};
+ghost use Rattle.std.specs.Prelude.{◌≡◌, ◌&&◌, nat_le, ◌<◌, ◌≤◌, ◌++◌, ◌∷◌, ℕ, [], List, Option, IfOk, IfSome, map};
 ghost use Rattle.std.specs.Prelude.{slice_index_or};
 ghost use Rattle.image_build.specs.Joins.{memory_by};
 ghost use Rattle.live_engine.specs.Joining.{AreJoined, HaveCapacity, lanes_of};
@@ -18,13 +18,13 @@ use crate::opening::{Team, versions_before};
 use crate::receivers::Signals;
 use crate::stopped::{LiveRound, list};
 use crate::threads::run_threads;
+use crate::warm::pages_lacking;
 use collector::Part;
 use dirty_core::Opening;
 use dirty_words::{Closed, CopySeat, Opened, RoundTable};
 use image_build::JoinedParts;
 use live_seats::{Copier, Desk, Gate, Point, Round, Ticks};
 use migration_model::{current_copies_make_memory, final_copy_makes_current};
-use page_bitmap::all_pages;
 use page_versions::PageIndex;
 use rate_limit::Settings;
 use round_planner::Plan;
@@ -79,21 +79,26 @@ fn take_apart(alloc: Global, copiers: Vec<Copier>) -> Result<(Vec<CopySeat>, Vec
 }
 
 impl<'a, W: WriteLog + Sync, G: Gate> Crew<'a, W, G> {
-    /// Before the first round all pages are marked, and nothing was sent.
-    fn begin(&self, alloc: Global, start: u64, desks: VecDeque<Desk>) -> Result<Progress, LiveError>
-        requires { AreNewDesks (W.trace self.now.trace.now) self.now.team desks.items }
+    /// Before the first round the pages that the destination lacks are marked, and nothing was sent.
+    fn begin(
+        &self,
+        alloc: Global,
+        base: Option<u64>,
+        start: u64,
+        desks: VecDeque<Desk>,
+    ) -> Result<Progress, LiveError>
+        requires base { IfSome base (λ tick. tick ≤ start) }
+        requires desks { AreNewDesks (W.trace self.now.trace.now) self.now.team desks.items }
         ensures none { IfOk result (λ p. p.rounds.items ≡ []) }
         ensures desks { IfOk result (λ p. p.desks.items ≡ desks.items) }
         ensures under_way { IfOk result (λ p. IsUnderWay (W.trace self.now.trace.now) self.now.team p.closed p.desks.items) }
-        ensures joined { IfOk result (λ p. AreJoined (W.trace self.now.trace.now) self.now.team.copiers start [] []
+        ensures joined { IfOk result (λ p. AreJoined (W.trace self.now.trace.now) base self.now.team.copiers start [] []
             p.closed (rows_of p.desks.items)) }
     {
-        let closed = Closed {
-            versions: versions_before(alloc, self.trace, self.index, start)?,
-            dirty: all_pages(alloc, self.trace.shape().pages)?,
-        };
+        let versions = versions_before(alloc, self.trace, self.index, start)?;
+        let dirty = pages_lacking(alloc, self.trace, self.index, base, start, &versions)?;
         Ok(Progress {
-            closed,
+            closed: Closed { versions, dirty },
             desks,
             rounds: Vec::new(alloc),
         })
@@ -111,20 +116,22 @@ impl<'a, W: WriteLog + Sync, G: Gate> Crew<'a, W, G> {
     ) -> Result<Progress, LiveError>
         requires span { planned.now.from ≤ planned.now.to }
         requires under_way { IsUnderWay (W.trace self.now.trace.now) self.now.team progress.closed progress.desks.items }
-        requires joined { (before : List PlannedRound) × AreJoined (W.trace self.now.trace.now) self.now.team.copiers planned.now.from
-            before progress.rounds.items progress.closed (rows_of progress.desks.items) }
+        requires joined { (base : Option ℕ) × (before : List PlannedRound)
+            × AreJoined (W.trace self.now.trace.now) base self.now.team.copiers planned.now.from before
+            progress.rounds.items progress.closed (rows_of progress.desks.items) }
         ensures under_way { IfOk result (λ p. IsUnderWay (W.trace self.now.trace.now) self.now.team p.closed p.desks.items) }
         ensures lanes { IfOk result (λ p. lanes_of (rows_of p.desks.items) ≡ lanes_of (rows_of progress.desks.items)) }
-        ensures joined { (before : List PlannedRound)
-            → AreJoined (W.trace self.now.trace.now) self.now.team.copiers planned.now.from
+        ensures joined { (base : Option ℕ) (before : List PlannedRound)
+            → AreJoined (W.trace self.now.trace.now) base self.now.team.copiers planned.now.from
             before progress.rounds.items progress.closed (rows_of progress.desks.items)
-            → IfOk result (λ p. AreJoined (W.trace self.now.trace.now) self.now.team.copiers planned.now.to
+            → IfOk result (λ p. AreJoined (W.trace self.now.trace.now) base self.now.team.copiers planned.now.to
             (before ++ planned.now ∷ []) p.rounds.items p.closed (rows_of p.desks.items)) }
-        ensures law { (lane : ℕ) (before : List PlannedRound) → HaveCapacity lane (lanes_of (rows_of progress.desks.items))
-            → AreJoined (W.trace self.now.trace.now) self.now.team.copiers planned.now.from
+        ensures law { (base : Option ℕ) (lane : ℕ) (before : List PlannedRound)
+            → HaveCapacity lane (lanes_of (rows_of progress.desks.items))
+            → AreJoined (W.trace self.now.trace.now) base self.now.team.copiers planned.now.from
             before progress.rounds.items progress.closed (rows_of progress.desks.items)
-            → LiveRounds (W.trace self.now.trace.now) skip self.now.team.copiers lane before progress.rounds.items
-            → IfOk result (λ p. LiveRounds (W.trace self.now.trace.now) skip self.now.team.copiers lane
+            → LiveRounds (W.trace self.now.trace.now) base skip self.now.team.copiers lane before progress.rounds.items
+            → IfOk result (λ p. LiveRounds (W.trace self.now.trace.now) base skip self.now.team.copiers lane
             (before ++ planned.now ∷ []) p.rounds.items) }
     {
         let Progress {
@@ -187,7 +194,7 @@ impl<'a, W: WriteLog + Sync, G: Gate> Crew<'a, W, G> {
             p.closed p.rounds.items p.desks.items) }
     {
         let asked = settings.asked();
-        let mut progress = self.begin(alloc, asked.start, desks)?;
+        let mut progress = self.begin(alloc, asked.base, asked.start, desks)?;
         for number in 0..plan.rounds.len() {
             progress = self.run_round(rt, alloc, asked.skip, &plan.rounds[number], progress)?;
         }

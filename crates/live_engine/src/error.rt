@@ -3,6 +3,7 @@
 ghost use Rattle.std.specs.Prelude.{◌≡◌};
 ghost use Rattle.live_engine.specs.declared.error.LiveError.TheVariants.{Memory, Thread};
 
+use collector::PartError;
 use dirty_words::TableError;
 use image_build::ImageError;
 use live_seats::SeatError;
@@ -38,6 +39,14 @@ impl<T: Drop> From<AllocFailed<T>> for LiveError {
     ghost from_gives = { λ _ e. e ≡ Memory };
 
     fn from(_error: AllocFailed<T>) -> LiveError {
+        LiveError::Memory
+    }
+}
+
+impl From<PartError> for LiveError {
+    ghost from_gives = { λ _ e. e ≡ Memory };
+
+    fn from(_error: PartError) -> LiveError {
         LiveError::Memory
     }
 }

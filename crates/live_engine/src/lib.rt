@@ -18,13 +18,16 @@
 
 mod crew;
 mod error;
+mod laws;
 mod migration;
 mod opening;
 mod receivers;
 mod stopped;
 mod threads;
+mod warm;
 
 pub use error::LiveError;
+pub use laws::due_in_the_first_round;
 pub use live_seats::{Gate, OpenGate, Point};
 pub use migration::{Live, live_run, migrate};
 pub use stopped::{LiveRound, Stopped};

@@ -12,6 +12,7 @@ use crate::error::LiveError;
 use crate::opening::{Team, open_lanes};
 use crate::receivers::{Signals, drain_all, start_receivers};
 use crate::stopped::{LiveRound, Stopped};
+use crate::warm::{part_at_first, with_first};
 use image_build::{Image, resume};
 use joined_threads::join_all;
 use live_seats::{Desk, Gate};
@@ -100,6 +101,7 @@ pub fn migrate<W: WriteLog + Sync, G: Gate, R: Threads + Wait + Sync>(
 {
     let (plan, index) = plan_and_index(rt, alloc, trace, settings)?;
     let team = Team::of(settings);
+    let first = part_at_first(alloc, trace, &index, settings)?;
     let (desks, receivers) = open_lanes(alloc, trace, team)?;
     let signals = Signals::new();
     let (indexed, planned, told) = (&index, &plan, &signals);
@@ -126,7 +128,8 @@ pub fn migrate<W: WriteLog + Sync, G: Gate, R: Threads + Wait + Sync>(
         desks,
         rounds,
     } = progress;
-    let parts = drain_all(alloc, team.streams, desks, receivers)?;
+    let arrived = drain_all(alloc, team.streams, desks, receivers)?;
+    let parts = with_first(alloc, first, arrived)?;
     let memory = finish(rt, alloc, trace, &index, team, &closed, parts)?;
     Ok(Stopped {
         memory,

@@ -7,3 +7,5 @@ mod gates;
 mod lane_tests;
 #[cfg(test)]
 mod tests;
+#[cfg(test)]
+mod warm_tests;

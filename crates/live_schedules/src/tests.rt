@@ -16,7 +16,7 @@ use std::thread::Threads;
 use trace_codec::{Trace, Write};
 
 /// The memory where the guest stops at tick 2000.
-static AT_2000: [u8; 64] = [
+pub(crate) static AT_2000: [u8; 64] = [
     1, 0, 0, 0, 0, 0, 0, 0, 0, 0, 0, 0, 0, 0, 0, 0, //
     3, 0, 0, 0, 0, 0, 0, 0, 0, 0, 0, 0, 0, 0, 0, 2, //
     0, 0, 0, 0, 0, 0, 0, 0, 0, 0, 0, 0, 0, 0, 0, 0, //
@@ -66,6 +66,7 @@ pub(crate) fn asked() -> Asked {
         replayers: 1,
         lane: 1024,
         skip: false,
+        base: None,
     }
 }
 

@@ -4,9 +4,12 @@ ghost use Rattle.std.specs.Prelude.{◌≡◌, IfOk};
 ghost use Rattle.std.specs.List.{All};
 ghost use Rattle.page_message.specs.Shapes.{shape_of};
 
-use crate::fixtures::{AT_END, FIRST, FOURTH, Page, SECOND, THIRD, ZEROS, page_of, part_of};
+use crate::fixtures::{
+    AT_END, AT_STOP, FIRST, FOURTH, Page, SECOND, THIRD, ZEROS, page_of, part_of,
+};
 use collector::Part;
 use image_build::{ImageError, JoinedParts, of_parts};
+use page_message::Body;
 use std::alloc::Global;
 use std::test::Fail;
 use trace_codec::Shape;
@@ -81,6 +84,36 @@ fn least_page_in_no_part_is_named(rt: HostRuntime) -> Result<(), Fail> {
             Some(ImageError::Missing(0)),
             Some(ImageError::Missing(0))
         )
+    );
+    Ok(())
+}
+
+/// Returns the stamp that a part has of a page, and the page's bytes, or None in their place where all of them are 0.
+fn kept(part: &Part, page: u32) -> Option<(u32, Option<Page>)> {
+    let frame = part.frame(page)?;
+    match &frame.body {
+        Body::Zero => Some((frame.stamp, None)),
+        Body::Data(bytes) => Some((frame.stamp, page_of(bytes))),
+    }
+}
+
+#[test]
+fn memory_makes_a_part(rt: HostRuntime) -> Result<(), Fail> {
+    let part = Part::of_image(rt.alloc(), SHAPE, &AT_STOP, &[1, 3, 0, 0])?;
+    let pages = [
+        kept(&part, 0),
+        kept(&part, 1),
+        kept(&part, 2),
+        kept(&part, 3),
+    ];
+    assert!(rt;
+        pages
+            == [
+                Some((1, Some(FIRST))),
+                Some((3, Some(THIRD))),
+                Some((0, None)),
+                Some((0, None))
+            ]
     );
     Ok(())
 }

@@ -12,3 +12,4 @@ pub mod Placed
 pub mod Places
 pub mod Pages
 pub mod Final
+pub mod Warm

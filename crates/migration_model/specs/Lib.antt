@@ -8,6 +8,7 @@ pub mod Parts
 pub mod Images
 pub mod Resumed
 pub mod Final
+pub mod Warm
 pub mod Rates
 pub mod Touches
 pub mod Windows

@@ -2,10 +2,11 @@
 -- Clark and others, "Live Migration of Virtual Machines" (2005), section 5.3, on dynamic rate limiting. The first
 -- round has the least rate. Later ones have the dirtying rate before plus a constant. Rounds end where that is above
 -- the greatest rate, or where little remains. A rate is in pages per 1,000 ticks.
-use Rattle.std.specs.Prelude.{ℕ, ◌+◌, ◌*◌, ◌^◌, ◌<◌, ◌≤◌, ◌==◌, nat_lt, max, Bool, if◌then◌else◌, List, codes}
+use Rattle.std.specs.Prelude.{ℕ, ◌+◌, ◌*◌, ◌^◌, ◌<◌, ◌≤◌, ◌==◌, nat_lt, max, Bool, if◌then◌else◌, List, Option, IfSome, codes}
 use Rattle.std.specs.Int.{div_ceil}
 
--- the settings of a migration and of a report
+-- The settings of a migration and of a report. Where there is a base, the destination begins with the guest's memory
+-- before that tick: a warm start, which is this project's own.
 pub record MigrationSettings : Type 0 where
   pub min : ℕ
   pub max : ℕ
@@ -20,6 +21,7 @@ pub record MigrationSettings : Type 0 where
   pub replayers : ℕ
   pub lane : ℕ
   pub skip : Bool
+  pub base : Option ℕ
 
 -- the settings that are accepted
 pub record AreSettings (s : MigrationSettings) : Type 0 where
@@ -45,6 +47,7 @@ pub record AreSettings (s : MigrationSettings) : Type 0 where
   pub replayers_high : s.replayers ≤ 16
   pub lane_low : 1 ≤ s.lane
   pub lane_high : s.lane ≤ 65_536
+  pub base_high : IfSome s.base (λ base. base ≤ s.start)
 
 -- How long so many pages take at a rate, in ticks, rounded up. The rounding is this project's own.
 abbrev pub duration_of : ℕ → ℕ → ℕ

@@ -2,7 +2,7 @@
 -- section 4: the first round sends all pages, and each later one those that were dirtied during the round before.
 -- After their section 5.4, a page that is dirtied again while a round goes on need not be sent in it. Ticks, roundings
 -- and the rising order of a round's scan are this project's own.
-use Rattle.std.specs.Prelude.{◌≡◌, ℕ, ◌+◌, ◌-◌, ◌*◌, ◌/◌, ◌&&◌, nat_lt, nat_le, not, Bool, List, [], ◌∷◌, length}
+use Rattle.std.specs.Prelude.{◌≡◌, ℕ, ◌+◌, ◌-◌, ◌*◌, ◌/◌, ◌&&◌, nat_lt, nat_le, not, Bool, List, [], ◌∷◌, length, Option, None, Some}
 use Rattle.std.specs.List.{count_by, filter, range_with_len, sum_by}
 use Rattle.migration_model.specs.Touches.{GuestTouch, is_written, pages_written}
 use Rattle.migration_model.specs.Rates.{MigrationSettings, StopReason, AfterRound, goes_on, stops, after_round, duration_of}
@@ -50,9 +50,16 @@ pub record NextRound : Type 0 where
   pub rate : ℕ
   pub pages : List ℕ
 
--- the first round has all pages, and the least rate
-abbrev pub first_round : ℕ → MigrationSettings → NextRound
-first_round pages s = record { done = 0; from = s.start; rate = s.min; pages = range_with_len 0 pages }
+-- The pages that a destination lacks at a tick: all, or, where it begins with the memory before a base, those written
+-- since. The base is this project's own.
+abbrev pub pages_lacking : ℕ → List GuestTouch → Option ℕ → ℕ → List ℕ
+pages_lacking pages touches None tick = range_with_len 0 pages
+pages_lacking pages touches (Some base) tick = pages_written pages touches base tick
+
+-- the first round has the pages that the destination lacks, and the least rate
+abbrev pub first_round : ℕ → List GuestTouch → MigrationSettings → NextRound
+first_round pages touches s =
+    record { done = 0; from = s.start; rate = s.min; pages = pages_lacking pages touches s.base s.start }
 
 -- the round after one, at this rate: it begins where that ends, with the pages dirtied meanwhile
 abbrev pub round_after : ℕ → List GuestTouch → NextRound → PlannedRound → ℕ → NextRound
@@ -91,4 +98,4 @@ AreRounds pages touches s now (round ∷ rounds) plan =
 
 -- the plan of a guest of so many pages with these touches
 abbrev pub IsPlan : ℕ → List GuestTouch → MigrationSettings → MigrationPlan → Type 0
-IsPlan pages touches s plan = AreRounds pages touches s (first_round pages s) plan.rounds plan
+IsPlan pages touches s plan = AreRounds pages touches s (first_round pages touches s) plan.rounds plan

@@ -5,10 +5,10 @@ use Rattle.std.proofs.lemmas.List.{ext_get_or, length-replicate}
 use Rattle.std.proofs.lemmas.List.Elements.{All-head, All-tail}
 use Rattle.std.proofs.lemmas.Option.{same_Some}
 use Rattle.migration_model.specs.Frames.{GuestShape, IsGuestShape, PageFrame, IsFrame, SpellsFrame, content_of, frame_text}
-use Rattle.migration_model.specs.Parts.{FramesAgree, PageCopy, GuestPart, IsCopy, IsPart, copy_at, copy_in, empty_part, join, join_all, part_of, with_frame, with_frames}
+use Rattle.migration_model.specs.Parts.{FramesAgree, PageCopy, GuestPart, IsCopy, IsPart, copy_at, copy_in, empty_part, join, join_all, part_of, part_with, with_frame, with_frames}
 use Rattle.migration_model.proofs.Final.{IsPart-with_frame}
 use Rattle.migration_model.proofs.Frames.{one_frame_lem}
-use Rattle.migration_model.proofs.Parts.{same_copy, same_part, with_frame_joins_lem}
+use Rattle.migration_model.proofs.Parts.{join-join, later_each-nones, same_copy, same_part, with_frame_joins_lem}
 use Rattle.stream_receivers.specs.Receivers.{HasFrames}
 use Rattle.stream_receivers.proofs.Had.{has_all, has_nothing, in_rest}
 
@@ -124,3 +124,20 @@ received_joined shape IsText frames part is fit agree to back has =
     λ s t f g is_s is_t spells_f spells_g. agree f g (is_one shape frames s f is fit (to s is_s) spells_f) (is_one shape frames t g is fit (to t is_t) spells_g) in
     same_parts shape IsText part (with_frames (empty_part shape) frames) texts has all
     ∙ joined_frames shape (empty_part shape) frames refl empty fit
+
+-- ---- a part that was there before any frame
+
+joins_on : (a b : GuestPart) (parts : List GuestPart) → join a (fold join b parts) ≡ fold join (join a b) parts
+joins_on a b [] = refl
+joins_on a b (part ∷ parts) = joins_on a (join b part) parts ∙ ap (λ (p : GuestPart). fold join p parts) (sym (join-join a b part))
+
+pub joined_to_first : (shape : GuestShape) (IsText : List ℕ → Type 0) (first : GuestPart) (frames : List PageFrame) (part : GuestPart) → IsGuestShape shape
+    → IsPart first → first.shape ≡ shape → All (IsFrame shape) frames → FramesAgree shape frames
+    → ((text : List ℕ) → IsText text → Contains (map frame_text frames) text) → ((text : List ℕ) → Contains (map frame_text frames) text → IsText text)
+    → HasFrames shape IsText part → join first part ≡ fold join first (map (part_of shape) frames)
+joined_to_first shape IsText first frames part is is_first same fit agree to back has =
+    let parts : List GuestPart = map (part_of shape) frames in
+    let alone : join first (empty_part shape) ≡ first =
+    ap (part_with first.shape) (later_each-nones first.copies shape.pages (is_first.places ∙ ap (λ (s : GuestShape). s.pages) same)) in
+    ap (join first) (received_joined shape IsText frames part is fit agree to back has)
+    ∙ joins_on first (empty_part shape) parts ∙ ap (λ (p : GuestPart). fold join p parts) alone

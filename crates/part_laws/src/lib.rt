@@ -4,7 +4,7 @@
 #![tactic(auto)]
 
 ghost use Rattle.std.specs.Prelude.{◌≡◌, ℕ, Bool, List, map};
-ghost use Rattle.std.specs.List.{All, Contains};
+ghost use Rattle.std.specs.List.{All, Contains, fold};
 ghost use Rattle.migration_model.specs.Final.{IsFinalCopy};
 ghost use Rattle.migration_model.specs.Frames.{GuestShape, IsGuestShape, IsFrame, PageFrame, frame_text};
 ghost use Rattle.migration_model.specs.Parts.{Agree, FramesAgree, GuestPart, IsPart, join, join_all, part_of};
@@ -30,4 +30,15 @@ pub fn received_part_is_a_join()
         → ((text : List ℕ) → IsSentOn outs text → Contains (map frame_text frames) text)
         → ((text : List ℕ) → Contains (map frame_text frames) text → IsSentOn outs text)
         → HasFrames shape (IsSentOn outs) part → part ≡ join_all shape (map (part_of shape) frames) }
+{}
+
+/// A part that was there before any frame, joined to the part that a receiver returns, is the join of itself and of the
+/// frames whose encodings were sent on the receiver's lanes, where these agree. So is the first stream's part in a warm
+/// start.
+pub fn first_part_is_joined()
+    ensures { (shape : GuestShape) (outs : List OutView) (first : GuestPart) (frames : List PageFrame) (part : GuestPart)
+        → IsGuestShape shape → IsPart first → first.shape ≡ shape → All (IsFrame shape) frames → FramesAgree shape frames
+        → ((text : List ℕ) → IsSentOn outs text → Contains (map frame_text frames) text)
+        → ((text : List ℕ) → Contains (map frame_text frames) text → IsSentOn outs text)
+        → HasFrames shape (IsSentOn outs) part → join first part ≡ fold join first (map (part_of shape) frames) }
 {}

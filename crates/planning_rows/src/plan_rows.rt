@@ -40,6 +40,15 @@ fn asked(max: u64, threshold: u64, start: u64, skip: bool) -> Asked {
         replayers: 1,
         lane: 1024,
         skip,
+        base: None,
+    }
+}
+
+/// Settings of a warm start.
+fn warm(base: u64, start: u64, skip: bool) -> Asked {
+    Asked {
+        base: Some(base),
+        ..asked(4, 1, start, skip)
     }
 }
 
@@ -103,7 +112,7 @@ fn second_outcome(alloc: Global, trace: &Trace, settings: &Settings) -> Result<T
 #[test]
 fn worked_plans(rt: HostRuntime) -> Result<(), Fail> {
     let alloc = rt.alloc();
-    let cases: [(&[(u64, u32)], Asked, Reason, &[u64]); 8] = [
+    let cases: [(&[(u64, u32)], Asked, Reason, &[u64]); 14] = [
         (
             &TOUCHES,
             asked(4, 1, 0, false),
@@ -160,6 +169,46 @@ fn worked_plans(rt: HostRuntime) -> Result<(), Fail> {
             Reason::Few,
             &[0, 2000, 2, 4, 4, 0, 2000, 0, 0, 4],
         ),
+        (
+            &TOUCHES,
+            warm(0, 1000, false),
+            Reason::Few,
+            &[
+                1000, 2000, 2, 2, 2, 1, 2000, 2500, 2, 1, 1, 0, 2500, 0, 0, 3,
+            ],
+        ),
+        (
+            &TOUCHES,
+            warm(0, 1000, true),
+            Reason::Few,
+            &[
+                1000, 2000, 2, 2, 2, 1, 2000, 2500, 2, 1, 1, 0, 2500, 0, 0, 3,
+            ],
+        ),
+        (
+            &TOUCHES,
+            warm(6, 1200, false),
+            Reason::Few,
+            &[1200, 1200, 2, 0, 0, 0, 1200, 0, 0, 0],
+        ),
+        (
+            &TOUCHES,
+            warm(6, 1200, true),
+            Reason::Few,
+            &[1200, 1200, 2, 0, 0, 0, 1200, 0, 0, 0],
+        ),
+        (
+            &TOUCHES,
+            warm(1200, 1201, false),
+            Reason::Few,
+            &[1201, 1701, 2, 1, 1, 0, 1701, 0, 0, 1],
+        ),
+        (
+            &TOUCHES,
+            warm(5, 5, false),
+            Reason::Few,
+            &[5, 5, 2, 0, 0, 0, 5, 0, 0, 0],
+        ),
     ];
     for (touches, asked, reason, expected) in cases {
         let trace = guest(alloc, 4, touches)?;
@@ -192,7 +241,7 @@ fn pages_of(alloc: Global, plan: &Plan) -> Result<Vec<&[u32]>, AllocError> {
 #[test]
 fn pages_of_worked_plans(rt: HostRuntime) -> Result<(), Fail> {
     let alloc = rt.alloc();
-    let cases: [(&[(u64, u32)], Asked, &[&[u32]]); 7] = [
+    let cases: [(&[(u64, u32)], Asked, &[&[u32]]); 11] = [
         (
             &TOUCHES,
             asked(4, 1, 0, false),
@@ -220,6 +269,10 @@ fn pages_of_worked_plans(rt: HostRuntime) -> Result<(), Fail> {
         ),
         (&TOUCHES, asked(4, 3, 0, false), &[&[0, 1, 2, 3], &[0, 1]]),
         (&TOUCHES, asked(4, 1, 3000, false), &[&[0, 1, 2, 3], &[]]),
+        (&TOUCHES, warm(0, 1000, false), &[&[0, 1], &[1], &[]]),
+        (&TOUCHES, warm(6, 1200, false), &[&[], &[]]),
+        (&TOUCHES, warm(1200, 1201, true), &[&[1], &[]]),
+        (&TOUCHES, warm(5, 5, false), &[&[], &[]]),
     ];
     for (touches, asked, expected) in cases {
         let trace = guest(alloc, 4, touches)?;

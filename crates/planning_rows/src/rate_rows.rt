@@ -18,6 +18,17 @@ fn asked() -> Asked {
         replayers: 1,
         lane: 1024,
         skip: false,
+        base: None,
+    }
+}
+
+/// Settings of a warm start, with so many workers.
+fn warm(base: u64, start: u64, workers: u64) -> Asked {
+    Asked {
+        base: Some(base),
+        start,
+        workers,
+        ..asked()
     }
 }
 
@@ -48,6 +59,9 @@ fn first_setting_out_of_range_is_named(rt: HostRuntime) {
             },
             Some(SettingsError::MinRate),
         ),
+        (warm(5, 5, 1), None),
+        (warm(6, 5, 1), Some(SettingsError::BaseTick)),
+        (warm(6, 5, 17), Some(SettingsError::Parallelism)),
     ];
     for (asked, cause) in rows {
         assert_eq!(rt; refusal(asked), cause, "{asked:?}");
@@ -66,6 +80,7 @@ fn refusals_have_their_names(rt: HostRuntime) -> Result<(), Fail> {
         (SettingsError::HotWindows, "S7"),
         (SettingsError::StartTick, "S8"),
         (SettingsError::Parallelism, "S9"),
+        (SettingsError::BaseTick, "S10"),
     ];
     for (error, name) in errors {
         let text = format!(in rt.alloc(); "{error}")?;
@@ -98,6 +113,7 @@ fn stop_tests_come_in_order(rt: HostRuntime) -> Result<(), Fail> {
         next(&settings, 3, 1000, 8),
         next(&settings, 3, 1000, 7),
         next(&steady, 1, 1000, 1),
+        next(&settings, 0, 0, 1),
     ];
     assert_eq!(rt;
         answers,
@@ -106,7 +122,8 @@ fn stop_tests_come_in_order(rt: HostRuntime) -> Result<(), Fail> {
             Next::Stop(Reason::Fast),
             Next::Stop(Reason::Rounds),
             Next::Go(4),
-            Next::Go(10)
+            Next::Go(10),
+            Next::Stop(Reason::Few)
         ]
     );
     Ok(())

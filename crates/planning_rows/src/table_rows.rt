@@ -43,6 +43,7 @@ fn settings(window: u64, hot: u64) -> Result<Settings, SettingsError> {
         replayers: 1,
         lane: 1024,
         skip: false,
+        base: None,
     })
 }
 

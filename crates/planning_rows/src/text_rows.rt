@@ -7,7 +7,7 @@ use std::test::Fail;
 use std::thread::Threads;
 use sweep_report::{Line, report_text, sweep, sweep_text};
 use trace_codec::{Trace, TraceView, Write};
-use working_sets::{Tables, Window};
+use working_sets::{Tables, Window, tables};
 
 /// The beginning of a trace of 4 pages of 16 bytes, with no write.
 const NO_WRITES: [u8; 16] = [0x50, 0x43, 0x57, 0x54, 1, 4, 0, 0, 4, 0, 0, 0, 0, 0, 0, 0];
@@ -48,6 +48,7 @@ fn text(alloc: Global, windows: &[Window], pages: &[u32], hot: u64) -> Result<Ve
         replayers: 1,
         lane: 1024,
         skip: false,
+        base: None,
     })?;
     let trace = TraceView::parse(&NO_WRITES)?;
     let tables = Tables {
@@ -129,7 +130,24 @@ fn case(max: u64, threshold: u64) -> Result<Settings, Fail> {
         replayers: 1,
         lane: 1024,
         skip: false,
+        base: None,
     })?)
+}
+
+/// Returns the settings of a warm start.
+fn warm(base: u64, start: u64) -> Result<Settings, Fail> {
+    let mut asked = *case(4, 1)?.asked();
+    asked.base = Some(base);
+    asked.start = start;
+    Ok(Settings::new(asked)?)
+}
+
+/// Returns the report on the guest.
+fn reported(alloc: Global, settings: &Settings) -> Result<Vec<u8>, Fail> {
+    let trace = guest(alloc)?;
+    let tables = tables(alloc, &trace, settings)?;
+    let plan = plan(alloc, &trace, settings)?;
+    Ok(report_text(alloc, &trace.shape(), settings, &tables, &plan)?)
 }
 
 /// Returns the text of the sweep over these cases.
@@ -163,6 +181,37 @@ best 0
             )
         );
     }
+    Ok(())
+}
+
+#[test]
+fn warm_starts_are_told(rt: HostRuntime) -> Result<(), Fail> {
+    let alloc = rt.alloc();
+    let report = reported(alloc, &warm(6, 1200)?)?;
+    let cases = [warm(0, 1000)?];
+    let alone = swept(&rt, alloc, &cases, 1)?;
+    let by_three = swept(&rt, alloc, &cases, 3)?;
+    let wanted =
+        "case 0 min 2 max 4 inc 1 threshold 1 limit 8 skip 0 rounds 2 stop few at 2500 down 0 total 3
+best 0
+";
+    assert_eq!(rt;
+        (report.as_slice(), alone.as_slice(), by_three.as_slice()),
+        (
+            "trace pages 4 size 16 writes 5
+window 0 writes 2 pages 2 again 0 fresh 2
+window 1 writes 1 pages 1 again 1 fresh 0
+window 2 writes 2 pages 2 again 1 fresh 1
+hot 2 pages 1
+page 1
+round 0 from 1200 to 1200 rate 2 pages 0 sent 0 dirtied 0
+stop few at 1200 pages 0 down 0 total 0
+"
+                .as_bytes(),
+            wanted.as_bytes(),
+            wanted.as_bytes()
+        )
+    );
     Ok(())
 }
 

@@ -21,6 +21,7 @@ fn case(down: u64, total: u64) -> Result<Line, Fail> {
         replayers: 1,
         lane: 1024,
         skip: false,
+        base: None,
     })?;
     Ok(Line {
         settings,

@@ -33,4 +33,7 @@ pub enum SettingsError {
     /// The workers, streams or replayers are not 1 to 16, or the frames of a lane not 1 to 65,536.
     #[error("S9")]
     Parallelism,
+    /// The base comes after the first tick.
+    #[error("S10")]
+    BaseTick,
 }

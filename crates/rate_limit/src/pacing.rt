@@ -1,7 +1,7 @@
 //! Durations, dirtying rates, and what comes after a round: the dynamic rate limiting of Clark and others (2005),
 //! section 5.3.
 
-ghost use Rattle.std.specs.Prelude.{ℕ, ◌≡◌, ◌*◌, ◌≤◌};
+ghost use Rattle.std.specs.Prelude.{ℕ, ◌≡◌, ◌⊎◌, ◌*◌, ◌≤◌};
 ghost use Rattle.migration_model.specs.Rates.{after_round, dirtying_rate_of, duration_of};
 ghost use Rattle.rate_limit.specs.Pacing.{outcome_of};
 
@@ -32,9 +32,10 @@ pub fn dirty_rate(pages: u32, ticks: u64) -> u64
 /// rounds done.
 ///
 /// The stop tests come in the order few, fast, rounds. The next rate is the dirtying rate plus the increment (Clark
-/// and others 2005, section 5.3), and at least the least rate.
+/// and others 2005, section 5.3), and at least the least rate. Only the first round of a warm start may have no page
+/// and last no tick; few pages remain then, and no rate is computed.
 pub fn next(settings: &Settings, dirtied: u32, ticks: u64, done: u64) -> Next
-    requires { 1 ≤ ticks }
+    requires { (1 ≤ ticks) ⊎ (dirtied ≡ 0) }
     ensures { outcome_of result ≡ after_round settings.now dirtied ticks done }
 {
     let asked = settings.asked();

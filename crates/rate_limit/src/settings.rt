@@ -2,7 +2,7 @@
 
 ghost use Rattle.std.specs.Prelude.{◌≡◌, ◌↔◌, ◌&&◌, IfErr, IfOk, IsOk, None, Some};
 ghost use Rattle.migration_model.specs.Rates.{AreSettings, MigrationSettings};
-ghost use Rattle.rate_limit.specs.Refusals.{is_between, is_parallelism, refusal_of};
+ghost use Rattle.rate_limit.specs.Refusals.{is_between, is_late, is_parallelism, refusal_of};
 
 use crate::error::SettingsError;
 use std::marker::Model;
@@ -60,6 +60,8 @@ pub struct Asked {
     pub lane: u64,
     /// Whether pages that were written again are skipped.
     pub skip: bool,
+    /// A warm start: the destination begins with the guest's memory before this tick. None is a cold start.
+    pub base: Option<u64>,
 }
 
 impl Model for Asked {
@@ -79,6 +81,7 @@ impl Model for Asked {
       replayers = a.replayers;
       lane = a.lane;
       skip = a.skip;
+      base = a.base;
     } };
 
     ghost inverse = { λ s. record {
@@ -95,6 +98,7 @@ impl Model for Asked {
       replayers = s.replayers;
       lane = s.lane;
       skip = s.skip;
+      base = s.base;
     } };
 }
 
@@ -131,6 +135,16 @@ fn is_parallel(asked: &Asked) -> bool
         && is_within(1, MAX_LANE, asked.lane)
 }
 
+/// Returns whether the base, where there is one, comes after the first tick.
+fn is_base_late(asked: &Asked) -> bool
+    ensures { result ≡ is_late asked.now.base asked.now.start }
+{
+    match asked.base {
+        Some(base) => base > asked.start,
+        None => false,
+    }
+}
+
 /// Tests each setting against its range, in the order of the refusals.
 fn check(asked: &Asked) -> Result<(), SettingsError>
     ensures refused { IfErr result (λ e. refusal_of asked.now ≡ Some e) }
@@ -163,11 +177,13 @@ fn check(asked: &Asked) -> Result<(), SettingsError>
     if !is_parallel(asked) {
         return Err(SettingsError::Parallelism);
     }
+    if is_base_late(asked) {
+        return Err(SettingsError::BaseTick);
+    }
     Ok(())
 }
 
 impl Settings {
-    #[tactic(auto, using(crate::proofs::Ranges::in_range_lem))]
     /// Returns these settings where each is in its range, or else the first refusal. It allocates nothing.
     pub fn new(asked: Asked) -> Result<Settings, SettingsError>
         ensures accepted { IfOk result (λ settings. settings ≡ asked) }

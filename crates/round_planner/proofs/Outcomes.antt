@@ -2,10 +2,9 @@
 use Rattle.std.proofs.Common.{◌≡◌, ℕ, ◌+◌, ◌-◌, ◌*◌, ◌≤◌, true, List, [], ◌∷◌, ◌++◌, length, replicate, refl, sym, ap, subst, ◌∙◌, arith}
 use Rattle.std.specs.List.{sum_by}
 use Rattle.std.proofs.lemmas.List.{length_push, length-replicate}
-use Rattle.std.proofs.lemmas.List.FromFn.{length-range_with_len}
 use Rattle.std.proofs.lemmas.List.Sums.{sum_by-append, sum_by-cons}
 use Rattle.migration_model.specs.Rates.{MigrationSettings, AreSettings, StopReason, goes_on, stops, after_round, duration_of}
-use Rattle.migration_model.specs.Rounds.{PlannedRound, NextRound, plan_with, first_round, round_after, total_of}
+use Rattle.migration_model.specs.Rounds.{PlannedRound, NextRound, plan_with, pages_lacking, first_round, round_after, total_of}
 use Rattle.migration_model.specs.Sweeps.{PlanOutcome, IsOutcome, outcome_with}
 use Rattle.migration_model.specs.Touches.{GuestTouch, pages_written}
 use Rattle.round_planner.specs.Scanning.{IsScan}
@@ -36,12 +35,12 @@ pub record IsUnderWay (pages : ℕ) (touches : List GuestTouch) (s : MigrationSe
   pub few : now.total ≤ now.done * 65_536
 
 pub starts : (pages : ℕ) (touches : List GuestTouch) (s : MigrationSettings) (now : Standing) (marks : Marks) → now.done ≡ 0 → now.total ≡ 0
-    → IsReady pages touches s (first_round pages s) now marks → IsUnderWay pages touches s now marks
+    → IsReady pages touches s (first_round pages touches s) now marks → IsUnderWay pages touches s now marks
 starts pages touches s now marks done total ready = record {
-  coming = first_round pages s;
+  coming = first_round pages touches s;
   ready = ready;
   rounds = [];
-  follows = follows_start pages touches s (first_round pages s) [] refl refl;
+  follows = follows_start pages touches s (first_round pages touches s) [] refl refl;
   count = sym done;
   total = sym total;
   few = omega (arith, total);
@@ -116,17 +115,17 @@ comes_to pages touches s now ran marks reason outcome way r after is =
       outcome_is = is ∙ (λ i. outcome_with (count i) reason (r.to_is i) (duration_of (r.dirtied_is i) s.max) (total i));
     }
 
-pub begins : (pages : ℕ) (touches : List GuestTouch) (s : MigrationSettings) (now : Standing) (marks : Marks) → AreSettings s → 1 ≤ pages → pages ≤ 65_536
-    → now.done ≡ 0 → now.from ≡ s.start → now.rate ≡ s.min → now.listed ≡ pages → now.next ≤ length touches → IsPoint touches s.start now.next
+pub begins : (pages : ℕ) (touches : List GuestTouch) (s : MigrationSettings) (now : Standing) (marks : Marks) → AreSettings s → pages ≤ 65_536
+    → now.done ≡ 0 → now.from ≡ s.start → now.rate ≡ s.min → now.listed ≡ length (pages_lacking pages touches s.base s.start) → now.next ≤ length touches → IsPoint touches s.start now.next
     → marks.scan.next ≡ now.next → marks.scan.marks.items ≡ replicate (word_count pages) 0 → length marks.room.items ≡ pages
-    → IsReady pages touches s (first_round pages s) now marks
-begins pages touches s now marks are some few done from rate listed bound point next fresh room =
-    let standing : StandsAt pages touches s (first_round pages s) now = record {
-      can = can_start pages s (first_round pages s) are some few refl;
+    → IsReady pages touches s (first_round pages touches s) now marks
+begins pages touches s now marks are few done from rate listed bound point next fresh room =
+    let standing : StandsAt pages touches s (first_round pages touches s) now = record {
+      can = can_start pages touches s (first_round pages touches s) are few refl;
       done_is = done;
       from_is = from;
       rate_is = rate;
-      listed_is = listed ∙ sym (length-range_with_len 0 pages);
+      listed_is = listed;
       bound = bound;
       point = point;
     } in

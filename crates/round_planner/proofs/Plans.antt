@@ -1,16 +1,15 @@
 -- A guest has one plan, and what is found round by round is it.
-use Rattle.std.proofs.Common.{◌≡◌, ℕ, ◌+◌, ◌-◌, ◌*◌, ◌/◌, ◌≤◌, Bool, true, false, cond, not, ◌&&◌, leb, List, [], ◌∷◌, ◌++◌, length, refl, sym, ap, subst, ◌∙◌, append_assoc, inl, inr, arith}
+use Rattle.std.proofs.Common.{◌≡◌, ℕ, ◌+◌, ◌-◌, ◌*◌, ◌/◌, ◌≤◌, Bool, true, false, cond, not, ◌&&◌, leb, Option, Some, None, List, [], ◌∷◌, ◌++◌, length, refl, sym, ap, subst, ◌∙◌, append_assoc, inl, inr, arith}
 use Rattle.std.specs.List.{filter, range_with_len}
 use Rattle.std.proofs.Math.Nat.{div-le_of_le-mul, mul-le-mul_left, le-max_right}
-use Rattle.std.proofs.lemmas.Bool.{cases_lt, ltb-false, eqb-false}
-use Rattle.std.proofs.lemmas.List.FromFn.{length-range_with_len}
+use Rattle.std.proofs.lemmas.Bool.{cases_lt, eqb-false}
 use Rattle.migration_model.specs.Rates.{MigrationSettings, AreSettings, StopReason, few_remain, too_fast, rounds_done, AfterRound, goes_on, stops, after_round, candidate_of, duration_of}
 use Rattle.migration_model.specs.Touches.{GuestTouch, is_written, pages_written}
-use Rattle.migration_model.specs.Rounds.{PlannedRound, MigrationPlan, plan_with, NextRound, pages_below, first_round, round_after, IsSent, IsRound, IsEnd, InEither, AreRounds, IsPlan}
+use Rattle.migration_model.specs.Rounds.{PlannedRound, MigrationPlan, plan_with, NextRound, pages_below, pages_lacking, first_round, round_after, IsSent, IsRound, IsEnd, InEither, AreRounds, IsPlan}
 use Rattle.round_planner.specs.Scanning.{CanCome, HasRun, IsPageList}
-use Rattle.round_planner.proofs.Skims.{Rises, Rises-pages, Rises-range, sent_is_skim, filter_all, sent_is_all, round_sends}
-use Rattle.page_bitmap.proofs.Listed.{few_kept}
-use Rattle.round_planner.proofs.PageLists.{list_few, list_rises}
+use Rattle.round_planner.proofs.Skims.{Rises, Rises-pages, Rises-range, sent_is_skim, filter_all, sent_is_all, never_written}
+use Rattle.page_bitmap.proofs.Listed.{few_kept, none_kept}
+use Rattle.round_planner.proofs.PageLists.{list_few}
 
 -- the pages sent are one list
 one_sent : (skip : Bool) (touches : List GuestTouch) (from rate : ℕ) (pages a b : List ℕ) → Rises 0 pages → IsSent skip touches from rate pages a
@@ -85,9 +84,14 @@ same_rounds pages touches s now (a ∷ ps) (b ∷ qs) p q rises is_p is_q =
     let found : AreSame (a ∷ ps) (a ∷ qs) p q = same_after pages touches s now a ps qs p q rest (after_round s a.dirtied (a.to - a.from) (now.done + 1)) is_p.1 is_q_a.1 in
     subst (λ r. AreSame (a ∷ ps) (r ∷ qs) p q) same found
 
+lacking_rises : (pages : ℕ) (touches : List GuestTouch) (base : Option ℕ) (tick : ℕ)
+    → Rises 0 (pages_lacking pages touches base tick)
+lacking_rises pages touches None tick = Rises-range 0 pages
+lacking_rises pages touches (Some base) tick = Rises-pages (is_written touches base tick) pages
+
 pub one_plan_lem : (pages : ℕ) (touches : List GuestTouch) (s : MigrationSettings) (p q : MigrationPlan) → IsPlan pages touches s p → IsPlan pages touches s q → p ≡ q
 one_plan_lem pages touches s p q is_p is_q =
-    let same = same_rounds pages touches s (first_round pages s) p.rounds q.rounds p q (Rises-range 0 pages) is_p is_q in
+    let same = same_rounds pages touches s (first_round pages touches s) p.rounds q.rounds p q (lacking_rises pages touches s.base s.start) is_p is_q in
     λ i. record { rounds = same.rounds i; reason = same.reason i; stop = same.stop i; last = same.last i; down = same.down i }
 
 -- ---- what is found
@@ -116,8 +120,10 @@ ticks_few sent rate ticks few some least =
     let much : 65_536_000 ≤ 65_536_000 * rate = omega (arith, mul-le-mul_left 65_536_000 some) in
     least 65_536_000 (omega arith)
 
-zero_is : (n : ℕ) → n ≤ 0 → n ≡ 0
-zero_is n le = omega arith
+nothing_written : (pages : ℕ) (touches : List GuestTouch) (from to : ℕ) → to ≡ from
+    → pages_written pages touches from to ≡ []
+nothing_written pages touches from to is =
+    none_kept (is_written touches from to) 0 pages (λ page low high. never_written touches from to page is)
 
 -- a round as it ran
 pub ran : (pages : ℕ) (touches : List GuestTouch) (s : MigrationSettings) (now : NextRound) (round : PlannedRound) (dirtied : List ℕ) (ticks : ℕ) → CanCome pages s now
@@ -128,7 +134,6 @@ pub ran : (pages : ℕ) (touches : List GuestTouch) (s : MigrationSettings) (now
     → HasRun pages touches s now round dirtied
 ran pages touches s now round dirtied ticks ready sent from rate list to ticks_are enough least dirtied_are count =
     let skip = s.skip && leb 1 now.done in
-    let some : 1 ≤ length round.sent = round_sends skip touches now.from now.rate now.pages round.sent ready.rate_low (list_rises pages now.pages ready.list) ready.some sent in
     let few : length round.sent ≤ 65_536 = sent_fits pages touches s now round.sent ready sent in
     let low : 1 ≤ round.rate = omega (arith, rate, ready.rate_low) in
     record {
@@ -141,9 +146,10 @@ ran pages touches s now round dirtied ticks ready sent from rate list to ticks_a
         dirtied_is = count ∙ ap length dirtied_are;
       };
       dirtied_are = dirtied_are;
-      longer = elim (cases_lt 0 ticks) [
-        | inl more ↦ omega arith
-        | inr none ↦ let zero_ticks : ticks * round.rate ≡ 0 * round.rate = ap (λ t. t * round.rate) (zero_is ticks none) in absurd (omega arith)
+      order = omega (arith, to);
+      timed = elim (cases_lt 0 ticks) [
+        | inl more ↦ inl (omega (arith, to, more))
+        | inr none ↦ inr (count ∙ ap length (dirtied_are ∙ nothing_written pages touches round.from round.to (omega (arith, to, none))))
       ];
       short = omega (arith, to, ticks_few (length round.sent) round.rate ticks few low least);
       few = few;
@@ -156,12 +162,18 @@ ran pages touches s now round dirtied ticks ready sent from rate list to ticks_a
 pub written_list : (pages : ℕ) (touches : List GuestTouch) (from to : ℕ) (list : List ℕ) → pages ≤ 65_536 → list ≡ pages_written pages touches from to → IsPageList pages list
 written_list pages touches from to list few is = record { test = is_written touches from to; few = few; list_is = is }
 
-pub can_start : (pages : ℕ) (s : MigrationSettings) (now : NextRound) → AreSettings s → 1 ≤ pages → pages ≤ 65_536 → now ≡ first_round pages s → CanCome pages s now
-can_start pages s now are some few is =
-    let list : now.pages ≡ range_with_len 0 pages = ap (λ (n : NextRound). n.pages) is in
+-- the pages that a destination lacks
+lacking_list : (pages : ℕ) (touches : List GuestTouch) (base : Option ℕ) (tick : ℕ) (list : List ℕ) → pages ≤ 65_536
+    → list ≡ pages_lacking pages touches base tick → IsPageList pages list
+lacking_list pages touches None tick list few is =
+    record { test = λ page. true; few = few; list_is = is ∙ sym (filter_all (range_with_len 0 pages)) }
+lacking_list pages touches (Some base) tick list few is = written_list pages touches base tick list few is
+
+pub can_start : (pages : ℕ) (touches : List GuestTouch) (s : MigrationSettings) (now : NextRound) → AreSettings s → pages ≤ 65_536 → now ≡ first_round pages touches s
+    → CanCome pages s now
+can_start pages touches s now are few is =
     record {
-      list = record { test = λ page. true; few = few; list_is = list ∙ sym (filter_all (range_with_len 0 pages)) };
-      some = omega (arith, ap length list, length-range_with_len 0 pages);
+      list = lacking_list pages touches s.base s.start now.pages few (ap (λ (n : NextRound). n.pages) is);
       rate_low = omega (arith, ap (λ (n : NextRound). n.rate) is, are.min_low);
       from_high = omega (arith, ap (λ (n : NextRound). n.from) is, are.start_high);
       done_low = omega (arith, ap (λ (n : NextRound). n.done) is, are.rounds_low);
@@ -174,24 +186,22 @@ rate_in (stops reason) = 0
 
 -- what holds where a further round comes
 record GoesOn (s : MigrationSettings) (dirtied done rate : ℕ) : Type 0 where
-  pub many : s.threshold ≤ dirtied
   pub not_done : done ≡ s.rounds → ⊥
   pub rate_low : s.min ≤ rate
 
 tested : (few fast done : Bool) (x rate : ℕ) → cond few (stops few_remain) (cond fast (stops too_fast) (cond done (stops rounds_done) (goes_on x))) ≡ goes_on rate
-    → (few ≡ false) × (done ≡ false) × (rate ≡ x)
+    → (done ≡ false) × (rate ≡ x)
 tested true fast done x rate is = absurd cc
 tested false true done x rate is = absurd cc
 tested false false true x rate is = absurd cc
-tested false false false x rate is = (refl, refl, sym (ap rate_in is))
+tested false false false x rate is = (refl, sym (ap rate_in is))
 
 goes : (s : MigrationSettings) (dirtied ticks done rate : ℕ) → after_round s dirtied ticks done ≡ goes_on rate → GoesOn s dirtied done rate
 goes s dirtied ticks done rate is =
     let t = tested _ _ _ _ rate is in
     record {
-      many = ltb-false _ _ t.0;
-      not_done = eqb-false _ _ t.1;
-      rate_low = omega (arith, t.2, le-max_right (candidate_of s dirtied ticks) s.min);
+      not_done = eqb-false _ _ t.0;
+      rate_low = omega (arith, t.1, le-max_right (candidate_of s dirtied ticks) s.min);
     }
 
 pub can_go_on : (pages : ℕ) (touches : List GuestTouch) (s : MigrationSettings) (now next : NextRound) (round : PlannedRound) (dirtied : List ℕ) (ticks rate : ℕ)
@@ -204,7 +214,6 @@ can_go_on pages touches s now next round dirtied ticks rate are ready ran after 
     let done : next.done ≡ now.done + 1 = ap (λ (n : NextRound). n.done) is in
     record {
       list = written_list pages touches round.from round.to next.pages ran.small list;
-      some = omega (arith, ap length list, ran.is_round.dirtied_is, g.many, are.threshold_low);
       rate_low = omega (arith, ap (λ (n : NextRound). n.rate) is, g.rate_low, are.min_low);
       from_high = omega (arith, ap (λ (n : NextRound). n.from) is, ran.short, ran.is_round.from_is, ready.from_high, done);
       done_low = omega (arith, done, not_done, ready.done_low);
@@ -214,13 +223,13 @@ can_go_on pages touches s now next round dirtied ticks rate are ready ran after 
 -- the rounds so far with whatever follows
 abbrev pub Follows : ℕ → List GuestTouch → MigrationSettings → NextRound → List PlannedRound → Type 0
 Follows pages touches s now rounds = (rest : List PlannedRound) (plan : MigrationPlan) → AreRounds pages touches s now rest plan
-    → AreRounds pages touches s (first_round pages s) (rounds ++ rest) plan
+    → AreRounds pages touches s (first_round pages touches s) (rounds ++ rest) plan
 
-pub follows_start : (pages : ℕ) (touches : List GuestTouch) (s : MigrationSettings) (now : NextRound) (rounds : List PlannedRound) → now ≡ first_round pages s → rounds ≡ []
+pub follows_start : (pages : ℕ) (touches : List GuestTouch) (s : MigrationSettings) (now : NextRound) (rounds : List PlannedRound) → now ≡ first_round pages touches s → rounds ≡ []
     → Follows pages touches s now rounds
 follows_start pages touches s now rounds is none rest plan are =
     let C : NextRound → Type 0 = λ n. AreRounds pages touches s n rest plan in
-    let D : List PlannedRound → Type 0 = λ rs. AreRounds pages touches s (first_round pages s) (rs ++ rest) plan in
+    let D : List PlannedRound → Type 0 = λ rs. AreRounds pages touches s (first_round pages touches s) (rs ++ rest) plan in
     subst D (sym none) (subst C is are)
 
 pub follows_more : (pages : ℕ) (touches : List GuestTouch) (s : MigrationSettings) (now next : NextRound) (rounds new : List PlannedRound) (round : PlannedRound)
@@ -231,7 +240,7 @@ follows_more pages touches s now next rounds new round dirtied rate ran after is
     let Next : ℕ → Type 0 = λ r. AreRounds pages touches s (round_after pages touches now round r) rest plan in
     let End : StopReason → Type 0 = λ reason. (rest ≡ []) × (plan.reason ≡ reason) × IsEnd pages touches s round plan in
     let either : InEither (after_round s round.dirtied (round.to - round.from) (now.done + 1)) Next End = subst (λ v. InEither v Next End) (sym after) (subst C is are) in
-    let D : List PlannedRound → Type 0 = λ rs. AreRounds pages touches s (first_round pages s) rs plan in
+    let D : List PlannedRound → Type 0 = λ rs. AreRounds pages touches s (first_round pages touches s) rs plan in
     let joined : new ++ rest ≡ rounds ++ (round ∷ rest) = ap (λ (rs : List PlannedRound). rs ++ rest) new_is ∙ append_assoc rounds (round ∷ []) rest in
     subst D (sym joined) (before (round ∷ rest) plan (ran.is_round, either))
 
@@ -252,5 +261,5 @@ follows_end pages touches s now rounds new round dirtied reason plan ran after n
     let End : StopReason → Type 0 = λ why. (none ≡ []) × (plan.reason ≡ why) × IsEnd pages touches s round plan in
     let either : InEither (after_round s round.dirtied (round.to - round.from) (now.done + 1)) Next End =
     subst (λ v. InEither v Next End) (sym after) (refl, ap (λ (p : MigrationPlan). p.reason) is, end) in
-    let D : List PlannedRound → Type 0 = λ rs. AreRounds pages touches s (first_round pages s) rs plan in
+    let D : List PlannedRound → Type 0 = λ rs. AreRounds pages touches s (first_round pages touches s) rs plan in
     subst D (sym (ap (λ (p : MigrationPlan). p.rounds) is ∙ new_is)) (before (round ∷ []) plan (ran.is_round, either))

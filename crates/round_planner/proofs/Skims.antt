@@ -6,7 +6,6 @@ use Rattle.std.proofs.lemmas.Bool.{cases_lt, le-ltb, lt-ltb, lt-leb, and_left, a
 use Rattle.std.proofs.lemmas.List.{append-nil, length-append, take_more}
 use Rattle.std.proofs.lemmas.List.Folds.{list_any_none}
 use Rattle.std.proofs.lemmas.List.Sums.{sum_by-cons, sum_by-append, fold-append}
-use Rattle.std.proofs.Math.Nat.{zero-div}
 use Rattle.migration_model.specs.Touches.{GuestTouch, is_written}
 use Rattle.migration_model.specs.Rounds.{pages_below, IsSent}
 
@@ -178,39 +177,14 @@ skim_more touches from rate n page pages sent new mark low is sent_is mark_is ne
     ∙ ap (λ (kept : List ℕ). skim_one touches from rate kept page) sent_is
     ∙ sym (ap (λ (ps : List ℕ). skim touches from rate [] ps) more ∙ fold-append (skim_one touches from rate) [] (take n pages) (page ∷ []))
 
--- what is sent grows by at most one
-pub grown : (b : Bool) (page : ℕ) (sent new : List ℕ) → new ≡ cond b (sent ++ page ∷ []) sent → (length sent ≤ length new) × (length new ≤ length sent + 1)
-grown true page sent new is = (omega (arith, ap length is, length-append sent (page ∷ [])), omega (arith, ap length is, length-append sent (page ∷ [])))
-grown false page sent new is = (omega (arith, ap length is), omega (arith, ap length is))
-
-skim_grows : (touches : List GuestTouch) (from rate : ℕ) (sent pages : List ℕ) → length sent ≤ length (skim touches from rate sent pages)
-skim_grows touches from rate sent [] = omega arith
-skim_grows touches from rate sent (q ∷ pages) =
-    let one = grown (stays touches from rate (length sent) q) q sent (skim_one touches from rate sent q) refl in
-    omega (arith, one.0, skim_grows touches from rate (skim_one touches from rate sent q) pages)
-
+-- in no tick no page is written
 never_between : (from to tick : ℕ) → to ≡ from → (leb from tick && ltb tick to) ≡ false
 never_between from to tick is = elim (cases_lt tick to) [
   | inl early ↦ and_left _ _ (lt-leb from tick (omega arith))
   | inr late ↦ and_right _ _ (le-ltb tick to late)
 ]
 
-never_written : (touches : List GuestTouch) (from to page : ℕ) → to ≡ from → is_written touches from to page ≡ false
+pub never_written : (touches : List GuestTouch) (from to page : ℕ) → to ≡ from → is_written touches from to page ≡ false
 never_written touches from to page is =
     list_any_none (λ (t : GuestTouch). eqb t.page page && (leb from t.tick && ltb t.tick to)) touches
     (λ k d low. and_right _ _ (never_between from to (get_or touches k d).tick is))
-
--- a round with pages sends some
-sends_some : (touches : List GuestTouch) (from rate : ℕ) (pages : List ℕ) → 1 ≤ rate → 1 ≤ length pages → 1 ≤ length (skim touches from rate [] pages)
-sends_some touches from rate [] some more = absurd (omega arith)
-sends_some touches from rate (q ∷ pages) some more =
-    let none : from + 1_000 * 0 / rate ≡ from = omega (arith, zero-div rate) in
-    let first : stays touches from rate 0 q ≡ true = ap not (never_written touches from (from + 1_000 * 0 / rate) q none) in
-    let sent : skim_one touches from rate [] q ≡ q ∷ [] = ap (λ b. cond b (q ∷ []) []) first in
-    omega (arith, skim_grows touches from rate (skim_one touches from rate [] q) pages, ap length sent)
-
-pub round_sends : (skip : Bool) (touches : List GuestTouch) (from rate : ℕ) (pages sent : List ℕ) → 1 ≤ rate → Rises 0 pages → 1 ≤ length pages
-    → IsSent skip touches from rate pages sent → 1 ≤ length sent
-round_sends true touches from rate pages sent some rises more is =
-    omega (arith, ap length (sent_is_skim touches from rate pages sent rises is), sends_some touches from rate pages some more)
-round_sends false touches from rate pages sent some rises more is = omega (arith, ap length (sent_is_all touches from rate pages sent is))

@@ -1,5 +1,5 @@
 -- A walk over touches, on its way. No contract of a public call cites it.
-use Rattle.std.specs.Prelude.{◌≡◌, ℕ, ◌+◌, ◌*◌, ◌/◌, ◌%◌, ◌≤◌, ◌<◌, ◌&&◌, ◌==◌, ◌^◌, nat_lt, nat_le, true, false, Bool, List, length, take, slice_index_or}
+use Rattle.std.specs.Prelude.{◌≡◌, ◌⊎◌, ℕ, ◌+◌, ◌-◌, ◌*◌, ◌/◌, ◌%◌, ◌≤◌, ◌<◌, ◌&&◌, ◌==◌, ◌^◌, nat_lt, nat_le, true, false, Bool, List, length, take, slice_index_or}
 use Rattle.std.specs.List.{filter, list_any, range_with_len}
 use Rattle.std.specs.List.Sorted.{IsPartitionPoint}
 use Rattle.migration_model.specs.Rates.{MigrationSettings}
@@ -51,20 +51,20 @@ pub record IsPageList (pages : ℕ) (list : List ℕ) : Type 0 where
   pub few : pages ≤ 65_536
   pub list_is : list ≡ filter test (range_with_len 0 pages)
 
--- a round that may come: it has pages, and its ticks are as many as those before it can have taken
+-- a round that may come: its ticks are as many as those before it can have taken
 pub record CanCome (pages : ℕ) (s : MigrationSettings) (now : NextRound) : Type 0 where
   pub list : IsPageList pages now.pages
-  pub some : 1 ≤ length now.pages
   pub rate_low : 1 ≤ now.rate
   pub from_high : now.from < 2 ^ 40 + now.done * 65_536_000 + 1
   pub done_low : now.done < s.rounds
   pub rounds_few : s.rounds ≤ 64
 
--- the round that came, and what was written meanwhile
+-- the round that came, and what was written meanwhile: nothing, where it lasted no tick
 pub record HasRun (pages : ℕ) (touches : List GuestTouch) (s : MigrationSettings) (now : NextRound) (round : PlannedRound) (dirtied : List ℕ) : Type 0 where
   pub is_round : IsRound pages touches s now round
   pub dirtied_are : dirtied ≡ pages_written pages touches round.from round.to
-  pub longer : round.from < round.to
+  pub order : round.from ≤ round.to
+  pub timed : (1 ≤ round.to - round.from) ⊎ (round.dirtied ≡ 0)
   pub short : round.to ≤ round.from + 65_536_000
   pub few : length round.sent ≤ 65_536
   pub small : pages ≤ 65_536

@@ -45,7 +45,8 @@ impl Planner {
     /// of `plan` has. It allocates nothing.
     ///
     /// Where no page is skipped, it reads 4 bytes for each touch in the ticks of its rounds and no more. Where pages
-    /// are skipped, it marks the pages of these touches.
+    /// are skipped, it marks the pages of these touches. Where the settings have a base, it reads 4 bytes for each
+    /// touch from there to the first tick as well.
     pub fn outcome<T: Timeline>(
         &mut self,
         timeline: &T,

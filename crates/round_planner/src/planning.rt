@@ -1,9 +1,10 @@
 //! A plan, round by round.
 
-ghost use Rattle.std.specs.Prelude.{◌≡◌, ◌<◌, ◌+◌, ◌*◌, ◌/◌, ◌&&◌, nat_le, IfErr, IfOk, length};
+ghost use Rattle.std.specs.Prelude.{◌≡◌, ◌≤◌, ◌<◌, ◌+◌, ◌*◌, ◌/◌, ◌&&◌, nat_le, IfErr, IfOk, IfSome, length};
 ghost use Rattle.std.specs.List.{range_with_len};
 ghost use Rattle.migration_model.specs.Rates.{duration_of};
-ghost use Rattle.migration_model.specs.Rounds.{IsPlan, IsSent, plan_with};
+ghost use Rattle.migration_model.specs.Rounds.{IsPlan, IsSent, pages_lacking, plan_with};
+ghost use Rattle.migration_model.specs.Touches.{pages_written};
 ghost use Rattle.rate_limit.specs.Pacing.{reason_of};
 ghost use Rattle.round_planner.specs.Scanning.{CanCome, HasRun, IsScan, IsScanWithin};
 ghost use Rattle.round_planner.specs.Sizes.{IsSmallPlan};
@@ -43,6 +44,65 @@ fn first_pages(alloc: Global, count: u32) -> Result<Vec<u32>, AllocError>
         pages.push(page)?;
     }
     Ok(pages)
+}
+
+/// Returns a walk that stands at a tick with no page marked, and all pages of the guest.
+fn all_pages<T: Timeline>(
+    alloc: Global,
+    timeline: &T,
+    start: u64,
+) -> Result<(Scan, Vec<u32>), AllocError>
+    ensures scan { IfOk result (λ found. IsScan (T.pages timeline.now) (T.touches timeline.now) start start
+        found.0.next found.0.marks.items) }
+    ensures pages { IfOk result (λ found. found.1.items ≡ range_with_len 0 (T.pages timeline.now)) }
+    ensures few { T.pages timeline.now ≤ 65_536 }
+{
+    let scan = Scan::new(alloc, timeline, start)?;
+    let pages = first_pages(alloc, timeline.page_count())?;
+    Ok((scan, pages))
+}
+
+/// Returns a walk that stands at a tick with no page marked, and the pages that are written from a base on and before
+/// that tick.
+fn pages_since<T: Timeline>(
+    alloc: Global,
+    timeline: &T,
+    base: u64,
+    start: u64,
+) -> Result<(Scan, Vec<u32>), AllocError>
+    requires { base ≤ start }
+    ensures scan { IfOk result (λ found. IsScan (T.pages timeline.now) (T.touches timeline.now) start start
+        found.0.next found.0.marks.items) }
+    ensures pages { IfOk result (λ found.
+        found.1.items ≡ pages_written (T.pages timeline.now) (T.touches timeline.now) base start) }
+    ensures few { T.pages timeline.now ≤ 65_536 }
+{
+    let mut scan = Scan::new(alloc, timeline, base)?;
+    scan.advance(timeline, start);
+    let pages = scan.pages(alloc)?;
+    scan.restart();
+    Ok((scan, pages))
+}
+
+/// Returns a walk that stands at the first tick with no page marked, and the pages that the destination lacks then:
+/// all, or, where it begins with the memory before a base, those written since.
+fn begin<T: Timeline>(
+    alloc: Global,
+    timeline: &T,
+    base: Option<u64>,
+    start: u64,
+) -> Result<(Scan, Vec<u32>), AllocError>
+    requires { IfSome base (λ base. base ≤ start) }
+    ensures scan { IfOk result (λ found. IsScan (T.pages timeline.now) (T.touches timeline.now) start start
+        found.0.next found.0.marks.items) }
+    ensures pages { IfOk result (λ found.
+        found.1.items ≡ pages_lacking (T.pages timeline.now) (T.touches timeline.now) base start) }
+    ensures few { T.pages timeline.now ≤ 65_536 }
+{
+    match base {
+        Some(base) => pages_since(alloc, timeline, base, start),
+        None => all_pages(alloc, timeline, start),
+    }
 }
 
 /// Returns whether pages may be skipped in a round behind so many.
@@ -120,7 +180,8 @@ fn ended(settings: &Settings, rounds: Vec<Round>, reason: Reason, stop: u64, las
 /// rounds.
 ///
 /// It costs as much as the touches in the ticks that its rounds cover, the pages of its lists, and a walk over one
-/// word for 64 pages in each round. It finds the first of those touches by binary search.
+/// word for 64 pages in each round. It finds the first of those touches by binary search. Where the settings have a
+/// base, the touches from there on count too, and one walk more.
 pub fn plan<T: Timeline>(
     alloc: Global,
     timeline: &T,
@@ -130,13 +191,13 @@ pub fn plan<T: Timeline>(
     ensures refusal { IfErr result (λ e. e ≡ PlanError.Memory) }
 {
     let asked = settings.asked();
-    let mut scan = Scan::new(alloc, timeline, asked.start)?;
+    let (mut scan, pages) = begin(alloc, timeline, asked.base, asked.start)?;
     let mut rounds = Vec::new(alloc);
     let mut coming = Coming {
         done: 0,
         from: asked.start,
         rate: asked.min,
-        pages: first_pages(alloc, timeline.page_count())?,
+        pages,
     };
     loop {
         let done = coming.done + 1;

@@ -70,7 +70,9 @@ impl Scan {
         timeline: &T,
         tick: u64,
     ) -> Result<Scan, AllocError>
-        ensures { IfOk result (λ scan. IsScan (T.pages timeline.now) (T.touches timeline.now) tick tick scan.next scan.marks.items) }
+        ensures scan { IfOk result (λ scan. IsScan (T.pages timeline.now) (T.touches timeline.now) tick tick
+            scan.next scan.marks.items) }
+        ensures few { T.pages timeline.now ≤ 65_536 }
     {
         let marks = Vec::from_elem(alloc, 0, word_count(timeline.page_count() as usize))?;
         Ok(Scan {

@@ -2,13 +2,13 @@
 
 ghost use Rattle.std.specs.Prelude.{◌≡◌, ◌≤◌, ◌<◌, ◌&&◌, ◌+◌, ◌^◌, ℕ, true, false, IfOk, List, length, nat_le};
 ghost use Rattle.migration_model.specs.Rates.{AreSettings, duration_of};
-ghost use Rattle.migration_model.specs.Rounds.{NextRound, first_round};
+ghost use Rattle.migration_model.specs.Rounds.{NextRound, first_round, pages_lacking};
 ghost use Rattle.migration_model.specs.Sweeps.{IsOutcome, outcome_with};
 ghost use Rattle.migration_model.specs.Touches.{GuestTouch};
 ghost use Rattle.rate_limit.specs.Pacing.{reason_of};
 ghost use Rattle.page_bitmap.specs.Listing.{pages_of};
 ghost use Rattle.round_planner.specs.Scanning.{IsScan};
-ghost use Rattle.round_planner.specs.Indexing.{AreMarksOf, CanMark, CanRun, HasSentOf, IsMarkedAt, IsReady, IsTurned, IsRoundIndexOf, IsStanding, RanTo, StandsAt};
+ghost use Rattle.round_planner.specs.Indexing.{AreMarksOf, CanMark, CanRun, HasSentOf, IsMarkedAt, IsPoint, IsReady, IsTurned, IsRoundIndexOf, IsStanding, RanTo, StandsAt};
 
 use crate::index::RoundIndex;
 use crate::parts::Outcome;
@@ -140,9 +140,16 @@ impl Marks {
     }
 
     /// Prepares the buffers for the first round. Returns that round's numbers.
-    fn begin<T: Timeline>(&mut self, timeline: &T, settings: &Settings) -> Standing
-        requires { AreMarksOf (T.pages timeline.now) self.old }
-        ensures ready { IsReady (T.pages timeline.now) (T.touches timeline.now) settings.now (first_round (T.pages timeline.now) settings.now) result self.new }
+    fn begin<T: Timeline>(
+        &mut self,
+        timeline: &T,
+        index: &RoundIndex,
+        settings: &Settings,
+    ) -> Standing
+        requires index { IsRoundIndexOf (T.pages timeline.now) (T.touches timeline.now) index.now }
+        requires marks { AreMarksOf (T.pages timeline.now) self.old }
+        ensures ready { IsReady (T.pages timeline.now) (T.touches timeline.now) settings.now
+            (first_round (T.pages timeline.now) (T.touches timeline.now) settings.now) result self.new }
         ensures done { result.done ≡ 0 }
         ensures total { result.total ≡ 0 }
         ensures settings { AreSettings settings.now }
@@ -154,7 +161,7 @@ impl Marks {
             done: 0,
             from: asked.start,
             rate: asked.min,
-            listed: timeline.page_count(),
+            listed: count_lacking(timeline, index, settings, self.scan.next),
             next: self.scan.next,
             total: 0,
         }
@@ -172,7 +179,7 @@ impl Marks {
         ensures outcome { IsOutcome (T.pages timeline.now) (T.touches timeline.now) settings.now result }
         ensures marks { AreMarksOf (T.pages timeline.now) self.new }
     {
-        let mut now = self.begin(timeline, settings);
+        let mut now = self.begin(timeline, index, settings);
         loop {
             let ran = self.run_round(timeline, index, settings, &now);
             let done = now.done + 1;
@@ -191,6 +198,28 @@ impl Marks {
                 }
             }
         }
+    }
+}
+
+/// Returns how many pages the destination lacks at the first tick, before which there are so many touches: all, or,
+/// where it begins with the memory before a base, those written since.
+fn count_lacking<T: Timeline>(
+    timeline: &T,
+    index: &RoundIndex,
+    settings: &Settings,
+    next: usize,
+) -> u32
+    requires index { IsRoundIndexOf (T.pages timeline.now) (T.touches timeline.now) index.now }
+    requires bound { next ≤ length (T.touches timeline.now) }
+    requires point { IsPoint (T.touches timeline.now) settings.now.start next }
+    ensures count { result ≡ length (pages_lacking (T.pages timeline.now) (T.touches timeline.now)
+        settings.now.base settings.now.start) }
+    ensures few { T.pages timeline.now ≤ 65_536 }
+{
+    let all = timeline.page_count();
+    match settings.asked().base {
+        Some(base) => index.first_touches(timeline.before(base), next),
+        None => all,
     }
 }
 

@@ -1,5 +1,5 @@
 -- How a text of advice ends. This project's own.
-use Rattle.std.specs.Prelude.{◌≡◌, ℕ, if◌then◌else◌, List, [], ◌∷◌, ◌++◌, slice_index_or, codes}
+use Rattle.std.specs.Prelude.{◌≡◌, ℕ, if◌then◌else◌, Option, None, Some, List, [], ◌∷◌, ◌++◌, slice_index_or, codes}
 use Rattle.migration_model.specs.Rates.{MigrationSettings}
 use Rattle.migration_model.specs.Sweeps.{SweepLine}
 use Rattle.sweep_report.specs.Lines.{field, line, case_line}
@@ -12,11 +12,16 @@ case_of (advices.Fits case) = case
 case_of (advices.OverTotal nearest cheapest) = nearest
 case_of (advices.OverDown nearest) = nearest
 
+-- the option for a base, where there is one
+abbrev pub base_field : Option ℕ → List ℕ
+base_field None = []
+base_field (Some base) = field (codes " --base ") base
+
 -- the words that run a live migration with some settings
 abbrev pub live_fields : MigrationSettings → List (List ℕ)
 live_fields s = field (codes "precopy live --min ") s.min ∷ field (codes " --max ") s.max ∷ field (codes " --inc ") s.increment
     ∷ field (codes " --threshold ") s.threshold ∷ field (codes " --rounds ") s.rounds ∷ field (codes " --start ") s.start
-    ∷ (if s.skip then codes " --skip" else codes "") ∷ []
+    ∷ base_field s.base ∷ (if s.skip then codes " --skip" else codes "") ∷ []
 
 abbrev pub live_line : MigrationSettings → List ℕ
 live_line s = line (live_fields s)

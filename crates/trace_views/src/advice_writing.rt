@@ -2,7 +2,7 @@
 
 ghost use Rattle.std.specs.Prelude.{◌≡◌, ◌<◌, ◌++◌, IfOk, OnOk, if◌then◌else◌, length, codes};
 ghost use Rattle.std.specs.List.{flat_map};
-ghost use Rattle.trace_views.specs.AdviceText.{EndsWithCase, case_of, live_fields, live_line};
+ghost use Rattle.trace_views.specs.AdviceText.{EndsWithCase, base_field, case_of, live_fields, live_line};
 
 use crate::budget::{Advice, Budget};
 use crate::error::ViewError;
@@ -80,9 +80,20 @@ fn push_live(text: &mut Vec<u8>, settings: &Settings) -> Result<(), AllocError>
     push_field(text, " --threshold ", asked.threshold)?;
     push_field(text, " --rounds ", asked.rounds)?;
     push_field(text, " --start ", asked.start)?;
+    push_base(text, asked.base)?;
     push_skip(text, asked.skip)?;
     end_line(text)?;
     Ok(())
+}
+
+/// Appends the option for a base, where there is one.
+fn push_base(text: &mut Vec<u8>, base: Option<u64>) -> Result<(), AllocError>
+    ensures { OnOk result (text.new.items ≡ text.old.items ++ base_field base) }
+{
+    match base {
+        Some(base) => push_field(text, " --base ", base),
+        None => Ok(()),
+    }
 }
 
 /// Appends the word for skipping, where it is on.

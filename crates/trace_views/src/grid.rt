@@ -15,7 +15,7 @@ const CASES: usize = 240;
 /// The values that are tried with one another, beside the settings that were asked for.
 #[derive(Clone, Copy, Debug)]
 pub struct Grid {
-    base: Settings,
+    settings: Settings,
     /// Least rates, in pages per 1,000 ticks: the greatest rate and parts of it.
     pub min: [u64; 4],
     /// Increments, in pages per 1,000 ticks: parts of the greatest rate.
@@ -38,11 +38,11 @@ fn threshold_for(ticks: u64, rate: u64) -> u64
 
 impl Grid {
     /// Returns the grid round some settings, for a budget. Its greatest rate and its first tick are theirs.
-    pub fn new(base: &Settings, budget: &Budget) -> Grid {
-        let max = base.asked().max;
+    pub fn new(settings: &Settings, budget: &Budget) -> Grid {
+        let max = settings.asked().max;
         let threshold = threshold_for(budget.down, max);
         Grid {
-            base: *base,
+            settings: *settings,
             min: [max, (max / 2).max(1), (max / 4).max(1), (max / 8).max(1)],
             increment: [max / 20, max / 5],
             threshold: [
@@ -66,7 +66,7 @@ impl Grid {
             threshold: self.threshold[number / 6 % 5],
             rounds: self.rounds[number / 2 % 3],
             skip: number % 2 == 1,
-            ..*self.base.asked()
+            ..*self.settings.asked()
         }
     }
 
@@ -76,7 +76,7 @@ impl Grid {
         ensures few { IfOk result (λ cases. length cases.items ≤ 256) }
     {
         let mut cases = Vec::with_capacity(alloc, 1 + CASES)?;
-        cases.push(self.base)?;
+        cases.push(self.settings)?;
         for number in 0..CASES {
             if let Ok(settings) = Settings::new(self.asked_at(number)) {
                 cases.push(settings)?;

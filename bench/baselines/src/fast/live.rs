@@ -34,10 +34,12 @@ pub struct Guest {
     dirty: Vec<AtomicU64>,
     /// The writes of each round.
     rounds: Vec<Range<usize>>,
+    /// In a warm start, how many writes the destination's memory has.
+    base: Option<usize>,
 }
 
 impl Guest {
-    /// Reads the trace and plans its rounds. Before the first one all pages are dirty.
+    /// Reads the trace and plans its rounds. Before the first one all pages are dirty that the destination lacks.
     fn read(settings: &Settings) -> Result<Guest, Refused> {
         let open = |sizes: Sizes| (Touches::new(sizes), crate::memory::zeros::<u32>(sizes.writes));
         let (sizes, text, (touches, positions)) = Reader::whole(open, |made, number, write| {
@@ -54,10 +56,32 @@ impl Guest {
             versions[touches.page[number] as usize].store(number as u32 + 1, Relaxed);
         }
         let pages_in = |word: usize| (sizes.pages - 64 * word).min(64);
-        let all = |word| AtomicU64::new(u64::MAX >> (64 - pages_in(word)));
-        let dirty = (0..sizes.pages.div_ceil(64)).map(all).collect();
+        let base = settings.base.map(|base| touches.at(base));
+        let bits = |word| if base.is_some() { 0 } else { u64::MAX >> (64 - pages_in(word)) };
+        let mut dirty: Vec<u64> = (0..sizes.pages.div_ceil(64)).map(bits).collect();
+        for page in &touches.page[base.unwrap_or(0)..touches.at(settings.start)] {
+            dirty[*page as usize / 64] |= 1 << (page % 64);
+        }
+        let dirty = dirty.into_iter().map(AtomicU64::new).collect();
         let rounds = ranges(&plan, &touches);
-        Ok(Guest { sizes, text, index, touches, versions, dirty, rounds })
+        Ok(Guest { sizes, text, index, touches, versions, dirty, rounds, base })
+    }
+
+    /// What the destination begins with: in a warm start each page as the base has it.
+    fn first_part(&self) -> Part {
+        let mut part = vec![(0, ZEROS); self.sizes.pages];
+        let Some(base) = self.base else { return part };
+        let mut rooms = Rooms::new(self.sizes.page_size(), self.sizes.pages);
+        for page in 0..part.len() {
+            if page + 1 < part.len() {
+                fetch(self.text, self.index.of(page + 1));
+            }
+            let writes = self.index.of(page);
+            let writes = &writes[..writes.partition_point(|(place, _)| *place as usize <= base)];
+            let stamp = writes.last().map_or(0, |(place, _)| *place);
+            part[page] = (stamp + 1, rooms.with_writes(self.text, ZEROS, writes));
+        }
+        part
     }
 
     fn replay(&self, number: usize, replayers: usize, meeting: &Barrier) {
@@ -79,6 +103,9 @@ fn ranges(plan: &Plan, touches: &Touches) -> Vec<Range<usize>> {
     plan.rounds.iter().map(|round| touches.at(round.from)..touches.at(round.to)).collect()
 }
 
+/// The lane to a stream, and the one on which bodies come back.
+type Lanes = (Giver<Frame>, Taker<Body>);
+
 /// What a copier made last of one of its pages, and how many of the page's writes are in it.
 #[derive(Clone, Copy)]
 struct Newest {
@@ -94,16 +121,23 @@ struct Copier<'a> {
     newest: Vec<Newest>,
     rooms: Rooms,
     turn: usize,
-    /// For each stream the lane to it, and the one on which bodies come back.
-    lanes: Vec<(Giver<Frame>, Taker<Body>)>,
+    lanes: Vec<Lanes>,
 }
 
 impl Copier<'_> {
-    fn new(guest: &Guest, number: usize, copiers: usize, lanes: Vec<(Giver<Frame>, Taker<Body>)>) -> Copier<'_> {
+    /// It goes on from the pages that the destination has.
+    fn new<'a>(guest: &'a Guest, number: usize, copiers: usize, lanes: Vec<Lanes>, first: &Part) -> Copier<'a> {
         let own = guest.dirty.len().div_ceil(copiers) * 64;
         let newest = vec![Newest { body: ZEROS, writes: 0 }; own];
         let rooms = Rooms::new(guest.sizes.page_size(), guest.sizes.pages);
-        Copier { guest, number, copiers, newest, rooms, turn: 0, lanes }
+        let mut copier = Copier { guest, number, copiers, newest, rooms, turn: 0, lanes };
+        let words: Vec<usize> = if guest.base.is_some() { copier.words().collect() } else { Vec::new() };
+        for page in words.into_iter().flat_map(|word| 64 * word..first.len().min(64 * word + 64)) {
+            let (next, body) = first[page];
+            let writes = guest.index.of(page).partition_point(|(place, _)| *place < next);
+            *copier.newest(page) = Newest { body, writes };
+        }
+        copier
     }
 
     fn words(&self) -> impl Iterator<Item = usize> {
@@ -212,8 +246,8 @@ fn accept(part: &mut Part, frame: Frame) -> Body {
 /// For each copier the lane from it, the one back to it, and bodies for which that had no room yet.
 type Stream = Vec<(Taker<Frame>, Giver<Body>, Vec<Body>)>;
 
-fn receive(mut stream: Stream, pages: usize, over: &AtomicBool) -> Part {
-    let (mut part, mut idle) = (vec![(0, ZEROS); pages], 0);
+fn receive(mut stream: Stream, mut part: Part, over: &AtomicBool) -> Part {
+    let mut idle = 0;
     loop {
         let is_last = over.load(Acquire);
         let mut came = false;
@@ -246,7 +280,7 @@ fn receive(mut stream: Stream, pages: usize, over: &AtomicBool) -> Part {
 /// Performs the migration. Answers the parts of all streams.
 fn migrate(guest: &Guest, settings: &Settings) -> Vec<Part> {
     let mut streams: Vec<Stream> = (0..settings.streams).map(|_| Vec::new()).collect();
-    let mut copiers = Vec::new();
+    let (first, mut copiers) = (guest.first_part(), Vec::new());
     for number in 0..settings.workers {
         let mut lanes = Vec::new();
         for stream in &mut streams {
@@ -254,12 +288,15 @@ fn migrate(guest: &Guest, settings: &Settings) -> Vec<Part> {
             stream.push((taker, back, Vec::new()));
             lanes.push((giver, free));
         }
-        copiers.push(Copier::new(guest, number, settings.workers, lanes));
+        copiers.push(Copier::new(guest, number, settings.workers, lanes, &first));
     }
     let (over, meeting) = (AtomicBool::new(false), Barrier::new(settings.replayers + settings.workers));
-    let (over, meeting, pages) = (&over, &meeting, guest.sizes.pages);
+    let (over, meeting) = (&over, &meeting);
+    let mut parts = vec![vec![(0, ZEROS); guest.sizes.pages]; settings.streams];
+    parts[0] = first;
     scope(|scope| {
-        let receivers: Vec<_> = streams.into_iter().map(|it| scope.spawn(move || receive(it, pages, over))).collect();
+        let receiving = streams.into_iter().zip(parts).map(|(it, part)| scope.spawn(move || receive(it, part, over)));
+        let receivers: Vec<_> = receiving.collect();
         for number in 0..settings.replayers {
             scope.spawn(move || guest.replay(number, settings.replayers, meeting));
         }

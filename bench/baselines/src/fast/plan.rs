@@ -103,6 +103,14 @@ impl Planner<'_> {
         }
     }
 
+    /// How many pages the destination lacks when the first round begins.
+    fn lacking(&mut self, settings: &Settings) -> u64 {
+        match settings.base {
+            Some(base) => self.dirtied(self.touches.at(base), self.touches.at(settings.start)),
+            None => self.touches.pages as u64,
+        }
+    }
+
     /// Goes over the due pages from a tick on, leaves out those that are written before their turn, and sets the bits
     /// of the pages written until then. Tells how many are sent, and the first write that is not looked at.
     fn scan(&mut self, from: u64, rate: u64) -> (u64, usize) {
@@ -130,7 +138,7 @@ impl Planner<'_> {
     }
 
     pub fn plan(&mut self, settings: &Settings) -> Plan {
-        let (mut from, mut rate, mut pages) = (settings.start, settings.min, self.touches.pages as u64);
+        let (mut from, mut rate, mut pages) = (settings.start, settings.min, self.lacking(settings));
         let mut rounds = Vec::new();
         loop {
             let (sent, dirtied, to);
@@ -152,7 +160,8 @@ impl Planner<'_> {
                 dirtied = self.dirtied(self.touches.at(from), self.touches.at(to));
             }
             rounds.push(Round { from, to, rate, pages, sent, dirtied });
-            let next = (1000 * dirtied).div_ceil(to - from) + settings.inc;
+            // In a round without ticks nothing is dirtied, so few pages remain.
+            let next = (1000 * dirtied).div_ceil((to - from).max(1)) + settings.inc;
             let why = if dirtied < settings.threshold {
                 "few"
             } else if next > settings.max {

@@ -1,7 +1,13 @@
-use Rattle.std.proofs.Common.{ap, rules}
+use Rattle.std.proofs.Common.{◌≡◌, List, sym, ap, subst, rules, arith}
+use Rattle.std.specs.Prelude.{Option, IfSome}
+use Rattle.std.specs.List.{All}
 use Rattle.migration_model.specs.Final.{shape_of_trace}
+use Rattle.migration_model.specs.Parts.{GuestPart}
 use Rattle.migration_model.specs.Rounds.{MigrationPlan}
-use Rattle.live_engine.proofs.Arrived.{all_arrived, keeps_settings, still_crossed}
+use Rattle.live_engine.specs.Runs.{AllArrived, AllCame}
+use Rattle.live_engine.specs.Warm.{parts_with}
+use Rattle.live_engine.proofs.Arrived.{all_came, keeps_settings, still_crossed}
+use Rattle.live_engine.proofs.Begun.{all_begun, shapes_begun}
 use Rattle.live_engine.proofs.migration.migrate.Goals as goal
 
 pub drain_all-requires : goal.drain_all-requires
@@ -11,12 +17,35 @@ drain_all-requires g c =
     still_crossed trace c.args.settings.now c.in_ok-plan.plan c.of-team.result c.in_ok-desks.desks.items p.desks.items c.in_ok-desks.receivers.items c.in_ok-progress.receivers.items
     p.closed p.rounds.items c.in_ok-desks.ensures c.in_ok-progress.ensures.1
 
+pub with_first-requires-clause-some : goal.with_first-requires-clause-some
+with_first-requires-clause-some g c =
+    let trace = g.W.WriteLog.trace c.args.trace.now in
+    let p = c.in_ok-progress.progress in
+    let came : AllCame trace c.args.settings.now.base c.of-team.result.streams p.closed c.in_ok-arrived.arrived.items =
+    all_came trace c.args.settings.now c.in_ok-plan.plan c.of-team.result c.in_ok-desks.desks.items p.desks.items c.in_ok-desks.receivers.items c.in_ok-progress.receivers.items
+    p.closed p.rounds.items c.in_ok-arrived.arrived.items c.in_ok-desks.ensures c.in_ok-progress.ensures.1 (c.in_ok-arrived.ensures (shape_of_trace trace)) in
+    omega (arith, came.count, c.of-team.ensures.is_team.streams.0)
+
+pub with_first-requires-clause-shapes : goal.with_first-requires-clause-shapes
+with_first-requires-clause-shapes g c =
+    let trace = g.W.WriteLog.trace c.args.trace.now in
+    let p = c.in_ok-progress.progress in
+    let came : AllCame trace c.args.settings.now.base c.of-team.result.streams p.closed c.in_ok-arrived.arrived.items =
+    all_came trace c.args.settings.now c.in_ok-plan.plan c.of-team.result c.in_ok-desks.desks.items p.desks.items c.in_ok-desks.receivers.items c.in_ok-progress.receivers.items
+    p.closed p.rounds.items c.in_ok-arrived.arrived.items c.in_ok-desks.ensures c.in_ok-progress.ensures.1 (c.in_ok-arrived.ensures (shape_of_trace trace)) in
+    subst (λ (o : Option GuestPart). IfSome o (λ one. All (λ part. one.shape ≡ part.shape) c.in_ok-arrived.arrived.items)) (sym c.in_ok-first.ensures)
+    (shapes_begun trace c.args.settings.now.base c.in_ok-arrived.arrived.items came.not_beyond.shapes)
+
 pub finish-requires-clause-arrived : goal.finish-requires-clause-arrived
 finish-requires-clause-arrived g c κs within =
     let trace = g.W.WriteLog.trace c.args.trace.now in
     let p = c.in_ok-progress.progress in
-    all_arrived trace c.args.settings.now c.in_ok-plan.plan c.of-team.result c.in_ok-desks.desks.items p.desks.items c.in_ok-desks.receivers.items c.in_ok-progress.receivers.items
-    p.closed p.rounds.items c.in_ok-parts.parts.items c.in_ok-desks.ensures c.in_ok-progress.ensures.1 (c.in_ok-parts.ensures (shape_of_trace trace))
+    let came : AllCame trace c.args.settings.now.base c.of-team.result.streams p.closed c.in_ok-arrived.arrived.items =
+    all_came trace c.args.settings.now c.in_ok-plan.plan c.of-team.result c.in_ok-desks.desks.items p.desks.items c.in_ok-desks.receivers.items c.in_ok-progress.receivers.items
+    p.closed p.rounds.items c.in_ok-arrived.arrived.items c.in_ok-desks.ensures c.in_ok-progress.ensures.1 (c.in_ok-arrived.ensures (shape_of_trace trace)) in
+    subst (λ (parts : List GuestPart). AllArrived trace c.of-team.result.streams p.closed parts) (sym c.in_ok-parts.ensures)
+    (subst (λ (o : Option GuestPart). AllArrived trace c.of-team.result.streams p.closed (parts_with o c.in_ok-arrived.arrived.items)) (sym c.in_ok-first.ensures)
+    (all_begun trace c.args.settings.now.base c.of-team.result.streams p.closed c.in_ok-arrived.arrived.items c.in_ok-desks.ensures.is_trace c.of-team.ensures.is_team.streams.0 came))
 
 pub returns : goal.returns
 returns g c =

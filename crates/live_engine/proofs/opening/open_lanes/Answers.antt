@@ -39,5 +39,6 @@ returns g c =
           (subst (λ (takes : List (List LaneId)). AreCrossed team.copiers team.streams (lanes_of (map (λ r. r.items) outs)) takes) (sym c.in_ok-receivers.ensures.lanes)
           (crossed team.copiers team.streams team.lane outs ins grid));
       capacity = subst (λ (sends : List (List OutView)). HaveCapacity team.lane (lanes_of sends)) (sym rows) (capacities team.copiers team.streams team.lane outs ins grid);
+      is_trace = c.shape-shape.ensures.is_trace;
       shapes = subst (λ (sh : GuestShape). All (λ (r : ReceiverView). r.part.shape ≡ sh) receivers) shape c.in_ok-receivers.ensures.shapes;
     }

@@ -1,10 +1,9 @@
-use Rattle.std.proofs.Common.{◌≡◌, ◌≤◌, ◌∙◌, ◌+◌, ◌-◌, ℕ, ap, sym, arith, length}
+use Rattle.std.proofs.Common.{◌≡◌, ◌≤◌, ◌∙◌, ◌+◌, ◌-◌, ap, sym, arith, length}
 use Rattle.std.proofs.lemmas.List.{length_push}
 use Rattle.std.proofs.lemmas.List.Elements.{All-push}
-use Rattle.std.specs.List.{range_with_len}
 use Rattle.migration_model.specs.Rates.{MigrationSettings, after_round, duration_of}
 use Rattle.rate_limit.specs.Pacing.{outcome_of, reason_of}
-use Rattle.migration_model.specs.Rounds.{NextRound, PlannedRound, plan_with, first_round, round_after}
+use Rattle.migration_model.specs.Rounds.{NextRound, PlannedRound, plan_with, pages_lacking, first_round, round_after}
 use Rattle.round_planner.proofs.PageLists.{list_few}
 use Rattle.round_planner.proofs.Plans.{written_list, can_start, can_go_on, follows_start, follows_more, follows_end}
 use Rattle.round_planner.proofs.planning.plan.Goals as goal
@@ -12,18 +11,18 @@ use Rattle.round_planner.proofs.planning.plan.Goals as goal
 pub loop-rounds-init : goal.loop-rounds-init
 loop-rounds-init g c =
     let pages = g.T.Timeline.pages c.args.timeline.now in
+    let touches = g.T.Timeline.touches c.args.timeline.now in
     let s = c.args.settings.now in
     let asked = c.asked.view_is ∙ c.asked-asked.ensures.value in
     let start : c.asked.inside.start ≡ s.start = ap (λ (x : MigrationSettings). x.start) asked in
     let min : c.asked.inside.min ≡ s.min = ap (λ (x : MigrationSettings). x.min) asked in
-    let list : c.in_ok-first_pages.field-0.items ≡ range_with_len 0 pages = c.in_ok-first_pages.ensures ∙ ap (λ (n : ℕ). range_with_len 0 n) c.page_count.ensures.pages in
-    let first : record { done = 0; from = c.asked.inside.start; rate = c.asked.inside.min; pages = c.in_ok-first_pages.field-0.items } ≡ first_round pages s =
+    let list = c.in_ok-scan.ensures.pages ∙ ap (λ (x : MigrationSettings). pages_lacking pages touches x.base x.start) asked in
+    let first : record { done = 0; from = c.asked.inside.start; rate = c.asked.inside.min; pages = c.in_ok-scan.pages.items } ≡ first_round pages touches s =
     λ i. record { done = 0; from = start i; rate = min i; pages = list i } in
     record {
-      coming = can_start pages s _ c.asked-asked.ensures.in_range (omega (arith, c.page_count.ensures.some, c.page_count.ensures.pages))
-          (omega (arith, c.page_count.ensures.few, c.page_count.ensures.pages)) first;
-      scan = c.in_ok-scan.ensures;
-      follows = follows_start pages _ s _ _ first c.new-rounds.ensures.items;
+      coming = can_start pages touches s _ c.asked-asked.ensures.in_range c.begin.ensures.few first;
+      scan = c.in_ok-scan.ensures.scan;
+      follows = follows_start pages touches s _ _ first c.new-rounds.ensures.items;
       count = ap length c.new-rounds.ensures.items;
       few = λ k d low. absurd (omega (arith, ap length c.new-rounds.ensures.items));
     }

@@ -9,7 +9,7 @@ invariant-loop-rounds g l = record {
   coming : CanCome (g.T.Timeline.pages l.timeline) l.settings l.coming;
   scan : IsScan (g.T.Timeline.pages l.timeline) (g.T.Timeline.touches l.timeline) l.coming.from l.coming.from l.scan.next l.scan.marks.items;
   follows : (rest : List PlannedRound) (plan : MigrationPlan) → AreRounds (g.T.Timeline.pages l.timeline) (g.T.Timeline.touches l.timeline) l.settings l.coming rest plan
-      → AreRounds (g.T.Timeline.pages l.timeline) (g.T.Timeline.touches l.timeline) l.settings (first_round (g.T.Timeline.pages l.timeline) l.settings) (l.rounds.items ++ rest) plan;
+      → AreRounds (g.T.Timeline.pages l.timeline) (g.T.Timeline.touches l.timeline) l.settings (first_round (g.T.Timeline.pages l.timeline) (g.T.Timeline.touches l.timeline) l.settings) (l.rounds.items ++ rest) plan;
   count : length l.rounds.items ≡ l.coming.done;
   few : All (λ round. length round.sent ≤ 65_536) l.rounds.items;
 }

@@ -46,7 +46,7 @@ returns g c =
     let desks = c.in_ok-seats.desks.items in
     let start_is : table.start ≡ start_with old.versions old.dirty team.replayers team.copiers =
     c.in_ok-table.ensures.table ∙ c.in-Some.ensures.given ∙ ap (λ (v : ClosedView). start_with v.versions v.dirty team.replayers team.copiers) c.closed.view_is in
-    let opens : OpensAt trace plan.from table.start = opens_so trace plan.from table.start old team.replayers team.copiers start_is c.requires.under_way.size c.requires.joined.1.versions in
+    let opens : OpensAt trace plan.from table.start = opens_so trace plan.from table.start old team.replayers team.copiers start_is c.requires.under_way.size c.requires.joined.2.versions in
     let replayed : AreReplayed trace table plan.from plan.to c.in_ok-guests.guests.items =
     subst (λ (p : PlannedRound). AreReplayed trace table p.from p.to c.in_ok-guests.guests.items) c.planned.view_is c.in_ok-guests.ensures.guests in
     let done : IsRound trace skip team.copiers old.dirty plan.from plan.to new (lists_of desks) × HavePosted trace team.copiers (lists_of desks) (rows_of first) (rows_of desks) =
@@ -66,11 +66,11 @@ returns g c =
             (all_desks trace skip table team.streams (rows_of first) c.in_ok-guests.copiers.items desks c.in_ok-seats.ensures.desks c.in_ok-guests.ensures.copiers);
       };
       lanes = ap (λ (ds : List DeskView). lanes_of (rows_of ds)) c.in_ok-listed.ensures.desks ∙ done.1.lanes;
-      joined = λ before joined. subst (λ (rounds : List LiveRound). AreJoined trace team.copiers plan.to (before ++ plan ∷ []) rounds new (rows_of c.in_ok-listed.desks.items)) (sym listed)
-          (subst (λ (ds : List DeskView). AreJoined trace team.copiers plan.to (before ++ plan ∷ []) (c.args.progress.rounds.items ++ lists_of desks ∷ []) new (rows_of ds)) (sym c.in_ok-listed.ensures.desks)
-          (joined_next trace skip team.copiers before c.args.progress.rounds.items plan (lists_of desks) old new (rows_of first) (rows_of desks) c.requires.span joined done.0 done.1));
-      law = λ lane before capacity joined law. subst (λ (rounds : List LiveRound). LiveRounds trace c.args.skip team.copiers lane (before ++ plan ∷ []) rounds) (sym listed)
-          (law_next trace c.args.skip skip team.copiers lane before c.args.progress.rounds.items plan (lists_of desks) old new (rows_of first) (rows_of desks)
+      joined = λ base before joined. subst (λ (rounds : List LiveRound). AreJoined trace base team.copiers plan.to (before ++ plan ∷ []) rounds new (rows_of c.in_ok-listed.desks.items)) (sym listed)
+          (subst (λ (ds : List DeskView). AreJoined trace base team.copiers plan.to (before ++ plan ∷ []) (c.args.progress.rounds.items ++ lists_of desks ∷ []) new (rows_of ds)) (sym c.in_ok-listed.ensures.desks)
+          (joined_next trace base skip team.copiers before c.args.progress.rounds.items plan (lists_of desks) old new (rows_of first) (rows_of desks) c.requires.span joined done.0 done.1));
+      law = λ base lane before capacity joined law. subst (λ (rounds : List LiveRound). LiveRounds trace base c.args.skip team.copiers lane (before ++ plan ∷ []) rounds) (sym listed)
+          (law_next trace base c.args.skip skip team.copiers lane before c.args.progress.rounds.items plan (lists_of desks) old new (rows_of first) (rows_of desks)
           (c.may_skip.ensures ∙ ap (λ (n : ℕ). c.args.skip && leb 1 n) (let len : c.len-number.result ≡ length c.args.progress.rounds.items = grind (arith, c.len-number.ensures) in len))
           c.requires.span joined done.0 done.1 capacity law);
     }

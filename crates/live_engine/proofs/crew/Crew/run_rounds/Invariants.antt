@@ -11,7 +11,7 @@ invariant-loop-number g l = record {
   under_way : IsUnderWay (g.W.WriteLog.trace l.self.trace.now) l.self.team l.progress.closed l.progress.desks.items;
   lanes : lanes_of (rows_of l.progress.desks.items) ≡ lanes_of (rows_of l.fn.desks.items);
   law : (lane : ℕ) → HaveCapacity lane (lanes_of (rows_of l.fn.desks.items))
-      → LiveRounds (g.W.WriteLog.trace l.self.trace.now) l.settings.skip l.self.team.copiers lane (take l.number l.plan.rounds) l.progress.rounds.items;
+      → LiveRounds (g.W.WriteLog.trace l.self.trace.now) l.settings.base l.settings.skip l.self.team.copiers lane (take l.number l.plan.rounds) l.progress.rounds.items;
   joined : (tick : ℕ) × Remaining (g.W.WriteLog.trace l.self.trace.now) l.settings l.plan tick (drop l.number l.plan.rounds)
-      × AreJoined (g.W.WriteLog.trace l.self.trace.now) l.self.team.copiers tick (take l.number l.plan.rounds) l.progress.rounds.items l.progress.closed (rows_of l.progress.desks.items);
+      × AreJoined (g.W.WriteLog.trace l.self.trace.now) l.settings.base l.self.team.copiers tick (take l.number l.plan.rounds) l.progress.rounds.items l.progress.closed (rows_of l.progress.desks.items);
 }

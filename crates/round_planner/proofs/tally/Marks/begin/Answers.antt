@@ -1,4 +1,4 @@
-use Rattle.std.proofs.Common.{rules, ◌≡◌, ◌∙◌, refl, ap, subst, arith, length, replicate}
+use Rattle.std.proofs.Common.{rules, ◌≡◌, ◌∙◌, refl, ap, subst, length, replicate}
 use Rattle.migration_model.specs.Rates.{MigrationSettings}
 use Rattle.round_planner.specs.Indexing.{IsPoint}
 use Rattle.round_planner.proofs.Outcomes.{begins}
@@ -13,6 +13,5 @@ returns-clause-ready g c =
     let min : c.asked.inside.min ≡ s.min = ap (λ (x : MigrationSettings). x.min) (c.asked.view_is ∙ c.asked-asked.ensures.value) in
     let point : IsPoint touches s.start c.before-self.result = subst (λ t. IsPoint touches t c.before-self.result) start c.before-self.ensures.point in
     let fresh : c.fill.new.self.items ≡ replicate (length c.args.self.now.scan.marks.items) 0 = search rules in
-    begins pages touches s _ _ c.asked-asked.ensures.in_range (omega (arith, c.page_count.ensures.some, c.page_count.ensures.pages))
-    (omega (arith, c.page_count.ensures.few, c.page_count.ensures.pages)) refl start min c.page_count.ensures.pages c.before-self.ensures.bound point refl
-    (fresh ∙ ap (λ n. replicate n 0) c.requires.marks_len) c.requires.room_len
+    begins pages touches s _ _ c.asked-asked.ensures.in_range c.count_lacking.ensures.few refl start min c.count_lacking.ensures.count c.before-self.ensures.bound point refl
+    (fresh ∙ ap (λ n. replicate n 0) c.requires.marks.marks_len) c.requires.marks.room_len
