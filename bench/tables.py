@@ -142,6 +142,17 @@ class Tables:
             print(f"### {title}\n")
             table(["Command", "Program", *(f"{it:,}" for _, it in series), "Exponent", f"ns a {unit}"], rows)
 
+    def of_starts(self, trace, jobs, notes):
+        """One row a command: a trace so short that a program does little more than start."""
+        rows = []
+        for job in (it for it in jobs if self.has(trace, it.name)):
+            precopy, fast = (self.least(trace, job.name, it) for it in ("precopy", "fast"))
+            more = f"{1000 * (precopy - fast):.2f}"
+            rows.append([job.name, *(self.time(trace, job.name, it) for it in ("precopy", "fast")), more])
+        if rows:
+            print(f"### Starts\n\n{notes}\n")
+            table(["Command", "Precopy, ms", "Fast, ms", "More, ms"], rows)
+
 
 def exponent(counts, times):
     """The k of the line `time = c * count ** k` with the least squares of logarithms."""

@@ -16,4 +16,5 @@ pub record TakesFrames (old new : GuestPart) (bytes : List ℕ) (count : ℕ) (r
 
 -- the part took the frames in front of this index, where the bytes are refused for this, or memory ran out
 abbrev pub RefusesStream : GuestPart → GuestPart → List ℕ → (ℕ × FrameError) → Type 0
-RefusesStream old new bytes e = (rest : List ℕ) × TakesFrames old new bytes e.0 rest × (0 < length rest) × RefusesFrame old.shape rest e.1
+RefusesStream old new bytes e = (rest : List ℕ) × TakesFrames old new bytes e.0 rest × (0 < length rest)
+    × RefusesFrame old.shape rest e.1

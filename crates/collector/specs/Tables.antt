@@ -1,5 +1,6 @@
 -- A part that is kept as a table of frames by page.
-use Rattle.std.specs.Prelude.{◌≡◌, ℕ, ◌+◌, ◌-◌, ◌<◌, ◌≤◌, max, List, ◌++◌, length, map, replicate, slice_index_or, Option, Some, None, IfSome, option_map}
+use Rattle.std.specs.Prelude.{◌≡◌, ℕ, ◌+◌, ◌-◌, ◌<◌, ◌≤◌, max, List, ◌++◌, length, map, replicate, slice_index_or}
+use Rattle.std.specs.Prelude.{Option, Some, None, IfSome, option_map}
 use Rattle.migration_model.specs.Frames.{GuestShape, PageFrame, IsFrame}
 use Rattle.migration_model.specs.Memory.{memory_with, page_of}
 use Rattle.migration_model.specs.Parts.{PageCopy, GuestPart, copy_in, with_frame}

@@ -10,9 +10,9 @@ ghost use Rattle.page_message.specs.Shapes.{shape_of};
 
 use crate::error::PartError;
 use crate::part::Part;
+use guest_log::Shape;
 use page_message::{Body, Frame};
 use std::alloc::{AllocError, Global};
-use trace_codec::Shape;
 use zero_pages::is_zero;
 
 /// Returns the frame of these bytes of a page. It copies them once, or not at all where each is 0.

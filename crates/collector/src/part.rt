@@ -1,8 +1,10 @@
 //! A part of a guest's memory.
 
-ghost use Rattle.std.specs.Prelude.{◌≡◌, ◌≤◌, List, [], IfErr, IfOk, IfSome, MatchResult, None, OnErr, OnOk, drop, length, option_map};
+ghost use Rattle.std.specs.Prelude.{◌≡◌, ◌≤◌, List, [], IfErr, IfOk, IfSome, MatchResult, None, OnErr, OnOk, drop};
+ghost use Rattle.std.specs.Prelude.{length, option_map};
 ghost use Rattle.migration_model.specs.Frames.{IsFrame, IsZeros, PageFrame, SpellsStream};
-ghost use Rattle.migration_model.specs.Parts.{GuestPart, IsPart, copy_at, copy_in, empty_part, join, part_with, with_frame, with_frames};
+ghost use Rattle.migration_model.specs.Parts.{GuestPart, IsPart, copy_at, copy_in, empty_part, join, part_with};
+ghost use Rattle.migration_model.specs.Parts.{with_frame, with_frames};
 ghost use Rattle.collector.specs.Fates.{IsFate, goes, stamp_at};
 ghost use Rattle.collector.specs.Streams.{RefusesStream, TakesFrames};
 ghost use Rattle.collector.specs.Tables.{IsTable, copies_of, with_slot};
@@ -12,10 +14,10 @@ ghost use Rattle.page_message.specs.Shapes.{shape_of};
 use crate::error::PartError;
 use crate::fate::{Fate, fate_of};
 use crate::table::{make_place, put_frame, put_view, stamp_in, swap_frame};
+use guest_log::Shape;
 use page_message::{Frame, FrameError, FrameView, view_frame};
 use std::alloc::Global;
 use std::marker::Model;
-use trace_codec::Shape;
 
 /// A part of a guest's memory: of each page the frame with the greatest stamp, of the frames that came.
 ///
@@ -102,7 +104,8 @@ impl Part {
     pub fn exchange(&mut self, frame: Frame) -> Result<Option<Frame>, PartError>
         requires { IsFrame self.old.shape frame }
         ensures kept { OnOk result (self.new ≡ with_frame self.old frame) }
-        ensures gone { IfOk result (λ gone. option_map (λ f. copy_in self.old.shape f) gone ≡ goes (copy_at self.old frame.page) (copy_in self.old.shape frame)) }
+        ensures gone { IfOk result (λ gone. option_map (λ f. copy_in self.old.shape f) gone
+            ≡ goes (copy_at self.old frame.page) (copy_in self.old.shape frame)) }
         ensures unchanged { OnErr result (self.new ≡ self.old) }
         ensures refused { OnErr result (copy_at self.old frame.page ≡ None) }
     {
@@ -199,7 +202,7 @@ impl Part {
             → MatchResult result (λ count. (count ≡ length frames) × (self.new ≡ with_frames self.old frames))
             (λ e. e.1 ≡ FrameError.Memory) }
     {
-        // From here on it is known that the shape is one that a trace may have.
+        // For the proof: the shape is one that a trace may have.
         let _ = &self.shape;
         self.take_frames(bytes)
     }
@@ -222,7 +225,7 @@ pub fn merge(first: Part, second: Part) -> Result<Part, PartError>
     requires { first.shape ≡ second.shape }
     ensures { IfOk result (λ part. part ≡ join first second) }
 {
-    // From here on it is known that the table fits the shape.
+    // For the proof: the table fits the shape.
     let _ = &first.shape;
     let mut first = first;
     for slot in second.into_frames() {

@@ -1,6 +1,7 @@
 //! Frames by page.
 
-ghost use Rattle.std.specs.Prelude.{◌≡◌, ◌≢◌, ◌<◌, ◌^◌, IfSome, IsSomeAnd, None, OnErr, OnOk, OnSome, Some, length, option_map, slice_index_or, slice_set, vec_len};
+ghost use Rattle.std.specs.Prelude.{◌≡◌, ◌≢◌, ◌<◌, ◌^◌, IfSome, IsSomeAnd, None, OnErr, OnOk, OnSome, Some, length};
+ghost use Rattle.std.specs.Prelude.{option_map, slice_index_or, slice_set, vec_len};
 ghost use Rattle.collector.specs.Tables.{Grows};
 
 use page_message::{Frame, FrameView};
@@ -57,7 +58,8 @@ pub(crate) fn put_view(
     requires { page < vec_len table.old }
     ensures put { OnOk result (table.new.items ≡ slice_set table.old.items page (Some view.now)) }
     ensures unchanged { OnErr result (table.new.items ≡ table.old.items) }
-    ensures refused { OnErr result (IfSome (slice_index_or table.old.items page None) (λ f. IsSomeAnd view.now.body (λ bytes. option_map length f.body ≢ Some (length bytes)))) }
+    ensures refused { OnErr result (IfSome (slice_index_or table.old.items page None)
+        (λ f. IsSomeAnd view.now.body (λ bytes. option_map length f.body ≢ Some (length bytes)))) }
 {
     match &mut table[page] {
         Some(frame) => frame.copy_from(alloc, view),

@@ -1,8 +1,10 @@
 -- What the code keeps of a core: all but its history, with sets of pages by words. This project's own.
-use Rattle.std.specs.Prelude.{◌≡◌, ℕ, ◌+◌, ◌/◌, ◌<◌, ◌≤◌, ◌&&◌, ◌==◌, List, length, Option, Some, None, Result, Ok, Err, slice_index, slice_index_or}
+use Rattle.std.specs.Prelude.{◌≡◌, ℕ, ◌+◌, ◌/◌, ◌<◌, ◌≤◌, ◌&&◌, ◌==◌, List, length, Option, Some, None, Result, Ok, Err}
+use Rattle.std.specs.Prelude.{slice_index, slice_index_or}
 use Rattle.dirty_core.specs.declared.event.Event.{Event}
 use Rattle.dirty_core.specs.declared.answer.Answer.{Answer}
 use Rattle.dirty_core.specs.declared.refusal.CoreRefusal.{CoreRefusal}
+use Rattle.page_bitmap.specs.Listing.{word_count}
 use Rattle.page_bitmap.specs.Pages.{PageSet, in_words}
 use Rattle.dirty_core.specs.Start.{Sizes, copier_of}
 use Rattle.dirty_core.specs.Machine.{DirtyCore, Visits, Step, Needs, IsFirstRefusal}
@@ -21,8 +23,8 @@ kept_with places dirty held pending copiers =
 
 -- a word for each 64 pages begun, and pending pages that exist
 pub record IsKept (kept : Kept) : Type 0 where
-  pub dirty : length kept.dirty ≡ (length kept.places + 63) / 64
-  pub held : length kept.held ≡ (length kept.places + 63) / 64
+  pub dirty : length kept.dirty ≡ word_count (length kept.places)
+  pub held : length kept.held ≡ word_count (length kept.places)
   pub pages : length kept.places ≤ 65_536
   pub guests : 1 ≤ length kept.pending
   pub copiers : 1 ≤ kept.copiers
@@ -52,7 +54,12 @@ pub record History : Type 0 where
   pub returned : PageSet
 
 abbrev pub history_of : DirtyCore → History
-history_of core = record { reads = core.reads; stores = core.stores; at_opening = core.at_opening; returned = core.returned }
+history_of core = record {
+  reads = core.reads;
+  stores = core.stores;
+  at_opening = core.at_opening;
+  returned = core.returned;
+}
 
 -- the core that has this history
 abbrev pub core_with : Kept → History → DirtyCore

@@ -1,13 +1,15 @@
 -- The dirty core: its state, and its six events as relations between two cores and an answer. Marks are the dirty
 -- bitmap of Clark and others (2005), section 5.1, which is peeked at (section 5.4) and cleared as a round's pages are
 -- scanned. Places, seats, pending, held and returned pages are this project's own.
-use Rattle.std.specs.Prelude.{◌≡◌, ℕ, ◌<◌, ◌^◌, ◌==◌, IsTrue, if◌then◌else◌, List, [], ◌∷◌, Option, Some, None, IsSome, is_some}
+use Rattle.std.specs.Prelude.{◌≡◌, ℕ, ◌<◌, ◌^◌, ◌==◌, IsTrue, if◌then◌else◌, List, [], ◌∷◌, Option, Some, None, IsSome}
+use Rattle.std.specs.Prelude.{is_some}
 use Rattle.dirty_core.specs.declared.event.Event.{Event}
 use Rattle.dirty_core.specs.declared.event.Event.TheVariants.{Store, Mark, Harvest, Peek, Restore, Read}
 use Rattle.dirty_core.specs.declared.answer.Answer.{Answer}
 use Rattle.dirty_core.specs.declared.answer.Answer.TheVariants.{Done, Pages, Place}
 use Rattle.dirty_core.specs.declared.refusal.CoreRefusal.{CoreRefusal}
-use Rattle.dirty_core.specs.declared.refusal.CoreRefusal.TheVariants.{NotOwner, Pending, NothingPending, NotHeld, OldPlace, Memory}
+use Rattle.dirty_core.specs.declared.refusal.CoreRefusal.TheVariants.{NotOwner, Pending, NothingPending, NotHeld}
+use Rattle.dirty_core.specs.declared.refusal.CoreRefusal.TheVariants.{OldPlace, Memory}
 use Rattle.page_bitmap.specs.Pages.{PageSet, one_page, word_pages, bit_pages, union, common, minus, IsWithin, SamePages}
 use Rattle.dirty_core.specs.Start.{Sizes, GuestOwns, CopierOwns, CopierOwnsPage, guest_of}
 

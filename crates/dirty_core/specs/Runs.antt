@@ -1,5 +1,6 @@
 -- Whole runs of the dirty core, and what holds of every page after each. This project's own.
-use Rattle.std.specs.Prelude.{◌<◌, ◌≤◌, unwrap_or, ◌≡◌, ◌⊎◌, ℕ, IsTrue, List, [], ◌∷◌, Some, None, take, slice_index, slice_get}
+use Rattle.std.specs.Prelude.{◌<◌, ◌≤◌, unwrap_or, ◌≡◌, ◌⊎◌, ℕ, IsTrue, List, [], ◌∷◌, Some, None, take, slice_index}
+use Rattle.std.specs.Prelude.{slice_get}
 use Rattle.std.specs.List.{fold}
 use Rattle.dirty_core.specs.declared.event.Event.{Event}
 use Rattle.dirty_core.specs.declared.refusal.CoreRefusal.{CoreRefusal}
@@ -62,7 +63,8 @@ place_after before visits page = unwrap_or (last_visit visits page) before
 -- a page's places rise from visit to visit, each above the place before
 abbrev pub Rises : ℕ → Visits → ℕ → Type 0
 Rises before [] page = Unit {0}
-Rises before (visit ∷ others) page = (visit.0 ≡ page → place_after before others page < visit.1) × Rises before others page
+Rises before (visit ∷ others) page = (visit.0 ≡ page → place_after before others page < visit.1)
+    × Rises before others page
 
 -- one of the visits was of this page at this place
 abbrev pub IsVisited : Visits → ℕ → ℕ → Type 0
@@ -72,7 +74,8 @@ IsVisited (visit ∷ others) page place = ((visit.0 ≡ page) × (visit.1 ≡ pl
 -- what the history of a core tells of one page's place
 pub record KnowsPlace (start : Start) (core : DirtyCore) (page : ℕ) : Type 0 where
   -- the place is that of the last store, or the opening's
-  pub place : core.place page ≡ place_after (slice_index start.places page) (core.stores (guest_of core.sizes page)) page
+  pub place : core.place page ≡ place_after (slice_index start.places page)
+      (core.stores (guest_of core.sizes page)) page
   -- the places stored rise, each above the opening's
   pub rises : Rises (slice_index start.places page) (core.stores (guest_of core.sizes page)) page
   -- each place read is the opening's or was stored

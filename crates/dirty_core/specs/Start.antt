@@ -1,5 +1,6 @@
 -- What a core opens with, and who owns which page. This project's own.
 use Rattle.std.specs.Prelude.{◌≡◌, ℕ, ◌+◌, ◌*◌, ◌/◌, ◌%◌, ◌<◌, ◌≤◌, IsTrue, List, length}
+use Rattle.page_bitmap.specs.Listing.{word_count}
 use Rattle.page_bitmap.specs.Pages.{in_words}
 
 -- the place of each page, the marked pages by words, and how many guests and copiers there are
@@ -16,7 +17,7 @@ start_with places dirty guests copiers = record { places = places; dirty = dirty
 pub record IsStart (start : Start) : Type 0 where
   pub some : 1 ≤ length start.places
   pub few : length start.places ≤ 65_536
-  pub words : length start.dirty ≡ (length start.places + 63) / 64
+  pub words : length start.dirty ≡ word_count (length start.places)
   pub real : (page : ℕ) → IsTrue (in_words start.dirty page) → page < length start.places
   pub guests_low : 1 ≤ start.guests
   pub guests_high : start.guests ≤ 16

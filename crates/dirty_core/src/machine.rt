@@ -3,7 +3,8 @@
 ghost use Rattle.std.specs.Prelude.{◌≡◌, ◌↔◌, ◌<◌, length, replicate, None, IfOk, IfErr, OnErr, IsOk, IsTrue};
 ghost use Rattle.dirty_core.specs.Start.{sizes_of, GuestOwns, CopierOwns, CopierOwnsPage};
 ghost use Rattle.dirty_core.specs.Runs.{opened};
-ghost use Rattle.dirty_core.specs.Kept.{Kept, IsKept, kept_with, kept_sizes, place_of, is_marked, pending_of, held_by, Keeps, Goes, FindsNeeds, Refuses, Outcome};
+ghost use Rattle.dirty_core.specs.Kept.{Kept, IsKept, kept_with, kept_sizes, place_of, is_marked, pending_of, held_by};
+ghost use Rattle.dirty_core.specs.Kept.{Keeps, Goes, FindsNeeds, Refuses, Outcome};
 
 use crate::answer::Answer;
 use crate::event::Event;

@@ -5,7 +5,8 @@ ghost use Rattle.dirty_core.specs.declared.event.Event.{Event as AnyEvent};
 ghost use Rattle.page_bitmap.specs.Pages.{in_words};
 ghost use Rattle.dirty_core.specs.Start.{Start, IsStart, sizes_of};
 ghost use Rattle.dirty_core.specs.Kept.{Keeps, kept_sizes};
-ghost use Rattle.dirty_core.specs.Runs.{core_after, IsLegal, CaughtUp, OnlyDue, KnowsMark, KnowsPlace, IsOverReads, IsReal, RunRefuses};
+ghost use Rattle.dirty_core.specs.Runs.{core_after, IsLegal, CaughtUp, OnlyDue, KnowsMark, KnowsPlace, IsOverReads};
+ghost use Rattle.dirty_core.specs.Runs.{IsReal, RunRefuses};
 
 use crate::event::Event;
 use crate::machine::{Core, step};
@@ -38,14 +39,17 @@ pub fn run(alloc: Global, opening: &Opening, events: &[Event]) -> Result<Core, (
 /// After any legal list of events no changed page is lost, and no other page is marked. The history also tells of each
 /// page what a caller needs that keeps a core in words of its own.
 pub fn every_page()
-    ensures caught_up { (start : Start) (events : List AnyEvent) → IsLegal start events → CaughtUp (core_after start events) }
-    ensures only_due { (start : Start) (events : List AnyEvent) → IsLegal start events → OnlyDue (core_after start events) }
+    ensures caught_up { (start : Start) (events : List AnyEvent) → IsLegal start events
+        → CaughtUp (core_after start events) }
+    ensures only_due { (start : Start) (events : List AnyEvent) → IsLegal start events
+        → OnlyDue (core_after start events) }
     ensures mark { (start : Start) (events : List AnyEvent) → IsLegal start events
         → (page : ℕ) → KnowsMark (core_after start events) page }
     ensures real { (start : Start) (events : List AnyEvent) → IsStart start → IsLegal start events
         → (page : ℕ) → IsReal (core_after start events) page }
     ensures sizes { (start : Start) (events : List AnyEvent) → (core_after start events).sizes ≡ sizes_of start }
-    ensures at_opening { (start : Start) (events : List AnyEvent) → (core_after start events).at_opening ≡ in_words start.dirty }
+    ensures at_opening { (start : Start) (events : List AnyEvent)
+        → (core_after start events).at_opening ≡ in_words start.dirty }
     ensures place { (start : Start) (events : List AnyEvent) → IsLegal start events
         → (page : ℕ) → KnowsPlace start (core_after start events) page }
     ensures over { (start : Start) (events : List AnyEvent) → IsLegal start events

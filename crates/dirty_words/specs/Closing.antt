@@ -1,29 +1,34 @@
 -- What a closed table leaves, and what the seats that came back say of it.
-use Rattle.std.specs.Prelude.{◌≡◌, ◌⊎◌, ℕ, ◌+◌, ◌/◌, ◌<◌, ◌≤◌, IsTrue, is_some, List, length, map, Some, None, All, slice_index, slice_get}
+use Rattle.std.specs.Prelude.{◌≡◌, ◌⊎◌, ℕ, ◌+◌, ◌/◌, ◌<◌, ◌≤◌, IsTrue, is_some, List, length, map, Some, None, All}
+use Rattle.std.specs.Prelude.{slice_index, slice_get}
 use Rattle.std.specs.List.{range_with_len}
 use Rattle.dirty_core.specs.declared.event.Event.{Event}
+use Rattle.page_bitmap.specs.Listing.{word_count}
 use Rattle.page_bitmap.specs.Pages.{in_words}
 use Rattle.dirty_core.specs.Start.{Start, sizes_of, guest_of, copier_of}
 use Rattle.dirty_core.specs.Machine.{DirtyCore, last_visit}
 use Rattle.dirty_core.specs.Runs.{core_after, IsLegal, Rises, IsVisited}
 use Rattle.dirty_words.specs.Facts.{GuestFacts, CopyFacts, first_guest, first_copier, last_place, HoldsNone}
 use Rattle.dirty_words.specs.Shows.{TellsGuest, TellsCopier}
-use Rattle.dirty_words.specs.Seats.{TableView, GuestView, CopyView, ClosedView, guest_view, copy_view, guest_table, copy_table}
+use Rattle.dirty_words.specs.Seats.{TableView, GuestView, CopyView, ClosedView, guest_view, copy_view, guest_table}
+use Rattle.dirty_words.specs.Seats.{copy_table}
 
 -- a version for each page, none above the writes, a word for each 64 pages begun, and no mark past the last page
 pub record FitsPages (closed : ClosedView) (pages writes : ℕ) : Type 0 where
   pub versions : length closed.versions ≡ pages
   pub low : All (λ version. version ≤ writes) closed.versions
-  pub dirty : length closed.dirty ≡ (pages + 63) / 64
+  pub dirty : length closed.dirty ≡ word_count pages
   pub real : (page : ℕ) → IsTrue (in_words closed.dirty page) → page < pages
 
 -- ---- the seats at opening
 
 abbrev pub first_guests : TableView → List GuestView
-first_guests table = map (λ number. guest_view table.id (first_guest table.start number)) (range_with_len 0 table.start.guests)
+first_guests table = map (λ number. guest_view table.id (first_guest table.start number))
+    (range_with_len 0 table.start.guests)
 
 abbrev pub first_copiers : TableView → List CopyView
-first_copiers table = map (λ number. copy_view table.id (first_copier table.start number)) (range_with_len 0 table.start.copiers)
+first_copiers table = map (λ number. copy_view table.id (first_copier table.start number))
+    (range_with_len 0 table.start.copiers)
 
 -- ---- the seats at closing
 
@@ -47,7 +52,8 @@ pub record AllGuests (table : TableView) (guests : List GuestView) : Type 0 wher
 -- all copiers of a table, in order of their numbers
 pub record AllCopiers (table : TableView) (copiers : List CopyView) : Type 0 where
   pub count : length copiers ≡ table.start.copiers
-  pub each : (number : ℕ) (copier : CopyView) → slice_get copiers number ≡ Some copier → IsIdleCopier table number copier
+  pub each : (number : ℕ) (copier : CopyView) → slice_get copiers number ≡ Some copier
+      → IsIdleCopier table number copier
 
 -- ---- what is left
 
@@ -59,11 +65,13 @@ pub record IsLeft (start : Start) (core : DirtyCore) (closed : ClosedView) : Typ
   pub marked : (page : ℕ) → in_words closed.dirty page ≡ core.marked page
 
 -- some legal list of events leaves the core that is shown, and the seats know what they did there
-pub record IsLeftByEvents (start : Start) (guests : List GuestView) (copiers : List CopyView) (closed : ClosedView) : Type 0 where
+pub record IsLeftByEvents (start : Start) (guests : List GuestView) (copiers : List CopyView)
+    (closed : ClosedView) : Type 0 where
   pub events : List Event
   pub legal : IsLegal start events
   pub left : IsLeft start (core_after start events) closed
-  pub guests_tell : (number : ℕ) (guest : GuestView) → slice_get guests number ≡ Some guest → TellsGuest start (core_after start events) guest.facts
+  pub guests_tell : (number : ℕ) (guest : GuestView) → slice_get guests number ≡ Some guest
+      → TellsGuest start (core_after start events) guest.facts
   pub copiers_tell : (number : ℕ) (copier : CopyView) → slice_get copiers number ≡ Some copier
       → TellsCopier start (core_after start events) copier.facts
 
@@ -72,7 +80,8 @@ abbrev pub HasStored : GuestFacts → ℕ → Type 0
 HasStored guest page = IsTrue (is_some (last_visit guest.stores page))
 
 -- what is left of one page, by what its guest and its copier know
-pub record PageLeft (start : Start) (guest : GuestFacts) (copier : CopyFacts) (closed : ClosedView) (page : ℕ) : Type 0 where
+pub record PageLeft (start : Start) (guest : GuestFacts) (copier : CopyFacts) (closed : ClosedView)
+    (page : ℕ) : Type 0 where
   -- the version is that of the last store, or the opening's
   pub version : slice_index closed.versions page ≡ last_place guest page
   -- the places stored rise, each above the opening's
@@ -87,12 +96,15 @@ pub record PageLeft (start : Start) (guest : GuestFacts) (copier : CopyFacts) (c
   -- a fresh page that an answer showed was stored
   pub fresh : IsTrue (in_words copier.fresh page) → HasStored guest page
   -- each place read is the opening's, or was stored
-  pub read : (place : ℕ) → IsVisited copier.reads page place → (place ≡ slice_index start.places page) ⊎ IsVisited guest.stores page place
+  pub read : (place : ℕ) → IsVisited copier.reads page place → (place ≡ slice_index start.places page)
+      ⊎ IsVisited guest.stores page place
   -- none is above the version
   pub over : (place : ℕ) → IsVisited copier.reads page place → place ≤ slice_index closed.versions page
 
 -- of each page, by its own guest and copier
 abbrev pub EachPageLeft : Start → List GuestView → List CopyView → ClosedView → Type 0
-EachPageLeft start guests copiers closed = (page : ℕ) (guest : GuestView) (copier : CopyView) → page < length start.places
-    → slice_get guests (guest_of (sizes_of start) page) ≡ Some guest → slice_get copiers (copier_of (sizes_of start) page) ≡ Some copier
+EachPageLeft start guests copiers closed = (page : ℕ) (guest : GuestView) (copier : CopyView)
+    → page < length start.places
+    → slice_get guests (guest_of (sizes_of start) page) ≡ Some guest
+    → slice_get copiers (copier_of (sizes_of start) page) ≡ Some copier
     → PageLeft start guest.facts copier.facts closed page

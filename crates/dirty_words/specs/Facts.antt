@@ -1,6 +1,7 @@
 -- What the seats of a table know. A seat knows its own facts alone: what it did, and what its own steps returned. This
 -- project's own.
-use Rattle.std.specs.Prelude.{◌≡◌, ℕ, ◌-◌, ◌^◌, ◌/◌, ◌%◌, ◌<◌, List, [], ◌∷◌, ◌++◌, map, length, replicate, Option, Some, None, IsTrue, false, bit_and, bit_or, bit_xor, slice_index, slice_set}
+use Rattle.std.specs.Prelude.{◌≡◌, ℕ, ◌-◌, ◌^◌, ◌/◌, ◌%◌, ◌<◌, List, [], ◌∷◌, ◌++◌, map, length, replicate, Option}
+use Rattle.std.specs.Prelude.{Some, None, IsTrue, false, bit_and, bit_or, bit_xor, slice_index, slice_set}
 use Rattle.std.specs.List.{range_with_len}
 use Rattle.page_bitmap.specs.Pages.{in_words}
 use Rattle.dirty_core.specs.Start.{Start, sizes_of, GuestOwns, CopierOwns, CopierOwnsPage}
@@ -73,7 +74,8 @@ with_bits words word bits = slice_set words word (bit_or (slice_index words word
 
 -- a set without these pages of a word
 abbrev pub without_bits : List ℕ → ℕ → ℕ → List ℕ
-without_bits words word bits = slice_set words word (bit_and (slice_index words word) (18_446_744_073_709_551_615 - bits))
+without_bits words word bits = slice_set words word
+    (bit_and (slice_index words word) (18_446_744_073_709_551_615 - bits))
 
 -- a set without all pages of a word
 abbrev pub without_word : List ℕ → ℕ → List ℕ

@@ -26,7 +26,8 @@ pub record IsGuestSeat (seat : GuestFields) : Type 0 where
   pub number : seat.number ≡ (guest_facts seat).number
   pub guests : seat.guests ≡ (guest_facts seat).start.guests
   pub pages : length seat.last.items ≡ length (guest_facts seat).start.places
-  pub last : (page : ℕ) → OwnsPage (guest_facts seat) page → slice_index seat.last.items page ≡ last_place (guest_facts seat) page
+  pub last : (page : ℕ) → OwnsPage (guest_facts seat) page
+      → slice_index seat.last.items page ≡ last_place (guest_facts seat) page
   pub pending : seat.pending ≡ (guest_facts seat).pending
   pub fits : GuestFits (guest_facts seat)
 

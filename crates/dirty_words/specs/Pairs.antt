@@ -4,7 +4,8 @@ use Rattle.page_bitmap.specs.Pages.{in_words}
 use Rattle.dirty_core.specs.Start.{Start}
 use Rattle.dirty_core.specs.Machine.{Visits, last_visit}
 use Rattle.dirty_words.specs.Facts.{GuestFacts, CopyFacts, first_guest, first_copier}
-use Rattle.dirty_words.specs.Seats.{TableView, GuestView, CopyView, ClosedView, guest_view, copy_view, guest_table, copy_table}
+use Rattle.dirty_words.specs.Seats.{TableView, GuestView, CopyView, ClosedView, guest_view, copy_view, guest_table}
+use Rattle.dirty_words.specs.Seats.{copy_table}
 use Rattle.dirty_words.specs.Closing.{HasStored}
 
 -- a table of one guest and one copier that opened so, with its seats, on which nothing has happened
@@ -24,7 +25,8 @@ pub record IsPairOf (table : TableView) (guest : GuestView) (copier : CopyView) 
 
 -- each page that was marked at opening or stored, and is left unmarked, was last read at its current place
 abbrev pub UnmarkedWasRead : Start → GuestFacts → CopyFacts → ClosedView → Type 0
-UnmarkedWasRead start guest copier closed = (page : ℕ) → page < length start.places → IsTrue (in_words start.dirty page) ⊎ HasStored guest page
+UnmarkedWasRead start guest copier closed = (page : ℕ) → page < length start.places
+    → IsTrue (in_words start.dirty page) ⊎ HasStored guest page
     → in_words closed.dirty page ≡ false → last_visit copier.reads page ≡ Some (slice_index closed.versions page)
 
 -- the reads with one more, if there is one

@@ -4,7 +4,8 @@ use Rattle.atomic_table.specs.Table.{Step, Me}
 use Rattle.page_bitmap.specs.Pages.{in_words, word_pages, bit_pages, common, IsWithin}
 use Rattle.dirty_core.specs.Start.{Start, start_with}
 use Rattle.dirty_core.specs.Runs.{IsVisited}
-use Rattle.dirty_words.specs.Facts.{Facts, of_guest, of_copier, GuestFacts, CopyFacts, first_guest, first_copier, after_store, after_mark, after_harvest, after_peek, after_restore, after_read}
+use Rattle.dirty_words.specs.Facts.{Facts, of_guest, of_copier, GuestFacts, CopyFacts, first_guest, first_copier}
+use Rattle.dirty_words.specs.Facts.{after_store, after_mark, after_harvest, after_peek, after_restore, after_read}
 
 -- ---- the one seat that stands in a view
 
@@ -32,7 +33,8 @@ pub record IsAnswer (facts : CopyFacts) (word answer : ℕ) : Type 0 where
 
 -- the answer's pages that were not returned are fresh, as are those that were
 pub record IsShown (old : CopyFacts) (word answer : ℕ) (new : CopyFacts) : Type 0 where
-  pub shown : (page : ℕ) → IsTrue (bit_pages word answer page) → IsTrue (in_words old.returned page) ⊎ IsTrue (in_words new.fresh page)
+  pub shown : (page : ℕ) → IsTrue (bit_pages word answer page) → IsTrue (in_words old.returned page)
+      ⊎ IsTrue (in_words new.fresh page)
   pub kept : IsWithin (in_words old.fresh) (in_words new.fresh)
 
 -- the place is no less than the opening's, and no less than each that the seat has read of the page
@@ -55,10 +57,12 @@ module _ {S : Type 0} (step : Step S) (me : Me S (List Facts)) (found : ℕ) (af
   marks = after ≡ (lone_guest (after_mark (guest_in me.0)), me.1)
 
   abbrev pub harvests : Type 0
-  harvests = (after ≡ (lone_copier (after_harvest step.word found (copier_in me.0)), me.1)) × IsAnswer (copier_in me.0) step.word found
+  harvests = (after ≡ (lone_copier (after_harvest step.word found (copier_in me.0)), me.1))
+      × IsAnswer (copier_in me.0) step.word found
 
   abbrev pub peeks : Type 0
-  peeks = (after ≡ (lone_copier (after_peek step.word found (copier_in me.0)), me.1)) × IsAnswer (copier_in me.0) step.word found
+  peeks = (after ≡ (lone_copier (after_peek step.word found (copier_in me.0)), me.1))
+      × IsAnswer (copier_in me.0) step.word found
 
   abbrev pub restores : Type 0
   restores = after ≡ (lone_copier (after_restore step.word step.first (copier_in me.0)), me.1)

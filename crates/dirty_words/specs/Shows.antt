@@ -33,7 +33,8 @@ pub record TellsCopier (start : Start) (core : DirtyCore) (facts : CopyFacts) : 
   pub start_is : facts.start ≡ start
   pub held : SamePages (in_words facts.held) (core.held facts.number)
   pub reads : facts.reads ≡ core.reads facts.number
-  pub returned : (page : ℕ) → copier_of core.sizes page ≡ facts.number → in_words facts.returned page ≡ core.returned page
+  pub returned : (page : ℕ) → copier_of core.sizes page ≡ facts.number → in_words facts.returned page
+      ≡ core.returned page
   pub fresh : IsWithin (in_words facts.fresh) (is_stored core)
 
 -- the facts are true of a core
@@ -53,7 +54,8 @@ owner_of owners (of_copier facts) = owners.copier facts.number
 -- no guest or copier stands in two views, and what stands there is true
 abbrev pub EachView : List (List Facts) → Owners → (Facts → Type 0) → Type 0
 EachView views owners IsTold = (seat entry : ℕ) (view : List Facts) (facts : Facts)
-    → get_elem? views seat ≡ some view → get_elem? view entry ≡ some facts → (owner_of owners facts ≡ seat) × IsTold facts
+    → get_elem? views seat ≡ some view → get_elem? view entry ≡ some facts
+    → (owner_of owners facts ≡ seat) × IsTold facts
 
 pub record Shows {S : Type 0} (start : Start) (state : State S (List Facts)) : Type 0 where
   pub is_start : IsStart start

@@ -50,7 +50,8 @@ pub(crate) fn copy_dirty(closed: &ClosedTable<u8, Global>, mut dirty: Vec<u64>) 
     requires full { IsFull closed.now.words }
     requires words { length dirty.items ≤ slots_len closed.now.words }
     ensures len { length result.items ≡ length dirty.items }
-    ensures words { (word : ℕ) → word < length dirty.items → slice_index result.items word ≡ slice_index (slots_items closed.now.words) word }
+    ensures words { (word : ℕ) → word < length dirty.items
+        → slice_index result.items word ≡ slice_index (slots_items closed.now.words) word }
 {
     for word in 0..dirty.len() {
         dirty[word] = closed.word(word);
@@ -66,9 +67,11 @@ pub(crate) fn copy_places(
 ) -> Vec<u32>
     requires full { IsFull closed.now.words }
     requires words { first + length places.items ≡ slots_len closed.now.words }
-    requires small { (page : ℕ) → page < length places.items → slice_index (slots_items closed.now.words) (first + page) < 2 ^ 32 }
+    requires small { (page : ℕ) → page < length places.items
+        → slice_index (slots_items closed.now.words) (first + page) < 2 ^ 32 }
     ensures len { length result.items ≡ length places.items }
-    ensures places { (page : ℕ) → page < length places.items → slice_index result.items page ≡ slice_index (slots_items closed.now.words) (first + page) }
+    ensures places { (page : ℕ) → page < length places.items
+        → slice_index result.items page ≡ slice_index (slots_items closed.now.words) (first + page) }
 {
     for page in 0..places.len() {
         places[page] = closed.word(first + page) as u32;

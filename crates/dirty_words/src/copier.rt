@@ -1,8 +1,10 @@
 //! A copier's seat: it harvests the marks of its words, restores and reads the pages that it holds.
 
-ghost use Rattle.std.specs.Prelude.{◌≡◌, ◌↔◌, ◌<◌, ℕ, [], IsTrue, IsFalse, IfOk, false, replicate, slice_index, bit_and, ◌^◌};
+ghost use Rattle.std.specs.Prelude.{◌≡◌, ◌↔◌, ◌<◌, ℕ, [], IsTrue, IsFalse, IfOk, false, replicate, slice_index};
+ghost use Rattle.std.specs.Prelude.{bit_and, ◌^◌};
 ghost use Rattle.page_bitmap.specs.Pages.{in_words, word_pages, bit_pages, one_page, union, minus, IsWithin, SamePages};
-ghost use Rattle.dirty_words.specs.Facts.{first_copier, OwnsWord, CopyFits, HoldsNone, after_harvest, after_peek, after_restore, after_read};
+ghost use Rattle.dirty_words.specs.Facts.{first_copier, OwnsWord, CopyFits, HoldsNone, after_harvest, after_peek};
+ghost use Rattle.dirty_words.specs.Facts.{after_restore, after_read};
 ghost use Rattle.dirty_words.specs.Plays.{lone_copier, IsAnswer, IsShown, IsOver};
 ghost use Rattle.dirty_words.specs.Seats.{copy_view, copy_table};
 
@@ -110,7 +112,8 @@ impl CopySeat {
     pub fn held(&self, word: usize) -> u64
         requires { OwnsWord self.now.facts word }
         ensures bits { result ≡ slice_index self.now.facts.held word }
-        ensures within { (bits : ℕ) → bits < 2 ^ 64 → bit_and result bits ≡ bits → IsWithin (bit_pages word bits) (in_words self.now.facts.held) }
+        ensures within { (bits : ℕ) → bits < 2 ^ 64
+            → bit_and result bits ≡ bits → IsWithin (bit_pages word bits) (in_words self.now.facts.held) }
     {
         self.held[word]
     }
@@ -130,8 +133,10 @@ impl CopySeat {
         ensures table { copy_table self.new ≡ copy_table self.old }
         ensures facts { self.new.facts ≡ after_harvest word result self.old.facts }
         ensures answer { IsAnswer self.old.facts word result }
-        ensures held { SamePages (in_words self.new.facts.held) (union (in_words self.old.facts.held) (bit_pages word result)) }
-        ensures returned { SamePages (in_words self.new.facts.returned) (minus (in_words self.old.facts.returned) (word_pages word)) }
+        ensures held { SamePages (in_words self.new.facts.held)
+            (union (in_words self.old.facts.held) (bit_pages word result)) }
+        ensures returned { SamePages (in_words self.new.facts.returned)
+            (minus (in_words self.old.facts.returned) (word_pages word)) }
         ensures fresh { IsShown self.old.facts word result self.new.facts }
     {
         let bits = table.table.shared.swap::<Harvests>(&mut self.seat, word, 0);
@@ -159,8 +164,10 @@ impl CopySeat {
         requires held { IsWithin (bit_pages word bits) (in_words self.old.facts.held) }
         ensures table { copy_table self.new ≡ copy_table self.old }
         ensures facts { self.new.facts ≡ after_restore word bits self.old.facts }
-        ensures held { SamePages (in_words self.new.facts.held) (minus (in_words self.old.facts.held) (bit_pages word bits)) }
-        ensures returned { SamePages (in_words self.new.facts.returned) (union (in_words self.old.facts.returned) (bit_pages word bits)) }
+        ensures held { SamePages (in_words self.new.facts.held)
+            (minus (in_words self.old.facts.held) (bit_pages word bits)) }
+        ensures returned { SamePages (in_words self.new.facts.returned)
+            (union (in_words self.old.facts.returned) (bit_pages word bits)) }
     {
         let shared = &table.table.shared;
         shared.fetch_or::<Restores>(&mut self.seat, word, bits);

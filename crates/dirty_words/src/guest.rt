@@ -115,7 +115,8 @@ impl GuestSeat {
         ensures table { guest_table self.new ≡ guest_table self.old }
         ensures facts { self.new.facts ≡ after_store page place self.old.facts }
         ensures last { last_place self.new.facts page ≡ place }
-        ensures others { (other : ℕ) → other ≢ page → last_place self.new.facts other ≡ last_place self.old.facts other }
+        ensures others { (other : ℕ) → other ≢ page
+            → last_place self.new.facts other ≡ last_place self.old.facts other }
     {
         let index = page as usize;
         let word = table.dirty.len() + index;

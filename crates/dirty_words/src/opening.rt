@@ -59,7 +59,8 @@ pub(crate) fn cut_copiers(
     requires table { (seat.old.table_id ≡ table.now.table_id) × (0 < table.now.table_id.words) }
     requires key { table.now.key ≡ opening.now }
     requires all { seat.old.me ≡ (copier_entries opening.now 0 opening.now.copiers, []) }
-    ensures copiers { IfOk result (λ copiers. copiers.items ≡ first_copiers (table_view table.now.table_id opening.now)) }
+    ensures copiers { IfOk result (λ copiers. copiers.items
+        ≡ first_copiers (table_view table.now.table_id opening.now)) }
 {
     let mut copiers = Vec::new(alloc);
     for number in 0..opening.copiers() {

@@ -2,7 +2,8 @@
 
 ghost use Rattle.std.specs.Prelude.{◌≡◌, IfOk};
 ghost use Rattle.dirty_core.specs.Start.{IsStart, start_with};
-ghost use Rattle.dirty_words.specs.Closing.{first_guests, first_copiers, AllGuests, AllCopiers, IsLeftByEvents, EachPageLeft};
+ghost use Rattle.dirty_words.specs.Closing.{first_guests, first_copiers, AllGuests, AllCopiers, IsLeftByEvents};
+ghost use Rattle.dirty_words.specs.Closing.{EachPageLeft};
 
 use crate::closed::Closed;
 use crate::closing::{copy_dirty, copy_places, join_copiers, join_guests};

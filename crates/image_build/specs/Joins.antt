@@ -24,7 +24,8 @@ memory_by whole = memory_in (join_all whole.shape whole.parts)
 pub record IsWhole (whole : WholeParts) : Type 0 where
   pub shapes : All (λ part. part.shape ≡ whole.shape) whole.parts
   pub each : (page : ℕ) → page < whole.shape.pages
-      → (copy : PageCopy) × (copy_at (join_all whole.shape whole.parts) page ≡ Some copy) × (length copy.content ≡ 2 ^ whole.shape.shift)
+      → (copy : PageCopy) × (copy_at (join_all whole.shape whole.parts) page ≡ Some copy)
+      × (length copy.content ≡ 2 ^ whole.shape.shift)
 
 -- the refusal names the least page that is in no part
 pub record IsMissing (shape : GuestShape) (parts : List GuestPart) (error : ImageError) : Type 0 where

@@ -86,7 +86,8 @@ impl JoinedParts {
     /// Returns the frame of a page.
     fn frame(&self, page: u32) -> &Frame
         requires { page < self.now.shape.pages }
-        ensures copy { copy_at (join_all self.now.shape self.now.parts) page ≡ Some (copy_in self.now.shape result.now) }
+        ensures copy { copy_at (join_all self.now.shape self.now.parts) page
+            ≡ Some (copy_in self.now.shape result.now) }
         ensures fits { IsFrame self.now.shape result.now }
     {
         let Some(frame) = latest(&self.shape, &self.parts, page) else {

@@ -13,8 +13,10 @@ use trace_codec::Shape;
 /// Returns, of two frames of a page, the one with the greater stamp, and the first where the stamps are equal.
 fn later_frame<'a>(first: Option<&'a Frame>, second: Option<&'a Frame>) -> Option<&'a Frame>
     ensures copy { (shape : GuestShape) → option_map (λ f. copy_in shape f.now) result
-        ≡ later (option_map (λ f. copy_in shape f.now) first.entry) (option_map (λ f. copy_in shape f.now) second.entry) }
-    ensures fits { (shape : GuestShape) → IfSome first.entry (λ f. IsFrame shape f.now) → IfSome second.entry (λ f. IsFrame shape f.now)
+        ≡ later (option_map (λ f. copy_in shape f.now) first.entry)
+        (option_map (λ f. copy_in shape f.now) second.entry) }
+    ensures fits { (shape : GuestShape) → IfSome first.entry (λ f. IsFrame shape f.now)
+        → IfSome second.entry (λ f. IsFrame shape f.now)
         → IfSome result (λ f. IsFrame shape f.now) }
 {
     match (first, second) {
@@ -27,7 +29,8 @@ fn later_frame<'a>(first: Option<&'a Frame>, second: Option<&'a Frame>) -> Optio
 /// Returns the frame of a page with the greatest stamp, and the first of those where several have it.
 pub(crate) fn latest<'a>(shape: &Shape, parts: &'a [Part], page: u32) -> Option<&'a Frame>
     requires { All (λ part. part.shape ≡ shape_of shape.now) parts.now }
-    ensures copy { option_map (λ f. copy_in (shape_of shape.now) f.now) result ≡ copy_at (join_all (shape_of shape.now) parts.now) page }
+    ensures copy { option_map (λ f. copy_in (shape_of shape.now) f.now) result
+        ≡ copy_at (join_all (shape_of shape.now) parts.now) page }
     ensures fits { IfSome result (λ f. IsFrame (shape_of shape.now) f.now) }
 {
     let mut kept = None;

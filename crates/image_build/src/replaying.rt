@@ -4,7 +4,7 @@ ghost use Rattle.std.specs.Prelude.{◌≡◌, ◌+◌, ◌*◌, ◌^◌, ◌≤
 ghost use Rattle.migration_model.specs.Memory.{bytes_put, image_before, image_of, put, zeros};
 ghost use Rattle.migration_model.specs.Trace.{GuestTrace, Spells};
 ghost use Rattle.image_build.specs.Replay.{RefusesReplay};
-ghost use Rattle.trace_codec.specs.Writes.{shown};
+ghost use Rattle.guest_log.specs.Writes.{shown};
 
 use crate::error::{ImageError, ReplayError};
 use crate::image::Image;
@@ -20,9 +20,11 @@ fn blank(alloc: Global, shape: Shape) -> Result<Vec<u8>, AllocError>
 
 /// Puts a write over memory of this shape, in which it stands at its offset of its page.
 pub(crate) fn write_over(memory: &mut Vec<u8>, shape: Shape, write: &WriteView<'_>)
-    requires { write.now.page * 2 ^ shape.shift + write.now.offset + length (bytes_put shape.shift (shown write.now)) ≤ vec_len memory.old }
+    requires { write.now.page * 2 ^ shape.shift + write.now.offset + length (bytes_put shape.shift (shown write.now))
+        ≤ vec_len memory.old }
     ensures { memory.new.items
-        ≡ put memory.old.items (write.now.page * 2 ^ shape.shift + write.now.offset) (bytes_put shape.shift (shown write.now)) }
+        ≡ put memory.old.items (write.now.page * 2 ^ shape.shift + write.now.offset)
+        (bytes_put shape.shift (shown write.now)) }
 {
     let start = write.page as usize * shape.page_size() + write.offset as usize;
     write.put_at(shape, memory, start);
@@ -75,7 +77,8 @@ pub fn replay_view(alloc: Global, trace: &TraceView<'_>) -> Result<Image, ImageE
 /// Returns the memory after all writes, each put there as it is read.
 fn replay_reader(alloc: Global, reader: TraceReader<'_>) -> Result<Image, ReplayError>
     requires { reader.writes ≡ [] }
-    ensures made { IfOk result (λ image. (trace : GuestTrace) × Spells reader.entry.bytes trace × (image ≡ image_of trace)) }
+    ensures made { IfOk result (λ image. (trace : GuestTrace) × Spells reader.entry.bytes trace
+        × (image ≡ image_of trace)) }
     ensures refused { IfErr result (RefusesReplay reader.entry.bytes) }
 {
     let mut reader = reader;

@@ -17,7 +17,8 @@ fn write_all<W: WriteLog>(memory: &mut Vec<u8>, trace: &W, places: &[u32])
     requires len { length memory.old.items ≡ (W.trace trace.now).pages * 2 ^ (W.trace trace.now).shift }
     requires places { All (λ place. (1 ≤ place) × (place ≤ length (W.trace trace.now).writes)) places.now }
     ensures { memory_with (W.trace trace.now).shift (W.trace trace.now).pages memory.new.items
-        ≡ fold (λ m place. apply m (write_at (W.trace trace.now).writes place)) (memory_with (W.trace trace.now).shift (W.trace trace.now).pages memory.old.items) places.now }
+        ≡ fold (λ m place. apply m (write_at (W.trace trace.now).writes place))
+        (memory_with (W.trace trace.now).shift (W.trace trace.now).pages memory.old.items) places.now }
 {
     let shape = trace.shape();
     for place in places {

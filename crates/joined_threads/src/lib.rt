@@ -7,8 +7,8 @@ ghost use Rattle.std.specs.PromisedHandle.{KeepsEach};
 use std::alloc::AllocError;
 use std::thread::{Promise, PromisedHandle, Threads, join_promised};
 
-/// Waits until all these threads have ended, and returns what they made, in order. Where memory runs out they are waited
-/// for as well, and what they made goes.
+/// Waits until all these threads have ended, and returns what they made, in order. Where memory runs out they are
+/// waited for as well, and what they made goes.
 pub fn join_all<R: Threads, T: Drop, P: Promise<T>>(
     rt: &R,
     handles: Vec<PromisedHandle<T, P>>,

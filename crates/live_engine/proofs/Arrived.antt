@@ -18,7 +18,7 @@ use Rattle.migration_model.proofs.Placed.{version_rises}
 use Rattle.dirty_words.specs.Seats.{ClosedView}
 use Rattle.stream_lanes.specs.Ends.{InView, IsSentOn, LaneId, OutView}
 use Rattle.stream_lanes.specs.Grids.{AreColumns}
-use Rattle.live_seats.specs.Desks.{DeskView, IsDesk}
+use Rattle.live_tasks.specs.CopierStates.{CopierStateView, IsCopierState}
 use Rattle.live_engine.specs.Lists.{rows_of}
 use Rattle.stream_receivers.specs.Receivers.{AreEnds, AreFrames, HasFrames, ReceiverView}
 use Rattle.stream_receivers.proofs.Had.{has_same}
@@ -181,45 +181,45 @@ base_before : (trace : GuestTrace) (base : Option ℕ) (tick : ℕ) (versions : 
 base_before trace None tick versions are low = tt
 base_before trace (Some from) tick versions are low = λ page real. (let up = version_rises trace page from tick low in omega (arith, up, are page real))
 
--- each desk has an end for each stream
-pub sizes_of : (trace : GuestTrace) (streams : ℕ) (desks : List DeskView) → All (IsDesk trace streams) desks → All (λ (row : List OutView). length row ≡ streams) (rows_of desks)
-sizes_of trace streams desks each = all_at (λ (row : List OutView). length row ≡ streams) (rows_of desks) (λ copier row there.
-    let desk = made_of (λ (d : DeskView). d.outs) desks copier row there in
-    sym (ap length desk.2) ∙ (all_there (IsDesk trace streams) desks copier desk.0 each desk.1).lanes_are)
+-- each state has an end for each stream
+pub sizes_of : (trace : GuestTrace) (streams : ℕ) (states : List CopierStateView) → All (IsCopierState trace streams) states → All (λ (row : List OutView). length row ≡ streams) (rows_of states)
+sizes_of trace streams states each = all_at (λ (row : List OutView). length row ≡ streams) (rows_of states) (λ copier row there.
+    let state = made_of (λ (d : CopierStateView). d.outs) states copier row there in
+    sym (ap length state.2) ∙ (all_there (IsCopierState trace streams) states copier state.0 each state.1).lanes_are)
 
 -- the lanes that are left cross as those that were opened
-pub still_crossed : (trace : GuestTrace) (s : MigrationSettings) (plan : MigrationPlan) (team : Team) (first desks : List DeskView) (opened receivers : List ReceiverView)
-    (closed : ClosedView) (rounds : List LiveRound) → AreOpened trace team first opened → HaveEnded trace s plan team first opened closed rounds desks receivers → AreCrossed (length desks) team.streams (lanes_of (rows_of desks)) (map lanes_in receivers)
-still_crossed trace s plan team first desks opened receivers closed rounds are ended =
+pub still_crossed : (trace : GuestTrace) (s : MigrationSettings) (plan : MigrationPlan) (team : Team) (first states : List CopierStateView) (opened receivers : List ReceiverView)
+    (closed : ClosedView) (rounds : List LiveRound) → AreOpened trace team first opened → HaveEnded trace s plan team first opened closed rounds states receivers → AreCrossed (length states) team.streams (lanes_of (rows_of states)) (map lanes_in receivers)
+still_crossed trace s plan team first states opened receivers closed rounds are ended =
     let done = ended.done in
     let same = ended.same in
-    subst (λ (n : ℕ). AreCrossed n team.streams (lanes_of (rows_of desks)) (map lanes_in receivers)) (sym done.under_way.desks_are)
+    subst (λ (n : ℕ). AreCrossed n team.streams (lanes_of (rows_of states)) (map lanes_in receivers)) (sym done.under_way.states_are)
     (subst (λ (sends : List (List LaneId)). AreCrossed team.copiers team.streams sends (map lanes_in receivers)) (sym done.lanes)
     (subst (λ (takes : List (List LaneId)). AreCrossed team.copiers team.streams (lanes_of (rows_of first)) takes) (sym (lanes_kept opened receivers same)) are.crossed))
 
 -- what was sent has come
-pub all_came : (trace : GuestTrace) (s : MigrationSettings) (plan : MigrationPlan) (team : Team) (first desks : List DeskView) (opened receivers : List ReceiverView)
+pub all_came : (trace : GuestTrace) (s : MigrationSettings) (plan : MigrationPlan) (team : Team) (first states : List CopierStateView) (opened receivers : List ReceiverView)
     (closed : ClosedView) (rounds : List LiveRound) (parts : List GuestPart) → AreOpened trace team first opened
-    → HaveEnded trace s plan team first opened closed rounds desks receivers
-    → (All (λ (r : ReceiverView). r.part.shape ≡ shape_of_trace trace) receivers → AreFrames (shape_of_trace trace) (IsSentBy (rows_of desks))
-    → HaveArrived (shape_of_trace trace) team.streams (rows_of desks) parts) → AllCame trace s.base team.streams closed parts
-all_came trace s plan team first desks opened receivers closed rounds parts are ended come_by =
+    → HaveEnded trace s plan team first opened closed rounds states receivers
+    → (All (λ (r : ReceiverView). r.part.shape ≡ shape_of_trace trace) receivers → AreFrames (shape_of_trace trace) (IsSentBy (rows_of states))
+    → HaveArrived (shape_of_trace trace) team.streams (rows_of states) parts) → AllCame trace s.base team.streams closed parts
+all_came trace s plan team first states opened receivers closed rounds parts are ended come_by =
     let done = ended.done in
-    let come : HaveArrived (shape_of_trace trace) team.streams (rows_of desks) parts =
+    let come : HaveArrived (shape_of_trace trace) team.streams (rows_of states) parts =
     come_by (shapes_kept (shape_of_trace trace) opened receivers ended.same are.shapes) (λ text sent. (let h = done.joined.honest text sent in (h.frame, h.spells))) in
-    let sizes = sizes_of trace team.streams desks done.under_way.each in
+    let sizes = sizes_of trace team.streams states done.under_way.each in
     record {
-      fits = fits_pages trace s.base plan.stop team plan.rounds rounds closed desks done.under_way done.joined;
+      fits = fits_pages trace s.base plan.stop team plan.rounds rounds closed states done.under_way done.joined;
       base_low = base_before trace s.base plan.stop closed.versions done.joined.versions done.joined.base_low;
       count = come.count;
-      not_beyond = not_beyond trace s.base team.copiers team.streams plan.stop plan.rounds rounds closed (rows_of desks) parts done.joined sizes come;
-      current = current trace s.base team.copiers team.streams plan.stop plan.rounds rounds closed (rows_of desks) parts done.joined sizes come;
+      not_beyond = not_beyond trace s.base team.copiers team.streams plan.stop plan.rounds rounds closed (rows_of states) parts done.joined sizes come;
+      current = current trace s.base team.copiers team.streams plan.stop plan.rounds rounds closed (rows_of states) parts done.joined sizes come;
     }
 
 -- the rounds keep the law of the settings
-pub keeps_settings : (trace : GuestTrace) (s : MigrationSettings) (plan : MigrationPlan) (team : Team) (first desks : List DeskView) (opened : List ReceiverView)
-    (closed : ClosedView) (rounds : List LiveRound) → IsTeamOf s team → AreOpened trace team first opened → AreDone trace s plan team first closed rounds desks
+pub keeps_settings : (trace : GuestTrace) (s : MigrationSettings) (plan : MigrationPlan) (team : Team) (first states : List CopierStateView) (opened : List ReceiverView)
+    (closed : ClosedView) (rounds : List LiveRound) → IsTeamOf s team → AreOpened trace team first opened → AreDone trace s plan team first closed rounds states
     → LiveRounds trace s.base s.skip s.workers s.lane plan.rounds rounds
-keeps_settings trace s plan team first desks opened closed rounds team_is are done =
+keeps_settings trace s plan team first states opened closed rounds team_is are done =
     subst (λ (n : ℕ). LiveRounds trace s.base s.skip n s.lane plan.rounds rounds) team_is.copiers_are
     (done.law s.lane (subst (λ (n : ℕ). HaveCapacity n (lanes_of (rows_of first))) team_is.lane_is are.capacity))

@@ -8,7 +8,7 @@ use Rattle.std.proofs.lemmas.Option.{slice_get-get_or}
 use Rattle.dirty_words.specs.Facts.{first_guest, first_copier}
 use Rattle.dirty_words.specs.Closing.{first_guests, first_copiers}
 use Rattle.dirty_words.specs.Seats.{TableView, GuestView, CopyView, guest_view, copy_view}
-use Rattle.live_seats.specs.Desks.{DeskView}
+use Rattle.live_tasks.specs.CopierStates.{CopierStateView}
 use Rattle.live_engine.specs.Lists.{rows_of}
 use Rattle.live_engine.proofs.Each.{made_at}
 
@@ -32,15 +32,15 @@ pub copier_at : (table : TableView) (items front old rest : List CopyView) (seat
 copier_at table items front old rest seat first steps all =
     made_at (λ (number : ℕ). copy_view table.id (first_copier table.start number)) table.start.copiers front seat rest (next_of front old rest items seat steps all ∙ first)
 
--- the lanes of the next desk, when those in front of it were given out
-pub row_first : (front old rest all : List DeskView) (desk : DeskView) (number : ℕ) → old ≡ desk ∷ rest → front ++ old ≡ all → number ≡ length front
-    → desk.outs ≡ get_or (rows_of all) number []
-row_first front old rest all desk number steps is at =
-    let whole : front ++ (desk ∷ rest) ≡ all = next_of front old rest all desk steps is in
-    let len : length all ≡ length front + length (desk ∷ rest) = sym (ap length whole) ∙ length-append front (desk ∷ rest) in
-    let here : get_or all (length front + 0) desk ≡ desk = ap (λ l. get_or l (length front + 0) desk) (sym whole) ∙ get_or-append-add front (desk ∷ rest) 0 desk in
+-- the lanes of the next state, when those in front of it were given out
+pub row_first : (front old rest all : List CopierStateView) (state : CopierStateView) (number : ℕ) → old ≡ state ∷ rest → front ++ old ≡ all → number ≡ length front
+    → state.outs ≡ get_or (rows_of all) number []
+row_first front old rest all state number steps is at =
+    let whole : front ++ (state ∷ rest) ≡ all = next_of front old rest all state steps is in
+    let len : length all ≡ length front + length (state ∷ rest) = sym (ap length whole) ∙ length-append front (state ∷ rest) in
+    let here : get_or all (length front + 0) state ≡ state = ap (λ l. get_or l (length front + 0) state) (sym whole) ∙ get_or-append-add front (state ∷ rest) 0 state in
     let place : length front + 0 ≡ number = omega (arith, at) in
-    sym (ap (λ (k : ℕ). get_or (rows_of all) k []) (sym place) ∙ get_or-map (λ (d : DeskView). d.outs) all (length front + 0) desk [] (omega (arith, len)) ∙ ap (λ (d : DeskView). d.outs) here)
+    sym (ap (λ (k : ℕ). get_or (rows_of all) k []) (sym place) ∙ get_or-map (λ (d : CopierStateView). d.outs) all (length front + 0) state [] (omega (arith, len)) ∙ ap (λ (d : CopierStateView). d.outs) here)
 
 pub lists_more : {X Y : Type 0} (f : X → List Y) (front : List X) (x : X) (before : List Y) → before ≡ flat_map f front → before ++ f x ≡ flat_map f (front ++ x ∷ [])
 lists_more f front x before is = ap (λ l. l ++ f x) is ∙ ap (λ l. flat_map f front ++ l) (sym (append-nil (f x))) ∙ sym (flat_map-append f front (x ∷ []))

@@ -15,17 +15,17 @@ use Rattle.dirty_words.specs.Facts.{OwnsPage}
 use Rattle.dirty_words.specs.Closing.{EachPageLeft, PageLeft, HasStored}
 use Rattle.dirty_words.specs.Seats.{TableView, GuestView, CopyView, ClosedView}
 use Rattle.stream_lanes.specs.Ends.{OutView}
-use Rattle.live_seats.specs.declared.copier.Copier.{Copier}
-use Rattle.live_seats.specs.Outboxes.{IsSentAt}
-use Rattle.live_seats.specs.Outboxes as boxes
-use Rattle.live_seats.specs.Scans.{IsOwn}
-use Rattle.live_seats.specs.Replays.{OpensAt}
+use Rattle.live_tasks.specs.declared.copier.Copier.{Copier}
+use Rattle.live_tasks.specs.RoundLogs.{IsSentAt}
+use Rattle.live_tasks.specs.RoundLogs as boxes
+use Rattle.live_tasks.specs.Scans.{IsOwn}
+use Rattle.live_tasks.specs.Replays.{OpensAt}
 use Rattle.live_engine.specs.Seated.{IsReplayed, AreReplayed, IsCopied, AreCopied}
 use Rattle.live_engine.specs.Joining.{IsRound}
 use Rattle.live_engine.proofs.Each.{each_got}
 use Rattle.live_engine.proofs.ScanOrder.{fst_in, place_of, in_piece, in_all, in_scan_order}
 use Rattle.live_engine.proofs.Visits.{last_is_visit, visit_has_last, stored_is_visit, place_is_written, written_has_place, version_stored}
-use Rattle.live_seats.proofs.Basics.{false_true}
+use Rattle.live_tasks.proofs.Basics.{false_true}
 
 zero_and : (i : ℕ) → i ≡ 0 + i
 zero_and i = omega arith
@@ -41,13 +41,13 @@ pub record IsClosedRound (trace : GuestTrace) (skip : Bool) (table : TableView) 
   pub next : IsStart (start_with closed.versions closed.dirty table.start.guests table.start.copiers)
 
 abbrev sent_by : Copier → List (ℕ × ℕ)
-sent_by c = c.desk.outbox.sent
+sent_by c = c.state.log.sent
 
 abbrev skipped_by : Copier → List ℕ
-skipped_by c = c.desk.outbox.skipped
+skipped_by c = c.state.log.skipped
 
 abbrev deferred_by : Copier → List ℕ
-deferred_by c = c.desk.outbox.deferred
+deferred_by c = c.state.log.deferred
 
 -- what all copiers sent, skipped and deferred, in order of their numbers
 abbrev pub round_of : List Copier → LiveRound
@@ -107,7 +107,7 @@ module _ (trace : GuestTrace) (skip : Bool) (table : TableView) (from to streams
       }
 
   -- what a copier listed is its own
-  pub listing : (i : ℕ) (copier : Copier) (page : ℕ) → slice_get copiers i ≡ Some copier → boxes.IsListed copier.desk.outbox page
+  pub listing : (i : ℕ) (copier : Copier) (page : ℕ) → slice_get copiers i ≡ Some copier → boxes.IsListed copier.state.log page
       → (page < trace.pages) × (page / 64 % table.start.copiers ≡ i)
   listing i copier page there listed =
       let copied : IsCopied trace skip table streams rows copier i = each_got (IsCopied trace skip table streams rows) copiers i copier is.copied.each there in
@@ -120,13 +120,13 @@ module _ (trace : GuestTrace) (skip : Bool) (table : TableView) (from to streams
       )
 
   -- so it was listed by the page's own copier
-  by_own : (i : ℕ) (copier : Copier) (page : ℕ) → slice_get copiers i ≡ Some copier → boxes.IsListed copier.desk.outbox page
+  by_own : (i : ℕ) (copier : Copier) (page : ℕ) → slice_get copiers i ≡ Some copier → boxes.IsListed copier.state.log page
       → (real : page < trace.pages) → copier ≡ (owned page real).copier
   by_own i copier page there listed real =
       let o = owned page real in
       same_Some copier o.copier (sym there ∙ ap (slice_get copiers) (sym (listing i copier page there listed).1) ∙ o.there)
 
-  sent_listed : (copier : Copier) (page place : ℕ) → Contains (sent_by copier) (page, place) → boxes.IsListed copier.desk.outbox page
+  sent_listed : (copier : Copier) (page place : ℕ) → Contains (sent_by copier) (page, place) → boxes.IsListed copier.state.log page
   sent_listed copier page place sent = inl (fst_in (sent_by copier) page place sent)
 
   stored_written : (page : ℕ) (o : Owned trace skip table from to streams page rows copiers closed) → HasStored o.guest.facts page → IsWritten trace from to page
@@ -151,26 +151,26 @@ module _ (trace : GuestTrace) (skip : Bool) (table : TableView) (from to streams
 
   -- a page that a copier listed: by its own copier
   sent_own : (page place : ℕ) → Contains (round_of copiers).sent (page, place)
-      → (real : page < trace.pages) × IsSentAt (owned page real).copier.desk.outbox page place
+      → (real : page < trace.pages) × IsSentAt (owned page real).copier.state.log page place
   sent_own page place sent =
       let found = in_piece sent_by copiers (page, place) sent in
       let listed = sent_listed found.1 page place found.3 in
       let real = (listing found.0 found.1 page found.2 listed).0 in
       (real, subst (λ (c : Copier). Contains (sent_by c) (page, place)) (by_own found.0 found.1 page found.2 listed real) found.3)
 
-  skipped_own : (page : ℕ) → Contains (round_of copiers).skipped page → (real : page < trace.pages) × Contains (owned page real).copier.desk.outbox.skipped page
+  skipped_own : (page : ℕ) → Contains (round_of copiers).skipped page → (real : page < trace.pages) × Contains (owned page real).copier.state.log.skipped page
   skipped_own page skipped =
       let found = in_piece skipped_by copiers page skipped in
       let real = (listing found.0 found.1 page found.2 (inr (inl found.3))).0 in
       (real, subst (λ (c : Copier). Contains (skipped_by c) page) (by_own found.0 found.1 page found.2 (inr (inl found.3)) real) found.3)
 
-  deferred_own : (page : ℕ) → Contains (round_of copiers).deferred page → (real : page < trace.pages) × Contains (owned page real).copier.desk.outbox.deferred page
+  deferred_own : (page : ℕ) → Contains (round_of copiers).deferred page → (real : page < trace.pages) × Contains (owned page real).copier.state.log.deferred page
   deferred_own page deferred =
       let found = in_piece deferred_by copiers page deferred in
       let real = (listing found.0 found.1 page found.2 (inr (inr found.3))).0 in
       (real, subst (λ (c : Copier). Contains (deferred_by c) page) (by_own found.0 found.1 page found.2 (inr (inr found.3)) real) found.3)
 
-  listed_own : (page : ℕ) → IsListed (round_of copiers) page → (real : page < trace.pages) × boxes.IsListed (owned page real).copier.desk.outbox page
+  listed_own : (page : ℕ) → IsListed (round_of copiers) page → (real : page < trace.pages) × boxes.IsListed (owned page real).copier.state.log page
   listed_own page (inl sent) =
       let stamp = place_of (round_of copiers).sent page sent in
       let o = sent_own page stamp.0 stamp.1 in
@@ -178,7 +178,7 @@ module _ (trace : GuestTrace) (skip : Bool) (table : TableView) (from to streams
   listed_own page (inr (inl skipped)) = let o = skipped_own page skipped in (o.0, inr (inl o.1))
   listed_own page (inr (inr deferred)) = let o = deferred_own page deferred in (o.0, inr (inr o.1))
 
-  own_listed : (page : ℕ) (o : Owned trace skip table from to streams page rows copiers closed) → boxes.IsListed o.copier.desk.outbox page → IsListed (round_of copiers) page
+  own_listed : (page : ℕ) (o : Owned trace skip table from to streams page rows copiers closed) → boxes.IsListed o.copier.state.log page → IsListed (round_of copiers) page
   own_listed page o (inl sent) =
       let stamp = place_of (sent_by o.copier) page sent in
       inl (fst_in (round_of copiers).sent page stamp.0 (in_all sent_by copiers (page / 64 % table.start.copiers) o.copier (page, stamp.0) o.there stamp.1))
@@ -256,7 +256,7 @@ module _ (trace : GuestTrace) (skip : Bool) (table : TableView) (from to streams
           | inl marked ↦ inl marked
           | inr read ↦
               let version = slice_index closed.versions page in
-              let sent : IsSentAt o.copier.desk.outbox page version = o.copied.scanned.reads page version (last_is_visit o.copier.seat.facts.reads page version read) in
+              let sent : IsSentAt o.copier.state.log page version = o.copied.scanned.reads page version (last_is_visit o.copier.seat.facts.reads page version read) in
               inr (subst (λ (v : ℕ). Contains (round_of copiers).sent (page, v)) (version_left page real)
               (in_all sent_by copiers (page / 64 % table.start.copiers) o.copier (page, version) o.there sent))
         ];

@@ -10,8 +10,8 @@ use Rattle.migration_model.specs.Trace.{GuestTrace}
 use Rattle.migration_model.specs.Live.{page_copier, pages_sent, sent_by_copier}
 use Rattle.dirty_words.specs.Seats.{TableView}
 use Rattle.stream_lanes.specs.Ends.{LaneId, OutView, IsSentOn}
-use Rattle.live_seats.specs.declared.copier.Copier.{Copier}
-use Rattle.live_seats.specs.Outboxes.{IsCrowded, IsPosted, SpellsPage, frames_sent}
+use Rattle.live_tasks.specs.declared.copier.Copier.{Copier}
+use Rattle.live_tasks.specs.RoundLogs.{IsCrowded, IsPosted, SpellsPage, frames_sent}
 use Rattle.live_engine.specs.Seated.{AreCopied, IsCopied}
 use Rattle.live_engine.specs.Joining.{HavePosted, IsSentBy, lanes_of}
 use Rattle.live_engine.proofs.Each.{any_at, any_there, each_got, made_of, makes_at, pick, same_at}
@@ -39,20 +39,20 @@ count_piece p f (y ∷ ys) (suc i) x there =
     omega (arith, rest, sum_by-append (λ z. cond (p z) 1 0) (f y) (flat_map f ys))
 
 abbrev pages_of : Copier → List ℕ
-pages_of c = map (λ (s : ℕ × ℕ). s.0) c.desk.outbox.sent
+pages_of c = map (λ (s : ℕ × ℕ). s.0) c.state.log.sent
 
 abbrev outs_by : Copier → List OutView
-outs_by c = c.desk.outs
+outs_by c = c.state.outs
 
 abbrev ids : List OutView → List LaneId
 ids outs = map (λ (out : OutView). out.lane) outs
 
 module _ (trace : GuestTrace) (skip : Bool) (table : TableView) (streams : ℕ) (rows : List (List OutView)) (copiers : List Copier)
     (is : AreCopied trace skip table streams rows copiers) (count : length rows ≡ length copiers)
-    (own : (i : ℕ) (copier : Copier) (page : ℕ) → slice_get copiers i ≡ Some copier → Contains (pages_of copier) page ⊎ Contains copier.desk.outbox.deferred page
+    (own : (i : ℕ) (copier : Copier) (page : ℕ) → slice_get copiers i ≡ Some copier → Contains (pages_of copier) page ⊎ Contains copier.state.log.deferred page
     → page_copier table.start.copiers page ≡ i) where
   -- what the copier at a place did
-  posted_at : (i : ℕ) (copier : Copier) → slice_get copiers i ≡ Some copier → IsPosted trace (get_or rows i []) copier.desk.outbox copier.desk.outs
+  posted_at : (i : ℕ) (copier : Copier) → slice_get copiers i ≡ Some copier → IsPosted trace (get_or rows i []) copier.state.log copier.state.outs
   posted_at i copier there = (each_got (IsCopied trace skip table streams rows) copiers i copier is.each there).posted
 
   -- a copier for each row, and a row for each copier
@@ -74,7 +74,7 @@ module _ (trace : GuestTrace) (skip : Bool) (table : TableView) (streams : ℕ) 
       let found = any_there (λ outs. IsSentOn outs text) rows sent in
       let copier = copier_at found.0 found.1 found.2 in
       let row : get_or rows found.0 [] ≡ found.1 = get_or_from_slice_get rows found.0 found.1 [] found.2 in
-      any_at (λ outs. IsSentOn outs text) after found.0 copier.0.desk.outs (makes_at outs_by copiers found.0 copier.0 copier.1)
+      any_at (λ outs. IsSentOn outs text) after found.0 copier.0.state.outs (makes_at outs_by copiers found.0 copier.0 copier.1)
       ((posted_at found.0 copier.0 copier.1).kept text (subst (λ outs. IsSentOn outs text) (sym row) found.3))
 
   new : (text : List ℕ) → IsSentBy after text
@@ -84,14 +84,14 @@ module _ (trace : GuestTrace) (skip : Bool) (table : TableView) (streams : ℕ) 
       let copier = made_of outs_by copiers found.0 found.1 found.2 in
       elim ((posted_at found.0 copier.0 copier.1).new text (subst (λ outs. IsSentOn outs text) (sym copier.2) found.3)) [
         | inl earlier ↦ inl (any_at (λ outs. IsSentOn outs text) rows found.0 (get_or rows found.0 []) (row_at found.0 copier.0 copier.1) earlier)
-        | inr now ↦ inr (now.0, now.1, in_all (λ (c : Copier). c.desk.outbox.sent) copiers found.0 copier.0 (now.0, now.1) copier.1 now.2, now.3)
+        | inr now ↦ inr (now.0, now.1, in_all (λ (c : Copier). c.state.log.sent) copiers found.0 copier.0 (now.0, now.1) copier.1 now.2, now.3)
       ]
 
   all : (page place : ℕ) → Contains (round_of copiers).sent (page, place) → (text : List ℕ) × IsSentBy after text × SpellsPage trace page place text
   all page place sent =
-      let found = in_piece (λ (c : Copier). c.desk.outbox.sent) copiers (page, place) sent in
+      let found = in_piece (λ (c : Copier). c.state.log.sent) copiers (page, place) sent in
       let text = (posted_at found.0 found.1 found.2).all page place found.3 in
-      (text.0, any_at (λ outs. IsSentOn outs text.0) after found.0 found.1.desk.outs (makes_at outs_by copiers found.0 found.1 found.2) text.1, text.2)
+      (text.0, any_at (λ outs. IsSentOn outs text.0) after found.0 found.1.state.outs (makes_at outs_by copiers found.0 found.1 found.2) text.1, text.2)
 
   abbrev by : ℕ → ℕ → Bool
   by i page = eqb (page_copier table.start.copiers page) i
@@ -105,9 +105,9 @@ module _ (trace : GuestTrace) (skip : Bool) (table : TableView) (streams : ℕ) 
       let copier = made_of outs_by copiers i outs now in
       let posted = posted_at i copier.0 copier.1 in
       let row : get_or rows i [] ≡ old = get_or_from_slice_get rows i old [] there in
-      let sum : frames_sent outs ≡ frames_sent old + length copier.0.desk.outbox.sent =
-      sym (ap frames_sent copier.2) ∙ posted.count ∙ ap (λ (o : List OutView). frames_sent o + length copier.0.desk.outbox.sent) row in
-      let size : length (pages_of copier.0) ≡ length copier.0.desk.outbox.sent = length-map copier.0.desk.outbox.sent (λ (s : ℕ × ℕ). s.0) in
+      let sum : frames_sent outs ≡ frames_sent old + length copier.0.state.log.sent =
+      sym (ap frames_sent copier.2) ∙ posted.count ∙ ap (λ (o : List OutView). frames_sent o + length copier.0.state.log.sent) row in
+      let size : length (pages_of copier.0) ≡ length copier.0.state.log.sent = length-map copier.0.state.log.sent (λ (s : ℕ × ℕ). s.0) in
       let whole : count_by (by i) (pages_of copier.0) ≡ length (pages_of copier.0) =
       count_whole (by i) (pages_of copier.0) (λ page c. eq-eqb (page_copier table.start.copiers page) i (own i copier.0 page copier.1 (inl c))) in
       let piece = count_piece (by i) pages_of copiers i copier.0 copier.1 in
@@ -117,9 +117,9 @@ module _ (trace : GuestTrace) (skip : Bool) (table : TableView) (streams : ℕ) 
   crowded : (page : ℕ) → Contains (round_of copiers).deferred page
       → (outs : List OutView) × (slice_get after (page_copier table.start.copiers page) ≡ Some outs) × IsCrowded outs
   crowded page deferred =
-      let found = in_piece (λ (c : Copier). c.desk.outbox.deferred) copiers page deferred in
+      let found = in_piece (λ (c : Copier). c.state.log.deferred) copiers page deferred in
       let place : page_copier table.start.copiers page ≡ found.0 = own found.0 found.1 page found.2 (inr found.3) in (
-        found.1.desk.outs,
+        found.1.state.outs,
         ap (slice_get after) place ∙ makes_at outs_by copiers found.0 found.1 found.2,
         (posted_at found.0 found.1 found.2).crowded page found.3,
       )
@@ -130,8 +130,8 @@ module _ (trace : GuestTrace) (skip : Bool) (table : TableView) (streams : ℕ) 
       let row = slice_get-get_or rows i [] inside in
       let copier = copier_at i (get_or rows i []) row in
       let low_after : i < length after = omega (arith, low, length-map after ids) in
-      get_or-map ids after i copier.0.desk.outs d low_after
-      ∙ ap ids (get_or_from_slice_get after i copier.0.desk.outs copier.0.desk.outs (makes_at outs_by copiers i copier.0 copier.1))
+      get_or-map ids after i copier.0.state.outs d low_after
+      ∙ ap ids (get_or_from_slice_get after i copier.0.state.outs copier.0.state.outs (makes_at outs_by copiers i copier.0 copier.1))
       ∙ (posted_at i copier.0 copier.1).lanes ∙ sym (get_or-map ids rows i [] d inside))
 
   pub have_posted : HavePosted trace table.start.copiers (round_of copiers) rows (map outs_by copiers)

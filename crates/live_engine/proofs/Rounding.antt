@@ -13,10 +13,10 @@ use Rattle.dirty_core.specs.Start.{Start, IsStart, start_with}
 use Rattle.dirty_words.specs.Closing.{AllGuests, AllCopiers, EachPageLeft}
 use Rattle.dirty_words.specs.Facts.{HoldsNone}
 use Rattle.dirty_words.specs.Seats.{TableView, GuestView, CopyView, ClosedView, copy_table}
-use Rattle.live_seats.specs.declared.copier.Copier.{Copier}
-use Rattle.live_seats.specs.Desks.{DeskView, IsDesk}
+use Rattle.live_tasks.specs.declared.copier.Copier.{Copier}
+use Rattle.live_tasks.specs.CopierStates.{CopierStateView, IsCopierState}
 use Rattle.stream_lanes.specs.Ends.{OutView}
-use Rattle.live_seats.specs.Replays.{OpensAt}
+use Rattle.live_tasks.specs.Replays.{OpensAt}
 use Rattle.live_engine.specs.Seated.{IsReplayed, AreReplayed, IsCopied, AreCopied}
 use Rattle.live_engine.specs.Joining.{HavePosted, IsRound}
 use Rattle.live_engine.specs.Lists.{lists_of, rows_of}
@@ -54,16 +54,16 @@ all_made f P xs ys same each k d low =
     let at : get_or ys k d ≡ f p.0 = ap (λ l. get_or l k d) same ∙ get_or-map f xs k p.0 d inside ∙ ap f (sym p.1) in
     subst P (sym at) (each k p.0 (slice_get-get_or xs k p.0 inside ∙ ap Some (sym p.1)))
 
-pub all_desks : (trace : GuestTrace) (skip : Bool) (table : TableView) (streams : ℕ) (rows : List (List OutView)) (copiers : List Copier) (desks : List DeskView) → desks ≡ map (λ (c : Copier). c.desk) copiers
-    → AreCopied trace skip table streams rows copiers → All (IsDesk trace streams) desks
-all_desks trace skip table streams rows copiers desks same is =
-    all_made (λ (c : Copier). c.desk) (IsDesk trace streams) copiers desks same (λ i c there. (each_got (IsCopied trace skip table streams rows) copiers i c is.each there).is_desk)
+pub all_states : (trace : GuestTrace) (skip : Bool) (table : TableView) (streams : ℕ) (rows : List (List OutView)) (copiers : List Copier) (states : List CopierStateView) → states ≡ map (λ (c : Copier). c.state) copiers
+    → AreCopied trace skip table streams rows copiers → All (IsCopierState trace streams) states
+all_states trace skip table streams rows copiers states same is =
+    all_made (λ (c : Copier). c.state) (IsCopierState trace streams) copiers states same (λ i c there. (each_got (IsCopied trace skip table streams rows) copiers i c is.each there).is_state)
 
-lists_are : (copiers : List Copier) (desks : List DeskView) → desks ≡ map (λ (c : Copier). c.desk) copiers → round_of copiers ≡ lists_of desks
-lists_are copiers desks same = λ i. live_round_with
-    (sym (ap (flat_map (λ (d : DeskView). d.outbox.sent)) same ∙ flat_map-map (λ (d : DeskView). d.outbox.sent) (λ (c : Copier). c.desk) copiers) i)
-    (sym (ap (flat_map (λ (d : DeskView). d.outbox.skipped)) same ∙ flat_map-map (λ (d : DeskView). d.outbox.skipped) (λ (c : Copier). c.desk) copiers) i)
-    (sym (ap (flat_map (λ (d : DeskView). d.outbox.deferred)) same ∙ flat_map-map (λ (d : DeskView). d.outbox.deferred) (λ (c : Copier). c.desk) copiers) i)
+lists_are : (copiers : List Copier) (states : List CopierStateView) → states ≡ map (λ (c : Copier). c.state) copiers → round_of copiers ≡ lists_of states
+lists_are copiers states same = λ i. live_round_with
+    (sym (ap (flat_map (λ (d : CopierStateView). d.log.sent)) same ∙ flat_map-map (λ (d : CopierStateView). d.log.sent) (λ (c : Copier). c.state) copiers) i)
+    (sym (ap (flat_map (λ (d : CopierStateView). d.log.skipped)) same ∙ flat_map-map (λ (d : CopierStateView). d.log.skipped) (λ (c : Copier). c.state) copiers) i)
+    (sym (ap (flat_map (λ (d : CopierStateView). d.log.deferred)) same ∙ flat_map-map (λ (d : CopierStateView). d.log.deferred) (λ (c : Copier). c.state) copiers) i)
 
 pub opens_so : (trace : GuestTrace) (from : ℕ) (start : Start) (closed : ClosedView) (guests copiers : ℕ) → start ≡ start_with closed.versions closed.dirty guests copiers
     → length closed.versions ≡ trace.pages → ((page : ℕ) → page < trace.pages → slice_index closed.versions page ≡ version_before trace page from) → OpensAt trace from start
@@ -86,41 +86,41 @@ closed_is trace skip table from to streams rows guests copiers seats after span 
 }
 
 pub round_is : (trace : GuestTrace) (skip : Bool) (table : TableView) (from to streams replayers workers : ℕ) (rows : List (List OutView)) (guests : List GuestView) (copiers : List Copier)
-    (desks : List DeskView) (before after : ClosedView) → IsClosedRound trace skip table from to streams rows guests copiers after
-    → table.start ≡ start_with before.versions before.dirty replayers workers → desks ≡ map (λ (c : Copier). c.desk) copiers
-    → IsRound trace skip workers before.dirty from to after (lists_of desks)
-round_is trace skip table from to streams replayers workers rows guests copiers desks before after closed same desks_are =
-    subst (λ (r : LiveRound). IsRound trace skip workers before.dirty from to after r) (lists_are copiers desks desks_are)
+    (states : List CopierStateView) (before after : ClosedView) → IsClosedRound trace skip table from to streams rows guests copiers after
+    → table.start ≡ start_with before.versions before.dirty replayers workers → states ≡ map (λ (c : Copier). c.state) copiers
+    → IsRound trace skip workers before.dirty from to after (lists_of states)
+round_is trace skip table from to streams replayers workers rows guests copiers states before after closed same states_are =
+    subst (λ (r : LiveRound). IsRound trace skip workers before.dirty from to after r) (lists_are copiers states states_are)
     (subst (λ (s : Start). IsRound trace skip s.copiers s.dirty from to after (round_of copiers)) same
     (round_left trace skip table from to streams rows guests copiers after closed))
 
 -- what the copiers of a round sent on their lanes
 pub posts_are : (trace : GuestTrace) (skip : Bool) (table : TableView) (from to streams : ℕ) (rows : List (List OutView)) (guests : List GuestView) (copiers : List Copier)
-    (desks : List DeskView) (after : ClosedView) → IsClosedRound trace skip table from to streams rows guests copiers after → length rows ≡ length copiers
-    → desks ≡ map (λ (c : Copier). c.desk) copiers → HavePosted trace table.start.copiers (lists_of desks) rows (rows_of desks)
-posts_are trace skip table from to streams rows guests copiers desks after is count same =
+    (states : List CopierStateView) (after : ClosedView) → IsClosedRound trace skip table from to streams rows guests copiers after → length rows ≡ length copiers
+    → states ≡ map (λ (c : Copier). c.state) copiers → HavePosted trace table.start.copiers (lists_of states) rows (rows_of states)
+posts_are trace skip table from to streams rows guests copiers states after is count same =
     let posted = have_posted trace skip table streams rows copiers is.copied count (λ i copier page there either. elim either [
       | inl sent ↦ (listing trace skip table from to streams rows guests copiers after is i copier page there (inl sent)).1
       | inr deferred ↦ (listing trace skip table from to streams rows guests copiers after is i copier page there (inr (inr deferred))).1
     ]) in
-    let rows_are : map (λ (c : Copier). c.desk.outs) copiers ≡ rows_of desks =
-    sym (ap rows_of same ∙ map-map (λ (d : DeskView). d.outs) (λ (c : Copier). c.desk) copiers) in
-    subst (λ (r : LiveRound). HavePosted trace table.start.copiers r rows (rows_of desks)) (lists_are copiers desks same)
+    let rows_are : map (λ (c : Copier). c.state.outs) copiers ≡ rows_of states =
+    sym (ap rows_of same ∙ map-map (λ (d : CopierStateView). d.outs) (λ (c : Copier). c.state) copiers) in
+    subst (λ (r : LiveRound). HavePosted trace table.start.copiers r rows (rows_of states)) (lists_are copiers states same)
     (subst (HavePosted trace table.start.copiers (round_of copiers) rows) rows_are posted)
 
 -- what a round did and left, and what its copiers posted, when all its threads have ended and its table is closed
-pub round_done : (trace : GuestTrace) (skip : Bool) (table : TableView) (from to streams replayers workers : ℕ) (first : List DeskView) (guests : List GuestView)
-    (copiers : List Copier) (seats : List CopyView) (desks : List DeskView) (before after : ClosedView)
+pub round_done : (trace : GuestTrace) (skip : Bool) (table : TableView) (from to streams replayers workers : ℕ) (first : List CopierStateView) (guests : List GuestView)
+    (copiers : List Copier) (seats : List CopyView) (states : List CopierStateView) (before after : ClosedView)
     → table.start ≡ start_with before.versions before.dirty replayers workers → IsStart table.start → from ≤ to → OpensAt trace from table.start → length first ≡ workers
     → AreReplayed trace table from to guests → AreCopied trace skip table streams (rows_of first) copiers → seats ≡ map (λ (c : Copier). c.seat) copiers
-    → desks ≡ map (λ (c : Copier). c.desk) copiers → EachPageLeft table.start guests seats after
+    → states ≡ map (λ (c : Copier). c.state) copiers → EachPageLeft table.start guests seats after
     → IsStart (start_with after.versions after.dirty table.start.guests table.start.copiers)
-    → IsRound trace skip workers before.dirty from to after (lists_of desks) × HavePosted trace workers (lists_of desks) (rows_of first) (rows_of desks)
-round_done trace skip table from to streams replayers workers first guests copiers seats desks before after start_is start span opens count replayed copied seats_are desks_are left next =
+    → IsRound trace skip workers before.dirty from to after (lists_of states) × HavePosted trace workers (lists_of states) (rows_of first) (rows_of states)
+round_done trace skip table from to streams replayers workers first guests copiers seats states before after start_is start span opens count replayed copied seats_are states_are left next =
     let closed = closed_is trace skip table from to streams (rows_of first) guests copiers seats after span opens start replayed copied seats_are left next in
     let workers_are : table.start.copiers ≡ workers = ap (λ (s : Start). s.copiers) start_is in (
-      round_is trace skip table from to streams replayers workers (rows_of first) guests copiers desks before after closed start_is desks_are,
-      subst (λ (n : ℕ). HavePosted trace n (lists_of desks) (rows_of first) (rows_of desks)) workers_are
-          (posts_are trace skip table from to streams (rows_of first) guests copiers desks after closed
-          (length-map first (λ (d : DeskView). d.outs) ∙ count ∙ sym (copied.count ∙ workers_are)) desks_are),
+      round_is trace skip table from to streams replayers workers (rows_of first) guests copiers states before after closed start_is states_are,
+      subst (λ (n : ℕ). HavePosted trace n (lists_of states) (rows_of first) (rows_of states)) workers_are
+          (posts_are trace skip table from to streams (rows_of first) guests copiers states after closed
+          (length-map first (λ (d : CopierStateView). d.outs) ∙ count ∙ sym (copied.count ∙ workers_are)) states_are),
     )

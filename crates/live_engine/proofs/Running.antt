@@ -20,8 +20,8 @@ use Rattle.page_bitmap.specs.Pages.{in_words}
 use Rattle.dirty_words.specs.Seats.{ClosedView}
 use Rattle.dirty_words.specs.Closing.{FitsPages}
 use Rattle.stream_lanes.specs.Ends.{LaneId, OutView}
-use Rattle.live_seats.specs.Desks.{DeskView}
-use Rattle.live_seats.specs.Outboxes.{frames_sent}
+use Rattle.live_tasks.specs.CopierStates.{CopierStateView}
+use Rattle.live_tasks.specs.RoundLogs.{frames_sent}
 use Rattle.live_engine.specs.Lists.{rows_of}
 use Rattle.live_engine.specs.declared.opening.Team.{Team}
 use Rattle.live_engine.specs.Runs.{IsUnderWay}
@@ -30,7 +30,7 @@ use Rattle.live_engine.specs.Warm.{is_lacking}
 use Rattle.live_engine.proofs.Each.{all_there, pick}
 use Rattle.live_engine.proofs.ScanOrder.{fst_in}
 use Rattle.live_engine.proofs.Visits.{version_stays}
-use Rattle.live_seats.proofs.Basics.{false_leb, false_true, in_none}
+use Rattle.live_tasks.proofs.Basics.{false_leb, false_true, in_none}
 
 and_none : (a b : Bool) → b ≡ false → (a && b) ≡ false
 and_none true b e = e
@@ -443,9 +443,9 @@ joined_next trace base now copiers planned rounds plan round old new before afte
     joined_more trace base now copiers plan.from plan.to planned rounds plan round old new before after le refl refl joined is posted
 
 -- what the last round closed fits the trace
-pub fits_pages : (trace : GuestTrace) (base : Option ℕ) (tick : ℕ) (team : Team) (planned : List PlannedRound) (rounds : List LiveRound) (closed : ClosedView) (desks : List DeskView)
-    → IsUnderWay trace team closed desks → AreJoined trace base team.copiers tick planned rounds closed (rows_of desks) → FitsPages closed trace.pages (length trace.writes)
-fits_pages trace base tick team planned rounds closed desks under_way joined = record {
+pub fits_pages : (trace : GuestTrace) (base : Option ℕ) (tick : ℕ) (team : Team) (planned : List PlannedRound) (rounds : List LiveRound) (closed : ClosedView) (states : List CopierStateView)
+    → IsUnderWay trace team closed states → AreJoined trace base team.copiers tick planned rounds closed (rows_of states) → FitsPages closed trace.pages (length trace.writes)
+fits_pages trace base tick team planned rounds closed states under_way joined = record {
   versions = under_way.size;
   low = λ page d low.
       let real : page < trace.pages = omega (arith, low, under_way.size) in

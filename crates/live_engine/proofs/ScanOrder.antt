@@ -9,7 +9,7 @@ use Rattle.std.proofs.lemmas.List.Kept.{AllPairs-from_increasing}
 use Rattle.std.proofs.lemmas.List.Elements.{Contains-append_cases, Contains-append_left, Contains-append_right, Contains-get_or}
 use Rattle.std.proofs.lemmas.Option.{none-some, same_Some}
 use Rattle.migration_model.specs.Live.{IsInScanOrder, page_copier}
-use Rattle.live_seats.proofs.Basics.{in_none}
+use Rattle.live_tasks.proofs.Basics.{in_none}
 
 -- the page of a pair that is listed, and a pair of a page that is
 pub fst_in : (sent : List (ℕ × ℕ)) (page place : ℕ) → Contains sent (page, place) → Contains (map (λ (s : ℕ × ℕ). s.0) sent) page

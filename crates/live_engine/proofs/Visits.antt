@@ -9,7 +9,7 @@ use Rattle.migration_model.specs.Live.{IsPlaceOf}
 use Rattle.migration_model.proofs.Placed.{version_is_place, version_is_greatest, version_rises}
 use Rattle.dirty_core.specs.Machine.{Visits, last_visit}
 use Rattle.dirty_core.specs.Runs.{IsVisited, Rises, place_after}
-use Rattle.live_seats.proofs.Basics.{false_true}
+use Rattle.live_tasks.proofs.Basics.{false_true}
 
 pub last_is_visit : (visits : Visits) (page place : ℕ) → last_visit visits page ≡ Some place → IsVisited visits page place
 last_is_visit [] page place is = absurd (none-some place is)

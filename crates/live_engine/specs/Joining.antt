@@ -1,17 +1,19 @@
 -- What a round leaves, and how rounds are joined.
-use Rattle.std.specs.Prelude.{◌≡◌, ◌⊎◌, ℕ, ◌+◌, ◌<◌, ◌≤◌, Bool, true, IsTrue, List, [], ◌∷◌, map, slice_get, slice_index, Option, Some, IfSome, IsSomeAnd}
+use Rattle.std.specs.Prelude.{◌≡◌, ◌⊎◌, ℕ, ◌+◌, ◌<◌, ◌≤◌, Bool, true, IsTrue, List, [], ◌∷◌, map, slice_get}
+use Rattle.std.specs.Prelude.{slice_index, Option, Some, IfSome, IsSomeAnd}
 use Rattle.std.specs.List.{All, Any, Contains}
 use Rattle.migration_model.specs.Trace.{GuestTrace}
 use Rattle.migration_model.specs.Versions.{IsWritten, version_before, page_at}
 use Rattle.migration_model.specs.Rounds.{PlannedRound}
 use Rattle.migration_model.specs.Frames.{PageFrame, SpellsFrame, content_of}
 use Rattle.migration_model.specs.Final.{shape_of_trace}
-use Rattle.migration_model.specs.Live.{IsPlaceOf, LiveRound, IsSentWith, IsListed, IsInScanOrder, IsInBase, WasCurrent, IsPutOff, IsWrittenLast}
+use Rattle.migration_model.specs.Live.{IsPlaceOf, LiveRound, IsSentWith, IsListed, IsInScanOrder, IsInBase, WasCurrent}
+use Rattle.migration_model.specs.Live.{IsPutOff, IsWrittenLast}
 use Rattle.migration_model.specs.Live.{pages_sent, page_copier, sent_by_copier}
 use Rattle.page_bitmap.specs.Pages.{in_words}
 use Rattle.dirty_words.specs.Seats.{ClosedView}
 use Rattle.stream_lanes.specs.Ends.{LaneId, OutView, IsSentOn}
-use Rattle.live_seats.specs.Outboxes.{IsCrowded, SpellsPage, frames_sent}
+use Rattle.live_tasks.specs.RoundLogs.{IsCrowded, SpellsPage, frames_sent}
 
 abbrev pub IsMarked : List ℕ → ℕ → Type 0
 IsMarked dirty page = IsTrue (in_words dirty page)
@@ -21,11 +23,13 @@ pub record IsRound (trace : GuestTrace) (skip : Bool) (copiers : ℕ) (dirty : L
     (closed : ClosedView) (round : LiveRound) : Type 0 where
   pub versions : (page : ℕ) → page < trace.pages → slice_index closed.versions page ≡ version_before trace page to
   pub found : (page : ℕ) → page < trace.pages → IsMarked dirty page → IsListed round page
-  pub only : (page : ℕ) → IsListed round page → (page < trace.pages) × (IsMarked dirty page ⊎ IsWritten trace from to page)
+  pub only : (page : ℕ) → IsListed round page
+      → (page < trace.pages) × (IsMarked dirty page ⊎ IsWritten trace from to page)
   pub stamps : (page stamp : ℕ) → IsSentWith round page stamp
       → (stamp ≡ version_before trace page from) ⊎ IsPlaceOf trace page from to stamp
   pub over : (page stamp : ℕ) → IsSentWith round page stamp → stamp ≤ version_before trace page to
-  pub skips : (page : ℕ) → Contains round.skipped page → (skip ≡ true) × IsWritten trace from to page × IsMarked closed.dirty page
+  pub skips : (page : ℕ) → Contains round.skipped page → (skip ≡ true) × IsWritten trace from to page
+      × IsMarked closed.dirty page
   pub put_off : (page : ℕ) → Contains round.deferred page → IsMarked closed.dirty page
   pub due : (page : ℕ) → page < trace.pages → IsMarked closed.dirty page
       → IsWritten trace from to page ⊎ (Contains round.skipped page ⊎ Contains round.deferred page)
@@ -35,7 +39,8 @@ pub record IsRound (trace : GuestTrace) (skip : Bool) (copiers : ℕ) (dirty : L
   pub skipped_order : IsInScanOrder copiers round.skipped
   pub deferred_order : IsInScanOrder copiers round.deferred
   pub apart : (page : ℕ) → Contains (pages_sent round) page → ¬ Contains round.skipped page
-  pub deferred_apart : (page : ℕ) → Contains round.deferred page → (¬ Contains (pages_sent round) page) × (¬ Contains round.skipped page)
+  pub deferred_apart : (page : ℕ) → Contains round.deferred page → (¬ Contains (pages_sent round) page)
+      × (¬ Contains round.skipped page)
 
 -- the frame was sent by one of the copiers, whose lanes these are
 abbrev pub IsSentBy : List (List OutView) → List ℕ → Type 0
@@ -53,15 +58,19 @@ HaveCapacity lane rows = All (All (λ id. id.capacity ≡ lane)) rows
 abbrev pub HaveSentNothing : List (List OutView) → Type 0
 HaveSentNothing rows = All (All (λ out. out.sent ≡ [])) rows
 
--- In this round the copiers sent the frames of the pages that are listed as sent, and no other; a page was deferred only
--- where one of its copier's lanes was full.
-pub record HavePosted (trace : GuestTrace) (copiers : ℕ) (round : LiveRound) (before after : List (List OutView)) : Type 0 where
+-- In this round the copiers sent the frames of the pages that are listed as sent, and no other; a page was deferred
+-- only where one of its copier's lanes was full.
+pub record HavePosted (trace : GuestTrace) (copiers : ℕ) (round : LiveRound)
+    (before after : List (List OutView)) : Type 0 where
   pub lanes : lanes_of after ≡ lanes_of before
   pub kept : (text : List ℕ) → IsSentBy before text → IsSentBy after text
   pub new : (text : List ℕ) → IsSentBy after text
-      → IsSentBy before text ⊎ ((page : ℕ) × (place : ℕ) × Contains round.sent (page, place) × SpellsPage trace page place text)
-  pub all : (page place : ℕ) → Contains round.sent (page, place) → (text : List ℕ) × IsSentBy after text × SpellsPage trace page place text
-  pub count : (copier : ℕ) (old new : List OutView) → slice_get before copier ≡ Some old → slice_get after copier ≡ Some new
+      → IsSentBy before text ⊎ ((page : ℕ) × (place : ℕ) × Contains round.sent (page, place)
+      × SpellsPage trace page place text)
+  pub all : (page place : ℕ) → Contains round.sent (page, place) → (text : List ℕ) × IsSentBy after text
+      × SpellsPage trace page place text
+  pub count : (copier : ℕ) (old new : List OutView) → slice_get before copier ≡ Some old
+      → slice_get after copier ≡ Some new
       → frames_sent new ≤ frames_sent old + sent_by_copier copiers (round ∷ []) copier
   pub crowded : (page : ℕ) → Contains round.deferred page
       → (outs : List OutView) × (slice_get after (page_copier copiers page) ≡ Some outs) × IsCrowded outs
@@ -82,12 +91,14 @@ pub record IsCurrentText (trace : GuestTrace) (versions : List ℕ) (page : ℕ)
 
 -- the destination began with a base, and the page has its version of then
 abbrev pub IsAsInBase : GuestTrace → Option ℕ → List ℕ → ℕ → Type 0
-IsAsInBase trace base versions page = IsSomeAnd base (λ from. slice_index versions page ≡ version_before trace page from)
+IsAsInBase trace base versions page = IsSomeAnd base
+    (λ from. slice_index versions page ≡ version_before trace page from)
 
 -- What holds after so many rounds, when the next begins at this tick: the versions are those before it; each frame that
 -- was sent is honest and nowhere beyond them; each page that isn't marked was sent as it is now, or is as in the base.
 -- Before the first round only pages are marked that are not as in the base.
-pub record AreJoined (trace : GuestTrace) (base : Option ℕ) (copiers tick : ℕ) (planned : List PlannedRound) (rounds : List LiveRound)
+pub record AreJoined (trace : GuestTrace) (base : Option ℕ) (copiers tick : ℕ) (planned : List PlannedRound)
+    (rounds : List LiveRound)
     (closed : ClosedView) (rows : List (List OutView)) : Type 0 where
   pub base_low : IfSome base (λ from. from ≤ tick)
   pub versions : (page : ℕ) → page < trace.pages → slice_index closed.versions page ≡ version_before trace page tick

@@ -3,13 +3,14 @@ use Rattle.std.specs.Prelude.{List, map}
 use Rattle.std.specs.List.{flat_map}
 use Rattle.migration_model.specs.Live.{LiveRound, live_round_with}
 use Rattle.stream_lanes.specs.Ends.{OutView}
-use Rattle.live_seats.specs.Desks.{DeskView}
+use Rattle.live_tasks.specs.CopierStates.{CopierStateView}
 
 -- what the copiers sent, skipped and deferred, one after the other
-abbrev pub lists_of : List DeskView → LiveRound
-lists_of desks =
-    live_round_with (flat_map (λ d. d.outbox.sent) desks) (flat_map (λ d. d.outbox.skipped) desks) (flat_map (λ d. d.outbox.deferred) desks)
+abbrev pub lists_of : List CopierStateView → LiveRound
+lists_of states =
+    live_round_with (flat_map (λ d. d.log.sent) states) (flat_map (λ d. d.log.skipped) states)
+    (flat_map (λ d. d.log.deferred) states)
 
 -- the lanes of each copier
-abbrev pub rows_of : List DeskView → List (List OutView)
-rows_of desks = map (λ d. d.outs) desks
+abbrev pub rows_of : List CopierStateView → List (List OutView)
+rows_of states = map (λ d. d.outs) states

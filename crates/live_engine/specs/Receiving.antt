@@ -20,14 +20,18 @@ pub record AreCrossed (copiers streams : ℕ) (sending taking : List (List LaneI
   pub streams_are : length taking ≡ streams
   pub rows : All (λ row. length row ≡ streams) sending
   pub columns : All (λ column. length column ≡ copiers) taking
-  pub lanes : (copier stream : ℕ) (row column : List LaneId) → slice_get sending copier ≡ Some row → slice_get taking stream ≡ Some column
+  pub lanes : (copier stream : ℕ) (row column : List LaneId) → slice_get sending copier ≡ Some row
+      → slice_get taking stream ≡ Some column
       → slice_get row stream ≡ slice_get column copier
 
 -- the frame was sent to this stream
 abbrev pub IsSentTo : ℕ → List (List OutView) → List ℕ → Type 0
-IsSentTo stream rows text = Any (λ outs. (out : OutView) × (slice_get outs stream ≡ Some out) × Contains out.sent text) rows
+IsSentTo stream rows text = Any (λ outs. (out : OutView) × (slice_get outs stream ≡ Some out)
+    × Contains out.sent text) rows
 
 -- a part for each stream, which has what was sent to it and nothing else
-pub record HaveArrived (shape : GuestShape) (streams : ℕ) (rows : List (List OutView)) (parts : List GuestPart) : Type 0 where
+pub record HaveArrived (shape : GuestShape) (streams : ℕ) (rows : List (List OutView))
+    (parts : List GuestPart) : Type 0 where
   pub count : length parts ≡ streams
-  pub each : (stream : ℕ) (part : GuestPart) → slice_get parts stream ≡ Some part → HasFrames shape (IsSentTo stream rows) part
+  pub each : (stream : ℕ) (part : GuestPart) → slice_get parts stream ≡ Some part
+      → HasFrames shape (IsSentTo stream rows) part

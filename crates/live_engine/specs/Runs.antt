@@ -16,7 +16,7 @@ use Rattle.page_versions.specs.Index.{GuestIndex, IsIndexOf}
 use Rattle.dirty_core.specs.Start.{IsStart, start_with}
 use Rattle.dirty_words.specs.Closing.{FitsPages}
 use Rattle.dirty_words.specs.Seats.{ClosedView}
-use Rattle.live_seats.specs.Desks.{DeskView, IsDesk}
+use Rattle.live_tasks.specs.CopierStates.{CopierStateView, IsCopierState}
 use Rattle.stream_receivers.specs.Receivers.{ReceiverView}
 use Rattle.live_engine.specs.declared.opening.Team.{Team}
 use Rattle.live_engine.specs.Joining.{AreJoined, HaveCapacity, HaveSentNothing, IsAsInBase, IsMarked, lanes_of}
@@ -41,54 +41,60 @@ pub record IsTeamOf (s : MigrationSettings) (team : Team) : Type 0 where
   pub streams_are : team.streams ≡ s.streams
   pub lane_is : team.lane ≡ s.lane
 
--- the next table may open, and there is a desk for each copier
-pub record IsUnderWay (trace : GuestTrace) (team : Team) (closed : ClosedView) (desks : List DeskView) : Type 0 where
+-- the next table may open, and there is a state for each copier
+pub record IsUnderWay (trace : GuestTrace) (team : Team) (closed : ClosedView)
+    (states : List CopierStateView) : Type 0 where
   pub next : IsStart (start_with closed.versions closed.dirty team.replayers team.copiers)
   pub size : length closed.versions ≡ trace.pages
-  pub desks_are : length desks ≡ team.copiers
-  pub each : All (IsDesk trace team.streams) desks
+  pub states_are : length states ≡ team.copiers
+  pub each : All (IsCopierState trace team.streams) states
 
--- there is a desk for each copier, and nothing was sent from it
-pub record AreNewDesks (trace : GuestTrace) (team : Team) (desks : List DeskView) : Type 0 where
-  pub count : length desks ≡ team.copiers
-  pub each : All (IsDesk trace team.streams) desks
-  pub new : HaveSentNothing (rows_of desks)
+-- there is a state for each copier, and nothing was sent from it
+pub record AreNewStates (trace : GuestTrace) (team : Team) (states : List CopierStateView) : Type 0 where
+  pub count : length states ≡ team.copiers
+  pub each : All (IsCopierState trace team.streams) states
+  pub new : HaveSentNothing (rows_of states)
 
--- a lane from each copier's desk to each stream's receiver; nothing was sent, and no part has any page
-pub record AreOpened (trace : GuestTrace) (team : Team) (desks : List DeskView) (receivers : List ReceiverView) : Type 0 where
-  pub desks_are : AreNewDesks trace team desks
-  pub crossed : AreCrossed team.copiers team.streams (lanes_of (rows_of desks)) (map lanes_in receivers)
-  pub capacity : HaveCapacity team.lane (lanes_of (rows_of desks))
+-- a lane from each copier's state to each stream's receiver; nothing was sent, and no part has any page
+pub record AreOpened (trace : GuestTrace) (team : Team) (states : List CopierStateView)
+    (receivers : List ReceiverView) : Type 0 where
+  pub states_are : AreNewStates trace team states
+  pub crossed : AreCrossed team.copiers team.streams (lanes_of (rows_of states)) (map lanes_in receivers)
+  pub capacity : HaveCapacity team.lane (lanes_of (rows_of states))
   pub is_trace : IsTrace trace
   pub shapes : All (λ receiver. receiver.part.shape ≡ shape_of_trace trace) receivers
 
--- all planned rounds are done, by copiers that had these desks before
-pub record AreDone (trace : GuestTrace) (s : MigrationSettings) (plan : MigrationPlan) (team : Team) (before : List DeskView)
-    (closed : ClosedView) (rounds : List LiveRound) (desks : List DeskView) : Type 0 where
-  pub under_way : IsUnderWay trace team closed desks
-  pub lanes : lanes_of (rows_of desks) ≡ lanes_of (rows_of before)
-  pub joined : AreJoined trace s.base team.copiers plan.stop plan.rounds rounds closed (rows_of desks)
+-- all planned rounds are done, by copiers that had these states before
+pub record AreDone (trace : GuestTrace) (s : MigrationSettings) (plan : MigrationPlan) (team : Team)
+    (before : List CopierStateView)
+    (closed : ClosedView) (rounds : List LiveRound) (states : List CopierStateView) : Type 0 where
+  pub under_way : IsUnderWay trace team closed states
+  pub lanes : lanes_of (rows_of states) ≡ lanes_of (rows_of before)
+  pub joined : AreJoined trace s.base team.copiers plan.stop plan.rounds rounds closed (rows_of states)
   pub law : (lane : ℕ) → HaveCapacity lane (lanes_of (rows_of before))
       → LiveRounds trace s.base s.skip team.copiers lane plan.rounds rounds
 
--- what a run begins with: an index of the trace, a team, the plan, and a desk for each copier
-pub record MayBegin (trace : GuestTrace) (index : GuestIndex) (s : MigrationSettings) (plan : MigrationPlan) (team : Team)
-    (desks : List DeskView) : Type 0 where
+-- what a run begins with: an index of the trace, a team, the plan, and a state for each copier
+pub record MayBegin (trace : GuestTrace) (index : GuestIndex) (s : MigrationSettings)
+    (plan : MigrationPlan) (team : Team)
+    (states : List CopierStateView) : Type 0 where
   pub is_index : IsIndexOf index trace
   pub is_team : IsTeam team
   pub is_plan : IsPlan trace.pages (touches_of trace) s plan
-  pub desks_are : AreNewDesks trace team desks
+  pub states_are : AreNewStates trace team states
 
 -- the rounds are done, and each receiver has the lanes and the guest that it had
-pub record HaveEnded (trace : GuestTrace) (s : MigrationSettings) (plan : MigrationPlan) (team : Team) (before : List DeskView)
-    (opened : List ReceiverView) (closed : ClosedView) (rounds : List LiveRound) (desks : List DeskView)
+pub record HaveEnded (trace : GuestTrace) (s : MigrationSettings) (plan : MigrationPlan) (team : Team)
+    (before : List CopierStateView)
+    (opened : List ReceiverView) (closed : ClosedView) (rounds : List LiveRound) (states : List CopierStateView)
     (receivers : List ReceiverView) : Type 0 where
-  pub done : AreDone trace s plan team before closed rounds desks
+  pub done : AreDone trace s plan team before closed rounds states
   pub same : map identity_of receivers ≡ map identity_of opened
 
--- All that was sent has come to the parts. A page that isn't marked is no older there than at the stop, or has the version
--- that it had in the base.
-pub record AllCame (trace : GuestTrace) (base : Option ℕ) (streams : ℕ) (closed : ClosedView) (parts : List GuestPart) : Type 0 where
+-- All that was sent has come to the parts. A page that isn't marked is no older there than at the stop, or has the
+-- version that it had in the base.
+pub record AllCame (trace : GuestTrace) (base : Option ℕ)
+    (streams : ℕ) (closed : ClosedView) (parts : List GuestPart) : Type 0 where
   pub fits : FitsPages closed trace.pages (length trace.writes)
   pub base_low : IfSome base (λ from. (page : ℕ) → page < trace.pages
       → version_before trace page from ≤ slice_index_or closed.versions page 0)
@@ -97,8 +103,8 @@ pub record AllCame (trace : GuestTrace) (base : Option ℕ) (streams : ℕ) (clo
   pub current : (page : ℕ) → page < trace.pages → ¬ IsMarked closed.dirty page
       → HaveCurrent closed.versions parts page ⊎ IsAsInBase trace base closed.versions page
 
--- All that was sent, and what the destination began with, is in the parts, and no page that isn't marked is older there than
--- at the stop.
+-- All that was sent, and what the destination began with, is in the parts, and no page that isn't marked is older there
+-- than at the stop.
 pub record AllArrived (trace : GuestTrace) (streams : ℕ) (closed : ClosedView) (parts : List GuestPart) : Type 0 where
   pub fits : FitsPages closed trace.pages (length trace.writes)
   pub count : length parts ≡ streams
@@ -106,7 +112,8 @@ pub record AllArrived (trace : GuestTrace) (streams : ℕ) (closed : ClosedView)
   pub current : (page : ℕ) → page < trace.pages → ¬ IsMarked closed.dirty page → HaveCurrent closed.versions parts page
 
 -- memory of a trace's guest in which each page is at its version, and an index of the trace
-pub record IsStoppedAt (trace : GuestTrace) (versions : List ℕ) (index : GuestIndex) (memory : GuestMemory) : Type 0 where
+pub record IsStoppedAt (trace : GuestTrace) (versions : List ℕ)
+    (index : GuestIndex) (memory : GuestMemory) : Type 0 where
   pub is_trace : IsTrace trace
   pub is_index : IsIndexOf index trace
   pub shift : memory.shift ≡ trace.shift
@@ -116,8 +123,8 @@ pub record IsStoppedAt (trace : GuestTrace) (versions : List ℕ) (index : Guest
   pub within : (page : ℕ) → page < trace.pages → slice_index_or versions page 0 ≤ length trace.writes
   pub at : AtVersions trace versions memory
 
--- A guest that has stopped by the plan: it has the memory at the plan's stop tick, each page at its version, and the rounds
--- keep the law.
+-- A guest that has stopped by the plan: it has the memory at the plan's stop tick, each page at its version, and the
+-- rounds keep the law.
 pub record IsStopped (trace : GuestTrace) (s : MigrationSettings) (stop : ℕ) (at_stop : GuestMemory) (versions : List ℕ)
     (index : GuestIndex) (rounds : List LiveRound) : Type 0 where
   pub plan : MigrationPlan
@@ -127,8 +134,8 @@ pub record IsStopped (trace : GuestTrace) (s : MigrationSettings) (stop : ℕ) (
   pub stopped : IsStoppedAt trace versions index at_stop
   pub law : LiveRounds trace s.base s.skip s.workers s.lane plan.rounds rounds
 
--- A live run that answers: by the plan, it has the memory at the plan's stop tick and after all writes, and its rounds keep
--- the law.
+-- A live run that answers: by the plan, it has the memory at the plan's stop tick and after all writes, and its rounds
+-- keep the law.
 pub record IsLiveRun (trace : GuestTrace) (s : MigrationSettings) (stop : ℕ) (at_stop at_end : GuestMemory)
     (rounds : List LiveRound) : Type 0 where
   pub plan : MigrationPlan

@@ -4,9 +4,9 @@ use Rattle.migration_model.specs.Trace.{GuestTrace}
 use Rattle.page_versions.specs.Index.{GuestIndex, IsIndexOf}
 use Rattle.dirty_words.specs.Seats.{TableView, GuestView, guest_table}
 use Rattle.stream_lanes.specs.Ends.{OutView}
-use Rattle.live_seats.specs.Replays.{HasReplayed}
-use Rattle.live_seats.specs.Copies.{HasCopied}
-use Rattle.live_seats.specs.declared.copier.Copier.{Copier}
+use Rattle.live_tasks.specs.Replays.{HasReplayed}
+use Rattle.live_tasks.specs.Copies.{HasCopied}
+use Rattle.live_tasks.specs.declared.copier.Copier.{Copier}
 
 -- the relation of each element and its index
 abbrev pub EachAt : {X : Type 0} → (X → ℕ → Type 0) → List X → Type 0
@@ -55,7 +55,7 @@ pub record AreReplayed (trace : GuestTrace) (table : TableView) (from to : ℕ) 
 -- the copier with this number did its part, and had these lanes first
 abbrev pub IsCopied : GuestTrace → Bool → TableView → ℕ → List (List OutView) → Copier → ℕ → Type 0
 IsCopied trace skip table streams rows copier number =
-    HasCopied trace skip table number streams (slice_index_or rows number []) copier.seat copier.desk
+    HasCopied trace skip table number streams (slice_index_or rows number []) copier.seat copier.state
 
 -- all copiers of the table did their parts
 pub record AreCopied (trace : GuestTrace) (skip : Bool) (table : TableView) (streams : ℕ) (rows : List (List OutView))

@@ -6,7 +6,7 @@ ghost use Rattle.live_engine.specs.declared.error.LiveError.TheVariants.{Memory,
 use collector::PartError;
 use dirty_words::TableError;
 use image_build::ImageError;
-use live_seats::SeatError;
+use live_tasks::SeatError;
 use page_versions::IndexError;
 use round_planner::PlanError;
 use std::alloc::{AllocError, AllocFailed};
@@ -19,7 +19,7 @@ use thiserror::Error;
 /// A refusal. Its text is its name.
 #[derive(Clone, Copy, Debug, PartialEq, Eq, Error)]
 pub enum LiveError {
-    /// A growth was refused.
+    /// Memory ran out.
     #[error("L1")]
     Memory,
     /// A thread was not started.
@@ -67,7 +67,7 @@ impl From<TableError> for LiveError {
     }
 }
 
-/// After the final copy no page is missing in the parts, so only memory can have been refused.
+/// After the final copy no page is missing in the parts, so the error is want of memory.
 impl From<ImageError> for LiveError {
     ghost from_gives = { λ _ e. e ≡ Memory };
 
@@ -84,7 +84,7 @@ impl From<LaneError> for LiveError {
     }
 }
 
-/// All that is sent are frames, so only memory can have been refused.
+/// All that is sent are frames, so the error is want of memory.
 impl From<ReceiverError> for LiveError {
     ghost from_gives = { λ _ e. e ≡ Memory };
 

@@ -16,18 +16,18 @@
 //! Tests make these calls: `many_threads_and_streams_make_the_same_memory` of the crate `live_schedules`.
 #![tactic(auto)]
 
-mod crew;
 mod error;
 mod laws;
 mod migration;
 mod opening;
 mod receivers;
+mod rounds;
 mod stopped;
 mod threads;
 mod warm;
 
 pub use error::LiveError;
 pub use laws::due_in_the_first_round;
-pub use live_seats::{Gate, OpenGate, Point};
+pub use live_tasks::{Gate, OpenGate, Point};
 pub use migration::{Live, live_run, migrate};
-pub use stopped::{LiveRound, Stopped};
+pub use stopped::{LiveRound, StoppedGuest};

@@ -2,20 +2,21 @@
 
 ghost use Rattle.std.specs.Prelude.{IfOk};
 ghost use Rattle.image_build.specs.Joins.{memory_by};
-ghost use Rattle.live_engine.specs.Runs.{AreNewDesks, HaveEnded, IsLiveRun, IsStopped, MayBegin};
+ghost use Rattle.live_engine.specs.Runs.{AreNewStates, HaveEnded, IsLiveRun, IsStopped, MayBegin};
 ghost use Rattle.migration_model.specs.Rounds.{IsPlan};
 ghost use Rattle.migration_model.specs.Touches.{touches_of};
 ghost use Rattle.page_versions.specs.Index.{IsIndexOf};
 
-use crate::crew::{Crew, Progress, finish};
 use crate::error::LiveError;
 use crate::opening::{Team, open_lanes};
 use crate::receivers::{Signals, drain_all, start_receivers};
-use crate::stopped::{LiveRound, Stopped};
+use crate::rounds::{Migration, Progress, finish};
+use crate::stopped::{LiveRound, StoppedGuest};
 use crate::warm::{part_at_first, with_first};
+use guest_log::WriteLog;
 use image_build::{Image, resume};
 use joined_threads::join_all;
-use live_seats::{Desk, Gate};
+use live_tasks::{CopierState, Gate};
 use page_versions::{IndexError, PageIndex};
 use rate_limit::Settings;
 use round_planner::{Plan, PlanError, plan};
@@ -26,23 +27,24 @@ use std::sync::atomic::Ordering;
 use std::thread;
 use std::thread::{Scope, Threads, scope_env};
 use stream_receivers::Receiver;
-use trace_codec::WriteLog;
 
-/// The rounds that are planned over what a log tells.
+/// Returns the plan over what a log tells.
 fn plan_of<W: WriteLog>(alloc: Global, trace: &W, settings: &Settings) -> Result<Plan, PlanError>
-    ensures { IfOk result (λ plan. IsPlan (W.trace trace.now).pages (touches_of (W.trace trace.now)) settings.now plan) }
+    ensures { IfOk result (λ plan. IsPlan (W.trace trace.now).pages (touches_of (W.trace trace.now))
+        settings.now plan) }
 {
     plan(alloc, trace, settings)
 }
 
-/// The planned rounds, and where the trace writes each page: both at once.
+/// Returns the plan and the index of the trace, which are made side by side.
 fn plan_and_index<W: WriteLog + Sync, R: Threads + Sync>(
     rt: &R,
     alloc: Global,
     trace: &W,
     settings: &Settings,
 ) -> Result<(Plan, PageIndex), LiveError>
-    ensures plan { IfOk result (λ made. IsPlan (W.trace trace.now).pages (touches_of (W.trace trace.now)) settings.now made.0) }
+    ensures plan { IfOk result (λ made. IsPlan (W.trace trace.now).pages (touches_of (W.trace trace.now))
+        settings.now made.0) }
     ensures index { IfOk result (λ made. IsIndexOf made.1 (W.trace trace.now)) }
 {
     let planned = || -> Result<Plan, PlanError>
@@ -56,82 +58,88 @@ fn plan_and_index<W: WriteLog + Sync, R: Threads + Sync>(
     Ok((plan?, index?))
 }
 
-/// Runs all rounds beside the receivers. The flag is set on every path, and all receivers are waited for before any refusal
-/// is told.
+/// Runs all rounds beside the receivers. On every path it sets the flag and waits for all receivers before it returns
+/// an error.
 fn in_run<'s, E, W: WriteLog + Sync, G: Gate, R: Threads + Wait + Sync>(
     rt: &'s R,
     scope: &'s Scope<'s, E>,
     alloc: Global,
-    crew: &Crew<'s, W, G>,
+    migration: &Migration<'s, W, G>,
     settings: &Settings,
     plan: &Plan,
-    desks: VecDeque<Desk>,
+    states: VecDeque<CopierState>,
     receivers: Vec<Receiver>,
 ) -> Result<(Progress, Vec<Receiver>), LiveError>
-    requires plan { IsPlan (W.trace crew.now.trace.now).pages (touches_of (W.trace crew.now.trace.now)) settings.now plan.now }
-    requires desks { AreNewDesks (W.trace crew.now.trace.now) crew.now.team desks.items }
-    ensures { IfOk result (λ ended. HaveEnded (W.trace crew.now.trace.now) settings.now plan.now crew.now.team desks.items
-        receivers.items ended.0.closed ended.0.rounds.items ended.0.desks.items ended.1.items) }
+    requires plan { IsPlan (W.trace migration.now.trace.now).pages (touches_of (W.trace migration.now.trace.now))
+        settings.now plan.now }
+    requires states { AreNewStates (W.trace migration.now.trace.now) migration.now.team states.items }
+    ensures { IfOk result (λ ended. HaveEnded (W.trace migration.now.trace.now) settings.now plan.now
+        migration.now.team states.items
+        receivers.items ended.0.closed ended.0.rounds.items ended.0.states.items ended.1.items) }
 {
     let mut handles = Vec::new(alloc);
-    let done = match start_receivers(rt, scope, crew.gate, crew.signals, receivers, &mut handles) {
-        Ok(()) => crew.run_rounds(rt, alloc, settings, plan, desks),
+    let (gate, signals) = (migration.gate, migration.signals);
+    let done = match start_receivers(rt, scope, gate, signals, receivers, &mut handles) {
+        Ok(()) => migration.run_rounds(rt, alloc, settings, plan, states),
         Err(refused) => Err(refused),
     };
-    crew.signals.ended.store(true, Ordering::SeqCst);
+    signals.ended.store(true, Ordering::SeqCst);
     let joined = join_all(rt, handles);
     let progress = done?;
     let receivers = joined?;
     Ok((progress, receivers))
 }
 
-/// Performs a migration over the trace until the guest has stopped and all of its memory has come: in each of the planned
-/// rounds' ticks replayers change the guest's pages while copiers send them over lanes, from which receivers take them, all
-/// at once and each in a thread of its own; then the guest stops, and what is dirty still is sent. A refused migration
-/// answers no image: `L2` where a thread was not started, and else `L1`. All threads have ended when it returns.
+/// Performs a migration over the trace until the guest has stopped and all of its memory has come. In the ticks of each
+/// planned round replayers change the guest's pages while copiers send them over lanes, from which receivers take them,
+/// each in a thread of its own. Then the guest stops, and the pages that are dirty still are sent. The error is `L2`
+/// where a thread was not started, and else `L1`. All threads have ended when it returns.
 pub fn migrate<W: WriteLog + Sync, G: Gate, R: Threads + Wait + Sync>(
     rt: &R,
     alloc: Global,
     trace: &W,
     settings: &Settings,
     gate: &G,
-) -> Result<Stopped, LiveError>
+) -> Result<StoppedGuest, LiveError>
     ensures { IfOk result (λ s. IsStopped (W.trace trace.now) settings.now s.stop (memory_by s.memory) s.versions.items
         s.index s.rounds.items) }
 {
     let (plan, index) = plan_and_index(rt, alloc, trace, settings)?;
     let team = Team::of(settings);
     let first = part_at_first(alloc, trace, &index, settings)?;
-    let (desks, receivers) = open_lanes(alloc, trace, team)?;
+    let (states, receivers) = open_lanes(alloc, trace, team)?;
     let signals = Signals::new();
     let (indexed, planned, told) = (&index, &plan, &signals);
     let (progress, receivers) = thread::scope(
         scope_env(),
         rt,
         move |scope| -> Result<(Progress, Vec<Receiver>), LiveError>
-            requires { MayBegin (W.trace trace.now) indexed.now settings.now planned.now team desks.items }
-            ensures { IfOk result (λ ended. HaveEnded (W.trace trace.entry.now) settings.entry.now planned.entry.now team
-                desks.items receivers.items ended.0.closed ended.0.rounds.items ended.0.desks.items ended.1.items) }
+            requires { MayBegin (W.trace trace.now) indexed.now settings.now planned.now team states.items }
+            ensures { IfOk result (λ ended. HaveEnded (W.trace trace.entry.now) settings.entry.now
+                planned.entry.now team
+                states.items receivers.items ended.0.closed ended.0.rounds.items ended.0.states.items ended.1.items) }
         {
-            let crew = Crew {
+            let migration = Migration {
                 trace,
                 index: indexed,
                 gate,
                 signals: told,
                 team,
             };
-            in_run(rt, scope, alloc, &crew, settings, planned, desks, receivers)
+            in_run(
+                rt, scope, alloc, &migration, settings, planned, states, receivers,
+            )
         },
     )?;
     let Progress {
         closed,
-        desks,
+        states,
         rounds,
     } = progress;
-    let arrived = drain_all(alloc, team.streams, desks, receivers)?;
+    let arrived = drain_all(alloc, team.streams, states, receivers)?;
     let parts = with_first(alloc, first, arrived)?;
     let memory = finish(rt, alloc, trace, &index, team, &closed, parts)?;
-    Ok(Stopped {
+    Ok(StoppedGuest {
         memory,
         stop: plan.stop,
         versions: closed.versions,
@@ -140,7 +148,7 @@ pub fn migrate<W: WriteLog + Sync, G: Gate, R: Threads + Wait + Sync>(
     })
 }
 
-/// A live run that answered.
+/// What a live run leaves.
 #[derive(Debug, Drop)]
 pub struct Live {
     /// The guest's memory where it stopped.
@@ -153,7 +161,8 @@ pub struct Live {
     pub rounds: Vec<LiveRound>,
 }
 
-/// The same, and the guest then resumes: both memories are answered.
+/// Performs a migration as `migrate` does, and then resumes the guest. Returns the memory where the guest stopped and
+/// after all of its writes.
 pub fn live_run<W: WriteLog + Sync, G: Gate, R: Threads + Wait + Sync>(
     rt: &R,
     alloc: Global,
@@ -165,7 +174,7 @@ pub fn live_run<W: WriteLog + Sync, G: Gate, R: Threads + Wait + Sync>(
         live.rounds.items) }
 {
     let stopped = migrate(rt, alloc, trace, settings, gate)?;
-    let Stopped {
+    let StoppedGuest {
         memory,
         stop,
         versions,

@@ -3,7 +3,7 @@
 ghost use Rattle.std.specs.Prelude.{◌≡◌, ◌<◌, ◌≤◌, ℕ, IfOk, [], length, map, replicate, slice_index};
 ghost use Rattle.std.specs.List.{All};
 ghost use Rattle.migration_model.specs.Versions.{version_before};
-ghost use Rattle.live_seats.specs.Desks.{IsDesk};
+ghost use Rattle.live_tasks.specs.CopierStates.{IsCopierState};
 ghost use Rattle.migration_model.specs.Trace.{GuestTrace};
 ghost use Rattle.page_message.specs.Shapes.{shape_of};
 ghost use Rattle.live_engine.specs.Lists.{rows_of};
@@ -12,14 +12,14 @@ ghost use Rattle.live_engine.specs.Runs.{AreOpened, IsTeam, IsTeamOf};
 ghost use Rattle.page_versions.specs.Index.{IsIndexOf};
 
 use crate::error::LiveError;
-use live_seats::Desk;
+use guest_log::{Shape, WriteLog};
+use live_tasks::CopierState;
 use page_versions::PageIndex;
 use rate_limit::Settings;
 use std::alloc::Global;
 use std::collections::VecDeque;
 use stream_lanes::{LaneIn, LaneOut, Lanes, lanes};
 use stream_receivers::Receiver;
-use trace_codec::{Shape, WriteLog};
 
 /// How many replayers, copiers and streams there are, and how many frames a lane holds.
 #[derive(Clone, Copy, Debug)]
@@ -31,7 +31,7 @@ pub(crate) struct Team {
 }
 
 impl Team {
-    /// The team that the settings ask for.
+    /// Returns the team that the settings ask for.
     pub(crate) fn of(settings: &Settings) -> Team
         ensures { IsTeamOf settings.now result }
     {
@@ -45,14 +45,14 @@ impl Team {
     }
 }
 
-/// A version of 0 for each page.
+/// Returns a version of 0 for each page.
 fn no_versions(alloc: Global, pages: usize) -> Result<Vec<u32>, LiveError>
     ensures { IfOk result (λ v. v.items ≡ replicate pages 0) }
 {
     Ok(Vec::from_elem(alloc, 0, pages)?)
 }
 
-/// The version of each page before a tick.
+/// Returns the version of each page before a tick.
 pub(crate) fn versions_before<W: WriteLog>(
     alloc: Global,
     trace: &W,
@@ -76,33 +76,35 @@ pub(crate) fn versions_before<W: WriteLog>(
     Ok(versions)
 }
 
-/// A desk for each copier, before the first round, with its lanes.
-fn new_desks(
+/// Returns a state for each copier, before the first round, with its lanes.
+fn new_states(
     alloc: Global,
     shape: &Shape,
     rows: Vec<Vec<LaneOut>>,
-) -> Result<VecDeque<Desk>, LiveError>
+) -> Result<VecDeque<CopierState>, LiveError>
     requires some { All (λ row. 1 ≤ length row.items) rows.items }
     requires few { All (λ row. length row.items ≤ 16) rows.items }
     ensures rows { IfOk result (λ v. rows_of v.items ≡ map (λ row. row.items) rows.items) }
     ensures each { (trace : GuestTrace) (streams : ℕ) → trace.shift ≡ shape.now.shift → trace.pages ≡ shape.now.pages
-        → All (λ row. length row.items ≡ streams) rows.items → IfOk result (λ v. All (IsDesk trace streams) v.items) }
+        → All (λ row. length row.items ≡ streams) rows.items
+        → IfOk result (λ v. All (IsCopierState trace streams) v.items) }
 {
-    let mut desks = VecDeque::with_capacity(alloc, rows.len())?;
+    let mut states = VecDeque::with_capacity(alloc, rows.len())?;
     for row in rows {
-        desks.push_back(Desk::new(alloc, shape, row)?)?;
+        states.push_back(CopierState::new(alloc, shape, row)?)?;
     }
-    Ok(desks)
+    Ok(states)
 }
 
-/// A receiver for each stream, with its lanes. No part has any page.
+/// Returns a receiver for each stream, with its lanes. No part has any page.
 fn new_receivers(
     alloc: Global,
     shape: Shape,
     columns: Vec<Vec<LaneIn>>,
 ) -> Result<Vec<Receiver>, LiveError>
     requires { All (λ column. All (λ end. end.taken ≡ []) column.items) columns.items }
-    ensures lanes { IfOk result (λ v. map lanes_in v.items ≡ map (λ column. map (λ end. end.lane) column.items) columns.items) }
+    ensures lanes { IfOk result (λ v. map lanes_in v.items
+        ≡ map (λ column. map (λ end. end.lane) column.items) columns.items) }
     ensures shapes { IfOk result (λ v. All (λ receiver. receiver.part.shape ≡ shape_of shape) v.items) }
 {
     let mut receivers = Vec::with_capacity(alloc, columns.len())?;
@@ -112,18 +114,18 @@ fn new_receivers(
     Ok(receivers)
 }
 
-/// Opens a lane from each copier to each stream: a desk for each copier, and a receiver for each stream.
+/// Opens a lane from each copier to each stream. Returns a state for each copier, and a receiver for each stream.
 pub(crate) fn open_lanes<W: WriteLog>(
     alloc: Global,
     trace: &W,
     team: Team,
-) -> Result<(VecDeque<Desk>, Vec<Receiver>), LiveError>
+) -> Result<(VecDeque<CopierState>, Vec<Receiver>), LiveError>
     requires { IsTeam team }
     ensures { IfOk result (λ ends. AreOpened (W.trace trace.now) team ends.0.items ends.1.items) }
 {
     let shape = trace.shape();
     let Lanes { outs, ins } = lanes(alloc, team.copiers, team.streams, team.lane)?;
-    let desks = new_desks(alloc, &shape, outs)?;
+    let states = new_states(alloc, &shape, outs)?;
     let receivers = new_receivers(alloc, shape, ins)?;
-    Ok((desks, receivers))
+    Ok((states, receivers))
 }

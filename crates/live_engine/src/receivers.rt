@@ -13,7 +13,7 @@ ghost use Rattle.stream_receivers.specs.Receivers.{AreEnds, AreFrames, HasFrames
 
 use crate::error::LiveError;
 use collector::Part;
-use live_seats::{Desk, Gate, Point};
+use live_tasks::{CopierState, Gate, Point};
 use std::alloc::Global;
 use std::collections::VecDeque;
 use std::hint::spin_loop;
@@ -28,19 +28,19 @@ use stream_receivers::Receiver;
 /// How often a receiver to which nothing came looks again before it sleeps.
 const LOOKS: u32 = 8;
 
-/// How many turns it waits before each of these looks, a few microseconds in all. Each look takes the lane's memory away
-/// from who sends, so that it is cheaper for both to take some frames at a time.
+/// How many turns it waits before each of these looks, a few microseconds in all. Each look takes the lane's memory
+/// away from who sends, so that it is cheaper for both to take some frames at a time.
 const TURNS: u32 = 64;
 
-/// How many microseconds it sleeps then before each look: who goes on looking takes time from those who send.
+/// How many microseconds it sleeps then before each look: each look takes time from those who send.
 const SLEEP: u64 = 20;
 
-/// What a run and its receivers tell each other. No claim rests on it.
+/// Flags between a run and its receivers. No claim rests on them.
 #[derive(Drop)]
 pub(crate) struct Signals {
     /// All rounds have ended, or one was refused.
     pub(crate) ended: AtomicBool,
-    /// A receiver was refused a frame.
+    /// A receiver did not take a frame.
     pub(crate) refused: AtomicBool,
 }
 
@@ -166,23 +166,23 @@ pub(crate) fn start_receivers<'s, E, R: Wait + Sync, G: Gate>(
     Ok(())
 }
 
-/// The lanes of each copier.
-fn take_lanes(alloc: Global, desks: VecDeque<Desk>) -> Result<Vec<Vec<LaneOut>>, LiveError>
-    ensures { IfOk result (λ rows. map (λ row. row.items) rows.items ≡ rows_of desks.items) }
+/// Returns the lanes of each copier.
+fn take_lanes(alloc: Global, states: VecDeque<CopierState>) -> Result<Vec<Vec<LaneOut>>, LiveError>
+    ensures { IfOk result (λ rows. map (λ row. row.items) rows.items ≡ rows_of states.items) }
 {
-    let mut desks = desks;
-    let mut rows = Vec::with_capacity(alloc, desks.len())?;
-    for _ in 0..desks.len() {
-        let Some(desk) = desks.pop_front() else {
+    let mut states = states;
+    let mut rows = Vec::with_capacity(alloc, states.len())?;
+    for _ in 0..states.len() {
+        let Some(state) = states.pop_front() else {
             unreachable!()
         };
-        let Desk { outs, .. } = desk;
+        let CopierState { outs, .. } = state;
         rows.push(outs)?;
     }
     Ok(rows)
 }
 
-/// Each receiver takes what is left on its lanes, and gives its part away.
+/// Lets each receiver take what is left on its lanes. Returns their parts.
 fn finish_all(
     alloc: Global,
     columns: Vec<Vec<LaneOut>>,
@@ -193,7 +193,8 @@ fn finish_all(
         → slice_get columns.items stream ≡ Some outs → slice_get receivers.items stream ≡ Some receiver
         → AreEnds outs.items receiver.ends }
     ensures count { IfOk result (λ parts. length parts.items ≡ length receivers.items) }
-    ensures each { IfOk result (λ parts. (stream : ℕ) (outs : Vec OutView Global) (receiver : ReceiverView) (part : GuestPart)
+    ensures each { IfOk result (λ parts. (stream : ℕ) (outs : Vec OutView Global)
+        (receiver : ReceiverView) (part : GuestPart)
         → slice_get columns.items stream ≡ Some outs → slice_get receivers.items stream ≡ Some receiver
         → slice_get parts.items stream ≡ Some part → AreFrames receiver.part.shape (IsSentOn outs.items)
         → HasFrames receiver.part.shape (IsSentOn outs.items) part) }
@@ -213,15 +214,16 @@ fn finish_all(
 pub(crate) fn drain_all(
     alloc: Global,
     streams: usize,
-    desks: VecDeque<Desk>,
+    states: VecDeque<CopierState>,
     receivers: Vec<Receiver>,
 ) -> Result<Vec<Part>, LiveError>
-    requires { AreCrossed (length desks.items) streams (lanes_of (rows_of desks.items)) (map lanes_in receivers.items) }
+    requires { AreCrossed (length states.items) streams (lanes_of (rows_of states.items))
+        (map lanes_in receivers.items) }
     ensures { (shape : GuestShape) → All (λ receiver. receiver.part.shape ≡ shape) receivers.items
-        → AreFrames shape (IsSentBy (rows_of desks.items))
-        → IfOk result (λ parts. HaveArrived shape streams (rows_of desks.items) parts.items) }
+        → AreFrames shape (IsSentBy (rows_of states.items))
+        → IfOk result (λ parts. HaveArrived shape streams (rows_of states.items) parts.items) }
 {
-    let rows = take_lanes(alloc, desks)?;
+    let rows = take_lanes(alloc, states)?;
     let columns = by_stream(alloc, streams, rows)?;
     let parts = finish_all(alloc, columns, receivers)?;
     Ok(parts)

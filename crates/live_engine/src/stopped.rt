@@ -7,13 +7,13 @@ ghost use Rattle.live_engine.specs.Runs.{IsStoppedAt};
 ghost use Rattle.migration_model.specs.Memory.{image_of, page_of};
 
 use crate::error::LiveError;
+use guest_log::WriteLog;
 use image_build::JoinedParts;
-use live_seats::Desk;
-use page_versions::{PageIndex, Reached};
+use live_tasks::CopierState;
+use page_versions::{PageIndex, PageProgress};
 use std::alloc::Global;
 use std::collections::VecDeque;
 use std::marker::Model;
-use trace_codec::WriteLog;
 
 /// What was done in one round. The lists go by copier, and then in the order of that copier's steps.
 #[derive(Debug, Drop)]
@@ -22,7 +22,7 @@ pub struct LiveRound {
     pub sent: Vec<(u32, u32)>,
     /// The pages that were left for a later round, since they were marked again.
     pub skipped: Vec<u32>,
-    /// The pages that were left for a later round, since the lane that they were to go on had no room.
+    /// The pages that were left for a later round, since the lane that they were to go on was full.
     pub deferred: Vec<u32>,
 }
 
@@ -38,42 +38,42 @@ impl Model for LiveRound {
 
 impl LiveRound {
     /// Adds what one copier did.
-    fn add_desk(&mut self, desk: &Desk) -> Result<(), LiveError>
-        ensures sent { OnOk result (self.new.sent ≡ self.old.sent ++ desk.now.outbox.sent) }
-        ensures skipped { OnOk result (self.new.skipped ≡ self.old.skipped ++ desk.now.outbox.skipped) }
-        ensures deferred { OnOk result (self.new.deferred ≡ self.old.deferred ++ desk.now.outbox.deferred) }
+    fn add_state(&mut self, state: &CopierState) -> Result<(), LiveError>
+        ensures sent { OnOk result (self.new.sent ≡ self.old.sent ++ state.now.log.sent) }
+        ensures skipped { OnOk result (self.new.skipped ≡ self.old.skipped ++ state.now.log.skipped) }
+        ensures deferred { OnOk result (self.new.deferred ≡ self.old.deferred ++ state.now.log.deferred) }
     {
-        self.sent.extend_from_slice(&desk.outbox.sent)?;
-        self.skipped.extend_from_slice(&desk.outbox.skipped)?;
-        self.deferred.extend_from_slice(&desk.outbox.deferred)?;
+        self.sent.extend_from_slice(&state.log.sent)?;
+        self.skipped.extend_from_slice(&state.log.skipped)?;
+        self.deferred.extend_from_slice(&state.log.deferred)?;
         Ok(())
     }
 }
 
-/// Lists what the copiers did, copier by copier. The desks are for the next round.
+/// Lists what the copiers did, copier by copier. Returns their states too, for the next round.
 pub(crate) fn list(
     alloc: Global,
-    desks: Vec<Desk>,
-) -> Result<(LiveRound, VecDeque<Desk>), LiveError>
-    ensures lists { IfOk result (λ listed. listed.0 ≡ lists_of desks.items) }
-    ensures desks { IfOk result (λ listed. listed.1.items ≡ desks.items) }
+    states: Vec<CopierState>,
+) -> Result<(LiveRound, VecDeque<CopierState>), LiveError>
+    ensures lists { IfOk result (λ listed. listed.0 ≡ lists_of states.items) }
+    ensures states { IfOk result (λ listed. listed.1.items ≡ states.items) }
 {
     let mut round = LiveRound {
         sent: Vec::new(alloc),
         skipped: Vec::new(alloc),
         deferred: Vec::new(alloc),
     };
-    let mut kept = VecDeque::with_capacity(alloc, desks.len())?;
-    for desk in desks {
-        round.add_desk(&desk)?;
-        kept.push_back(desk)?;
+    let mut kept = VecDeque::with_capacity(alloc, states.len())?;
+    for state in states {
+        round.add_state(&state)?;
+        kept.push_back(state)?;
     }
     Ok((round, kept))
 }
 
 /// A guest that has stopped, and whose memory has come.
 #[derive(Debug, Drop)]
-pub struct Stopped {
+pub struct StoppedGuest {
     /// The guest's memory where it stopped.
     pub memory: JoinedParts,
     /// The tick at which it stopped.
@@ -86,9 +86,9 @@ pub struct Stopped {
     pub rounds: Vec<LiveRound>,
 }
 
-impl Stopped {
-    /// Puts a page of the guest's memory after all its writes into a room of as many bytes: the page as it stopped, and
-    /// over it the writes that come after. It takes no memory.
+impl StoppedGuest {
+    /// Puts a page of the guest's memory after all its writes into a buffer of one page: the page as it stopped, and
+    /// over it the writes that come after. It allocates nothing.
     pub fn resumed_page<W: WriteLog>(&self, trace: &W, page: u32, room: &mut Vec<u8>)
         requires stopped { IsStoppedAt (W.trace trace.now) self.now.versions.items self.now.index
             (memory_by self.now.memory) }
@@ -99,7 +99,7 @@ impl Stopped {
         let writes = trace.shape().writes;
         let version = self.versions[page as usize];
         self.memory.page_into(page, room);
-        let stopped = Reached { version, writes: 0 };
+        let stopped = PageProgress { version, writes: 0 };
         self.index.bring_on(trace, page, stopped, writes, room);
     }
 }

@@ -6,15 +6,17 @@ ghost use Rattle.dirty_words.specs.Closing.{first_guests, first_copiers};
 ghost use Rattle.dirty_words.specs.Facts.{first_guest, first_copier};
 ghost use Rattle.dirty_words.specs.Seats.{copy_table, guest_table};
 ghost use Rattle.live_engine.specs.Lists.{rows_of};
-ghost use Rattle.live_engine.specs.Seated.{AreCopied, AreReplayed, EachAt, IsReplayed, IsRoundOf, copy_task, replay_task};
-ghost use Rattle.live_seats.specs.Copies.{HasCopied};
-ghost use Rattle.live_seats.specs.Desks.{IsDesk};
-ghost use Rattle.live_seats.specs.Replays.{OpensAt};
+ghost use Rattle.live_engine.specs.Seated.{AreCopied, AreReplayed, EachAt, IsReplayed, IsRoundOf, copy_task};
+ghost use Rattle.live_engine.specs.Seated.{replay_task};
+ghost use Rattle.live_tasks.specs.Copies.{HasCopied};
+ghost use Rattle.live_tasks.specs.CopierStates.{IsCopierState};
+ghost use Rattle.live_tasks.specs.Replays.{OpensAt};
 
 use crate::error::LiveError;
 use dirty_words::{CopySeat, GuestSeat, RoundTable};
+use guest_log::WriteLog;
 use joined_threads::join_all;
-use live_seats::{Copier, Desk, Gate, Round, SeatError, Ticks, replay};
+use live_tasks::{Copier, CopierState, Gate, Round, SeatError, Ticks, replay};
 use std::alloc::Global;
 use std::collections::VecDeque;
 use std::marker::Model;
@@ -23,7 +25,6 @@ use std::sync::Wait;
 use std::thread;
 use std::thread::{Promise, PromisedHandle, Scope, Threads, scope_env};
 use stream_lanes::LaneOut;
-use trace_codec::WriteLog;
 
 /// What a replayer's thread owes: its part of the round.
 #[derive(Drop)]
@@ -66,8 +67,9 @@ impl<'a, W: WriteLog> Model for Copies<'a, W> {
 }
 
 impl<'a, W: WriteLog> Promise<Result<Copier, SeatError>> for Copies<'a, W> {
-    ghost kept_by = { λ task result. IfOk result (λ copier. HasCopied task.trace task.skip task.table task.number task.streams
-        task.outs copier.seat copier.desk) };
+    ghost kept_by = { λ task result. IfOk result
+        (λ copier. HasCopied task.trace task.skip task.table task.number task.streams
+        task.outs copier.seat copier.state) };
 }
 
 /// Starts a replayer.
@@ -117,7 +119,8 @@ fn start_guests<'s, E, W: WriteLog + Sync, G: Gate>(
     requires none { length handles.old.items ≡ 0 }
     requires opening { OpensAt (W.trace round.now.trace.now) ticks.from round.now.table.now.start }
     ensures count { OnOk result (length handles.new.items ≡ length seats.items) }
-    ensures started { OnOk result (EachAt (λ h i. h.promise ≡ replay_task (W.trace round.now.trace.now) round.now.table.now
+    ensures started { OnOk result (EachAt (λ h i. h.promise
+        ≡ replay_task (W.trace round.now.trace.now) round.now.table.now
         ticks.from ticks.to i) handles.new.items) }
 {
     for seat in seats {
@@ -134,14 +137,15 @@ fn start_copier<'s, E, W: WriteLog + Sync, G: Gate>(
     alloc: Global,
     round: &Round<'s, W, G>,
     seat: CopySeat,
-    desk: Desk,
+    state: CopierState,
 ) -> Result<PromisedHandle<Result<Copier, SeatError>, Copies<'s, W>>, LiveError>
     requires table { copy_table seat ≡ round.now.table.now }
     requires idle { seat.facts ≡ first_copier round.now.table.now.start seat.facts.number }
-    requires desk { IsDesk (W.trace round.now.trace.now) round.now.streams desk }
+    requires state { IsCopierState (W.trace round.now.trace.now) round.now.streams state }
     ensures refused { IfErr result (λ e. e ≡ LiveError.Thread) }
-    ensures promised { IfOk result (λ h. h.promise ≡ copy_task (W.trace round.now.trace.now) round.now.skip round.now.table.now
-        round.now.streams seat.facts.number desk.outs) }
+    ensures promised { IfOk result (λ h. h.promise
+        ≡ copy_task (W.trace round.now.trace.now) round.now.skip round.now.table.now
+        round.now.streams seat.facts.number state.outs) }
 {
     let Round {
         trace,
@@ -157,15 +161,16 @@ fn start_copier<'s, E, W: WriteLog + Sync, G: Gate>(
         table,
         streams,
         number: seat.number(),
-        outs: Snapshot::of(&desk.outs),
+        outs: Snapshot::of(&state.outs),
     };
     let run = move || -> Result<Copier, SeatError>
         requires of { IsRoundOf (W.trace trace.now) index.now table.now }
         requires table { copy_table seat ≡ table.now }
         requires idle { seat.facts ≡ first_copier table.now.start seat.facts.number }
-        requires desk { IsDesk (W.trace trace.now) streams desk }
-        ensures { IfOk result (λ copier. HasCopied (W.trace trace.entry.now) skip table.entry.now seat.facts.number streams
-            desk.outs copier.seat copier.desk) }
+        requires state { IsCopierState (W.trace trace.now) streams state }
+        ensures { IfOk result (λ copier. HasCopied (W.trace trace.entry.now) skip table.entry.now
+            seat.facts.number streams
+            state.outs copier.seat copier.state) }
     {
         let round = Round {
             trace,
@@ -175,41 +180,41 @@ fn start_copier<'s, E, W: WriteLog + Sync, G: Gate>(
             skip,
             streams,
         };
-        round.copy(alloc, seat, desk)
+        round.copy(alloc, seat, state)
     };
     Ok(scope.spawn_with(promise, run)?)
 }
 
-/// Starts the copiers, in order, each with its desk.
+/// Starts the copiers, in order, each with its state.
 fn start_copiers<'s, E, W: WriteLog + Sync, G: Gate>(
     scope: &'s Scope<'s, E>,
     alloc: Global,
     round: &Round<'s, W, G>,
     seats: Vec<CopySeat>,
-    desks: VecDeque<Desk>,
+    states: VecDeque<CopierState>,
     handles: &mut Vec<PromisedHandle<Result<Copier, SeatError>, Copies<'s, W>>>,
 ) -> Result<(), LiveError>
     requires seats { seats.items ≡ first_copiers round.now.table.now }
-    requires count { length desks.items ≡ length seats.items }
-    requires desks { All (IsDesk (W.trace round.now.trace.now) round.now.streams) desks.items }
+    requires count { length states.items ≡ length seats.items }
+    requires states { All (IsCopierState (W.trace round.now.trace.now) round.now.streams) states.items }
     requires none { length handles.old.items ≡ 0 }
     ensures count { OnOk result (length handles.new.items ≡ length seats.items) }
     ensures started { OnOk result (EachAt (λ h i. h.promise ≡ copy_task (W.trace round.now.trace.now) round.now.skip
-        round.now.table.now round.now.streams i (slice_index_or (rows_of desks.items) i [])) handles.new.items) }
+        round.now.table.now round.now.streams i (slice_index_or (rows_of states.items) i [])) handles.new.items) }
 {
-    let mut desks = desks;
+    let mut states = states;
     for seat in seats {
-        let Some(desk) = desks.pop_front() else {
+        let Some(state) = states.pop_front() else {
             unreachable!()
         };
         handles.reserve(1)?;
-        let handle = start_copier(scope, alloc, round, seat, desk)?;
+        let handle = start_copier(scope, alloc, round, seat, state)?;
         handles.push_reserved(handle);
     }
     Ok(())
 }
 
-/// The copiers, where none was refused memory.
+/// Returns the copiers, where none ran out of memory.
 fn unrefused(
     alloc: Global,
     copied: Vec<Result<Copier, SeatError>>,
@@ -224,8 +229,8 @@ fn unrefused(
     Ok(copiers)
 }
 
-/// Runs a round's replayers and copiers, each in a thread of its own and all at once. Those that run are waited for before
-/// any refusal is told; that a thread was not started is told first.
+/// Runs a round's replayers and copiers, each in a thread of its own and all at once. It waits for those that run
+/// before it returns an error; `Thread` comes before `Memory`.
 fn in_round<'s, E, W: WriteLog + Sync, G: Gate, R: Threads>(
     rt: &R,
     scope: &'s Scope<'s, E>,
@@ -234,22 +239,22 @@ fn in_round<'s, E, W: WriteLog + Sync, G: Gate, R: Threads>(
     ticks: Ticks,
     guest_seats: Vec<GuestSeat>,
     copy_seats: Vec<CopySeat>,
-    desks: VecDeque<Desk>,
+    states: VecDeque<CopierState>,
 ) -> Result<(Vec<GuestSeat>, Vec<Copier>), LiveError>
     requires opening { OpensAt (W.trace round.now.trace.now) ticks.from round.now.table.now.start }
     requires guests { guest_seats.items ≡ first_guests round.now.table.now }
     requires copiers { copy_seats.items ≡ first_copiers round.now.table.now }
-    requires count { length desks.items ≡ length copy_seats.items }
-    requires desks { All (IsDesk (W.trace round.now.trace.now) round.now.streams) desks.items }
+    requires count { length states.items ≡ length copy_seats.items }
+    requires states { All (IsCopierState (W.trace round.now.trace.now) round.now.streams) states.items }
     ensures guests { IfOk result (λ ended. AreReplayed (W.trace round.now.trace.now) round.now.table.now
         ticks.from ticks.to ended.0.items) }
     ensures copiers { IfOk result (λ ended. AreCopied (W.trace round.now.trace.now) round.now.skip round.now.table.now
-        round.now.streams (rows_of desks.items) ended.1.items) }
+        round.now.streams (rows_of states.items) ended.1.items) }
 {
     let mut guests = Vec::new(alloc);
     let mut copiers = Vec::new(alloc);
     let started = match start_guests(scope, round, ticks, guest_seats, &mut guests) {
-        Ok(()) => start_copiers(scope, alloc, round, copy_seats, desks, &mut copiers),
+        Ok(()) => start_copiers(scope, alloc, round, copy_seats, states, &mut copiers),
         Err(refused) => Err(refused),
     };
     let replayed = join_all(rt, guests);
@@ -268,17 +273,17 @@ pub(crate) fn run_threads<W: WriteLog + Sync, G: Gate, R: Threads + Wait + Sync>
     ticks: Ticks,
     guests: Vec<GuestSeat>,
     copiers: Vec<CopySeat>,
-    desks: VecDeque<Desk>,
+    states: VecDeque<CopierState>,
 ) -> Result<(Vec<GuestSeat>, Vec<Copier>), LiveError>
     requires opening { OpensAt (W.trace round.now.trace.now) ticks.from round.now.table.now.start }
     requires guests { guests.items ≡ first_guests round.now.table.now }
     requires copiers { copiers.items ≡ first_copiers round.now.table.now }
-    requires count { length desks.items ≡ length copiers.items }
-    requires desks { All (IsDesk (W.trace round.now.trace.now) round.now.streams) desks.items }
+    requires count { length states.items ≡ length copiers.items }
+    requires states { All (IsCopierState (W.trace round.now.trace.now) round.now.streams) states.items }
     ensures guests { IfOk result (λ ended. AreReplayed (W.trace round.now.trace.now) round.now.table.now
         ticks.from ticks.to ended.0.items) }
     ensures copiers { IfOk result (λ ended. AreCopied (W.trace round.now.trace.now) round.now.skip round.now.table.now
-        round.now.streams (rows_of desks.items) ended.1.items) }
+        round.now.streams (rows_of states.items) ended.1.items) }
 {
     let Round {
         trace,
@@ -296,12 +301,13 @@ pub(crate) fn run_threads<W: WriteLog + Sync, G: Gate, R: Threads + Wait + Sync>
             requires opening { OpensAt (W.trace trace.now) ticks.from table.now.start }
             requires guests { guests.items ≡ first_guests table.now }
             requires copiers { copiers.items ≡ first_copiers table.now }
-            requires count { length desks.items ≡ length copiers.items }
-            requires desks { All (IsDesk (W.trace trace.now) streams) desks.items }
-            ensures guests { IfOk result (λ ended. AreReplayed (W.trace trace.entry.now) table.entry.now ticks.from ticks.to
+            requires count { length states.items ≡ length copiers.items }
+            requires states { All (IsCopierState (W.trace trace.now) streams) states.items }
+            ensures guests { IfOk result (λ ended. AreReplayed (W.trace trace.entry.now) table.entry.now
+                ticks.from ticks.to
                 ended.0.items) }
             ensures copiers { IfOk result (λ ended. AreCopied (W.trace trace.entry.now) skip table.entry.now streams
-                (rows_of desks.items) ended.1.items) }
+                (rows_of states.items) ended.1.items) }
         {
             let round = Round {
                 trace,
@@ -311,7 +317,7 @@ pub(crate) fn run_threads<W: WriteLog + Sync, G: Gate, R: Threads + Wait + Sync>
                 skip,
                 streams,
             };
-            in_round(rt, scope, alloc, &round, ticks, guests, copiers, desks)
+            in_round(rt, scope, alloc, &round, ticks, guests, copiers, states)
         },
     )
 }

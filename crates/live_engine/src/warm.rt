@@ -1,6 +1,7 @@
 //! A warm start: the destination begins with the guest's memory before a base tick.
 
-ghost use Rattle.std.specs.Prelude.{◌≡◌, ◌<◌, ◌≤◌, ◌&&◌, nat_lt, ℕ, IfOk, IfSome, IsTrue, Some, length, option_map, slice_index};
+ghost use Rattle.std.specs.Prelude.{◌≡◌, ◌<◌, ◌≤◌, ◌&&◌, nat_lt, ℕ, IfOk, IfSome, IsTrue, Some, length, option_map};
+ghost use Rattle.std.specs.Prelude.{slice_index};
 ghost use Rattle.std.specs.List.{All};
 ghost use Rattle.live_engine.specs.Warm.{IsFrameAt, is_lacking, parts_with};
 ghost use Rattle.migration_model.specs.Trace.{IsGuestSize};
@@ -12,13 +13,13 @@ ghost use Rattle.page_versions.specs.Index.{IsIndexOf};
 
 use crate::error::LiveError;
 use collector::{Part, merge};
+use guest_log::WriteLog;
 use page_bitmap::{add_page, all_pages, word_count};
 use page_message::{Body, Frame, frame_of};
 use page_versions::PageIndex;
 use rate_limit::Settings;
 use std::alloc::Global;
 use std::mem;
-use trace_codec::WriteLog;
 
 /// Returns the bitmap of the pages whose versions, given by page, are greater than before a base.
 fn pages_since<W: WriteLog>(
@@ -125,7 +126,8 @@ pub(crate) fn part_at_first<W: WriteLog>(
     settings: &Settings,
 ) -> Result<Option<Part>, LiveError>
     requires { IsIndexOf index.now (W.trace trace.now) }
-    ensures { IfOk result (λ first. first ≡ option_map (λ tick. first_part (W.trace trace.now) (Some tick)) settings.now.base) }
+    ensures { IfOk result (λ first. first ≡ option_map (λ tick. first_part (W.trace trace.now) (Some tick))
+        settings.now.base) }
 {
     match settings.asked().base {
         None => Ok(None),

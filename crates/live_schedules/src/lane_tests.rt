@@ -113,7 +113,7 @@ fn sixteen_of_each_over_the_shortest_lanes_make_the_same_memory(
     rt: HostRuntime,
 ) -> Result<(), Fail> {
     for skip in [false, true] {
-        run_sixteen(&rt, rt.alloc(), 1, skip)?;
+        run_sixteen(&rt, rt.alloc(), 300, 1, skip)?;
     }
     Ok(())
 }

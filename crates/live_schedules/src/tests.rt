@@ -1,12 +1,13 @@
 //! Worked examples: a guest of 4 pages of 16 bytes that writes pages 0 and 1 at ticks 0 and 5, page 1 at tick 1200,
 //! and pages 3 and 1 at tick 2500.
 
+ghost use Rattle.std.specs.Prelude.{◌≤◌};
 ghost use Rattle.image_build.specs.Joins.{memory_by};
 ghost use Rattle.live_engine.specs.Runs.{IsStoppedAt};
 
 use crate::gates::{Counts, MarkedEarly, MarkedInTurn, MarkedLate, Meeting};
 use image_build::{replay, replay_before};
-use live_engine::{Gate, Live, OpenGate, Stopped, live_run, migrate};
+use live_engine::{Gate, Live, OpenGate, StoppedGuest, live_run, migrate};
 use rate_limit::{Asked, Settings};
 use std::alloc::Global;
 use std::sync::Wait;
@@ -141,7 +142,7 @@ fn the_guest_resumes_from_where_it_stopped(rt: HostRuntime) -> Result<(), Fail> 
 }
 
 /// Returns the memory after all writes of the trace, page by page; none where the guest is another one.
-fn resumed(alloc: Global, stopped: &Stopped, trace: &Trace) -> Option<Vec<u8>>
+fn resumed(alloc: Global, stopped: &StoppedGuest, trace: &Trace) -> Option<Vec<u8>>
     requires { IsStoppedAt trace.now stopped.now.versions.items stopped.now.index (memory_by stopped.now.memory) }
 {
     let mut memory = Vec::new(alloc);
@@ -297,11 +298,13 @@ fn a_page_that_is_marked_again_is_skipped(rt: HostRuntime) -> Result<(), Fail> {
     Ok(())
 }
 
-/// Returns a trace of 300 pages of 64 bytes, with so many writes that go round them by strides.
-fn busy_guest(alloc: Global, count: u32) -> Result<Trace, Fail> {
+/// Returns a trace of so many pages of 64 bytes, with 3,000 writes that go round them by strides.
+fn busy_guest(alloc: Global, pages: u32) -> Result<Trace, Fail>
+    requires { 1 ≤ pages }
+{
     let mut writes = Vec::new(alloc);
-    for number in 0..count {
-        let page = number % 1000 * 7919 % 300;
+    for number in 0..3000u32 {
+        let page = number % 1000 * 7919 % pages;
         let offset = (number % 60) as u16;
         writes.push(Write {
             tick: u64::from(number) * 3,
@@ -313,17 +316,21 @@ fn busy_guest(alloc: Global, count: u32) -> Result<Trace, Fail> {
             )?,
         })?;
     }
-    Ok(Trace::new(1, 6, 300, writes)?)
+    Ok(Trace::new(1, 6, pages, writes)?)
 }
 
-/// Runs with sixteen workers, streams and replayers, and lanes of so many frames: both memories come out right.
+/// Runs over so many pages with sixteen workers, streams and replayers, and lanes of so many frames: both memories come
+/// out right.
 pub(crate) fn run_sixteen(
     rt: &(impl Threads + Wait + Sync),
     alloc: Global,
+    pages: u32,
     lane: u64,
     skip: bool,
-) -> Result<(), Fail> {
-    let trace = busy_guest(alloc, 3000)?;
+) -> Result<(), Fail>
+    requires { 1 ≤ pages }
+{
+    let trace = busy_guest(alloc, pages)?;
     let settings = Settings::new(Asked {
         min: 100,
         max: 100_000,
@@ -349,7 +356,15 @@ pub(crate) fn run_sixteen(
 #[test]
 fn sixteen_of_each_make_the_same_memory(rt: HostRuntime) -> Result<(), Fail> {
     for skip in [false, true] {
-        run_sixteen(&rt, rt.alloc(), 1024, skip)?;
+        run_sixteen(&rt, rt.alloc(), 300, 1024, skip)?;
+    }
+    Ok(())
+}
+
+#[test]
+fn pages_written_often_make_the_same_memory(rt: HostRuntime) -> Result<(), Fail> {
+    for skip in [false, true] {
+        run_sixteen(&rt, rt.alloc(), 12, 1024, skip)?;
     }
     Ok(())
 }

@@ -48,7 +48,8 @@ fn images_of<R: Threads + Wait + Sync>(
     requires current { (page : ℕ) → page < trace.now.pages → ¬ IsTrue (in_words closed.now.dirty page)
         → HaveCurrent closed.now.versions parts.items page }
     ensures at_stop { IfOk result (λ images. (tick : ℕ)
-        → ((page : ℕ) → page < trace.now.pages → slice_index_or closed.now.versions page 0 ≡ version_before trace.now page tick)
+        → ((page : ℕ) → page < trace.now.pages → slice_index_or closed.now.versions page 0
+        ≡ version_before trace.now page tick)
         → images.at_stop ≡ image_before trace.now tick) }
     ensures at_end { IfOk result (λ images. images.at_end ≡ image_of trace.now) }
 {

@@ -6,7 +6,7 @@ use crate::fixtures::{AT_END, FIRST, FOURTH, Page, SECOND, THIRD, ZEROS, releasi
 use crate::version_rows::{brought_on, page_at};
 use image_build::replay_before;
 use page_message::{encode_frame, frame_of};
-use page_versions::{PageIndex, Reached};
+use page_versions::{PageIndex, PageProgress};
 use std::alloc::Global;
 use std::test::Fail;
 use trace_codec::Trace;
@@ -34,7 +34,7 @@ fn released_pages_at_later_versions(rt: HostRuntime) -> Result<(), Fail> {
         (0, 5, 3, ZEROS),
         (5, 5, 3, ZEROS),
     ] {
-        let from = Reached { version, writes: 1 };
+        let from = PageProgress { version, writes: 1 };
         let found = brought_on(alloc, &index, &trace, 1, from, to);
         assert!(rt; found == Some((expected, to, count)), "{version} to {to}");
     }

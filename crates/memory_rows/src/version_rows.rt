@@ -1,7 +1,7 @@
 //! Worked examples, whose results were worked out by hand.
 
 use crate::fixtures::{FIRST, FOURTH, Page, SECOND, THIRD, ZEROS, guest, page_of};
-use page_versions::{PageIndex, Reached};
+use page_versions::{PageIndex, PageProgress};
 use std::alloc::Global;
 use std::test::Fail;
 use trace_codec::{Trace, Write};
@@ -174,7 +174,7 @@ pub(crate) fn brought_on(
     index: &PageIndex,
     trace: &Trace,
     page: u32,
-    from: Reached,
+    from: PageProgress,
     to: u32,
 ) -> Option<(Page, u32, u32)> {
     if !index.is_of(trace) || page >= trace.pages {
@@ -202,7 +202,7 @@ fn pages_at_later_versions(rt: HostRuntime) -> Result<(), Fail> {
         (2, 0, 5, 0, ZEROS),
     ] {
         for writes in [0u32, 1, 2, 3, 4, u32::MAX] {
-            let from = Reached { version, writes };
+            let from = PageProgress { version, writes };
             let found = brought_on(alloc, &index, &trace, page, from, to);
             assert!(rt; found == Some((expected, to, count)), "{page} to {to}");
         }

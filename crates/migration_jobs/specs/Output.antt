@@ -21,7 +21,8 @@ use Rattle.migration_jobs.specs.declared.error.RunError.TheVariants as errors
 pub record IsReport (trace : GuestTrace) (settings : MigrationSettings) (text : List ℕ) : Type 0 where
   pub plan : MigrationPlan
   pub is_plan : IsPlan trace.pages (touches_of trace) settings plan
-  pub text_is : text ≡ report_of trace.shift trace.pages (length trace.writes) settings.hot (working_sets_of trace.pages (touches_of trace) settings) plan
+  pub text_is : text ≡ report_of trace.shift trace.pages (length trace.writes) settings.hot
+      (working_sets_of trace.pages (touches_of trace) settings) plan
 
 -- the text of a sweep of a trace over some cases: the sums of each case's plan, and the best of them
 pub record IsSweep (trace : GuestTrace) (cases : List MigrationSettings) (text : List ℕ) : Type 0 where

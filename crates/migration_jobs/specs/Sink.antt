@@ -9,7 +9,8 @@ pub record SinkState : Type 0 where
   pub is_flushed : Bool
 
 abbrev pub sink_state : Option (List ℕ) → Bool → Bool → SinkState
-sink_state contents has_failed is_flushed = record { contents = contents; has_failed = has_failed; is_flushed = is_flushed }
+sink_state contents has_failed is_flushed =
+    record { contents = contents; has_failed = has_failed; is_flushed = is_flushed }
 
 -- A write that took n bytes added those, and some of any. One that failed added none.
 abbrev pub WritesTo : Option (List ℕ) → Option (List ℕ) → Option ℕ → List ℕ → Type 0

@@ -12,7 +12,7 @@ ghost use Rattle.migration_jobs.specs.Output.{IsOutsideRun, IsRefusalOf, Refuses
 
 use crate::error::RunError;
 use crate::output::Output;
-use crate::replayed::Replayed;
+use crate::replayed::ReplayedMemory;
 use image_build::{ReplayError, replay_bytes};
 use job_kinds::Job;
 use std::alloc::Global;
@@ -44,7 +44,8 @@ fn replay_error(error: ReplayError) -> RunError
 
 /// Returns the memory after all writes of the trace that the bytes encode, made whole.
 fn whole_image(alloc: Global, bytes: &[u8]) -> Result<Vec<u8>, RunError>
-    ensures made { IfOk result (λ v. (trace : GuestTrace) × Spells bytes.now trace × (v.items ≡ (image_of trace).bytes)) }
+    ensures made { IfOk result (λ v. (trace : GuestTrace) × Spells bytes.now trace
+        × (v.items ≡ (image_of trace).bytes)) }
     ensures refused { IfErr result (RefusesText bytes.now) }
     ensures only { (trace : GuestTrace) → Spells bytes.now trace → IfErr result (λ e. e ≡ RunError.Memory) }
 {
@@ -70,13 +71,14 @@ fn paged_image<R: Threads + Sync>(
     rt: &R,
     alloc: Global,
     bytes: Vec<u8>,
-) -> Result<Replayed, RunError>
-    ensures made { IfOk result (λ m. (trace : GuestTrace) × Spells bytes.items trace × (m.bytes ≡ (image_of trace).bytes)) }
+) -> Result<ReplayedMemory, RunError>
+    ensures made { IfOk result (λ m. (trace : GuestTrace) × Spells bytes.items trace
+        × (m.bytes ≡ (image_of trace).bytes)) }
     ensures refused { IfErr result (RefusesText bytes.items) }
     ensures only { (trace : GuestTrace) → Spells bytes.items trace → IfErr result (λ e. e ≡ RunError.Memory) }
 {
     match HeldTrace::parse(alloc, bytes) {
-        Ok(trace) => Replayed::of(rt, alloc, trace).or(Err(RunError::Memory)),
+        Ok(trace) => ReplayedMemory::of(rt, alloc, trace).or(Err(RunError::Memory)),
         Err(error) => Err(held_error(error)),
     }
 }
@@ -87,7 +89,8 @@ fn image_of_bytes<R: Threads + Sync>(
     alloc: Global,
     bytes: Vec<u8>,
 ) -> Result<Output, RunError>
-    ensures made { IfOk result (λ output. (trace : GuestTrace) × Spells bytes.items trace × (bytes_in output ≡ (image_of trace).bytes)) }
+    ensures made { IfOk result (λ output. (trace : GuestTrace) × Spells bytes.items trace
+        × (bytes_in output ≡ (image_of trace).bytes)) }
     ensures refused { IfErr result (RefusesText bytes.items) }
     ensures only { (trace : GuestTrace) → Spells bytes.items trace → IfErr result (λ e. e ≡ RunError.Memory) }
 {
@@ -105,7 +108,8 @@ pub(crate) fn image_output<R: Threads + Sync, S: Source>(
     source: &mut S,
 ) -> Result<Output, RunError>
     requires { S.has_failed source.old ≡ false }
-    ensures made { IfOk result (λ output. (trace : GuestTrace) × IsTrace trace × SourceSpells (S.remaining source.old) trace × (bytes_in output ≡ (image_of trace).bytes)) }
+    ensures made { IfOk result (λ output. (trace : GuestTrace) × IsTrace trace
+        × SourceSpells (S.remaining source.old) trace × (bytes_in output ≡ (image_of trace).bytes)) }
     ensures refused { IfErr result (RefusesRun (S.remaining source.old)) }
     ensures own { IfErr result (λ e. (job : Job) → IsRefusalOf job e) }
     ensures unwritten { IfErr result (λ e. e ≢ RunError.Write) }

@@ -45,7 +45,8 @@ pub(crate) fn live_output<R: Threads + Wait + Sync, S: Source, G: Gate>(
     gate: &G,
 ) -> Result<Shown, RunError>
     requires { S.has_failed source.old ≡ false }
-    ensures made { IfOk result (λ m. (trace : GuestTrace) × IsTrace trace × SourceSpells (S.remaining source.old) trace × IsShown show trace settings.now m.bytes) }
+    ensures made { IfOk result (λ m. (trace : GuestTrace) × IsTrace trace × SourceSpells (S.remaining source.old) trace
+        × IsShown show trace settings.now m.bytes) }
     ensures refused { IfErr result (RefusesRun (S.remaining source.old)) }
     ensures own { IfErr result (λ e. (job : Job) → IsLiveJob job → IsRefusalOf job e) }
     ensures unwritten { IfErr result (λ e. e ≢ RunError.Write) }

@@ -1,13 +1,14 @@
 //! What a job writes, and how.
 
-ghost use Rattle.std.specs.Prelude.{◌≡◌, ◌≢◌, ◌⊎◌, ◌*◌, ◌^◌, ◌≤◌, IfErr, OnErr, OnOk, false, length, true, vec_capacity};
+ghost use Rattle.std.specs.Prelude.{◌≡◌, ◌≢◌, ◌⊎◌, ◌*◌, ◌^◌, ◌≤◌, IfErr, OnErr, OnOk, false, length, true};
+ghost use Rattle.std.specs.Prelude.{vec_capacity};
 ghost use Rattle.std.specs.Io.KnownBytes.{Appends, Keeps};
 ghost use Rattle.migration_jobs.specs.Bytes.{bytes_in};
 ghost use Rattle.migration_jobs.specs.Sink.{AppendsPart};
 
 use crate::error::RunError;
 use crate::paged_memory::{PagedMemory, fill_piece};
-use crate::replayed::Replayed;
+use crate::replayed::ReplayedMemory;
 use crate::shown::Shown;
 use crate::sink::Sink;
 use std::alloc::Global;
@@ -20,7 +21,7 @@ pub(crate) enum Output {
     /// The memory of a live run, written page by page.
     Memory(Shown),
     /// The memory after all writes of a trace, written page by page.
-    Replayed(Replayed),
+    Replayed(ReplayedMemory),
 }
 
 /// Memory is written in pieces of so many bytes: they stay in the processor's cache between making and writing.
@@ -116,7 +117,8 @@ fn write_memory<K: Sink, M: PagedMemory>(
     ensures written { OnOk result (Appends (K.contents sink.old) (K.contents sink.new) (M.memory memory.now).bytes) }
     ensures flushed { OnOk result (K.is_flushed sink.new ≡ true) }
     ensures unfailed { OnOk result (K.has_failed sink.new ≡ false) }
-    ensures part { IfErr result (λ e. e ≡ RunError.Write → AppendsPart (K.contents sink.old) (K.contents sink.new) (M.memory memory.now).bytes) }
+    ensures part { IfErr result (λ e. e ≡ RunError.Write → AppendsPart (K.contents sink.old) (K.contents sink.new)
+        (M.memory memory.now).bytes) }
     ensures refused { IfErr result (λ e. e ≢ RunError.Write → sink.new ≡ sink.old) }
     ensures error { IfErr result (λ e. (e ≡ RunError.Write) ⊎ (e ≡ RunError.Memory)) }
     ensures failed { IfErr result (λ e. e ≡ RunError.Write → K.has_failed sink.new ≡ true) }
@@ -141,7 +143,8 @@ pub(crate) fn write_output<K: Sink>(
     ensures written { OnOk result (Appends (K.contents sink.old) (K.contents sink.new) (bytes_in output.now)) }
     ensures flushed { OnOk result (K.is_flushed sink.new ≡ true) }
     ensures unfailed { OnOk result (K.has_failed sink.new ≡ false) }
-    ensures part { IfErr result (λ e. e ≡ RunError.Write → AppendsPart (K.contents sink.old) (K.contents sink.new) (bytes_in output.now)) }
+    ensures part { IfErr result (λ e. e ≡ RunError.Write → AppendsPart (K.contents sink.old) (K.contents sink.new)
+        (bytes_in output.now)) }
     ensures refused { IfErr result (λ e. e ≢ RunError.Write → sink.new ≡ sink.old) }
     ensures error { IfErr result (λ e. (e ≡ RunError.Write) ⊎ (e ≡ RunError.Memory)) }
     ensures failed { IfErr result (λ e. e ≡ RunError.Write → K.has_failed sink.new ≡ true) }

@@ -36,11 +36,12 @@ pub(crate) fn fill_piece<M: PagedMemory>(
     requires within { end ≤ (M.memory memory.now).pages }
     requires long { length buffer.old.items ≡ 2 ^ (M.memory memory.now).shift }
     requires capacity { (end - first) * 2 ^ (M.memory memory.now).shift ≤ vec_capacity piece.old }
-    ensures filled { piece.new.items ≡ between (first * 2 ^ (M.memory memory.now).shift) (end * 2 ^ (M.memory memory.now).shift) (M.memory memory.now).bytes }
+    ensures filled { piece.new.items ≡ between (first * 2 ^ (M.memory memory.now).shift)
+        (end * 2 ^ (M.memory memory.now).shift) (M.memory memory.now).bytes }
     ensures long { length buffer.new.items ≡ 2 ^ (M.memory memory.now).shift }
     ensures capacity { vec_capacity piece.old ≤ vec_capacity piece.new }
 {
-    // The size of the memory is known once its shape was read.
+    // For the proof: `shape` promises the size of the memory.
     let _ = memory.shape();
     piece.clear();
     for page in first..end {

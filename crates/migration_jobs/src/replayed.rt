@@ -5,7 +5,7 @@ ghost use Rattle.migration_model.specs.Memory.{GuestMemory, image_of};
 ghost use Rattle.page_versions.specs.Index.{IsIndexOf};
 
 use crate::paged_memory::PagedMemory;
-use page_versions::{IndexError, PageIndex, Reached};
+use page_versions::{IndexError, PageIndex, PageProgress};
 use std::alloc::Global;
 use std::marker::Model;
 use std::thread::Threads;
@@ -15,12 +15,12 @@ use trace_readers::HeldTrace;
 /// The memory after all writes of a trace. A page is made of its own writes when it is asked for, so that the memory is
 /// never held whole.
 #[derive(Drop)]
-pub(crate) struct Replayed {
+pub(crate) struct ReplayedMemory {
     trace: HeldTrace,
     index: PageIndex,
 }
 
-impl Model for Replayed {
+impl Model for ReplayedMemory {
     ghost Value = { GuestMemory };
 
     ghost view = { λ m. image_of m.trace };
@@ -28,21 +28,21 @@ impl Model for Replayed {
     ghost invariant = { λ m. IsIndexOf m.index m.trace };
 }
 
-impl Replayed {
+impl ReplayedMemory {
     /// Takes over a trace, and indexes its writes by page. The only error is that memory runs out.
     pub(crate) fn of<R: Threads + Sync>(
         rt: &R,
         alloc: Global,
         trace: HeldTrace,
-    ) -> Result<Replayed, IndexError>
+    ) -> Result<ReplayedMemory, IndexError>
         ensures { IfOk result (λ m. m ≡ image_of trace) }
     {
         let index = PageIndex::build(rt, alloc, &trace)?;
-        Ok(Replayed { trace, index })
+        Ok(ReplayedMemory { trace, index })
     }
 }
 
-impl PagedMemory for Replayed {
+impl PagedMemory for ReplayedMemory {
     ghost memory = { λ m. m };
 
     fn shape(&self) -> Shape {
@@ -51,7 +51,7 @@ impl PagedMemory for Replayed {
 
     fn page_into(&self, page: u32, buffer: &mut Vec<u8>) {
         let writes = self.trace.shape().writes;
-        let unwritten = Reached {
+        let unwritten = PageProgress {
             version: 0,
             writes: 0,
         };

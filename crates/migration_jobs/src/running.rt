@@ -46,7 +46,8 @@ fn tables_and_plan<R: Threads + Sync>(
 {
     let workers = settings.asked().workers as usize;
     let tables = || -> Result<Tables, TablesError>
-        ensures { IfOk result (λ tables. tables ≡ working_sets_of log.entry.now.pages log.entry.now.touches settings.entry.now) }
+        ensures { IfOk result (λ tables. tables ≡ working_sets_of log.entry.now.pages log.entry.now.touches
+            settings.entry.now) }
     { par_tables(rt, alloc, log, settings, workers) };
     let planned = || -> Result<Plan, PlanError>
         ensures { IfOk result (λ plan. IsPlan log.entry.now.pages log.entry.now.touches settings.entry.now plan) }
@@ -67,7 +68,8 @@ fn text_of_report(
 ) -> Result<Vec<u8>, RunError>
     requires tables { tables.now ≡ working_sets_of log.now.pages log.now.touches settings.now }
     requires plan { IsPlan log.now.pages log.now.touches settings.now plan.now }
-    ensures made { IfOk result (λ v. (trace : GuestTrace) → log.now ≡ touches_in trace → IsReport trace settings.now v.items) }
+    ensures made { IfOk result (λ v. (trace : GuestTrace) → log.now ≡ touches_in trace
+        → IsReport trace settings.now v.items) }
     ensures memory { IfErr result (λ e. e ≡ RunError.Memory) }
 {
     report_text(alloc, &log.shape(), settings, tables, plan).or(Err(RunError::Memory))
@@ -80,7 +82,8 @@ fn report_of_log<R: Threads + Sync>(
     settings: &Settings,
     log: &TouchLog,
 ) -> Result<Vec<u8>, RunError>
-    ensures made { IfOk result (λ v. (trace : GuestTrace) → log.now ≡ touches_in trace → IsReport trace settings.now v.items) }
+    ensures made { IfOk result (λ v. (trace : GuestTrace) → log.now ≡ touches_in trace
+        → IsReport trace settings.now v.items) }
     ensures memory { IfErr result (λ e. e ≡ RunError.Memory) }
 {
     let (tables, planned) = tables_and_plan(rt, alloc, settings, log);
@@ -97,7 +100,8 @@ fn report_output<R: Threads + Sync, S: Source>(
     source: &mut S,
 ) -> Result<Vec<u8>, RunError>
     requires { S.has_failed source.old ≡ false }
-    ensures made { IfOk result (λ v. (trace : GuestTrace) × IsTrace trace × SourceSpells (S.remaining source.old) trace × IsReport trace settings.now v.items) }
+    ensures made { IfOk result (λ v. (trace : GuestTrace) × IsTrace trace × SourceSpells (S.remaining source.old) trace
+        × IsReport trace settings.now v.items) }
     ensures refused { IfErr result (RefusesRun (S.remaining source.old)) }
     ensures own { IfErr result (λ e. (job : Job) → IsRefusalOf job e) }
     ensures unwritten { IfErr result (λ e. e ≢ RunError.Write) }
@@ -119,7 +123,8 @@ fn sweep_of_log<R: Threads + Sync>(
     workers: usize,
     log: &TouchLog,
 ) -> Result<Vec<u8>, RunError>
-    ensures made { IfOk result (λ v. (trace : GuestTrace) → log.now ≡ touches_in trace → IsSweep trace cases.now v.items) }
+    ensures made { IfOk result (λ v. (trace : GuestTrace) → log.now ≡ touches_in trace
+        → IsSweep trace cases.now v.items) }
     ensures memory { IfErr result (λ e. e ≡ RunError.Memory) }
 {
     let lines = sweep(rt, alloc, log, cases, workers).or(Err(RunError::Memory))?;
@@ -135,7 +140,8 @@ fn sweep_output<R: Threads + Sync, S: Source>(
     source: &mut S,
 ) -> Result<Vec<u8>, RunError>
     requires { S.has_failed source.old ≡ false }
-    ensures made { IfOk result (λ v. (trace : GuestTrace) × IsTrace trace × SourceSpells (S.remaining source.old) trace × IsSweep trace cases.now v.items) }
+    ensures made { IfOk result (λ v. (trace : GuestTrace) × IsTrace trace × SourceSpells (S.remaining source.old) trace
+        × IsSweep trace cases.now v.items) }
     ensures refused { IfErr result (RefusesRun (S.remaining source.old)) }
     ensures own { IfErr result (λ e. (job : Job) → IsRefusalOf job e) }
     ensures unwritten { IfErr result (λ e. e ≢ RunError.Write) }

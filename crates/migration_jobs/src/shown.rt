@@ -8,7 +8,7 @@ ghost use Rattle.migration_jobs.specs.Shown.{memory_shown};
 
 use crate::paged_memory::PagedMemory;
 use job_kinds::Show;
-use live_engine::Stopped;
+use live_engine::StoppedGuest;
 use std::marker::Model;
 use trace_codec::{Shape, WriteLog};
 use trace_readers::HeldTrace;
@@ -17,7 +17,7 @@ use trace_readers::HeldTrace;
 /// for, and no such copy fails.
 #[derive(Drop)]
 pub(crate) struct Shown {
-    stopped: Stopped,
+    stopped: StoppedGuest,
     trace: HeldTrace,
     show: Show,
 }
@@ -27,12 +27,13 @@ impl Model for Shown {
 
     ghost view = { λ m. memory_shown m.show m.trace (memory_by m.stopped.memory) };
 
-    ghost invariant = { λ m. IsStoppedAt m.trace m.stopped.versions.items m.stopped.index (memory_by m.stopped.memory) };
+    ghost invariant = { λ m. IsStoppedAt m.trace m.stopped.versions.items m.stopped.index
+        (memory_by m.stopped.memory) };
 }
 
 impl Shown {
     /// Returns the memory of a guest that stopped, with what is to be shown of it.
-    pub(crate) fn new(stopped: Stopped, trace: HeldTrace, show: Show) -> Shown
+    pub(crate) fn new(stopped: StoppedGuest, trace: HeldTrace, show: Show) -> Shown
         requires { IsStoppedAt trace stopped.versions.items stopped.index (memory_by stopped.memory) }
         ensures { result ≡ memory_shown show trace (memory_by stopped.memory) }
     {

@@ -13,7 +13,10 @@ shape_of_trace trace = shape_with trace.shift trace.pages (length trace.writes)
 
 -- a page as it is at its version
 abbrev pub current_copy : GuestTrace → List ℕ → ℕ → PageCopy
-current_copy trace versions page = record { stamp = slice_index_or versions page 0; content = page_at trace page (slice_index_or versions page 0) }
+current_copy trace versions page = record {
+  stamp = slice_index_or versions page 0;
+  content = page_at trace page (slice_index_or versions page 0);
+}
 
 -- a part after it took the current copy of each page that `takes` passes: of those it has the later copy, of all
 -- others its own
@@ -24,9 +27,11 @@ pub record TakesCurrent (trace : GuestTrace) (versions : List ℕ) (takes : ℕ 
       ≡ (if takes page then later (copy_at old page) (Some (current_copy trace versions page)) else copy_at old page)
 
 -- Each marked page has one receiver among the parts, which takes its current copy; nothing else changes in any part.
-pub record IsFinalCopy (trace : GuestTrace) (versions : List ℕ) (marked : ℕ → Bool) (old new : List GuestPart) : Type 0 where
+pub record IsFinalCopy (trace : GuestTrace) (versions : List ℕ)
+    (marked : ℕ → Bool) (old new : List GuestPart) : Type 0 where
   pub receiver : ℕ → ℕ
   pub received : (page : ℕ) → IsTrue (marked page) → receiver page < length old
   pub count : length new ≡ length old
   pub each : (i : ℕ) (part : GuestPart) → i < length old
-      → TakesCurrent trace versions (λ page. marked page && (receiver page == i)) (slice_index_or old i part) (slice_index_or new i part)
+      → TakesCurrent trace versions (λ page. marked page && (receiver page == i)) (slice_index_or old i part)
+      (slice_index_or new i part)

@@ -39,17 +39,21 @@ pub record LacksFirst (shape : GuestShape) (parts : List GuestPart) (page : ℕ)
   pub first : HaveFirst parts page
 
 -- honest parts of one guest, in which no stamp of a page is greater than its version
-pub record AreNotBeyond (trace : GuestTrace) (shape : GuestShape) (versions : List ℕ) (parts : List GuestPart) : Type 0 where
+pub record AreNotBeyond (trace : GuestTrace) (shape : GuestShape) (versions : List ℕ)
+    (parts : List GuestPart) : Type 0 where
   pub are_parts : All IsPart parts
   pub shapes : All (λ part. part.shape ≡ shape) parts
   pub honest : All (IsHonest trace) parts
-  pub bound : (page : ℕ) → All (λ part. IfSome (copy_at part page) (λ copy. copy.stamp ≤ slice_index_or versions page 0)) parts
+  pub bound : (page : ℕ) → All (λ part. IfSome (copy_at part page)
+      (λ copy. copy.stamp ≤ slice_index_or versions page 0)) parts
 
 -- some part has the page at its version
 abbrev pub HaveCurrent : List ℕ → List GuestPart → ℕ → Type 0
-HaveCurrent versions parts page = Any (λ part. IsSomeAnd (copy_at part page) (λ copy. copy.stamp ≡ slice_index_or versions page 0)) parts
+HaveCurrent versions parts page = Any (λ part. IsSomeAnd (copy_at part page)
+    (λ copy. copy.stamp ≡ slice_index_or versions page 0)) parts
 
 -- parts that are not beyond, of which some part has each page at its version
-pub record AreCurrent (trace : GuestTrace) (shape : GuestShape) (versions : List ℕ) (parts : List GuestPart) : Type 0 where
+pub record AreCurrent (trace : GuestTrace) (shape : GuestShape) (versions : List ℕ)
+    (parts : List GuestPart) : Type 0 where
   pub not_beyond : AreNotBeyond trace shape versions parts
   pub current : (page : ℕ) → page < shape.pages → HaveCurrent versions parts page

@@ -1,7 +1,8 @@
 -- Live rounds of a migration, and the law that they keep. After Clark and others, "Live Migration of Virtual Machines"
 -- (2005), section 4: each round sends the pages that were dirtied during the round before. After their section 5.4, it
 -- may leave out those that are dirtied again. Versions, copiers and the order of a scan are this project's own.
-use Rattle.std.specs.Prelude.{◌≡◌, ◌⊎◌, ℕ, ◌-◌, ◌/◌, ◌%◌, ◌<◌, ◌≤◌, ◌==◌, Bool, true, List, [], ◌∷◌, ◌++◌, length, map, take, Option, Some, IsSomeAnd, slice_get}
+use Rattle.std.specs.Prelude.{◌≡◌, ◌⊎◌, ℕ, ◌-◌, ◌/◌, ◌%◌, ◌<◌, ◌≤◌, ◌==◌, Bool, true, List, [], ◌∷◌, ◌++◌, length, map}
+use Rattle.std.specs.Prelude.{take, Option, Some, IsSomeAnd, slice_get}
 use Rattle.std.specs.List.{Any, AllPairs, Contains, count_by, flat_map}
 use Rattle.migration_model.specs.Trace.{GuestTrace, GuestWrite}
 use Rattle.migration_model.specs.Versions.{IsWritten, version_before}
@@ -47,7 +48,8 @@ IsInScanOrder copiers pages = AllPairs (λ page later. (page_copier copiers page
 
 -- how many pages a copier sent in these rounds
 abbrev pub sent_by_copier : ℕ → List LiveRound → ℕ → ℕ
-sent_by_copier copiers rounds copier = count_by (λ page. page_copier copiers page == copier) (flat_map pages_sent rounds)
+sent_by_copier copiers rounds copier = count_by (λ page. page_copier copiers page == copier)
+    (flat_map pages_sent rounds)
 
 -- the destination begins with the memory before a base, and the page's version before the tick is no greater than there
 abbrev pub IsInBase : GuestTrace → Option ℕ → ℕ → ℕ → Type 0
@@ -60,7 +62,8 @@ WasCurrent trace base tick rounds page = IsInBase trace base tick page
 
 -- the last of these rounds skipped or deferred the page
 abbrev pub IsPutOff : List LiveRound → ℕ → Type 0
-IsPutOff rounds page = (last : LiveRound) × (slice_get rounds (length rounds - 1) ≡ Some last) × (Contains last.skipped page ⊎ Contains last.deferred page)
+IsPutOff rounds page = (last : LiveRound) × (slice_get rounds (length rounds - 1) ≡ Some last)
+    × (Contains last.skipped page ⊎ Contains last.deferred page)
 
 -- after these rounds a round has to list the page: it was put off, or did not come as it is when the round begins
 abbrev pub IsDue : GuestTrace → Option ℕ → ℕ → List LiveRound → ℕ → Type 0
@@ -68,32 +71,41 @@ IsDue trace base from rounds page = IsPutOff rounds page ⊎ (¬ WasCurrent trac
 
 -- the page was written during the last of these rounds
 abbrev pub IsWrittenLast : GuestTrace → List PlannedRound → ℕ → Type 0
-IsWrittenLast trace planned page = (last : PlannedRound) × (slice_get planned (length planned - 1) ≡ Some last) × IsWritten trace last.from last.to page
+IsWrittenLast trace planned page = (last : PlannedRound) × (slice_get planned (length planned - 1) ≡ Some last)
+    × IsWritten trace last.from last.to page
 
 -- One round, after others, by so many copiers over lanes of so many frames, in the ticks that were planned for it.
 -- Where there is a base, its versions count as sent before the first round.
-pub record KeepsLaw (trace : GuestTrace) (base : Option ℕ) (skip : Bool) (copiers lane : ℕ) (planned : List PlannedRound) (rounds : List LiveRound) (plan : PlannedRound) (round : LiveRound) : Type 0 where
+pub record KeepsLaw (trace : GuestTrace) (base : Option ℕ)
+    (skip : Bool) (copiers lane : ℕ) (planned : List PlannedRound) (rounds : List LiveRound)
+    (plan : PlannedRound) (round : LiveRound) : Type 0 where
   -- a page is listed at most once, and each list goes by copier and then by page
   pub sent_order : IsInScanOrder copiers (pages_sent round)
   pub skipped_order : IsInScanOrder copiers round.skipped
   pub deferred_order : IsInScanOrder copiers round.deferred
   pub apart : (page : ℕ) → Contains (pages_sent round) page → ¬ Contains round.skipped page
-  pub deferred_apart : (page : ℕ) → Contains round.deferred page → (¬ Contains (pages_sent round) page) × (¬ Contains round.skipped page)
+  pub deferred_apart : (page : ℕ) → Contains round.deferred page → (¬ Contains (pages_sent round) page)
+      × (¬ Contains round.skipped page)
   -- each page that is due is listed, and no other but those written in this round or the one before
   pub due : (page : ℕ) → page < trace.pages → IsDue trace base plan.from rounds page → IsListed round page
   pub only : (page : ℕ) → IsListed round page
-      → (page < trace.pages) × (IsDue trace base plan.from rounds page ⊎ (IsWrittenLast trace planned page ⊎ IsWritten trace plan.from plan.to page))
+      → (page < trace.pages) × (IsDue trace base plan.from rounds page
+      ⊎ (IsWrittenLast trace planned page ⊎ IsWritten trace plan.from plan.to page))
   -- a stamp is the page's version when the round began, or the place of a write in the round
   pub stamps : (page stamp : ℕ) → IsSentWith round page stamp
       → (stamp ≡ version_before trace page plan.from) ⊎ IsPlaceOf trace page plan.from plan.to stamp
   -- a page is skipped only where skipping is on, not in the first round, and where the page is written in this round
-  pub skips : (page : ℕ) → Contains round.skipped page → (skip ≡ true) × (1 ≤ length rounds) × IsWritten trace plan.from plan.to page
+  pub skips : (page : ℕ) → Contains round.skipped page → (skip ≡ true) × (1 ≤ length rounds)
+      × IsWritten trace plan.from plan.to page
   -- a page is deferred only where its copier sent at least as many pages, in this round and those before, as a lane
   -- holds
-  pub defers : (page : ℕ) → Contains round.deferred page → lane ≤ sent_by_copier copiers (rounds ++ round ∷ []) (page_copier copiers page)
+  pub defers : (page : ℕ) → Contains round.deferred page
+      → lane ≤ sent_by_copier copiers (rounds ++ round ∷ []) (page_copier copiers page)
 
 -- The law of live rounds: there are as many as were planned, and each keeps the law after those before it.
-pub record LiveRounds (trace : GuestTrace) (base : Option ℕ) (skip : Bool) (copiers lane : ℕ) (planned : List PlannedRound) (rounds : List LiveRound) : Type 0 where
+pub record LiveRounds (trace : GuestTrace) (base : Option ℕ)
+    (skip : Bool) (copiers lane : ℕ) (planned : List PlannedRound) (rounds : List LiveRound) : Type 0 where
   pub count : length rounds ≡ length planned
-  pub each : (i : ℕ) (plan : PlannedRound) (round : LiveRound) → slice_get planned i ≡ Some plan → slice_get rounds i ≡ Some round
+  pub each : (i : ℕ) (plan : PlannedRound) (round : LiveRound) → slice_get planned i ≡ Some plan
+      → slice_get rounds i ≡ Some round
       → KeepsLaw trace base skip copiers lane (take i planned) (take i rounds) plan round

@@ -1,5 +1,6 @@
 -- A guest's memory as one flat list of bytes, and what writes leave in it. This project's own.
-use Rattle.std.specs.Prelude.{◌≡◌, ◌==◌, ℕ, ◌+◌, ◌*◌, ◌^◌, if◌then◌else◌, List, ◌++◌, length, take, drop, replicate, nat_lt}
+use Rattle.std.specs.Prelude.{◌≡◌, ◌==◌, ℕ, ◌+◌, ◌*◌, ◌^◌, if◌then◌else◌, List, ◌++◌, length, take, drop, replicate}
+use Rattle.std.specs.Prelude.{nat_lt}
 use Rattle.std.specs.List.{fold, filter, between}
 use Rattle.migration_model.specs.Trace.{GuestWrite, GuestTrace, IsGuestSize}
 
@@ -32,7 +33,9 @@ bytes_put shift write = if length write.bytes == 0 then replicate (2 ^ shift) 0 
 -- memory after one more write: what it puts stands from the offset of its page on, and all other bytes are left
 abbrev pub apply : GuestMemory → GuestWrite → GuestMemory
 apply memory write =
-    record memory { bytes = put memory.bytes (write.page * 2 ^ memory.shift + write.offset) (bytes_put memory.shift write) }
+    record memory {
+      bytes = put memory.bytes (write.page * 2 ^ memory.shift + write.offset) (bytes_put memory.shift write);
+    }
 
 -- memory after these writes, in order, to zeros
 abbrev pub replay : ℕ → ℕ → List GuestWrite → GuestMemory

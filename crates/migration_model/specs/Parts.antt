@@ -1,6 +1,7 @@
 -- Parts of a guest's memory at the destination, put together from frames in whatever order they come. This project's
 -- own.
-use Rattle.std.specs.Prelude.{◌≡◌, ℕ, ◌^◌, ◌≤◌, nat_lt, if◌then◌else◌, List, [], ◌∷◌, length, replicate, slice_index_or, slice_set, Option, Some, None, IfSome}
+use Rattle.std.specs.Prelude.{◌≡◌, ℕ, ◌^◌, ◌≤◌, nat_lt, if◌then◌else◌, List, [], ◌∷◌, length, replicate, slice_index_or}
+use Rattle.std.specs.Prelude.{slice_set, Option, Some, None, IfSome}
 use Rattle.std.specs.List.{Contains, fold}
 use Rattle.migration_model.specs.Trace.{GuestTrace}
 use Rattle.migration_model.specs.Versions.{page_at}
@@ -67,7 +68,8 @@ part_of shape frame = part_with shape (slice_set (replicate shape.pages None) fr
 
 -- a part after one more frame: of its page the later copy, and all other pages as before
 abbrev pub with_frame : GuestPart → PageFrame → GuestPart
-with_frame part frame = part_with part.shape (slice_set part.copies frame.page (later (copy_at part frame.page) (Some (copy_in part.shape frame))))
+with_frame part frame = part_with part.shape
+    (slice_set part.copies frame.page (later (copy_at part frame.page) (Some (copy_in part.shape frame))))
 
 -- a part after these frames, in order
 abbrev pub with_frames : GuestPart → List PageFrame → GuestPart
@@ -76,13 +78,16 @@ with_frames part frames = fold with_frame part frames
 -- parts of one guest that have equal copies wherever their stamps of a page are equal
 pub record Agree (a b : GuestPart) : Type 0 where
   pub shape : a.shape ≡ b.shape
-  pub copies : (page : ℕ) (c d : PageCopy) → copy_at a page ≡ Some c → copy_at b page ≡ Some d → c.stamp ≡ d.stamp → c ≡ d
+  pub copies : (page : ℕ) (c d : PageCopy) → copy_at a page ≡ Some c → copy_at b page ≡ Some d
+      → c.stamp ≡ d.stamp → c ≡ d
 
 -- frames that have equal bytes wherever their pages and stamps are equal
 abbrev pub FramesAgree : GuestShape → List PageFrame → Type 0
 FramesAgree shape frames =
-    (f g : PageFrame) → Contains frames f → Contains frames g → f.page ≡ g.page → f.stamp ≡ g.stamp → content_of shape f ≡ content_of shape g
+    (f g : PageFrame) → Contains frames f → Contains frames g
+    → f.page ≡ g.page → f.stamp ≡ g.stamp → content_of shape f ≡ content_of shape g
 
 -- each copy is the page at the version that its stamp names
 abbrev pub IsHonest : GuestTrace → GuestPart → Type 0
-IsHonest trace part = (page : ℕ) (copy : PageCopy) → copy_at part page ≡ Some copy → copy.content ≡ page_at trace page copy.stamp
+IsHonest trace part = (page : ℕ) (copy : PageCopy) → copy_at part page ≡ Some copy
+    → copy.content ≡ page_at trace page copy.stamp

@@ -2,7 +2,8 @@
 -- Clark and others, "Live Migration of Virtual Machines" (2005), section 5.3, on dynamic rate limiting. The first
 -- round has the least rate. Later ones have the dirtying rate before plus a constant. Rounds end where that is above
 -- the greatest rate, or where little remains. A rate is in pages per 1,000 ticks.
-use Rattle.std.specs.Prelude.{ℕ, ◌+◌, ◌*◌, ◌^◌, ◌<◌, ◌≤◌, ◌==◌, nat_lt, max, Bool, if◌then◌else◌, List, Option, IfSome, codes}
+use Rattle.std.specs.Prelude.{ℕ, ◌+◌, ◌*◌, ◌^◌, ◌<◌, ◌≤◌, ◌==◌, nat_lt, max, Bool, if◌then◌else◌, List, Option, IfSome}
+use Rattle.std.specs.Prelude.{codes}
 use Rattle.std.specs.Int.{div_ceil}
 
 -- The settings of a migration and of a report. Where there is a base, the destination begins with the guest's memory

@@ -11,7 +11,8 @@ writes_after trace page version = filter (λ write. write.page == page) (drop ve
 
 -- each page of the memory is at its version
 abbrev pub AtVersions : GuestTrace → List ℕ → GuestMemory → Type 0
-AtVersions trace versions memory = (page : ℕ) → page < memory.pages → page_of memory page ≡ page_at trace page (slice_index_or versions page 0)
+AtVersions trace versions memory = (page : ℕ) → page < memory.pages → page_of memory page
+    ≡ page_at trace page (slice_index_or versions page 0)
 
 -- memory of the same size in which each page has also its own writes after its version
 pub record IsResumed (trace : GuestTrace) (versions : List ℕ) (before after : GuestMemory) : Type 0 where

@@ -2,10 +2,12 @@
 -- section 4: the first round sends all pages, and each later one those that were dirtied during the round before.
 -- After their section 5.4, a page that is dirtied again while a round goes on need not be sent in it. Ticks, roundings
 -- and the rising order of a round's scan are this project's own.
-use Rattle.std.specs.Prelude.{◌≡◌, ℕ, ◌+◌, ◌-◌, ◌*◌, ◌/◌, ◌&&◌, nat_lt, nat_le, not, Bool, List, [], ◌∷◌, length, Option, None, Some}
+use Rattle.std.specs.Prelude.{◌≡◌, ℕ, ◌+◌, ◌-◌, ◌*◌, ◌/◌, ◌&&◌, nat_lt, nat_le, not, Bool, List, [], ◌∷◌, length}
+use Rattle.std.specs.Prelude.{Option, None, Some}
 use Rattle.std.specs.List.{count_by, filter, range_with_len, sum_by}
 use Rattle.migration_model.specs.Touches.{GuestTouch, is_written, pages_written}
-use Rattle.migration_model.specs.Rates.{MigrationSettings, StopReason, AfterRound, goes_on, stops, after_round, duration_of}
+use Rattle.migration_model.specs.Rates.{MigrationSettings, StopReason, AfterRound, goes_on, stops, after_round}
+use Rattle.migration_model.specs.Rates.{duration_of}
 
 -- A round from a tick on and before another, at a rate: its pages, those of them that are sent, and how many pages are
 -- dirtied meanwhile. Pages rise.
@@ -27,7 +29,8 @@ pub record MigrationPlan : Type 0 where
   pub down : ℕ
 
 abbrev pub plan_with : List PlannedRound → StopReason → ℕ → List ℕ → ℕ → MigrationPlan
-plan_with rounds reason stop last down = record { rounds = rounds; reason = reason; stop = stop; last = last; down = down }
+plan_with rounds reason stop last down =
+    record { rounds = rounds; reason = reason; stop = stop; last = last; down = down }
 
 -- how many pages a plan sends, over its rounds and after the stop
 abbrev pub total_of : MigrationPlan → ℕ
@@ -41,7 +44,8 @@ pages_below page pages = count_by (λ other. nat_lt other page) pages
 -- is not written in the ticks that the pages below it take, rounded down. Where skipping is off, all are sent.
 abbrev pub IsSent : Bool → List GuestTouch → ℕ → ℕ → List ℕ → List ℕ → Type 0
 IsSent skip touches from rate pages sent =
-    sent ≡ filter (λ page. not (skip && is_written touches from (from + 1_000 * pages_below page sent / rate) page)) pages
+    sent ≡ filter (λ page. not (skip && is_written touches from (from + 1_000 * pages_below page sent / rate) page))
+    pages
 
 -- where a migration stands: so many rounds done, and the first tick, the rate and the pages of the next round
 pub record NextRound : Type 0 where
@@ -64,10 +68,16 @@ first_round pages touches s =
 -- the round after one, at this rate: it begins where that ends, with the pages dirtied meanwhile
 abbrev pub round_after : ℕ → List GuestTouch → NextRound → PlannedRound → ℕ → NextRound
 round_after pages touches now round rate =
-    record { done = now.done + 1; from = round.to; rate = rate; pages = pages_written pages touches round.from round.to }
+    record {
+      done = now.done + 1;
+      from = round.to;
+      rate = rate;
+      pages = pages_written pages touches round.from round.to;
+    }
 
 -- the next round of a guest of so many pages; the first one never skips
-pub record IsRound (pages : ℕ) (touches : List GuestTouch) (s : MigrationSettings) (now : NextRound) (round : PlannedRound) : Type 0 where
+pub record IsRound (pages : ℕ) (touches : List GuestTouch)
+    (s : MigrationSettings) (now : NextRound) (round : PlannedRound) : Type 0 where
   pub from_is : round.from ≡ now.from
   pub rate_is : round.rate ≡ now.rate
   pub pages_are : round.pages ≡ now.pages
@@ -77,7 +87,8 @@ pub record IsRound (pages : ℕ) (touches : List GuestTouch) (s : MigrationSetti
 
 -- what is left after the last round: the guest stops where that ends, and the pages dirtied meanwhile go at the
 -- greatest rate
-pub record IsEnd (pages : ℕ) (touches : List GuestTouch) (s : MigrationSettings) (round : PlannedRound) (plan : MigrationPlan) : Type 0 where
+pub record IsEnd (pages : ℕ) (touches : List GuestTouch)
+    (s : MigrationSettings) (round : PlannedRound) (plan : MigrationPlan) : Type 0 where
   pub stop_is : plan.stop ≡ round.to
   pub last_is : plan.last ≡ pages_written pages touches round.from round.to
   pub down_is : plan.down ≡ duration_of (length plan.last) s.max

@@ -16,13 +16,15 @@ pub record PlanOutcome : Type 0 where
   pub total : ℕ
 
 abbrev pub outcome_with : ℕ → StopReason → ℕ → ℕ → ℕ → PlanOutcome
-outcome_with rounds reason stop down total = record { rounds = rounds; reason = reason; stop = stop; down = down; total = total }
+outcome_with rounds reason stop down total =
+    record { rounds = rounds; reason = reason; stop = stop; down = down; total = total }
 
 abbrev pub outcome_of : MigrationPlan → PlanOutcome
 outcome_of plan = outcome_with (length plan.rounds) plan.reason plan.stop plan.down (total_of plan)
 
 -- the plan of a guest of so many pages with these touches comes to this
-pub record IsOutcome (pages : ℕ) (touches : List GuestTouch) (s : MigrationSettings) (outcome : PlanOutcome) : Type 0 where
+pub record IsOutcome (pages : ℕ) (touches : List GuestTouch)
+    (s : MigrationSettings) (outcome : PlanOutcome) : Type 0 where
   pub plan : MigrationPlan
   pub is_plan : IsPlan pages touches s plan
   pub outcome_is : outcome ≡ outcome_of plan

@@ -36,7 +36,8 @@ pub record AreTouches (pages : ℕ) (touches : List GuestTouch) : Type 0 where
 -- whether the page is written at a tick from `from` on and before `to`: the pages modified during a round, of Clark
 -- and others (2005), section 4
 abbrev pub is_written : List GuestTouch → ℕ → ℕ → ℕ → Bool
-is_written touches from to page = list_any (λ touch. (touch.page == page) && (nat_le from touch.tick && nat_lt touch.tick to)) touches
+is_written touches from to page = list_any (λ touch. (touch.page == page)
+    && (nat_le from touch.tick && nat_lt touch.tick to)) touches
 
 -- the pages, of a guest of so many, that are written in such a range of ticks, rising
 abbrev pub pages_written : ℕ → List GuestTouch → ℕ → ℕ → List ℕ

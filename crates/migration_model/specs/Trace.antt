@@ -68,7 +68,8 @@ unfoldable pub header_text : ℕ → ℕ → ℕ → ℕ → List ℕ
 header_text version shift pages writes = magic ++ version ∷ shift ∷ 0 ∷ 0 ∷ (text_of w32 pages ++ text_of w32 writes)
 
 unfoldable pub trace_text : GuestTrace → List ℕ
-trace_text trace = header_text trace.version trace.shift trace.pages (length trace.writes) ++ flat_map write_text trace.writes
+trace_text trace = header_text trace.version trace.shift trace.pages (length trace.writes) ++ flat_map
+    write_text trace.writes
 
 -- what a trace may be: version, sizes, writes and length within the limits of the format
 pub record IsTrace (trace : GuestTrace) : Type 0 where

@@ -38,8 +38,10 @@ row_of touches pages w j = record {
   number = j;
   writes = writes_between touches (j * w) ((j + 1) * w);
   pages = count_by (λ page. is_in_window touches w j page) (range_with_len 0 pages);
-  again = count_by (λ page. is_in_window touches w j page && is_in_window_before touches w j page) (range_with_len 0 pages);
-  fresh = count_by (λ page. is_in_window touches w j page && not (is_in_earlier_window touches w j page)) (range_with_len 0 pages);
+  again = count_by (λ page. is_in_window touches w j page && is_in_window_before touches w j page)
+      (range_with_len 0 pages);
+  fresh = count_by (λ page. is_in_window touches w j page && not (is_in_earlier_window touches w j page))
+      (range_with_len 0 pages);
 }
 
 -- how many windows there are up to that of the last write
@@ -48,7 +50,8 @@ windows_of touches w = last_by (λ touch. touch.tick) touches / w + 1
 
 -- the rows of the windows with at least one write, rising
 unfoldable pub rows_of : List GuestTouch → ℕ → ℕ → List WindowRow
-rows_of touches pages w = filter (λ row. nat_le 1 row.writes) (map (row_of touches pages w) (range_with_len 0 (windows_of touches w)))
+rows_of touches pages w = filter (λ row. nat_le 1 row.writes)
+    (map (row_of touches pages w) (range_with_len 0 (windows_of touches w)))
 
 -- in how many windows a page is
 unfoldable pub windows_with : List GuestTouch → ℕ → ℕ → ℕ

@@ -3,13 +3,16 @@
 //! A law is a function with an empty body: its contract is the law, and a call brings it into the caller's proof.
 #![tactic(auto)]
 
-ghost use Rattle.std.specs.Prelude.{◌≡◌, ◌↔◌, ◌<◌, ◌≤◌, ◌*◌, ◌^◌, ℕ, ◌++◌, Bool, IsTrue, List, [], length, slice_index_or};
+ghost use Rattle.std.specs.Prelude.{◌≡◌, ◌↔◌, ◌<◌, ◌≤◌, ◌*◌, ◌^◌, ℕ, ◌++◌, Bool, IsTrue, List, [], length};
+ghost use Rattle.std.specs.Prelude.{slice_index_or};
 ghost use Rattle.std.specs.List.{All, Contains};
-ghost use Rattle.migration_model.specs.Frames.{GuestShape, IsGuestShape, IsFrame, PageFrame, SpellsFrame, SpellsStream, content_of, frame_text};
+ghost use Rattle.migration_model.specs.Frames.{GuestShape, IsGuestShape, IsFrame, PageFrame, SpellsFrame, SpellsStream};
+ghost use Rattle.migration_model.specs.Frames.{content_of, frame_text};
 ghost use Rattle.migration_model.specs.Final.{IsFinalCopy, shape_of_trace};
 ghost use Rattle.migration_model.specs.Images.{AreCurrent, AreNotBeyond, HaveCurrent, HaveFirst, memory_in};
 ghost use Rattle.migration_model.specs.Memory.{GuestMemory, image_before, page_of};
-ghost use Rattle.migration_model.specs.Parts.{Agree, FramesAgree, GuestPart, IsPart, join, join_all, part_of, with_frame, with_frames};
+ghost use Rattle.migration_model.specs.Parts.{Agree, FramesAgree, GuestPart, IsPart, join, join_all, part_of};
+ghost use Rattle.migration_model.specs.Parts.{with_frame, with_frames};
 ghost use Rattle.migration_model.specs.Trace.{GuestTrace, IsTrace, Spells};
 ghost use Rattle.migration_model.specs.Touches.{is_written, touches_of};
 ghost use Rattle.migration_model.specs.Versions.{IsWritten, page_at, version_before};
@@ -28,7 +31,8 @@ pub fn one_trace()
 /// ticks.
 #[tactic(auto, using(crate::proofs::Touches::written_is_lem))]
 pub fn written_as_a_test()
-    ensures { (trace : GuestTrace) (from to page : ℕ) → IsTrue (is_written (touches_of trace) from to page) ↔ IsWritten trace from to page }
+    ensures { (trace : GuestTrace) (from to page : ℕ) → IsTrue (is_written (touches_of trace) from to page) ↔ IsWritten
+        trace from to page }
 {}
 
 /// A page, a stamp and the bytes of the page have an encoding as a frame, and only one.
@@ -83,8 +87,10 @@ pub fn current_copies_make_memory()
     ensures pages { (trace : GuestTrace) (shape : GuestShape) (versions : List ℕ) (parts : List GuestPart) (page : ℕ)
         → AreCurrent trace shape versions parts → page < shape.pages
         → page_of (memory_in (join_all shape parts)) page ≡ page_at trace page (slice_index_or versions page 0) }
-    ensures size { (trace : GuestTrace) (shape : GuestShape) (versions : List ℕ) (parts : List GuestPart) → AreCurrent trace shape versions parts
-        → ((memory_in (join_all shape parts)).shift ≡ shape.shift) × ((memory_in (join_all shape parts)).pages ≡ shape.pages)
+    ensures size { (trace : GuestTrace) (shape : GuestShape) (versions : List ℕ) (parts : List GuestPart)
+        → AreCurrent trace shape versions parts
+        → ((memory_in (join_all shape parts)).shift ≡ shape.shift)
+        × ((memory_in (join_all shape parts)).pages ≡ shape.pages)
         × (length (memory_in (join_all shape parts)).bytes ≡ shape.pages * 2 ^ shape.shift) }
     ensures before { (trace : GuestTrace) (versions : List ℕ) (parts : List GuestPart) (tick : ℕ) → IsTrace trace
         → AreCurrent trace (shape_of_trace trace) versions parts
@@ -95,7 +101,8 @@ pub fn current_copies_make_memory()
 /// A final copy needs the marked pages alone. Let the parts be honest, no stamp in them beyond its page's version, and
 /// the current copy of every unmarked page in some part: then every page has its current copy after the final copy.
 pub fn final_copy_makes_current()
-    ensures { (trace : GuestTrace) (shape : GuestShape) (versions : List ℕ) (marked : ℕ → Bool) (old new : List GuestPart)
+    ensures { (trace : GuestTrace) (shape : GuestShape) (versions : List ℕ)
+        (marked : ℕ → Bool) (old new : List GuestPart)
         → AreNotBeyond trace shape versions old
         → ((page : ℕ) → page < shape.pages → ¬ IsTrue (marked page) → HaveCurrent versions old page)
         → IsFinalCopy trace versions marked old new → AreCurrent trace shape versions new }
@@ -104,7 +111,8 @@ pub fn final_copy_makes_current()
 /// Memory in which each page is at its version before a tick is the memory before that tick.
 pub fn versions_make_memory()
     ensures { (trace : GuestTrace) (memory : GuestMemory) (tick : ℕ) → IsTrace trace
-        → memory.shift ≡ trace.shift → memory.pages ≡ trace.pages → length memory.bytes ≡ memory.pages * 2 ^ memory.shift
+        → memory.shift ≡ trace.shift → memory.pages ≡ trace.pages → length memory.bytes
+        ≡ memory.pages * 2 ^ memory.shift
         → ((page : ℕ) → page < trace.pages → page_of memory page ≡ page_at trace page (version_before trace page tick))
         → memory ≡ image_before trace tick }
 {}

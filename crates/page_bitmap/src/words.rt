@@ -1,7 +1,9 @@
 //! Single pages of a bitmap, and the pages of one word.
 
 ghost use Rattle.std.specs.Prelude.{◌≡◌, ◌↔◌, ◌+◌, ◌/◌, ◌<◌, ◌≤◌, ◌^◌, ℕ, IsTrue, length};
-ghost use Rattle.page_bitmap.specs.Pages.{in_words, one_page, word_pages, bit_pages, union, common, minus, IsWithin, SamePages};
+ghost use Rattle.page_bitmap.specs.Listing.{word_count};
+ghost use Rattle.page_bitmap.specs.Pages.{in_words, one_page, word_pages, bit_pages, union, common, minus, IsWithin};
+ghost use Rattle.page_bitmap.specs.Pages.{SamePages};
 
 /// Returns whether a page is in the set. No page past the words is.
 pub fn has_page(words: &[u64], page: u32) -> bool
@@ -76,7 +78,7 @@ pub fn clear_word(words: &mut [u64], word: usize)
 /// Returns whether all pages of the set are below `pages`. The set has just as many words as so many pages need.
 pub fn ends_before(words: &[u64], pages: usize) -> bool
     requires some { 1 ≤ pages }
-    requires words { length words.now ≡ (pages + 63) / 64 }
+    requires words { length words.now ≡ word_count pages }
     ensures { IsTrue result ↔ ((page : ℕ) → IsTrue (in_words words.now page) → page < pages) }
 {
     let used = pages % 64;

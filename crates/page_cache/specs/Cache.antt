@@ -31,7 +31,8 @@ cache_with trace entries capacity = record { trace = trace; entries = entries; c
 
 -- a page of the trace has the bytes of its version
 abbrev pub IsKept : GuestTrace → ℕ → KeptPage → Type 0
-IsKept trace page kept = (page < trace.pages) × (kept.version ≤ length trace.writes) × (kept.bytes ≡ page_at trace page kept.version)
+IsKept trace page kept = (page < trace.pages) × (kept.version ≤ length trace.writes)
+    × (kept.bytes ≡ page_at trace page kept.version)
 
 -- each entry has the bytes of its page and version
 abbrev pub AreKept : GuestTrace → List (ℕ × KeptPage) → Type 0

@@ -10,11 +10,11 @@ use crate::error::CacheError;
 use crate::kept::Kept;
 use crate::pages::KeptPages;
 use crate::recent::keep_recent;
+use guest_log::WriteLog;
 use lru::LruCache;
 use page_versions::PageIndex;
 use std::alloc::Global;
 use std::marker::Model;
-use trace_codec::WriteLog;
 
 /// Pages of a trace, each with the version that it was last asked for. It keeps at most so many; the one that was not
 /// used for longest goes first. It keeps the allocator that it was made with.
@@ -30,7 +30,8 @@ impl<'a, W: WriteLog> Model for PageCache<'a, W> {
 
     ghost view = { λ c. cache_with (W.trace c.trace.now) c.kept.entries c.kept.cap };
 
-    ghost invariant = { λ c. IsIndexOf c.index.now (W.trace c.trace.now) × AreKept (W.trace c.trace.now) c.kept.entries };
+    ghost invariant = { λ c. IsIndexOf c.index.now (W.trace c.trace.now)
+        × AreKept (W.trace c.trace.now) c.kept.entries };
 }
 
 impl<'a, W: WriteLog> PageCache<'a, W> {
@@ -81,7 +82,8 @@ impl<'a, W: WriteLog> PageCache<'a, W> {
         requires page { page < self.old.trace.pages }
         requires version { version ≤ length self.old.trace.writes }
         ensures kept { AreKept self.new.trace self.new.entries }
-        ensures last { OnOk result (lookup (nat_eq page) self.new.entries ≡ Some (page_with version (page_at self.old.trace page version))) }
+        ensures last { OnOk result (lookup (nat_eq page) self.new.entries
+            ≡ Some (page_with version (page_at self.old.trace page version))) }
         ensures trace { self.new.trace ≡ self.old.trace }
         ensures capacity { self.new.capacity ≡ self.old.capacity }
     {
@@ -103,7 +105,8 @@ impl<'a, W: WriteLog> PageCache<'a, W> {
         requires version { version ≤ length self.old.trace.writes }
         ensures bytes { IfOk result (λ v. v.items ≡ page_at self.old.trace page version) }
         ensures kept { AreKept self.new.trace self.new.entries }
-        ensures last { OnOk result (lookup (nat_eq page) self.new.entries ≡ Some (page_with version (page_at self.old.trace page version))) }
+        ensures last { OnOk result (lookup (nat_eq page) self.new.entries
+            ≡ Some (page_with version (page_at self.old.trace page version))) }
         ensures trace { self.new.trace ≡ self.old.trace }
         ensures capacity { self.new.capacity ≡ self.old.capacity }
     {

@@ -5,12 +5,12 @@ ghost use Rattle.migration_model.specs.Versions.{page_at};
 ghost use Rattle.page_versions.specs.Index.{IsIndexOf};
 ghost use Rattle.page_cache.specs.Cache.{IsKept, KeptPage, page_with};
 
-use page_versions::{PageIndex, Reached};
+use guest_log::WriteLog;
+use page_versions::{PageIndex, PageProgress};
 use std::marker::Model;
-use trace_codec::WriteLog;
 
 /// How far a page of zeros has come.
-const FROM_ZEROS: Reached = Reached {
+const FROM_ZEROS: PageProgress = PageProgress {
     version: 0,
     writes: 0,
 };
@@ -18,7 +18,7 @@ const FROM_ZEROS: Reached = Reached {
 /// The bytes of a page, and how far it has come.
 #[derive(Debug, Drop)]
 pub(crate) struct Kept {
-    pub(crate) reached: Reached,
+    pub(crate) reached: PageProgress,
     pub(crate) bytes: Vec<u8>,
 }
 
@@ -34,17 +34,17 @@ fn bring_bytes_to<W: WriteLog>(
     trace: &W,
     index: &PageIndex,
     page: u32,
-    from: Reached,
+    from: PageProgress,
     version: u32,
     bytes: &mut [u8],
-) -> Reached
+) -> PageProgress
     requires of { IsIndexOf index.now (W.trace trace.now) }
     requires kept { IsKept (W.trace trace.now) page (page_with from.version bytes.old) }
     requires version { version ≤ length (W.trace trace.now).writes }
     ensures bytes { bytes.new ≡ page_at (W.trace trace.now) page version }
     ensures version { result.version ≡ version }
 {
-    // It tells a trace: that is known where it was asked for the trace's shape.
+    // For the proof: `shape` promises that the log tells a trace.
     let _ = trace.shape();
     if from.version <= version {
         return index.bring_on(trace, page, from, version, bytes);

@@ -9,9 +9,9 @@ ghost use Rattle.page_cache.specs.Cache.{AreKept, page_with};
 
 use crate::error::CacheError;
 use crate::kept::Kept;
+use guest_log::WriteLog;
 use lru::LruCache;
-use page_versions::{PageIndex, Reached};
-use trace_codec::WriteLog;
+use page_versions::{PageIndex, PageProgress};
 
 /// Brings what is kept of a page to a version, in place. Returns whether anything is kept of the page.
 fn bring_kept<W: WriteLog>(
@@ -25,7 +25,8 @@ fn bring_kept<W: WriteLog>(
     requires kept { AreKept (W.trace trace.now) kept.old.entries }
     requires version { version ≤ length (W.trace trace.now).writes }
     ensures kept { AreKept (W.trace trace.now) kept.new.entries }
-    ensures last { IsTrue result → lookup (nat_eq page) kept.new.entries ≡ Some (page_with version (page_at (W.trace trace.now) page version)) }
+    ensures last { IsTrue result → lookup (nat_eq page) kept.new.entries
+        ≡ Some (page_with version (page_at (W.trace trace.now) page version)) }
     ensures capacity { kept.new.cap ≡ kept.old.cap }
 {
     let Some(was) = kept.get_mut(&page) else {
@@ -65,7 +66,8 @@ pub(crate) fn keep_recent<W: WriteLog>(
     requires page { page < (W.trace trace.now).pages }
     requires version { version ≤ length (W.trace trace.now).writes }
     ensures kept { AreKept (W.trace trace.now) kept.new.entries }
-    ensures last { OnOk result (lookup (nat_eq page) kept.new.entries ≡ Some (page_with version (page_at (W.trace trace.now) page version))) }
+    ensures last { OnOk result (lookup (nat_eq page) kept.new.entries
+        ≡ Some (page_with version (page_at (W.trace trace.now) page version))) }
     ensures capacity { kept.new.cap ≡ kept.old.cap }
 {
     if bring_kept(trace, index, kept, page, version) {
@@ -74,7 +76,7 @@ pub(crate) fn keep_recent<W: WriteLog>(
     let mut bytes = room_for_page(kept);
     index.bytes_into(trace, page, version, &mut bytes)?;
     // How many of the page's writes are in the bytes is found when the page is brought on.
-    let reached = Reached { version, writes: 0 };
+    let reached = PageProgress { version, writes: 0 };
     kept.put(page, Kept { reached, bytes })?;
     Ok(())
 }

@@ -1,7 +1,7 @@
 -- The tests of a frame, one after another.
 use Rattle.std.proofs.Common.{◌≡◌, Bool, true, false, cond, Option, Some, None, refl}
 use Rattle.migration_model.specs.Frames.{IsGuestShape}
-use Rattle.trace_codec.specs.declared.shape.Shape.{Shape}
+use Rattle.guest_log.specs.declared.shape.Shape.{Shape}
 use Rattle.page_message.specs.declared.error.FrameError.{FrameError}
 use Rattle.page_message.specs.Shapes.{shape_of}
 

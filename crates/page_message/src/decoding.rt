@@ -1,6 +1,7 @@
 //! Frames from bytes.
 
-ghost use Rattle.std.specs.Prelude.{◌≡◌, ◌≤◌, ◌+◌, ◌^◌, ◌++◌, ◌==◌, ℕ, List, IfErr, IfOk, MatchResult, None, Ok, OnOk, Some, drop, length, option_map, take};
+ghost use Rattle.std.specs.Prelude.{◌≡◌, ◌≤◌, ◌+◌, ◌^◌, ◌++◌, ◌==◌, ℕ, List, IfErr, IfOk, MatchResult, None, Ok, OnOk};
+ghost use Rattle.std.specs.Prelude.{Some, drop, length, option_map, take};
 ghost use Rattle.std.specs.List.{list_all};
 ghost use Rattle.std.specs.Int.{w32};
 ghost use Rattle.migration_model.specs.Frames.{IsFrame, PageFrame, SpellsFrame, frame_text};
@@ -13,8 +14,8 @@ use crate::encoding::HEAD;
 use crate::error::FrameError;
 use crate::frame::{Frame, FrameView};
 use byteorder::{ByteOrder, LittleEndian};
+use guest_log::Shape;
 use std::alloc::Global;
-use trace_codec::Shape;
 use zero_pages::is_zero;
 
 #[tactic(auto, unfolding(migration_model::specs::Numbers::number_in))]
@@ -103,7 +104,8 @@ pub fn view_frame<'a>(shape: &Shape, bytes: &'a [u8]) -> Result<(FrameView<'a>, 
     ensures found { IfOk result (λ read. SpellsFrame (shape_of shape.now) (take read.1 bytes.now) read.0) }
     ensures within { IfOk result (λ read. read.1 ≤ length bytes.now) }
     ensures refused { IfErr result (λ e. frame_refusal (shape_of shape.now) bytes.now ≡ Some e) }
-    ensures only { (frame : PageFrame) (rest : List ℕ) → IsFrame (shape_of shape.now) frame → bytes.now ≡ frame_text frame ++ rest
+    ensures only { (frame : PageFrame) (rest : List ℕ) → IsFrame (shape_of shape.now) frame
+        → bytes.now ≡ frame_text frame ++ rest
         → result ≡ Ok (frame, length (frame_text frame)) }
 {
     read_view(shape, bytes)
@@ -118,8 +120,10 @@ pub fn decode_frame(
     ensures found { IfOk result (λ read. SpellsFrame (shape_of shape.now) (take read.1 bytes.now) read.0) }
     ensures within { IfOk result (λ read. read.1 ≤ length bytes.now) }
     ensures refused { IfErr result (RefusesFrame (shape_of shape.now) bytes.now) }
-    ensures only { (frame : PageFrame) (rest : List ℕ) → IsFrame (shape_of shape.now) frame → bytes.now ≡ frame_text frame ++ rest
-        → MatchResult result (λ read. (read.0 ≡ frame) × (read.1 ≡ length (frame_text frame))) (λ e. e ≡ FrameError.Memory) }
+    ensures only { (frame : PageFrame) (rest : List ℕ) → IsFrame (shape_of shape.now) frame
+        → bytes.now ≡ frame_text frame ++ rest
+        → MatchResult result (λ read. (read.0 ≡ frame) × (read.1 ≡ length (frame_text frame)))
+        (λ e. e ≡ FrameError.Memory) }
 {
     let (view, size) = view_frame(shape, bytes)?;
     let frame = view.to_frame(alloc)?;

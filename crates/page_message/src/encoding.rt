@@ -10,8 +10,8 @@ ghost use Rattle.page_message.specs.Shapes.{shape_of};
 use crate::error::FrameError;
 use crate::frame::{Body, Frame};
 use byteorder::{ByteOrder, LittleEndian};
+use guest_log::Shape;
 use std::alloc::Global;
-use trace_codec::Shape;
 use zero_pages::is_zero;
 
 /// How many bytes a frame has in front of the page.
@@ -63,7 +63,8 @@ pub fn append_frame(
     requires page { page < shape.now.pages }
     requires stamp { stamp ≤ shape.now.writes }
     requires whole { length bytes.now ≡ 2 ^ shape.now.shift }
-    ensures appended { OnOk result ((frame : PageFrame) × IsFrameOf (shape_of shape.now) page stamp bytes.now frame × (stream.new.items ≡ stream.old.items ++ frame_text frame)) }
+    ensures appended { OnOk result ((frame : PageFrame) × IsFrameOf (shape_of shape.now) page stamp bytes.now frame
+        × (stream.new.items ≡ stream.old.items ++ frame_text frame)) }
     ensures refused { IfErr result (λ e. e ≡ FrameError.Memory) }
 {
     if is_zero(bytes) {

@@ -4,9 +4,9 @@ ghost use Rattle.std.specs.Prelude.{◌≡◌, ◌≢◌, ◌↔◌, IfOk, IsSom
 ghost use Rattle.migration_model.specs.Frames.{IsFrame};
 ghost use Rattle.page_message.specs.Shapes.{shape_of};
 
+use guest_log::Shape;
 use std::alloc::{AllocError, Global};
 use std::marker::Model;
-use trace_codec::Shape;
 use zero_pages::is_zero;
 
 /// The bytes of a page.
@@ -77,7 +77,8 @@ impl<'a> FrameView<'a> {
 }
 
 impl Body {
-    ghost use Rattle.std.specs.Prelude.{◌≡◌, ◌≢◌, ◌↔◌, ◌^◌, IfSome, IsSomeAnd, IsTrue, OnErr, OnOk, Some, length, option_map};
+    ghost use Rattle.std.specs.Prelude.{◌≡◌, ◌≢◌, ◌↔◌, ◌^◌, IfSome, IsSomeAnd, IsTrue, OnErr, OnOk, Some, length};
+    ghost use Rattle.std.specs.Prelude.{option_map};
     ghost use Rattle.migration_model.specs.Frames.{IsZeros};
     ghost use Rattle.page_message.specs.Bodies.{body_of};
 
@@ -96,7 +97,8 @@ impl Body {
     fn copy_from(&mut self, alloc: Global, bytes: Option<&[u8]>) -> Result<(), AllocError>
         ensures copied { OnOk result (body_of self.new ≡ option_map (λ b. b.now) bytes.entry) }
         ensures unchanged { OnErr result (body_of self.new ≡ body_of self.old) }
-        ensures refused { OnErr result (IsSomeAnd bytes.entry (λ b. option_map length (body_of self.old) ≢ Some (length b.now))) }
+        ensures refused { OnErr result (IsSomeAnd bytes.entry
+            (λ b. option_map length (body_of self.old) ≢ Some (length b.now))) }
     {
         let Some(bytes) = bytes else {
             *self = Body::Zero;
@@ -126,7 +128,8 @@ impl Frame {
     pub fn copy_from(&mut self, alloc: Global, view: &FrameView<'_>) -> Result<(), AllocError>
         ensures copied { OnOk result (self.new ≡ view.now) }
         ensures unchanged { OnErr result (self.new ≡ self.old) }
-        ensures refused { OnErr result (IsSomeAnd view.now.body (λ bytes. option_map length self.old.body ≢ Some (length bytes))) }
+        ensures refused { OnErr result (IsSomeAnd view.now.body
+            (λ bytes. option_map length self.old.body ≢ Some (length bytes))) }
     {
         self.body.copy_from(alloc, view.body)?;
         self.page = view.page;

@@ -5,7 +5,7 @@ ghost use Rattle.migration_model.specs.Frames.{IsFrame, IsZeros, content_of};
 ghost use Rattle.page_message.specs.Shapes.{shape_of};
 
 use crate::frame::{Body, Frame};
-use trace_codec::Shape;
+use guest_log::Shape;
 use zero_pages::is_zero;
 
 /// Returns the frame of these bytes of a page, which it takes over, or drops where each is 0. It allocates nothing.

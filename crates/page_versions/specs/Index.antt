@@ -33,4 +33,5 @@ stamps_of trace page = map (λ at. (at.0, at.1.tick)) (filter (λ at. at.1.page 
 
 -- the index has the trace's pages and, for each page, the places and the ticks of its writes
 abbrev pub HasWritesOf : GuestIndex → GuestTrace → Type 0
-HasWritesOf index trace = (index.pages ≡ trace.pages) × ((page : ℕ) → stamps_in index.touches page ≡ stamps_of trace page)
+HasWritesOf index trace = (index.pages ≡ trace.pages)
+    × ((page : ℕ) → stamps_in index.touches page ≡ stamps_of trace page)

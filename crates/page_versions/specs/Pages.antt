@@ -2,7 +2,7 @@
 use Rattle.std.specs.Prelude.{◌≡◌, ◌≤◌, ℕ, ◌+◌, ◌-◌, ◌^◌, List, drop, fold, length, replicate, slice_index_or}
 use Rattle.migration_model.specs.Trace.{GuestWrite, GuestTrace}
 use Rattle.migration_model.specs.Memory.{bytes_put, put}
-use Rattle.trace_codec.specs.Writes.{no_write}
+use Rattle.guest_log.specs.Writes.{no_write}
 
 -- the write at a place
 abbrev pub write_at : List GuestWrite → ℕ → GuestWrite
@@ -14,7 +14,8 @@ overwrite shift bytes write = put bytes write.offset (bytes_put shift write)
 
 -- a page after the writes at these places, one after the other
 abbrev pub put_all : GuestTrace → List ℕ → List ℕ → List ℕ
-put_all trace bytes places = fold (λ bytes place. overwrite trace.shift bytes (write_at trace.writes place)) bytes places
+put_all trace bytes places = fold (λ bytes place. overwrite trace.shift bytes
+    (write_at trace.writes place)) bytes places
 
 -- what a write puts stays within its page
 abbrev pub PutsWithin : ℕ → GuestWrite → Type 0
@@ -22,7 +23,8 @@ PutsWithin shift write = write.offset + length (bytes_put shift write) ≤ 2 ^ s
 
 -- of writes to a page, so many in front change nothing of what all of them make of it
 abbrev pub IsLost : GuestTrace → ℕ → List ℕ → Type 0
-IsLost trace count places = (bytes : List ℕ) → length bytes ≡ 2 ^ trace.shift → put_all trace bytes (drop count places) ≡ put_all trace bytes places
+IsLost trace count places = (bytes : List ℕ) → length bytes ≡ 2 ^ trace.shift → put_all trace bytes (drop count places)
+    ≡ put_all trace bytes places
 
 -- zeros, and then the writes at these places
 abbrev pub bytes_by : GuestTrace → List ℕ → List ℕ

@@ -4,11 +4,11 @@ ghost use Rattle.std.specs.Prelude.{◌≡◌, ◌^◌, ◌≤◌, ◌∷◌, []
 ghost use Rattle.std.specs.List.{All};
 ghost use Rattle.migration_model.specs.Trace.{GuestWrite, IsTrace};
 ghost use Rattle.page_versions.specs.Pages.{IsLost, PutsWithin, bytes_by, overwrite, put_all, write_at};
-ghost use Rattle.trace_codec.specs.Writes.{shown};
+ghost use Rattle.guest_log.specs.Writes.{shown};
 
 use crate::error::IndexError;
+use guest_log::{LAST_VERSION, Shape, WriteLog, WriteView};
 use std::marker::Model;
-use trace_codec::{LAST_VERSION, Shape, WriteLog, WriteView};
 
 /// Puts a write over the bytes of its page.
 fn put_one(shape: Shape, bytes: &mut [u8], write: &WriteView<'_>)

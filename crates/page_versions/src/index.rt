@@ -12,11 +12,11 @@ use crate::error::IndexError;
 use crate::laying::Parts;
 use crate::making::{are_touches, parts_of, touches_in};
 use crate::searching::{greatest_before, places_after, places_between, places_to};
+use guest_log::{Touch, WriteLog};
 use std::alloc::{AllocError, Global};
 use std::marker::Model;
 use std::thread;
 use std::thread::Threads;
-use trace_codec::{Touch, WriteLog};
 
 /// The writes of a trace by page: for each page the places of its writes, and their ticks. A write's place is its
 /// number in the trace, 1 for the first. The bytes that are written stay in the trace.
@@ -30,7 +30,7 @@ pub struct PageIndex {
 
 /// How far a page has come: the version of its bytes, and a guess at how many of its writes are in them.
 #[derive(Clone, Copy, Debug)]
-pub struct Reached {
+pub struct PageProgress {
     /// The version of the page's bytes.
     pub version: u32,
     /// How many of the page's writes are thought to be in the bytes.
@@ -60,7 +60,8 @@ impl PageIndex {
             ensures { IfOk result (λ v. v.items ≡ W.touches trace.entry.now) }
         { touches_in(alloc, trace) };
         let parts = || -> Result<Parts, IndexError>
-            ensures { IfOk result (λ parts. IsLaidOut (W.pages trace.entry.now) (W.touches trace.entry.now) parts.starts.items parts.places.items) }
+            ensures { IfOk result (λ parts. IsLaidOut (W.pages trace.entry.now) (W.touches trace.entry.now)
+                parts.starts.items parts.places.items) }
         { parts_of(rt, alloc, trace) };
         let (touches, parts) = thread::join(rt, touches, parts);
         let touches = touches?;
@@ -153,10 +154,10 @@ impl PageIndex {
         &self,
         trace: &W,
         page: u32,
-        from: Reached,
+        from: PageProgress,
         to: u32,
         bytes: &mut [u8],
-    ) -> Reached
+    ) -> PageProgress
         requires of { IsIndexOf self.now (W.trace trace.now) }
         requires page { page < self.now.pages }
         requires later { from.version ≤ to }
@@ -164,14 +165,15 @@ impl PageIndex {
         requires bytes { bytes.old ≡ page_at (W.trace trace.now) page from.version }
         ensures bytes { bytes.new ≡ page_at (W.trace trace.now) page to }
         ensures version { result.version ≡ to }
-        ensures writes { result.writes ≡ length (filter (λ place. nat_le place to) (places_of (W.trace trace.now) page)) }
+        ensures writes { result.writes ≡ length (filter (λ place. nat_le place to)
+            (places_of (W.trace trace.now) page)) }
     {
-        // It tells a trace: that is known where it was asked for the trace's shape.
+        // For the proof: `shape` promises that the log tells a trace.
         let _ = trace.shape();
         let guess = from.writes as usize;
         let (places, writes) = places_between(self.part(page), from.version, to, guess);
         put_writes(bytes, trace, places);
-        Reached {
+        PageProgress {
             version: to,
             writes: writes as u32,
         }

@@ -10,4 +10,4 @@ mod runs;
 mod searching;
 
 pub use error::IndexError;
-pub use index::{PageIndex, Reached};
+pub use index::{PageIndex, PageProgress};

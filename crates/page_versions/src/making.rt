@@ -6,9 +6,9 @@ ghost use Rattle.page_versions.specs.Layout.{IsLaidOut};
 use crate::error::IndexError;
 use crate::laying::{Parts, lay_out};
 use crate::runs::{runs_of, sort_runs};
+use guest_log::{Timeline, Touch};
 use std::alloc::{AllocError, Global};
 use std::thread::Threads;
-use trace_codec::{Timeline, Touch};
 
 /// Returns all touches in order.
 pub(crate) fn touches_in<T: Timeline>(alloc: Global, timeline: &T) -> Result<Vec<Touch>, AllocError>
@@ -28,7 +28,8 @@ pub(crate) fn parts_of<T: Timeline>(
     alloc: Global,
     timeline: &T,
 ) -> Result<Parts, IndexError>
-    ensures { IfOk result (λ parts. IsLaidOut (T.pages timeline.now) (T.touches timeline.now) parts.starts.items parts.places.items) }
+    ensures { IfOk result (λ parts. IsLaidOut (T.pages timeline.now) (T.touches timeline.now) parts.starts.items
+        parts.places.items) }
 {
     let pages = timeline.page_count();
     let mut runs = runs_of(alloc, timeline)?;

@@ -5,7 +5,7 @@ ghost use Rattle.std.specs.List.{filter};
 ghost use Rattle.std.specs.List.Sorted.{IsNonDecreasing, IsNonDecreasingBy, IsPartitionPoint};
 ghost use Rattle.page_versions.specs.Layout.{IsCountTo, tick_at};
 
-use trace_codec::Touch;
+use guest_log::Touch;
 
 /// Returns how many of the places are not after a version.
 pub(crate) fn count_to(places: &[u32], version: u32) -> usize
@@ -73,7 +73,8 @@ fn tick_of(touches: &[Touch], place: u32) -> u64
 fn count_before(touches: &[Touch], places: &[u32], tick: u64) -> usize
     requires { IsNonDecreasingBy (tick_at touches.now) places.now }
     ensures bound { result ≤ length places.now }
-    ensures point { IsPartitionPoint (λ place. nat_lt (tick_at touches.now place) tick ≡ true) (λ place. nat_lt (tick_at touches.now place) tick ≡ false) places.now result }
+    ensures point { IsPartitionPoint (λ place. nat_lt (tick_at touches.now place) tick ≡ true)
+        (λ place. nat_lt (tick_at touches.now place) tick ≡ false) places.now result }
 {
     places.partition_point(
         |place: &u32| -> bool

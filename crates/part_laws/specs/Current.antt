@@ -9,4 +9,5 @@ use Rattle.migration_model.specs.Trace.{GuestTrace}
 -- the part that has each marked page as it is at its version, and no other page
 abbrev pub current_part : GuestTrace → GuestShape → List ℕ → (ℕ → Bool) → GuestPart
 current_part trace shape versions marked =
-    part_with shape (map (λ page. if marked page then Some (current_copy trace versions page) else None) (range_with_len 0 shape.pages))
+    part_with shape (map (λ page. if marked page then Some (current_copy trace versions page) else None)
+    (range_with_len 0 shape.pages))

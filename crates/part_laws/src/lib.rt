@@ -16,7 +16,8 @@ ghost use Rattle.part_laws.specs.Current.{current_part};
 /// The parts that a final copy leaves, joined, are the join of the parts that it was given and of the current copies
 /// of the marked pages, where these agree.
 pub fn final_copy_is_a_join()
-    ensures { (trace : GuestTrace) (shape : GuestShape) (versions : List ℕ) (marked : ℕ → Bool) (old new : List GuestPart)
+    ensures { (trace : GuestTrace) (shape : GuestShape) (versions : List ℕ)
+        (marked : ℕ → Bool) (old new : List GuestPart)
         → All IsPart old → All (λ part. Agree part (current_part trace shape versions marked)) old
         → IsFinalCopy trace versions marked old new
         → join_all shape new ≡ join (join_all shape old) (current_part trace shape versions marked) }
@@ -36,8 +37,10 @@ pub fn received_part_is_a_join()
 /// frames whose encodings were sent on the receiver's lanes, where these agree. So is the first stream's part in a warm
 /// start.
 pub fn first_part_is_joined()
-    ensures { (shape : GuestShape) (outs : List OutView) (first : GuestPart) (frames : List PageFrame) (part : GuestPart)
-        → IsGuestShape shape → IsPart first → first.shape ≡ shape → All (IsFrame shape) frames → FramesAgree shape frames
+    ensures { (shape : GuestShape) (outs : List OutView) (first : GuestPart) (frames : List PageFrame)
+        (part : GuestPart)
+        → IsGuestShape shape → IsPart first → first.shape ≡ shape → All (IsFrame shape) frames
+        → FramesAgree shape frames
         → ((text : List ℕ) → IsSentOn outs text → Contains (map frame_text frames) text)
         → ((text : List ℕ) → Contains (map frame_text frames) text → IsSentOn outs text)
         → HasFrames shape (IsSentOn outs) part → join first part ≡ fold join first (map (part_of shape) frames) }

@@ -2,7 +2,9 @@
 use Rattle.std.specs.Prelude.{ℕ, ◌^◌, ◌&&◌, nat_lt, nat_le, not, Bool, false, if◌then◌else◌, Option, Some, None}
 use Rattle.migration_model.specs.Rates.{MigrationSettings}
 use Rattle.rate_limit.specs.declared.error.SettingsError.{SettingsError}
-use Rattle.rate_limit.specs.declared.error.SettingsError.TheVariants.{MinRate, MaxRate, Increment, Threshold, Rounds, WindowLength, HotWindows, StartTick, Parallelism, BaseTick}
+use Rattle.rate_limit.specs.declared.error.SettingsError.TheVariants.{MinRate, MaxRate, Increment, Threshold, Rounds}
+use Rattle.rate_limit.specs.declared.error.SettingsError.TheVariants.{WindowLength, HotWindows, StartTick, Parallelism}
+use Rattle.rate_limit.specs.declared.error.SettingsError.TheVariants.{BaseTick}
 
 -- neither below the first nor above the second
 abbrev pub is_between : ℕ → ℕ → ℕ → Bool
@@ -10,7 +12,8 @@ is_between low high n = nat_le low n && nat_le n high
 
 -- the workers, streams, replayers and the frames of a lane are in range
 abbrev pub is_parallelism : MigrationSettings → Bool
-is_parallelism s = is_between 1 16 s.workers && is_between 1 16 s.streams && is_between 1 16 s.replayers && is_between 1 65_536 s.lane
+is_parallelism s = is_between 1 16 s.workers && is_between 1 16 s.streams && is_between 1 16 s.replayers
+    && is_between 1 65_536 s.lane
 
 -- there is a base, and it comes after the first tick
 abbrev pub is_late : Option ℕ → ℕ → Bool

@@ -4,11 +4,11 @@ ghost use Rattle.std.specs.Prelude.{◌≤◌};
 
 use crate::axis::{Axis, LEFT, MOST_LABELS, SPAN, share, window_end, window_start};
 use crate::svg::{Area, begin_text, end_text, push_number, push_rect, push_text, push_words};
+use guest_log::Shape;
 use rate_limit::Settings;
 use round_planner::{Plan, Round};
 use std::alloc::{AllocError, Global};
 use sweep_report::push_field;
-use trace_codec::Shape;
 use working_sets::{Tables, Window};
 
 /// The head of the picture: its size, and its colors in light and in dark.

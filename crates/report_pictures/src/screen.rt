@@ -1,12 +1,12 @@
 //! A report for a terminal: aligned tables, with bars beside them.
 
 use crate::table::{Part, Style, Table, push_blank, push_part};
+use guest_log::Shape;
 use itoa::Buffer;
 use rate_limit::Settings;
 use round_planner::{Plan, Round};
 use std::alloc::{AllocError, Global};
 use sweep_report::push_field;
-use trace_codec::Shape;
 use working_sets::{Tables, Window};
 
 /// The columns of the table of windows.

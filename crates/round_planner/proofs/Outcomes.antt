@@ -3,16 +3,19 @@ use Rattle.std.proofs.Common.{◌≡◌, ℕ, ◌+◌, ◌-◌, ◌*◌, ◌≤�
 use Rattle.std.specs.List.{sum_by}
 use Rattle.std.proofs.lemmas.List.{length_push, length-replicate}
 use Rattle.std.proofs.lemmas.List.Sums.{sum_by-append, sum_by-cons}
-use Rattle.migration_model.specs.Rates.{MigrationSettings, AreSettings, StopReason, goes_on, stops, after_round, duration_of}
+use Rattle.migration_model.specs.Rates.{MigrationSettings, AreSettings, StopReason, stops, after_round, duration_of}
 use Rattle.migration_model.specs.Rounds.{PlannedRound, NextRound, plan_with, pages_lacking, first_round, round_after, total_of}
 use Rattle.migration_model.specs.Sweeps.{PlanOutcome, IsOutcome, outcome_with}
 use Rattle.migration_model.specs.Touches.{GuestTouch, pages_written}
 use Rattle.round_planner.specs.Scanning.{IsScan}
 use Rattle.page_bitmap.specs.Listing.{word_count}
 use Rattle.round_planner.specs.Indexing.{IsPoint, StandsAt, IsReady, RanTo, IsTurned, AreMarksOf}
+use Rattle.round_planner.specs.Steps.{IsAfter}
+use Rattle.round_planner.specs.declared.step.After.TheVariants.{Go}
+use Rattle.round_planner.specs.declared.step.Step.{Step}
 use Rattle.round_planner.specs.declared.tally.Marks.{Marks}
-use Rattle.round_planner.specs.declared.tally.Ran.{Ran}
-use Rattle.round_planner.specs.declared.tally.Standing.{Standing}
+use Rattle.round_planner.specs.declared.tally.RoundSums.{RoundSums}
+use Rattle.round_planner.specs.declared.tally.RoundNumbers.{RoundNumbers}
 use Rattle.round_planner.proofs.Plans.{Follows, follows_start, follows_more, follows_end, can_start, can_go_on}
 use Rattle.round_planner.proofs.Scans.{begun}
 
@@ -25,16 +28,16 @@ sent_push rounds round =
     omega (arith, sum_by-append (λ (r : PlannedRound). length r.sent) rounds (round ∷ []), one)
 
 -- the rounds so far, of which the code keeps the numbers alone
-pub record IsUnderWay (pages : ℕ) (touches : List GuestTouch) (s : MigrationSettings) (now : Standing) (marks : Marks) : Type 0 where
+pub record IsUnderWay (pages : ℕ) (touches : List GuestTouch) (s : MigrationSettings) (now : RoundNumbers) (marks : Marks) : Type 0 where
   pub coming : NextRound
   pub ready : IsReady pages touches s coming now marks
   pub rounds : List PlannedRound
   pub follows : Follows pages touches s coming rounds
-  pub count : length rounds ≡ now.done
+  pub count : length rounds ≡ now.step.done
   pub total : all_sent rounds ≡ now.total
-  pub few : now.total ≤ now.done * 65_536
+  pub few : now.total ≤ now.step.done * 65_536
 
-pub starts : (pages : ℕ) (touches : List GuestTouch) (s : MigrationSettings) (now : Standing) (marks : Marks) → now.done ≡ 0 → now.total ≡ 0
+pub starts : (pages : ℕ) (touches : List GuestTouch) (s : MigrationSettings) (now : RoundNumbers) (marks : Marks) → now.step.done ≡ 0 → now.total ≡ 0
     → IsReady pages touches s (first_round pages touches s) now marks → IsUnderWay pages touches s now marks
 starts pages touches s now marks done total ready = record {
   coming = first_round pages touches s;
@@ -47,30 +50,32 @@ starts pages touches s now marks done total ready = record {
 }
 
 -- the stop tests see the round's numbers
-pub same_after : (pages : ℕ) (touches : List GuestTouch) (s : MigrationSettings) (now : Standing) (coming : NextRound) (ran : Ran) → StandsAt pages touches s coming now
+pub same_after : (pages : ℕ) (touches : List GuestTouch) (s : MigrationSettings) (now : RoundNumbers) (coming : NextRound) (ran : RoundSums) → StandsAt pages touches s coming now
     → (r : RanTo pages touches s coming ran)
-    → after_round s ran.dirtied (ran.to - now.from) (now.done + 1) ≡ after_round s r.round.dirtied (r.round.to - r.round.from) (coming.done + 1)
+    → after_round s ran.dirtied (ran.to - now.step.from) (now.step.done + 1) ≡ after_round s r.round.dirtied (r.round.to - r.round.from) (coming.done + 1)
 same_after pages touches s now coming ran at r =
     let round = r.run.is_round in
     let dirtied : ran.dirtied ≡ r.round.dirtied = r.dirtied_is ∙ ap length r.run.dirtied_are ∙ sym round.dirtied_is in
-    let from : now.from ≡ r.round.from = at.from_is ∙ sym round.from_is in
+    let from : now.step.from ≡ r.round.from = at.from_is ∙ sym round.from_is in
     λ i. after_round s (dirtied i) (r.to_is i - from i) (at.done_is i + 1)
 
-pub goes_further : (pages : ℕ) (touches : List GuestTouch) (s : MigrationSettings) (now : Standing) (ran : Ran) (old new : Marks) (rate : ℕ) → AreSettings s
-    → (way : IsUnderWay pages touches s now old) → (r : RanTo pages touches s way.coming ran) → after_round s ran.dirtied (ran.to - now.from) (now.done + 1) ≡ goes_on rate
-    → AreMarksOf pages new → (s.skip ≡ true → IsTurned pages touches now.from ran.to ran.dirtied new)
-    → IsUnderWay pages touches s (record { done = now.done + 1; from = ran.to; rate = rate; listed = ran.dirtied; next = ran.next; total = now.total + ran.sent }) new
-goes_further pages touches s now ran old new rate are way r after marks turned =
+pub goes_further : (pages : ℕ) (touches : List GuestTouch) (s : MigrationSettings) (now : RoundNumbers) (ran : RoundSums) (old new : Marks) (step : Step) → AreSettings s
+    → (way : IsUnderWay pages touches s now old) → (r : RanTo pages touches s way.coming ran) → IsAfter s now.step ran.to ran.dirtied (Go step)
+    → AreMarksOf pages new → (s.skip ≡ true → IsTurned pages touches now.step.from ran.to ran.dirtied new)
+    → IsUnderWay pages touches s (record { step = step; listed = ran.dirtied; next = ran.next; total = now.total + ran.sent }) new
+goes_further pages touches s now ran old new step are way r after marks turned =
     let coming = way.coming in
     let at = way.ready.at in
     let round = r.round in
-    let next = round_after pages touches coming round rate in
-    let told = sym (same_after pages touches s now coming ran at r) ∙ after in
-    let from : now.from ≡ round.from = at.from_is ∙ sym r.run.is_round.from_is in
-    let standing : StandsAt pages touches s next (record { done = now.done + 1; from = ran.to; rate = rate; listed = ran.dirtied; next = ran.next; total = now.total + ran.sent }) = record {
-      can = can_go_on pages touches s coming next round r.dirtied (round.to - round.from) rate are at.can r.run told refl;
-      done_is = ap (λ n. n + 1) at.done_is;
-      from_is = r.to_is;
+    let next = round_after pages touches coming round step.rate in
+    let told = sym (same_after pages touches s now coming ran at r) ∙ after.0 in
+    let done : step.done ≡ now.step.done + 1 = after.1.0 in
+    let begins : step.from ≡ round.to = after.1.1 ∙ r.to_is in
+    let from : now.step.from ≡ round.from = at.from_is ∙ sym r.run.is_round.from_is in
+    let standing : StandsAt pages touches s next (record { step = step; listed = ran.dirtied; next = ran.next; total = now.total + ran.sent }) = record {
+      can = can_go_on pages touches s coming next round r.dirtied (round.to - round.from) step.rate are at.can r.run told refl;
+      done_is = done ∙ ap (λ n. n + 1) at.done_is;
+      from_is = begins;
       rate_is = refl;
       listed_is = r.dirtied_is ∙ ap length r.run.dirtied_are;
       bound = r.bound;
@@ -92,22 +97,22 @@ goes_further pages touches s now ran old new rate are way r after marks turned =
             };
       };
       rounds = way.rounds ++ round ∷ [];
-      follows = follows_more pages touches s coming next way.rounds (way.rounds ++ round ∷ []) round r.dirtied rate r.run told refl refl way.follows;
-      count = omega (arith, pushed, way.count);
+      follows = follows_more pages touches s coming next way.rounds (way.rounds ++ round ∷ []) round r.dirtied step.rate r.run told refl refl way.follows;
+      count = omega (arith, pushed, way.count, done);
       total = omega (arith, sent_push way.rounds round, way.total, r.sent_is);
-      few = omega (arith, way.few, r.sent_is, r.run.few);
+      few = omega (arith, way.few, r.sent_is, r.run.few, done);
     }
 
-pub comes_to : (pages : ℕ) (touches : List GuestTouch) (s : MigrationSettings) (now : Standing) (ran : Ran) (marks : Marks) (reason : StopReason) (outcome : PlanOutcome)
-    → (way : IsUnderWay pages touches s now marks) → (r : RanTo pages touches s way.coming ran) → after_round s ran.dirtied (ran.to - now.from) (now.done + 1) ≡ stops reason
-    → outcome ≡ outcome_with (now.done + 1) reason ran.to (duration_of ran.dirtied s.max) ((now.total + ran.sent) + ran.dirtied) → IsOutcome pages touches s outcome
+pub comes_to : (pages : ℕ) (touches : List GuestTouch) (s : MigrationSettings) (now : RoundNumbers) (ran : RoundSums) (marks : Marks) (reason : StopReason) (outcome : PlanOutcome)
+    → (way : IsUnderWay pages touches s now marks) → (r : RanTo pages touches s way.coming ran) → after_round s ran.dirtied (ran.to - now.step.from) (now.step.done + 1) ≡ stops reason
+    → outcome ≡ outcome_with (now.step.done + 1) reason ran.to (duration_of ran.dirtied s.max) ((now.total + ran.sent) + ran.dirtied) → IsOutcome pages touches s outcome
 comes_to pages touches s now ran marks reason outcome way r after is =
     let coming = way.coming in
     let round = r.round in
     let rounds = way.rounds ++ round ∷ [] in
     let told = sym (same_after pages touches s now coming ran way.ready.at r) ∙ after in
     let plan = plan_with rounds reason round.to r.dirtied (duration_of (length r.dirtied) s.max) in
-    let count : now.done + 1 ≡ length rounds = omega (arith, length_push way.rounds round, way.count) in
+    let count : now.step.done + 1 ≡ length rounds = omega (arith, length_push way.rounds round, way.count) in
     let total : (now.total + ran.sent) + ran.dirtied ≡ total_of plan = omega (arith, sent_push way.rounds round, way.total, r.sent_is, r.dirtied_is) in
     record {
       plan = plan;
@@ -115,8 +120,8 @@ comes_to pages touches s now ran marks reason outcome way r after is =
       outcome_is = is ∙ (λ i. outcome_with (count i) reason (r.to_is i) (duration_of (r.dirtied_is i) s.max) (total i));
     }
 
-pub begins : (pages : ℕ) (touches : List GuestTouch) (s : MigrationSettings) (now : Standing) (marks : Marks) → AreSettings s → pages ≤ 65_536
-    → now.done ≡ 0 → now.from ≡ s.start → now.rate ≡ s.min → now.listed ≡ length (pages_lacking pages touches s.base s.start) → now.next ≤ length touches → IsPoint touches s.start now.next
+pub begins : (pages : ℕ) (touches : List GuestTouch) (s : MigrationSettings) (now : RoundNumbers) (marks : Marks) → AreSettings s → pages ≤ 65_536
+    → now.step.done ≡ 0 → now.step.from ≡ s.start → now.step.rate ≡ s.min → now.listed ≡ length (pages_lacking pages touches s.base s.start) → now.next ≤ length touches → IsPoint touches s.start now.next
     → marks.scan.next ≡ now.next → marks.scan.marks.items ≡ replicate (word_count pages) 0 → length marks.room.items ≡ pages
     → IsReady pages touches s (first_round pages touches s) now marks
 begins pages touches s now marks are few done from rate listed bound point next fresh room =

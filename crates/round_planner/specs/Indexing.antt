@@ -1,6 +1,7 @@
 -- The index that plans of one trace share, and a plan that is made of counts. The contracts of the index and of the
 -- planner cite the first part alone.
-use Rattle.std.specs.Prelude.{◌≡◌, ℕ, ◌+◌, ◌*◌, ◌/◌, ◌&&◌, ◌<◌, ◌≤◌, nat_lt, nat_le, not, true, false, List, length, slice_index_or, take}
+use Rattle.std.specs.Prelude.{◌≡◌, ℕ, ◌+◌, ◌*◌, ◌/◌, ◌&&◌, ◌<◌, ◌≤◌, nat_lt, nat_le, not, true, false, List, length}
+use Rattle.std.specs.Prelude.{slice_index_or, take}
 use Rattle.std.specs.List.Sorted.{IsPartitionPoint}
 use Rattle.migration_model.specs.Rates.{MigrationSettings}
 use Rattle.migration_model.specs.Rounds.{NextRound, PlannedRound, IsSent}
@@ -9,12 +10,13 @@ use Rattle.page_bitmap.specs.Listing.{word_count}
 use Rattle.round_planner.specs.Scanning.{is_met, CanCome, HasRun, IsScan, IsScanWithin}
 use Rattle.round_planner.specs.declared.scan.Scan.{Scan}
 use Rattle.round_planner.specs.declared.tally.Marks.{Marks}
-use Rattle.round_planner.specs.declared.tally.Standing.{Standing}
-use Rattle.round_planner.specs.declared.tally.Ran.{Ran}
+use Rattle.round_planner.specs.declared.tally.RoundNumbers.{RoundNumbers}
+use Rattle.round_planner.specs.declared.tally.RoundSums.{RoundSums}
 
 -- so many touches are before a tick
 abbrev pub IsPoint : List GuestTouch → ℕ → ℕ → Type 0
-IsPoint touches tick n = IsPartitionPoint (λ touch. nat_lt touch.tick tick ≡ true) (λ touch. nat_lt touch.tick tick ≡ false) touches n
+IsPoint touches tick n = IsPartitionPoint (λ touch. nat_lt touch.tick tick ≡ true)
+    (λ touch. nat_lt touch.tick tick ≡ false) touches n
 
 -- `place` tells when the last of the first n touches to a page was: it is no greater than the count of touches before
 -- a tick exactly where none of them from that tick on is to the page.
@@ -30,7 +32,8 @@ pub record RoundColumns : Type 0 where
 pub record IsRoundIndexOf (pages : ℕ) (touches : List GuestTouch) (index : RoundColumns) : Type 0 where
   pub fits : AreTouches pages touches
   pub earlier_len : length index.earlier ≡ length touches
-  pub earlier : (i : ℕ) → i < length touches → IsLast touches i (slice_index_or touches i no_touch).page (slice_index_or index.earlier i 0)
+  pub earlier : (i : ℕ) → i < length touches
+      → IsLast touches i (slice_index_or touches i no_touch).page (slice_index_or index.earlier i 0)
 
 -- ---- a plan that is made of counts, on its way
 
@@ -41,22 +44,24 @@ pub record HasSent (touches : List GuestTouch) (from rate : ℕ) (pages : List �
   pub count_is : count ≡ length list
 
 -- a round that may come, by its numbers alone
-pub record StandsAt (pages : ℕ) (touches : List GuestTouch) (s : MigrationSettings) (coming : NextRound) (now : Standing) : Type 0 where
+pub record StandsAt (pages : ℕ) (touches : List GuestTouch)
+    (s : MigrationSettings) (coming : NextRound) (now : RoundNumbers) : Type 0 where
   pub can : CanCome pages s coming
-  pub done_is : now.done ≡ coming.done
-  pub from_is : now.from ≡ coming.from
-  pub rate_is : now.rate ≡ coming.rate
+  pub done_is : now.step.done ≡ coming.done
+  pub from_is : now.step.from ≡ coming.from
+  pub rate_is : now.step.rate ≡ coming.rate
   pub listed_is : now.listed ≡ length coming.pages
   pub bound : now.next ≤ length touches
   pub point : IsPoint touches coming.from now.next
 
 -- a round that may come, of which these are the numbers
-pub record IsStanding (pages : ℕ) (touches : List GuestTouch) (s : MigrationSettings) (now : Standing) : Type 0 where
+pub record IsStanding (pages : ℕ) (touches : List GuestTouch) (s : MigrationSettings) (now : RoundNumbers) : Type 0 where
   pub coming : NextRound
   pub at : StandsAt pages touches s coming now
 
 -- the round that came, by its numbers alone
-pub record RanTo (pages : ℕ) (touches : List GuestTouch) (s : MigrationSettings) (coming : NextRound) (ran : Ran) : Type 0 where
+pub record RanTo (pages : ℕ) (touches : List GuestTouch)
+    (s : MigrationSettings) (coming : NextRound) (ran : RoundSums) : Type 0 where
   pub round : PlannedRound
   pub dirtied : List ℕ
   pub run : HasRun pages touches s coming round dirtied
@@ -73,25 +78,29 @@ pub record AreMarksOf (pages : ℕ) (marks : Marks) : Type 0 where
 
 -- a round that may come, by its numbers and, behind the first one, the list of its pages; the walk stands at its first
 -- tick
-pub record IsMarkedAt (pages : ℕ) (touches : List GuestTouch) (s : MigrationSettings) (coming : NextRound) (now : Standing) (marks : Marks) : Type 0 where
+pub record IsMarkedAt (pages : ℕ) (touches : List GuestTouch)
+    (s : MigrationSettings) (coming : NextRound) (now : RoundNumbers) (marks : Marks) : Type 0 where
   pub at : StandsAt pages touches s coming now
   pub list : 1 ≤ coming.done → coming.pages ≡ take now.listed marks.room.items
   pub room : length marks.room.items ≡ pages
   pub scan : IsScan pages touches coming.from coming.from marks.scan.next marks.scan.marks.items
 
 -- a round that may come, of which these are the numbers and the marks
-pub record CanMark (pages : ℕ) (touches : List GuestTouch) (s : MigrationSettings) (now : Standing) (marks : Marks) : Type 0 where
+pub record CanMark (pages : ℕ) (touches : List GuestTouch)
+    (s : MigrationSettings) (now : RoundNumbers) (marks : Marks) : Type 0 where
   pub coming : NextRound
   pub is : IsMarkedAt pages touches s coming now marks
 
 -- a round that may come, and its marks where pages may be skipped
-pub record IsReady (pages : ℕ) (touches : List GuestTouch) (s : MigrationSettings) (coming : NextRound) (now : Standing) (marks : Marks) : Type 0 where
+pub record IsReady (pages : ℕ) (touches : List GuestTouch)
+    (s : MigrationSettings) (coming : NextRound) (now : RoundNumbers) (marks : Marks) : Type 0 where
   pub at : StandsAt pages touches s coming now
   pub kept : AreMarksOf pages marks
   pub marked : s.skip ≡ true → IsMarkedAt pages touches s coming now marks
 
 -- a round that may come, of which these are the numbers, with its marks where pages may be skipped
-pub record CanRun (pages : ℕ) (touches : List GuestTouch) (s : MigrationSettings) (now : Standing) (marks : Marks) : Type 0 where
+pub record CanRun (pages : ℕ) (touches : List GuestTouch)
+    (s : MigrationSettings) (now : RoundNumbers) (marks : Marks) : Type 0 where
   pub coming : NextRound
   pub ready : IsReady pages touches s coming now marks
 
@@ -102,8 +111,10 @@ pub record IsTurned (pages : ℕ) (touches : List GuestTouch) (from tick count :
   pub scan : IsScan pages touches tick tick marks.scan.next marks.scan.marks.items
 
 -- so many of a round's pages are sent, and the walk is not past their ticks
-pub record HasSentOf (pages : ℕ) (touches : List GuestTouch) (s : MigrationSettings) (coming : NextRound) (count : ℕ) (scan : Scan) : Type 0 where
+pub record HasSentOf (pages : ℕ) (touches : List GuestTouch)
+    (s : MigrationSettings) (coming : NextRound) (count : ℕ) (scan : Scan) : Type 0 where
   pub list : List ℕ
   pub sent : IsSent (s.skip && nat_le 1 coming.done) touches coming.from coming.rate coming.pages list
   pub count_is : count ≡ length list
-  pub within : IsScanWithin pages touches coming.from (coming.from + 1_000 * count / coming.rate) scan.next scan.marks.items
+  pub within : IsScanWithin pages touches coming.from
+      (coming.from + 1_000 * count / coming.rate) scan.next scan.marks.items

@@ -1,3 +1,4 @@
 pub mod Sizes
+pub mod Steps
 pub mod Scanning
 pub mod Indexing

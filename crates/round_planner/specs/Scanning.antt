@@ -1,5 +1,6 @@
 -- A walk over touches, on its way. No contract of a public call cites it.
-use Rattle.std.specs.Prelude.{◌≡◌, ◌⊎◌, ℕ, ◌+◌, ◌-◌, ◌*◌, ◌/◌, ◌%◌, ◌≤◌, ◌<◌, ◌&&◌, ◌==◌, ◌^◌, nat_lt, nat_le, true, false, Bool, List, length, take, slice_index_or}
+use Rattle.std.specs.Prelude.{◌≡◌, ◌⊎◌, ℕ, ◌+◌, ◌-◌, ◌*◌, ◌/◌, ◌%◌, ◌≤◌, ◌<◌, ◌&&◌, ◌==◌, ◌^◌, nat_lt, nat_le, true}
+use Rattle.std.specs.Prelude.{false, Bool, List, length, take, slice_index_or}
 use Rattle.std.specs.List.{filter, list_any, range_with_len}
 use Rattle.std.specs.List.Sorted.{IsPartitionPoint}
 use Rattle.migration_model.specs.Rates.{MigrationSettings}
@@ -24,7 +25,8 @@ pub record AreMet (pages : ℕ) (touches : List GuestTouch) (from next : ℕ) (m
 pub record IsScan (pages : ℕ) (touches : List GuestTouch) (from tick next : ℕ) (marks : List ℕ) : Type 0 where
   pub order : from ≤ tick
   pub bound : next ≤ length touches
-  pub point : IsPartitionPoint (λ touch. nat_lt touch.tick tick ≡ true) (λ touch. nat_lt touch.tick tick ≡ false) touches next
+  pub point : IsPartitionPoint (λ touch. nat_lt touch.tick tick ≡ true)
+      (λ touch. nat_lt touch.tick tick ≡ false) touches next
   pub met : AreMet pages touches from next marks
 
 -- the walk stands at some tick that is no later than this one
@@ -60,7 +62,8 @@ pub record CanCome (pages : ℕ) (s : MigrationSettings) (now : NextRound) : Typ
   pub rounds_few : s.rounds ≤ 64
 
 -- the round that came, and what was written meanwhile: nothing, where it lasted no tick
-pub record HasRun (pages : ℕ) (touches : List GuestTouch) (s : MigrationSettings) (now : NextRound) (round : PlannedRound) (dirtied : List ℕ) : Type 0 where
+pub record HasRun (pages : ℕ) (touches : List GuestTouch)
+    (s : MigrationSettings) (now : NextRound) (round : PlannedRound) (dirtied : List ℕ) : Type 0 where
   pub is_round : IsRound pages touches s now round
   pub dirtied_are : dirtied ≡ pages_written pages touches round.from round.to
   pub order : round.from ≤ round.to

@@ -5,9 +5,9 @@ ghost use Rattle.std.specs.List.{count_by};
 ghost use Rattle.round_planner.specs.Indexing.{IsRoundIndexOf};
 
 use crate::error::PlanError;
+use guest_log::Timeline;
 use std::alloc::Global;
 use std::marker::Model;
-use trace_codec::Timeline;
 
 /// For each touch, when its page was touched before: 4 bytes a touch. With the index, one pass over numbers counts the
 /// pages of a round, and marks no page.

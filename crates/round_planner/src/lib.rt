@@ -25,6 +25,7 @@ mod parts;
 mod planner;
 mod planning;
 mod scan;
+mod step;
 mod tally;
 
 pub use error::PlanError;

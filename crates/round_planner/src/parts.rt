@@ -27,7 +27,14 @@ impl Model for Round {
 
     ghost Value = { PlannedRound };
 
-    ghost view = { λ r. record { from = r.from; to = r.to; rate = r.rate; pages = r.pages.items; sent = r.sent.items; dirtied = r.dirtied } };
+    ghost view = { λ r. record {
+      from = r.from;
+      to = r.to;
+      rate = r.rate;
+      pages = r.pages.items;
+      sent = r.sent.items;
+      dirtied = r.dirtied;
+    } };
 }
 
 /// What a migration would do: its rounds, and what is left when the guest is stopped.
@@ -52,7 +59,13 @@ impl Model for Plan {
 
     ghost Value = { MigrationPlan };
 
-    ghost view = { λ p. record { rounds = p.rounds.items; reason = reason_of p.reason; stop = p.stop; last = p.last.items; down = p.down } };
+    ghost view = { λ p. record {
+      rounds = p.rounds.items;
+      reason = reason_of p.reason;
+      stop = p.stop;
+      last = p.last.items;
+      down = p.down;
+    } };
 
     ghost invariant = { λ p. IsSmallPlan p.rounds.items p.last.items };
 }

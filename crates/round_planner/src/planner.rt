@@ -8,10 +8,10 @@ use crate::error::PlanError;
 use crate::index::RoundIndex;
 use crate::parts::Outcome;
 use crate::tally::Marks;
+use guest_log::Timeline;
 use rate_limit::Settings;
 use std::alloc::Global;
 use std::marker::Model;
-use trace_codec::Timeline;
 
 /// Makes the sums of plans, one after another, with buffers that are allocated once. A planner is for guests of one
 /// number of pages.

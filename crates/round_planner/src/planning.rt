@@ -8,32 +8,16 @@ ghost use Rattle.migration_model.specs.Touches.{pages_written};
 ghost use Rattle.rate_limit.specs.Pacing.{reason_of};
 ghost use Rattle.round_planner.specs.Scanning.{CanCome, HasRun, IsScan, IsScanWithin};
 ghost use Rattle.round_planner.specs.Sizes.{IsSmallPlan};
+ghost use Rattle.round_planner.specs.Steps.{next_round};
 
 use crate::error::PlanError;
 use crate::parts::{Plan, Round};
 use crate::scan::Scan;
-use rate_limit::{Next, Reason, Settings, duration, next};
+use crate::step::{After, Step};
+use guest_log::Timeline;
+use rate_limit::{Reason, Settings, duration};
 use std::alloc::{AllocError, Global};
-use std::marker::Model;
 use std::thread::Threads;
-use trace_codec::Timeline;
-
-/// The round that comes next.
-#[derive(Drop)]
-struct Coming {
-    done: u64,
-    from: u64,
-    rate: u64,
-    pages: Vec<u32>,
-}
-
-impl Model for Coming {
-    ghost use Rattle.migration_model.specs.Rounds.{NextRound};
-
-    ghost Value = { NextRound };
-
-    ghost view = { λ c. record { done = c.done; from = c.from; rate = c.rate; pages = c.pages.items } };
-}
 
 /// Returns the first pages, so many, rising.
 fn first_pages(alloc: Global, count: u32) -> Result<Vec<u32>, AllocError>
@@ -118,43 +102,50 @@ fn sent_pages<T: Timeline>(
     timeline: &T,
     settings: &Settings,
     scan: &mut Scan,
-    coming: &Coming,
+    step: Step,
+    pages: &[u32],
 ) -> Result<Vec<u32>, AllocError>
-    requires scan { IsScan (T.pages timeline.now) (T.touches timeline.now) coming.now.from coming.now.from scan.old.next scan.old.marks.items }
-    requires coming { CanCome (T.pages timeline.now) settings.now coming.now }
-    ensures sent { IfOk result (λ sent. IsSent (settings.now.skip && nat_le 1 coming.now.done) (T.touches timeline.now) coming.now.from coming.now.rate coming.now.pages sent.items) }
-    ensures scan { IfOk result (λ sent. IsScanWithin (T.pages timeline.now) (T.touches timeline.now) coming.now.from
-        (coming.now.from + 1_000 * length sent.items / coming.now.rate) scan.new.next scan.new.marks.items) }
+    requires scan { IsScan (T.pages timeline.now) (T.touches timeline.now) step.from step.from
+        scan.old.next scan.old.marks.items }
+    requires can { CanCome (T.pages timeline.now) settings.now (next_round step pages.now) }
+    ensures sent { IfOk result (λ sent. IsSent (settings.now.skip && nat_le 1 step.done) (T.touches timeline.now)
+        step.from step.rate pages.now sent.items) }
+    ensures scan { IfOk result (λ sent. IsScanWithin (T.pages timeline.now) (T.touches timeline.now) step.from
+        (step.from + 1_000 * length sent.items / step.rate) scan.new.next scan.new.marks.items) }
 {
-    if may_skip(settings, coming.done) {
-        return scan.skim(alloc, timeline, coming.from, coming.rate, &coming.pages);
+    if may_skip(settings, step.done) {
+        return scan.skim(alloc, timeline, step.from, step.rate, pages);
     }
-    let sent = Vec::from_slice(alloc, &coming.pages)?;
+    let sent = Vec::from_slice(alloc, pages)?;
     Ok(sent)
 }
 
-/// Runs a round. Returns the round, and the pages that are written meanwhile.
+/// Runs a round with these pages. Returns the round, and the pages that are written meanwhile.
 fn run_round<T: Timeline>(
     alloc: Global,
     timeline: &T,
     settings: &Settings,
     scan: &mut Scan,
-    coming: Coming,
+    step: Step,
+    pages: Vec<u32>,
 ) -> Result<(Round, Vec<u32>), AllocError>
-    requires scan { IsScan (T.pages timeline.now) (T.touches timeline.now) coming.from coming.from scan.old.next scan.old.marks.items }
-    requires coming { CanCome (T.pages timeline.now) settings.now coming }
-    ensures ran { IfOk result (λ found. HasRun (T.pages timeline.now) (T.touches timeline.now) settings.now coming found.0 found.1.items) }
-    ensures scan { IfOk result (λ found. IsScan (T.pages timeline.now) (T.touches timeline.now) coming.from found.0.to scan.new.next scan.new.marks.items) }
+    requires scan { IsScan (T.pages timeline.now) (T.touches timeline.now) step.from step.from
+        scan.old.next scan.old.marks.items }
+    requires can { CanCome (T.pages timeline.now) settings.now (next_round step pages.items) }
+    ensures ran { IfOk result (λ found. HasRun (T.pages timeline.now) (T.touches timeline.now) settings.now
+        (next_round step pages.items) found.0 found.1.items) }
+    ensures scan { IfOk result (λ found. IsScan (T.pages timeline.now) (T.touches timeline.now) step.from found.0.to
+        scan.new.next scan.new.marks.items) }
 {
-    let sent = sent_pages(alloc, timeline, settings, scan, &coming)?;
-    let to = coming.from + duration(sent.len() as u32, coming.rate);
+    let sent = sent_pages(alloc, timeline, settings, scan, step, &pages)?;
+    let to = step.from + duration(sent.len() as u32, step.rate);
     scan.advance(timeline, to);
     let dirtied = scan.pages(alloc)?;
     let round = Round {
-        from: coming.from,
+        from: step.from,
         to,
-        rate: coming.rate,
-        pages: coming.pages,
+        rate: step.rate,
+        pages,
         sent,
         dirtied: dirtied.len() as u32,
     };
@@ -164,7 +155,8 @@ fn run_round<T: Timeline>(
 /// Returns the plan of a migration that ends with a round, which goes on to tick `stop`.
 fn ended(settings: &Settings, rounds: Vec<Round>, reason: Reason, stop: u64, last: Vec<u32>) -> Plan
     requires { IsSmallPlan rounds.items last.items }
-    ensures { result ≡ plan_with rounds.items (reason_of reason) stop last.items (duration_of (length last.items) settings.now.max) }
+    ensures { result ≡ plan_with rounds.items (reason_of reason) stop last.items
+        (duration_of (length last.items) settings.now.max) }
 {
     let down = duration(last.len() as u32, settings.asked().max);
     Plan {
@@ -191,30 +183,20 @@ pub fn plan<T: Timeline>(
     ensures refusal { IfErr result (λ e. e ≡ PlanError.Memory) }
 {
     let asked = settings.asked();
-    let (mut scan, pages) = begin(alloc, timeline, asked.base, asked.start)?;
+    let (mut scan, mut pages) = begin(alloc, timeline, asked.base, asked.start)?;
     let mut rounds = Vec::new(alloc);
-    let mut coming = Coming {
-        done: 0,
-        from: asked.start,
-        rate: asked.min,
-        pages,
-    };
+    let mut step = Step::first(settings);
     loop {
-        let done = coming.done + 1;
-        let (round, dirtied) = run_round(alloc, timeline, settings, &mut scan, coming)?;
+        let (round, dirtied) = run_round(alloc, timeline, settings, &mut scan, step, pages)?;
         let to = round.to;
-        let after = next(settings, round.dirtied, to - round.from, done);
+        let after = step.after(settings, to, round.dirtied);
         rounds.push(round)?;
         match after {
-            Next::Stop(reason) => return Ok(ended(settings, rounds, reason, to, dirtied)),
-            Next::Go(rate) => {
+            After::Stop(reason) => return Ok(ended(settings, rounds, reason, to, dirtied)),
+            After::Go(next) => {
                 scan.restart();
-                coming = Coming {
-                    done,
-                    from: to,
-                    rate,
-                    pages: dirtied,
-                };
+                step = next;
+                pages = dirtied;
             }
         }
     }

@@ -1,16 +1,18 @@
 //! A walk over the touches from a round's first tick on, which marks their pages.
 
-ghost use Rattle.std.specs.Prelude.{◌≡◌, ◌≤◌, ◌<◌, ◌+◌, ◌*◌, ◌/◌, ◌^◌, ◌++◌, ◌∷◌, [], not, ℕ, IfOk, IfSome, OnOk, None, if◌then◌else◌, true, List, length, slice_index_or};
+ghost use Rattle.std.specs.Prelude.{◌≡◌, ◌≤◌, ◌<◌, ◌+◌, ◌*◌, ◌/◌, ◌^◌, ◌++◌, ◌∷◌, [], not, ℕ, IfOk, IfSome, OnOk, None};
+ghost use Rattle.std.specs.Prelude.{if◌then◌else◌, true, List, length, slice_index_or};
 ghost use Rattle.migration_model.specs.Touches.{AreTouches, GuestTouch, is_written, no_touch};
 ghost use Rattle.migration_model.specs.Rounds.{IsSent};
 ghost use Rattle.round_planner.specs.Indexing.{HasSent};
 ghost use Rattle.page_bitmap.specs.Listing.{pages_of};
-ghost use Rattle.round_planner.specs.Scanning.{HasRoom, IsNextBefore, IsPace, IsPageList, IsProgress, IsScan, IsScanWithin};
+ghost use Rattle.round_planner.specs.Scanning.{HasRoom, IsNextBefore, IsPace, IsPageList, IsProgress, IsScan};
+ghost use Rattle.round_planner.specs.Scanning.{IsScanWithin};
 
 use crate::pace::{Pace, Progress};
+use guest_log::Timeline;
 use page_bitmap::{add_page, has_page, pages_in, word_count};
 use std::alloc::{AllocError, Global};
-use trace_codec::Timeline;
 
 /// The touches before index `next` are behind the walk. A page is marked where one of them, from the round's first
 /// tick on, was to it. The marks have 64 pages a word, the lowest bit first.
@@ -33,7 +35,8 @@ fn push_if(pages: &mut Vec<u32>, keep: bool, page: u32) -> Result<(), AllocError
 /// Returns the page of touch `next`, where there is one and it is before the tick.
 fn page_before<T: Timeline>(timeline: &T, next: usize, tick: u64) -> Option<u32>
     ensures some { IfSome result (λ page. IsNextBefore (T.pages timeline.now) (T.touches timeline.now) next tick page) }
-    ensures none { result ≡ None → next < length (T.touches timeline.now) → tick ≤ (slice_index_or (T.touches timeline.now) next no_touch).tick }
+    ensures none { result ≡ None → next < length (T.touches timeline.now)
+        → tick ≤ (slice_index_or (T.touches timeline.now) next no_touch).tick }
     ensures fits { AreTouches (T.pages timeline.now) (T.touches timeline.now) }
 {
     if next >= timeline.touch_count() {
@@ -52,7 +55,8 @@ fn page_before<T: Timeline>(timeline: &T, next: usize, tick: u64) -> Option<u32>
 fn mark_until<T: Timeline>(timeline: &T, marks: &mut [u64], next: usize, tick: u64) -> usize
     requires { HasRoom (T.pages timeline.now) (T.touches timeline.now) next marks.old }
     ensures room { HasRoom (T.pages timeline.now) (T.touches timeline.now) result marks.new }
-    ensures walked { (from upto : ℕ) → upto ≤ tick → IsScan (T.pages timeline.now) (T.touches timeline.now) from upto next marks.old
+    ensures walked { (from upto : ℕ) → upto ≤ tick → IsScan (T.pages timeline.now) (T.touches timeline.now) from
+        upto next marks.old
         → IsScan (T.pages timeline.now) (T.touches timeline.now) from tick result marks.new }
 {
     let mut at = next;
@@ -85,7 +89,8 @@ impl Scan {
     pub(crate) fn advance<T: Timeline>(&mut self, timeline: &T, tick: u64)
         requires { HasRoom (T.pages timeline.now) (T.touches timeline.now) self.old.next self.old.marks.items }
         ensures room { HasRoom (T.pages timeline.now) (T.touches timeline.now) self.new.next self.new.marks.items }
-        ensures walked { (from upto : ℕ) → upto ≤ tick → IsScan (T.pages timeline.now) (T.touches timeline.now) from upto self.old.next self.old.marks.items
+        ensures walked { (from upto : ℕ) → upto ≤ tick → IsScan (T.pages timeline.now) (T.touches timeline.now) from
+            upto self.old.next self.old.marks.items
             → IsScan (T.pages timeline.now) (T.touches timeline.now) from tick self.new.next self.new.marks.items }
     {
         self.next = mark_until(timeline, &mut self.marks, self.next, tick);
@@ -93,7 +98,8 @@ impl Scan {
 
     /// Clears the marks: the walk begins anew where it stands.
     pub(crate) fn restart(&mut self)
-        ensures { (pages from tick : ℕ) (touches : List GuestTouch) → IsScan pages touches from tick self.old.next self.old.marks.items
+        ensures { (pages from tick : ℕ) (touches : List GuestTouch)
+            → IsScan pages touches from tick self.old.next self.old.marks.items
             → IsScan pages touches tick tick self.new.next self.new.marks.items }
     {
         self.marks.fill(0);
@@ -117,7 +123,8 @@ impl Scan {
         rate: u64,
         pages: &[u32],
     ) -> Result<Vec<u32>, AllocError>
-        requires scan { IsScan (T.pages timeline.now) (T.touches timeline.now) from from self.old.next self.old.marks.items }
+        requires scan { IsScan (T.pages timeline.now) (T.touches timeline.now) from from self.old.next
+            self.old.marks.items }
         requires pages { IsPageList (T.pages timeline.now) pages.now }
         requires rate { 1 ≤ rate }
         requires from { from < 2 ^ 42 }
@@ -138,14 +145,17 @@ impl Scan {
 
     /// Looks at one page of a round. Returns how far the round is then. The walk goes on to where the round was.
     fn look<T: Timeline>(&mut self, timeline: &T, pace: &Pace, page: u32, at: Progress) -> Progress
-        requires scan { IsScanWithin (T.pages timeline.now) (T.touches timeline.now) pace.now.from at.tick self.old.next self.old.marks.items }
+        requires scan { IsScanWithin (T.pages timeline.now) (T.touches timeline.now) pace.now.from at.tick
+            self.old.next self.old.marks.items }
         requires page { page < T.pages timeline.now }
         requires pace { IsPace pace.now }
         requires at { IsProgress pace.now at }
         requires few { at.sent < 65_536 }
-        ensures sent { result.sent ≡ (if not (is_written (T.touches timeline.now) pace.now.from at.tick page) then at.sent + 1 else at.sent) }
+        ensures sent { result.sent ≡ (if not (is_written (T.touches timeline.now) pace.now.from at.tick page) then
+            at.sent + 1 else at.sent) }
         ensures at { IsProgress pace.now result }
-        ensures scan { IsScanWithin (T.pages timeline.now) (T.touches timeline.now) pace.now.from result.tick self.new.next self.new.marks.items }
+        ensures scan { IsScanWithin (T.pages timeline.now) (T.touches timeline.now) pace.now.from result.tick
+            self.new.next self.new.marks.items }
     {
         self.advance(timeline, at.tick);
         if has_page(&self.marks, page) {
@@ -163,12 +173,14 @@ impl Scan {
         rate: u64,
         pages: &[u32],
     ) -> u32
-        requires scan { IsScan (T.pages timeline.now) (T.touches timeline.now) from from self.old.next self.old.marks.items }
+        requires scan { IsScan (T.pages timeline.now) (T.touches timeline.now) from from self.old.next
+            self.old.marks.items }
         requires pages { IsPageList (T.pages timeline.now) pages.now }
         requires rate { 1 ≤ rate }
         requires from { from < 2 ^ 42 }
         ensures sent { HasSent (T.touches timeline.now) from rate pages.now result }
-        ensures scan { IsScanWithin (T.pages timeline.now) (T.touches timeline.now) from (from + 1_000 * result / rate) self.new.next self.new.marks.items }
+        ensures scan { IsScanWithin (T.pages timeline.now) (T.touches timeline.now) from
+            (from + 1_000 * result / rate) self.new.next self.new.marks.items }
     {
         let pace = Pace::new(from, rate);
         let mut at = pace.begin();

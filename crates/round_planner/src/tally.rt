@@ -8,22 +8,22 @@ ghost use Rattle.migration_model.specs.Touches.{GuestTouch};
 ghost use Rattle.rate_limit.specs.Pacing.{reason_of};
 ghost use Rattle.page_bitmap.specs.Listing.{pages_of};
 ghost use Rattle.round_planner.specs.Scanning.{IsScan};
-ghost use Rattle.round_planner.specs.Indexing.{AreMarksOf, CanMark, CanRun, HasSentOf, IsMarkedAt, IsPoint, IsReady, IsTurned, IsRoundIndexOf, IsStanding, RanTo, StandsAt};
+ghost use Rattle.round_planner.specs.Indexing.{AreMarksOf, CanMark, CanRun, HasSentOf, IsMarkedAt, IsPoint, IsReady};
+ghost use Rattle.round_planner.specs.Indexing.{IsTurned, IsRoundIndexOf, IsStanding, RanTo, StandsAt};
 
 use crate::index::RoundIndex;
 use crate::parts::Outcome;
 use crate::scan::Scan;
+use crate::step::{After, Step};
+use guest_log::Timeline;
 use page_bitmap::list_pages;
-use rate_limit::{Next, Reason, Settings, duration, next};
+use rate_limit::{Reason, Settings, duration};
 use std::alloc::{AllocError, Global};
-use trace_codec::Timeline;
 
 /// The round that comes next, by its numbers.
 #[derive(Drop)]
-pub(crate) struct Standing {
-    done: u64,
-    from: u64,
-    rate: u64,
+pub(crate) struct RoundNumbers {
+    step: Step,
     /// How many pages it has.
     listed: u32,
     /// How many touches there are before its first tick.
@@ -34,7 +34,7 @@ pub(crate) struct Standing {
 
 /// What a round did, by its numbers.
 #[derive(Drop)]
-pub(crate) struct Ran {
+pub(crate) struct RoundSums {
     sent: u32,
     to: u64,
     /// How many touches there are before its end.
@@ -62,25 +62,33 @@ impl Marks {
     }
 
     /// Returns how many pages a round sends, where pages may be skipped in all rounds but the first.
-    fn count_sent<T: Timeline>(&mut self, timeline: &T, settings: &Settings, now: &Standing) -> u32
+    fn count_sent<T: Timeline>(
+        &mut self,
+        timeline: &T,
+        settings: &Settings,
+        now: &RoundNumbers,
+    ) -> u32
         requires skips { settings.now.skip ≡ true }
         requires marks { CanMark (T.pages timeline.now) (T.touches timeline.now) settings.now now.now self.old }
-        ensures sent { (coming : NextRound) → IsMarkedAt (T.pages timeline.now) (T.touches timeline.now) settings.now coming now.now self.old
+        ensures sent { (coming : NextRound) → IsMarkedAt (T.pages timeline.now) (T.touches timeline.now) settings.now
+            coming now.now self.old
             → HasSentOf (T.pages timeline.now) (T.touches timeline.now) settings.now coming result self.new.scan }
         ensures room { length self.new.room.items ≡ length self.old.room.items }
     {
-        if now.done == 0 {
+        if now.step.done == 0 {
             return now.listed;
         }
         let (pages, _) = self.room.split_at(now.listed as usize);
-        self.scan.count_sent(timeline, now.from, now.rate, pages)
+        self.scan
+            .count_sent(timeline, now.step.from, now.step.rate, pages)
     }
 
     /// Lists the pages that are marked, and clears the marks. Returns how many pages there were.
     fn turn(&mut self) -> u32
         requires marks { length self.old.scan.marks.items ≤ 1_024 }
         requires room { length (pages_of self.old.scan.marks.items) ≤ length self.old.room.items }
-        ensures turned { (pages from tick : ℕ) (touches : List GuestTouch) → IsScan pages touches from tick self.old.scan.next self.old.scan.marks.items
+        ensures turned { (pages from tick : ℕ) (touches : List GuestTouch)
+            → IsScan pages touches from tick self.old.scan.next self.old.scan.marks.items
             → IsTurned pages touches from tick result self.new }
         ensures count { result ≡ length (pages_of self.old.scan.marks.items) }
         ensures room { length self.new.room.items ≡ length self.old.room.items }
@@ -95,21 +103,23 @@ impl Marks {
         &mut self,
         timeline: &T,
         settings: &Settings,
-        now: &Standing,
-    ) -> Ran
+        now: &RoundNumbers,
+    ) -> RoundSums
         requires skips { settings.now.skip ≡ true }
         requires marks { CanMark (T.pages timeline.now) (T.touches timeline.now) settings.now now.now self.old }
-        ensures ran { (coming : NextRound) → IsMarkedAt (T.pages timeline.now) (T.touches timeline.now) settings.now coming now.now self.old
+        ensures ran { (coming : NextRound) → IsMarkedAt (T.pages timeline.now) (T.touches timeline.now) settings.now
+            coming now.now self.old
             → RanTo (T.pages timeline.now) (T.touches timeline.now) settings.now coming result }
         ensures room { length self.new.room.items ≡ T.pages timeline.now }
-        ensures turned { IsTurned (T.pages timeline.now) (T.touches timeline.now) now.now.from result.to result.dirtied self.new }
+        ensures turned { IsTurned (T.pages timeline.now) (T.touches timeline.now) now.now.step.from result.to
+            result.dirtied self.new }
     {
         let sent = self.count_sent(timeline, settings, now);
-        let to = now.from + duration(sent, now.rate);
+        let to = now.step.from + duration(sent, now.step.rate);
         self.scan.advance(timeline, to);
         let next = self.scan.next;
         let dirtied = self.turn();
-        Ran {
+        RoundSums {
             sent,
             to,
             next,
@@ -123,14 +133,16 @@ impl Marks {
         timeline: &T,
         index: &RoundIndex,
         settings: &Settings,
-        now: &Standing,
-    ) -> Ran
+        now: &RoundNumbers,
+    ) -> RoundSums
         requires index { IsRoundIndexOf (T.pages timeline.now) (T.touches timeline.now) index.now }
         requires ready { CanRun (T.pages timeline.now) (T.touches timeline.now) settings.now now.now self.old }
-        ensures ran { (coming : NextRound) → IsReady (T.pages timeline.now) (T.touches timeline.now) settings.now coming now.now self.old
+        ensures ran { (coming : NextRound) → IsReady (T.pages timeline.now) (T.touches timeline.now) settings.now
+            coming now.now self.old
             → RanTo (T.pages timeline.now) (T.touches timeline.now) settings.now coming result }
         ensures marks { AreMarksOf (T.pages timeline.now) self.new }
-        ensures turned { settings.now.skip ≡ true → IsTurned (T.pages timeline.now) (T.touches timeline.now) now.now.from result.to result.dirtied self.new }
+        ensures turned { settings.now.skip ≡ true → IsTurned (T.pages timeline.now) (T.touches timeline.now)
+            now.now.step.from result.to result.dirtied self.new }
     {
         if settings.asked().skip {
             self.marked_round(timeline, settings, now)
@@ -145,22 +157,20 @@ impl Marks {
         timeline: &T,
         index: &RoundIndex,
         settings: &Settings,
-    ) -> Standing
+    ) -> RoundNumbers
         requires index { IsRoundIndexOf (T.pages timeline.now) (T.touches timeline.now) index.now }
         requires marks { AreMarksOf (T.pages timeline.now) self.old }
         ensures ready { IsReady (T.pages timeline.now) (T.touches timeline.now) settings.now
             (first_round (T.pages timeline.now) (T.touches timeline.now) settings.now) result self.new }
-        ensures done { result.done ≡ 0 }
+        ensures done { result.step.done ≡ 0 }
         ensures total { result.total ≡ 0 }
         ensures settings { AreSettings settings.now }
     {
         let asked = settings.asked();
         self.scan.marks.fill(0);
         self.scan.next = timeline.before(asked.start);
-        Standing {
-            done: 0,
-            from: asked.start,
-            rate: asked.min,
+        RoundNumbers {
+            step: Step::first(settings),
             listed: count_lacking(timeline, index, settings, self.scan.next),
             next: self.scan.next,
             total: 0,
@@ -182,15 +192,13 @@ impl Marks {
         let mut now = self.begin(timeline, index, settings);
         loop {
             let ran = self.run_round(timeline, index, settings, &now);
-            let done = now.done + 1;
+            let rounds = now.step.done + 1;
             let total = now.total + ran.sent as u64;
-            match next(settings, ran.dirtied, ran.to - now.from, done) {
-                Next::Stop(reason) => return ended(settings, done, total, reason, &ran),
-                Next::Go(rate) => {
-                    now = Standing {
-                        done,
-                        from: ran.to,
-                        rate,
+            match now.step.after(settings, ran.to, ran.dirtied) {
+                After::Stop(reason) => return ended(settings, rounds, total, reason, &ran),
+                After::Go(step) => {
+                    now = RoundNumbers {
+                        step,
                         listed: ran.dirtied,
                         next: ran.next,
                         total,
@@ -224,9 +232,10 @@ fn count_lacking<T: Timeline>(
 }
 
 /// Returns the sums of a plan that ends with a round, after so many rounds that sent so many pages.
-fn ended(settings: &Settings, rounds: u64, sent: u64, reason: Reason, last: &Ran) -> Outcome
+fn ended(settings: &Settings, rounds: u64, sent: u64, reason: Reason, last: &RoundSums) -> Outcome
     requires { sent < 2 ^ 32 }
-    ensures { result ≡ outcome_with rounds (reason_of reason) last.now.to (duration_of last.now.dirtied settings.now.max) (sent + last.now.dirtied) }
+    ensures { result ≡ outcome_with rounds (reason_of reason) last.now.to
+        (duration_of last.now.dirtied settings.now.max) (sent + last.now.dirtied) }
 {
     Outcome {
         rounds,
@@ -237,22 +246,25 @@ fn ended(settings: &Settings, rounds: u64, sent: u64, reason: Reason, last: &Ran
     }
 }
 
-/// Runs a round by the index, where no page is skipped in any round.
+/// Runs a round by the index, where no page is skipped in any round. The settings are an argument for the contract
+/// alone.
 fn counted_round<T: Timeline>(
     timeline: &T,
     index: &RoundIndex,
     _settings: &Settings,
-    now: &Standing,
-) -> Ran
+    now: &RoundNumbers,
+) -> RoundSums
     requires index { IsRoundIndexOf (T.pages timeline.now) (T.touches timeline.now) index.now }
     requires now { IsStanding (T.pages timeline.now) (T.touches timeline.now) _settings.now now.now }
-    ensures { (coming : NextRound) → StandsAt (T.pages timeline.now) (T.touches timeline.now) _settings.now coming now.now
-        → (_settings.now.skip && nat_le 1 coming.done) ≡ false → RanTo (T.pages timeline.now) (T.touches timeline.now) _settings.now coming result }
+    ensures { (coming : NextRound) → StandsAt (T.pages timeline.now) (T.touches timeline.now)
+        _settings.now coming now.now
+        → (_settings.now.skip && nat_le 1 coming.done) ≡ false
+        → RanTo (T.pages timeline.now) (T.touches timeline.now) _settings.now coming result }
 {
-    let to = now.from + duration(now.listed, now.rate);
+    let to = now.step.from + duration(now.listed, now.step.rate);
     let next = timeline.before(to);
     let dirtied = index.first_touches(now.next, next);
-    Ran {
+    RoundSums {
         sent: now.listed,
         to,
         next,

@@ -24,4 +24,5 @@ pub record AreCurrentFrames (trace : GuestTrace) (versions pages : List ℕ) (fr
 abbrev pub after_dealing : ℕ → List GuestPart → List PageFrame → List GuestPart
 after_dealing turn parts [] = parts
 after_dealing turn parts (frame ∷ frames) =
-    after_dealing ((turn + 1) % length parts) (slice_set parts turn (with_frame (slice_index_or parts turn (empty_part (shape_with 0 0 0))) frame)) frames
+    after_dealing ((turn + 1) % length parts)
+    (slice_set parts turn (with_frame (slice_index_or parts turn (empty_part (shape_with 0 0 0))) frame)) frames

@@ -12,13 +12,13 @@ use crate::error::CopyError;
 use crate::workers::frames_by_workers;
 use collector::Part;
 use dirty_words::Closed;
+use guest_log::WriteLog;
 use page_bitmap::pages_in;
 use page_versions::PageIndex;
 use std::alloc::Global;
 use std::sync::Wait;
 use std::thread::Threads;
 use stream_split::Dealer;
-use trace_codec::WriteLog;
 
 /// Sends each page that is still marked once more, at its version, to one of the parts, of which there is one for each
 /// stream. Returns the parts. Up to `workers` threads make the frames, which are dealt out in the order of their
@@ -41,9 +41,10 @@ pub fn final_copy<R: Threads + Wait + Sync, W: WriteLog + Sync>(
     requires few_streams { streams ≤ 16 }
     requires parts { length parts.items ≡ streams }
     requires shapes { All (λ part. part.shape ≡ shape_of_trace (W.trace trace.now)) parts.items }
-    ensures { IfOk result (λ copied. IsFinalCopy (W.trace trace.now) closed.now.versions (in_words closed.now.dirty) parts.items copied.items) }
+    ensures { IfOk result (λ copied. IsFinalCopy (W.trace trace.now) closed.now.versions (in_words closed.now.dirty)
+        parts.items copied.items) }
 {
-    // For the proof: a guest has at most 65,536 pages.
+    // For the proof: `shape` promises that a guest has at most 65,536 pages.
     let _ = trace.shape();
     let marked = pages_in(alloc, &closed.dirty)?;
     let frames = frames_by_workers(rt, alloc, trace, index, &closed.versions, &marked, workers)?;

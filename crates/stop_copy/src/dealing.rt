@@ -12,7 +12,7 @@ use page_message::Frame;
 use std::alloc::Global;
 use stream_split::Dealer;
 
-/// Shows the prover that each of them is a part: that is known of one that was asked for its shape.
+/// Does nothing. For the proof: `shape` promises that each of them is a part.
 pub(crate) fn know_parts(parts: &[Part])
     ensures { All IsPart parts.now }
 {
@@ -32,7 +32,8 @@ pub(crate) fn deal_out(
     ensures streams { dealer.new.streams ≡ dealer.old.streams }
     ensures shapes { length parts.new.items ≡ length parts.old.items }
     ensures dealt { OnOk result ((rest : List PageFrame)
-        → after_dealing dealer.new.next parts.new.items rest ≡ after_dealing dealer.old.next parts.old.items (frames.items ++ rest)) }
+        → after_dealing dealer.new.next parts.new.items rest
+        ≡ after_dealing dealer.old.next parts.old.items (frames.items ++ rest)) }
 {
     for frame in frames {
         let stream = dealer.deal();

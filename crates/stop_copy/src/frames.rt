@@ -6,10 +6,10 @@ ghost use Rattle.page_versions.specs.Index.{IsIndexOf};
 ghost use Rattle.stop_copy.specs.Copies.{AreCurrentFrames, IsCurrentFrame};
 
 use crate::error::CopyError;
+use guest_log::WriteLog;
 use page_message::{Frame, frame_of};
 use page_versions::PageIndex;
 use std::alloc::Global;
-use trace_codec::WriteLog;
 
 /// Returns the frame of a page at its version.
 fn frame_at<W: WriteLog>(

@@ -9,6 +9,7 @@ ghost use Rattle.stop_copy.specs.Pieces.{AreMadeOf};
 
 use crate::error::CopyError;
 use crate::frames::frames_of;
+use guest_log::WriteLog;
 use joined_threads::join_all;
 use page_message::Frame;
 use page_versions::PageIndex;
@@ -16,7 +17,6 @@ use std::alloc::Global;
 use std::sync::Wait;
 use std::thread;
 use std::thread::{Promise, PromisedHandle, Scope, Threads};
-use trace_codec::WriteLog;
 
 /// To make the frames of so many pages takes longer than a thread takes to start.
 const WORTH_A_THREAD: usize = 512;
@@ -33,7 +33,8 @@ struct MakesFrames<'a, W> {
 }
 
 impl<'a, W: WriteLog> Promise<Made> for MakesFrames<'a, W> {
-    ghost kept_by = { λ p r. IfOk r (λ frames. AreCurrentFrames (W.trace p.trace.now) p.versions.now p.pages.now frames.items) };
+    ghost kept_by = { λ p r. IfOk r (λ frames. AreCurrentFrames (W.trace p.trace.now) p.versions.now
+        p.pages.now frames.items) };
 }
 
 /// Starts a thread that makes the frames of these pages.
@@ -63,7 +64,8 @@ fn start_piece<'s, E, W: WriteLog + Sync>(
         requires pages { All (λ page. page < (W.trace trace.now).pages) pages.now }
         requires versions { length versions.now ≡ (W.trace trace.now).pages }
         requires low { All (λ version. version ≤ length (W.trace trace.now).writes) versions.now }
-        ensures { IfOk result (λ frames. AreCurrentFrames (W.trace trace.entry.now) versions.entry.now pages.entry.now frames.items) }
+        ensures { IfOk result (λ frames. AreCurrentFrames (W.trace trace.entry.now) versions.entry.now
+            pages.entry.now frames.items) }
     { frames_of(alloc, trace, index, versions, pages) };
     scope.spawn_with(promise, run).or(Err(CopyError::Thread))
 }
@@ -86,7 +88,8 @@ fn start_pieces<'s, E, W: WriteLog + Sync>(
     requires size { 1 ≤ size }
     requires none { handles.old.items ≡ [] }
     ensures pieces { OnOk result (flat_map (λ h. h.promise.pages.now) handles.new.items ≡ pages.now) }
-    ensures same { OnOk result (All (λ h. (W.trace h.promise.trace.now ≡ W.trace trace.now) × (h.promise.versions.now ≡ versions.now)) handles.new.items) }
+    ensures same { OnOk result (All (λ h. (W.trace h.promise.trace.now ≡ W.trace trace.now)
+        × (h.promise.versions.now ≡ versions.now)) handles.new.items) }
 {
     let mut rest = pages;
     while !rest.is_empty() {
@@ -135,7 +138,8 @@ fn make_in_scope<'s, E, R: Threads, W: WriteLog + Sync>(
 
 /// Returns all frames that were made, in order, or the first error.
 fn all_frames(alloc: Global, made: Vec<Made>) -> Result<Vec<Frame>, CopyError>
-    ensures { IfOk result (λ frames. (trace : GuestTrace) (versions pages : List ℕ) → AreMadeOf trace versions pages made.items
+    ensures { IfOk result (λ frames. (trace : GuestTrace) (versions pages : List ℕ)
+        → AreMadeOf trace versions pages made.items
         → AreCurrentFrames trace versions pages frames.items) }
 {
     let mut all = Vec::new(alloc);
@@ -177,7 +181,8 @@ pub(crate) fn frames_by_workers<R: Threads + Wait + Sync, W: WriteLog + Sync>(
             requires versions { length versions.now ≡ (W.trace trace.now).pages }
             requires low { All (λ version. version ≤ length (W.trace trace.now).writes) versions.now }
             requires size { 1 ≤ size }
-            ensures { IfOk result (λ made. AreMadeOf (W.trace trace.entry.now) versions.entry.now pages.entry.now made.items) }
+            ensures { IfOk result (λ made. AreMadeOf (W.trace trace.entry.now) versions.entry.now
+                pages.entry.now made.items) }
         { make_in_scope(rt, scope, alloc, trace, index, versions, pages, size) },
     )?;
     all_frames(alloc, made)

@@ -1,4 +1,4 @@
--- What is known of a part, where texts come to it until one of them is refused.
+-- What is known of a part, where encoded frames come to it until one of them is refused.
 use Rattle.std.specs.Prelude.{◌≡◌, ℕ, List, ◌++◌, Option, Some, None, IfSome}
 use Rattle.std.specs.List.{All}
 use Rattle.migration_model.specs.Frames.{GuestShape, PageFrame, SpellsFrame}
@@ -8,22 +8,26 @@ use Rattle.stream_receivers.specs.Texts.{TakesTexts}
 use Rattle.stream_receivers.specs.declared.error.ReceiverError.{ReceiverError}
 use Rattle.stream_receivers.specs.declared.error.ReceiverError.TheVariants.{Memory}
 
--- While nothing is refused, what came is frames, and the part has them. What is refused where all of it is frames is memory.
-pub record IsHeld (shape : GuestShape) (IsText : List ℕ → Type 0) (part : GuestPart) (refusal : Option ReceiverError) : Type 0 where
+-- While nothing is refused, what came is frames, and the part has them. What is refused where all of it is frames is
+-- memory.
+pub record IsHeld (shape : GuestShape) (IsText : List ℕ → Type 0)
+    (part : GuestPart) (refusal : Option ReceiverError) : Type 0 where
   pub frames : refusal ≡ None → AreFrames shape IsText
   pub has : refusal ≡ None → HasFrames shape IsText part
   pub refused : AreFrames shape IsText → IfSome refusal (λ e. e ≡ Memory)
 
--- These texts came, with this refusal before and after: they were taken, or one of them is refused, or one was before. Only
--- memory is refused where they are frames.
+-- These texts came, with this refusal before and after: they were taken, or one of them is refused, or one was before.
+-- Only memory is refused where they are frames.
 pub record Accepts (old new : GuestPart) (before after : Option ReceiverError) (texts : List (List ℕ)) : Type 0 where
   pub shape : new.shape ≡ old.shape
   pub kept : IfSome before (λ e. after ≡ Some e)
   pub taken : after ≡ None → (before ≡ None) × TakesTexts old new texts
-  pub only : before ≡ None → All (λ text. (frame : PageFrame) × SpellsFrame old.shape text frame) texts → IfSome after (λ e. e ≡ Memory)
+  pub only : before ≡ None → All (λ text. (frame : PageFrame) × SpellsFrame old.shape text frame) texts
+      → IfSome after (λ e. e ≡ Memory)
 
 -- the first of all these texts came, and this is the rest
-pub record AcceptsFirst (old new : GuestPart) (before after : Option ReceiverError) (all rest : List (List ℕ)) : Type 0 where
+pub record AcceptsFirst (old new : GuestPart) (before after : Option ReceiverError)
+    (all rest : List (List ℕ)) : Type 0 where
   pub texts : List (List ℕ)
   pub together : texts ++ rest ≡ all
   pub accepts : Accepts old new before after texts

@@ -5,8 +5,8 @@ use Rattle.migration_model.specs.Frames.{GuestShape, PageFrame, SpellsFrame}
 use Rattle.migration_model.specs.Parts.{GuestPart, PageCopy, IsPart, copy_at, copy_in}
 use Rattle.stream_lanes.specs.Ends.{OutView, InView, Begins, IsLane, IsTakenFrom, SameIn}
 
--- the lanes of a stream as their receiver holds them, in order of the workers; what came of the guest's memory; and whether a
--- frame was refused
+-- the lanes of a stream as their receiver holds them, in order of the workers; what came of the guest's memory; and
+-- whether a frame was refused
 pub record ReceiverView : Type 0 where
   pub ends : List InView
   pub part : GuestPart
@@ -15,12 +15,12 @@ pub record ReceiverView : Type 0 where
 abbrev pub receiver_with : List InView → GuestPart → Bool → ReceiverView
 receiver_with ends part is_refused = record { ends = ends; part = part; is_refused = is_refused }
 
--- each of these texts is the spelling of a frame
+-- each of these byte strings is the encoding of a frame
 abbrev pub AreFrames : GuestShape → (List ℕ → Type 0) → Type 0
 AreFrames shape IsText = (text : List ℕ) → IsText text → (frame : PageFrame) × SpellsFrame shape text frame
 
--- A part that has what these texts bring and nothing else: each of its copies is that of a frame among them, and of each frame
--- among them it has the page at the frame's stamp or at a later one.
+-- A part that has what these texts bring and nothing else: each of its copies is that of a frame among them, and of
+-- each frame among them it has the page at the frame's stamp or at a later one.
 pub record HasFrames (shape : GuestShape) (IsText : List ℕ → Type 0) (part : GuestPart) : Type 0 where
   pub is_part : IsPart part
   pub shape_is : part.shape ≡ shape
@@ -32,12 +32,14 @@ pub record HasFrames (shape : GuestShape) (IsText : List ℕ → Type 0) (part :
 
 -- the part has what was taken, where that was frames and none was refused
 abbrev pub IsReceiver : ReceiverView → Type 0
-IsReceiver r = r.is_refused ≡ false → AreFrames r.part.shape (IsTakenFrom r.ends) → HasFrames r.part.shape (IsTakenFrom r.ends) r.part
+IsReceiver r = r.is_refused ≡ false → AreFrames r.part.shape (IsTakenFrom r.ends)
+    → HasFrames r.part.shape (IsTakenFrom r.ends) r.part
 
 -- the two ends of each worker's lane
 pub record AreEnds (outs : List OutView) (ends : List InView) : Type 0 where
   pub count : length outs ≡ length ends
-  pub each : (worker : ℕ) (out : OutView) (end : InView) → slice_get outs worker ≡ Some out → slice_get ends worker ≡ Some end
+  pub each : (worker : ℕ) (out : OutView) (end : InView) → slice_get outs worker ≡ Some out
+      → slice_get ends worker ≡ Some end
       → IsLane out end
 
 -- the same, where nothing was taken yet

@@ -2,13 +2,13 @@
 
 use thiserror::Error;
 
-/// A refusal.
+/// Why a receiver did not take a frame.
 #[derive(Clone, Copy, Debug, PartialEq, Eq, Error)]
 pub enum ReceiverError {
-    /// A growth was refused.
+    /// Memory ran out.
     #[error("memory")]
     Memory,
-    /// What came on a lane was not the spelling of one frame.
+    /// The bytes that came on a lane are not the encoding of one frame.
     #[error("frame")]
     Frame,
 }

@@ -1,17 +1,17 @@
-//! Frames that keep the room of their texts.
+//! Frames that keep the buffers that they came in.
 
 ghost use Rattle.std.specs.Prelude.{◌≡◌, ◌≤◌, drop, IfErr, IfOk, length};
 ghost use Rattle.migration_model.specs.Frames.{PageFrame, SpellsFrame};
 ghost use Rattle.page_message.specs.Shapes.{shape_of};
 
 use crate::error::ReceiverError;
+use guest_log::Shape;
 use page_message::{Body, Frame, view_frame};
-use trace_codec::Shape;
 
-/// The bytes that a frame has in front of its page.
+/// How many bytes a frame has in front of those of its page.
 const HEAD: usize = 9;
 
-/// The bytes behind a frame's head, in the room of the whole text.
+/// Returns the bytes behind a frame's head, in the buffer of the whole frame.
 #[tactic(auto, using(crate::proofs::Owned::shifted))]
 fn behind_head(text: Vec<u8>) -> Vec<u8>
     requires { 9 ≤ length text.items }
@@ -24,10 +24,11 @@ fn behind_head(text: Vec<u8>) -> Vec<u8>
     text
 }
 
-/// The frame that a text spells, which keeps the room of the text. It takes no memory.
+/// Decodes a frame, which keeps the buffer that it came in. It allocates nothing.
 pub(crate) fn own_frame(shape: &Shape, text: Vec<u8>) -> Result<Frame, ReceiverError>
     ensures found { IfOk result (λ frame. SpellsFrame (shape_of shape.now) text.items frame) }
-    ensures only { (frame : PageFrame) → SpellsFrame (shape_of shape.now) text.items frame → IfErr result (λ e. e ≡ ReceiverError.Memory) }
+    ensures only { (frame : PageFrame) → SpellsFrame (shape_of shape.now) text.items frame
+        → IfErr result (λ e. e ≡ ReceiverError.Memory) }
 {
     let Ok((view, size)) = view_frame(shape, &text) else {
         return Err(ReceiverError::Frame);

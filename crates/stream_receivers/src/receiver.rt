@@ -1,6 +1,7 @@
 //! The receiver of a stream.
 
-ghost use Rattle.std.specs.Prelude.{◌≡◌, ◌<◌, IfErr, IfOk, IfSome, IsErr, IsTrue, Some, [], false, length, map, slice_get, true};
+ghost use Rattle.std.specs.Prelude.{◌≡◌, ◌<◌, IfErr, IfOk, IfSome, IsErr, IsTrue, Some, [], false, length, map};
+ghost use Rattle.std.specs.Prelude.{slice_get, true};
 ghost use Rattle.std.specs.List.{All};
 ghost use Rattle.migration_model.specs.Parts.{empty_part};
 ghost use Rattle.page_message.specs.Shapes.{shape_of};
@@ -10,15 +11,15 @@ ghost use Rattle.stream_receivers.specs.Receivers.{AreEnds, AreFrames, HasFrames
 use crate::error::ReceiverError;
 use crate::taking::{accept, accept_rests, give_back};
 use collector::Part;
+use guest_log::Shape;
 use std::alloc::Global;
 use std::marker::Model;
 use stream_lanes::{LaneIn, LaneOut};
-use trace_codec::Shape;
 
 /// What takes the frames of one stream, which come on a lane from each worker, into a part of the guest's memory.
 ///
-/// Once a frame is refused, for want of memory or since the bytes are not the spelling of one frame, the part stays as it
-/// is: frames that are taken after it are dropped. At the end the receiver answers why, in place of its part.
+/// Once a frame is refused, since memory runs out or since the bytes are not the encoding of one frame, the part stays
+/// as it is: frames that are taken after it are dropped. At the end the receiver returns why, in place of its part.
 #[derive(Drop)]
 pub struct Receiver {
     ends: Vec<LaneIn>,
@@ -41,7 +42,8 @@ impl Model for Receiver {
 }
 
 impl Receiver {
-    /// A receiver of the lanes with these ends, in order of the workers, that took nothing yet. It takes no memory.
+    /// Returns a receiver of the lanes with these ends, in order of the workers. It took nothing yet, and allocates
+    /// nothing.
     pub fn new(alloc: Global, shape: Shape, ends: Vec<LaneIn>) -> Receiver
         requires { All (λ end. end.taken ≡ []) ends.items }
         ensures { result ≡ receiver_with ends.items (empty_part (shape_of shape)) false }
@@ -53,7 +55,7 @@ impl Receiver {
         }
     }
 
-    /// How many lanes it has.
+    /// Returns how many lanes it has.
     pub fn lanes(&self) -> usize
         ensures count { result ≡ length self.now.ends }
         ensures is_receiver { IsReceiver self.now }
@@ -61,15 +63,15 @@ impl Receiver {
         self.ends.len()
     }
 
-    /// Whether a frame was refused.
+    /// Returns whether a frame was refused.
     pub fn is_refused(&self) -> bool
         ensures { result ≡ self.now.is_refused }
     {
         self.refusal.is_some()
     }
 
-    /// Takes the next frame from a worker's lane, if one has come, and answers whether. The part has it then, unless a frame is
-    /// refused or was before. The text of the frame that goes for it goes back on the lane.
+    /// Takes the next frame from a worker's lane, if one has come, and returns whether. The part has it then, unless a
+    /// frame is refused or was before. The buffer of the frame that it replaces goes back on the lane.
     pub fn take(&mut self, worker: usize) -> bool
         requires { worker < length self.old.ends }
         ensures lanes { map (λ end. end.lane) self.new.ends ≡ map (λ end. end.lane) self.old.ends }
@@ -88,11 +90,12 @@ impl Receiver {
         true
     }
 
-    /// Takes what is left on its lanes, whose other ends these are, in order of the workers, and gives its part away. It answers
-    /// the first refusal, if there was one.
+    /// Takes what is left on its lanes, whose other ends these are, in order of the workers, and returns its part. The
+    /// error is the first refusal, if there was one.
     pub fn finish(self, outs: Vec<LaneOut>) -> Result<Part, ReceiverError>
         requires { AreEnds outs.items self.ends }
-        ensures received { AreFrames self.part.shape (IsSentOn outs.items) → IfOk result (HasFrames self.part.shape (IsSentOn outs.items)) }
+        ensures received { AreFrames self.part.shape (IsSentOn outs.items)
+            → IfOk result (HasFrames self.part.shape (IsSentOn outs.items)) }
         ensures frames { IfOk result (λ _. AreFrames self.part.shape (IsSentOn outs.items)) }
         ensures refused { self.is_refused ≡ true → IsErr result }
         ensures only { AreFrames self.part.shape (IsSentOn outs.items) → IfErr result (λ e. e ≡ ReceiverError.Memory) }

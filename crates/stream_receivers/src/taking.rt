@@ -1,4 +1,4 @@
-//! Frames that come to a part, each as a text of its own.
+//! Frames that come to a part, each in a buffer of its own.
 
 ghost use Rattle.std.specs.Prelude.{◌≡◌, ◌∷◌, IfErr, IfSome, OnOk, Some, []};
 ghost use Rattle.migration_model.specs.Frames.{PageFrame, SpellsFrame};
@@ -13,7 +13,7 @@ use collector::Part;
 use page_message::{Body, Frame};
 use stream_lanes::{LaneIn, LaneOut, Rest, drain};
 
-/// The bytes of a frame, if there is one and not all of them are 0.
+/// Returns the bytes of a frame, if there is one and not all of them are 0.
 fn bytes_of(frame: Option<Frame>) -> Option<Vec<u8>> {
     match frame?.body {
         Body::Zero => None,
@@ -21,12 +21,13 @@ fn bytes_of(frame: Option<Frame>) -> Option<Vec<u8>> {
     }
 }
 
-/// Takes a text, which is to spell one frame. The page's bytes keep the room of the text. It answers the text of the frame that
-/// goes for this one, if that has one.
+/// Takes one encoded frame into a part. The page's bytes keep the frame's buffer. Returns the buffer of the frame that
+/// it replaces, if there is one.
 fn exchange(part: &mut Part, text: Vec<u8>) -> Result<Option<Vec<u8>>, ReceiverError>
     ensures shape { part.new.shape ≡ part.old.shape }
     ensures taken { OnOk result (TakesText part.old part.new text.items) }
-    ensures only { (frame : PageFrame) → SpellsFrame part.old.shape text.items frame → IfErr result (λ e. e ≡ ReceiverError.Memory) }
+    ensures only { (frame : PageFrame) → SpellsFrame part.old.shape text.items frame
+        → IfErr result (λ e. e ≡ ReceiverError.Memory) }
 {
     let frame = own_frame(&part.shape(), text)?;
     match part.exchange(frame) {
@@ -35,8 +36,8 @@ fn exchange(part: &mut Part, text: Vec<u8>) -> Result<Option<Vec<u8>>, ReceiverE
     }
 }
 
-/// Takes a text, unless something was refused before, and keeps the first refusal. It answers the text of the frame that goes for
-/// this one, if that has one.
+/// Takes one encoded frame, unless something was refused before, and keeps the first refusal. Returns the buffer of the
+/// frame that it replaces, if there is one.
 pub(crate) fn accept(
     part: &mut Part,
     refusal: &mut Option<ReceiverError>,
@@ -56,7 +57,7 @@ pub(crate) fn accept(
     }
 }
 
-/// Gives a text back to the worker of a lane, if there is one.
+/// Gives a buffer back to the worker of a lane, if there is one.
 pub(crate) fn give_back(end: &mut LaneIn, text: Option<Vec<u8>>)
     ensures { end.new ≡ end.old }
 {
@@ -65,7 +66,7 @@ pub(crate) fn give_back(end: &mut LaneIn, text: Option<Vec<u8>>)
     }
 }
 
-/// Takes what is left on a lane, unless something was refused before, and answers the first refusal.
+/// Takes what is left on a lane, unless something was refused before. Returns the first refusal.
 pub(crate) fn accept_rest(
     part: &mut Part,
     refusal: Option<ReceiverError>,
@@ -81,7 +82,7 @@ pub(crate) fn accept_rest(
     refusal
 }
 
-/// Takes what is left on each lane, and answers the first refusal.
+/// Takes what is left on each lane. Returns the first refusal.
 pub(crate) fn accept_rests(
     part: &mut Part,
     refusal: Option<ReceiverError>,

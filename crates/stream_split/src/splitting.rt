@@ -8,9 +8,9 @@ ghost use Rattle.stream_split.specs.Deals.{streams_of};
 
 use crate::dealer::Dealer;
 use crate::error::SplitError;
+use guest_log::Shape;
 use page_message::{Frame, encode_frame};
 use std::alloc::Global;
-use trace_codec::Shape;
 
 /// Returns so many empty streams, each with `room` bytes reserved.
 pub fn empty_streams(alloc: Global, streams: usize, room: usize) -> Result<Vec<Vec<u8>>, SplitError>

@@ -3,10 +3,10 @@
 ghost use Rattle.std.specs.Prelude.{◌≡◌, ◌^◌, ◌++◌, ◌∷◌, [], OnOk};
 ghost use Rattle.sweep_report.specs.Lines.{field, hot_line, page_line, round_line, stop_line, trace_line, window_line};
 
+use guest_log::Shape;
 use itoa::Buffer;
 use round_planner::{Plan, Round};
 use std::alloc::AllocError;
-use trace_codec::Shape;
 use working_sets::Window;
 
 /// Appends some words and a number behind them.
@@ -39,7 +39,8 @@ fn push_sizes(text: &mut Vec<u8>, pages: u32, size: usize, writes: u32) -> Resul
 
 /// Appends the line on a trace of this shape.
 pub(crate) fn push_trace(text: &mut Vec<u8>, shape: &Shape) -> Result<(), AllocError>
-    ensures { OnOk result (text.new.items ≡ text.old.items ++ trace_line shape.now.pages (2 ^ shape.now.shift) shape.now.writes) }
+    ensures { OnOk result (text.new.items ≡ text.old.items ++ trace_line shape.now.pages (2 ^ shape.now.shift)
+        shape.now.writes) }
 {
     push_sizes(text, shape.pages, shape.page_size(), shape.writes)
 }

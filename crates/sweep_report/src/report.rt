@@ -7,10 +7,10 @@ ghost use Rattle.sweep_report.specs.Texts.{report_of, round_lines};
 
 use crate::error::SweepError;
 use crate::lines::{push_hot, push_page, push_round, push_stop, push_trace, push_window};
+use guest_log::Shape;
 use rate_limit::Settings;
 use round_planner::{Plan, Round};
 use std::alloc::{AllocError, Global};
-use trace_codec::Shape;
 use working_sets::{Tables, Window};
 
 /// Appends a line for each window.
@@ -52,7 +52,8 @@ pub fn report_text(
     tables: &Tables,
     plan: &Plan,
 ) -> Result<Vec<u8>, SweepError>
-    ensures { IfOk result (λ text. text.items ≡ report_of shape.now.shift shape.now.pages shape.now.writes settings.now.hot tables.now plan.now) }
+    ensures { IfOk result (λ text. text.items
+        ≡ report_of shape.now.shift shape.now.pages shape.now.writes settings.now.hot tables.now plan.now) }
 {
     let mut text = Vec::new(alloc);
     push_trace(&mut text, shape)?;

@@ -10,17 +10,17 @@ ghost use Rattle.sweep_report.specs.Sweeping.{AreNumbered, AreTaken, IsWork};
 
 use crate::error::SweepError;
 use crate::line::Line;
+use guest_log::Timeline;
 use rate_limit::Settings;
 use round_planner::{Planner, RoundIndex, plan};
 use std::alloc::{AllocError, Global};
 use std::sync::atomic::{AtomicUsize, Ordering};
 use std::thread;
 use std::thread::Threads;
-use trace_codec::Timeline;
 
 /// The line of a case, and the number of that case.
 #[derive(Drop)]
-pub(crate) struct Numbered {
+pub(crate) struct CaseLine {
     pub(crate) number: usize,
     pub(crate) line: Line,
 }
@@ -56,9 +56,10 @@ fn take_cases<T: Timeline>(
     index: &RoundIndex,
     cases: &[Settings],
     next: &AtomicUsize,
-) -> Result<Vec<Numbered>, SweepError>
+) -> Result<Vec<CaseLine>, SweepError>
     requires index { IsRoundIndexOf (T.pages timeline.now) (T.touches timeline.now) index.now }
-    ensures made { IfOk result (λ made. AreNumbered (T.pages timeline.now) (T.touches timeline.now) cases.now made.items) }
+    ensures made { IfOk result (λ made. AreNumbered (T.pages timeline.now) (T.touches timeline.now)
+        cases.now made.items) }
     ensures refusal { IfErr result (λ e. e ≡ SweepError.Memory) }
 {
     let mut planner = Planner::new(alloc, timeline).or(Err(SweepError::Memory))?;
@@ -69,7 +70,7 @@ fn take_cases<T: Timeline>(
             break;
         }
         let line = line_by(&mut planner, timeline, index, &cases[number]);
-        made.push(Numbered { number, line })?;
+        made.push(CaseLine { number, line })?;
     }
     Ok(made)
 }
@@ -86,9 +87,10 @@ fn no_lines(alloc: Global, count: usize) -> Result<Vec<Option<Line>>, AllocError
 }
 
 /// Puts lines into the slots of their cases.
-fn place(taken: &mut Vec<Option<Line>>, made: Vec<Numbered>)
+fn place(taken: &mut Vec<Option<Line>>, made: Vec<CaseLine>)
     requires { All (λ one. one.number < length taken.old.items) made.items }
-    ensures { (pages : ℕ) (touches : List GuestTouch) (cases : List MigrationSettings) → AreNumbered pages touches cases made.items
+    ensures { (pages : ℕ) (touches : List GuestTouch) (cases : List MigrationSettings)
+        → AreNumbered pages touches cases made.items
         → AreTaken pages touches cases taken.old.items → AreTaken pages touches cases taken.new.items }
 {
     for one in made {
@@ -126,7 +128,8 @@ fn in_order<T: Timeline>(
 ) -> Result<Vec<Line>, SweepError>
     requires index { IsRoundIndexOf (T.pages timeline.now) (T.touches timeline.now) index.now }
     requires taken { AreTaken (T.pages timeline.now) (T.touches timeline.now) cases.now taken.items }
-    ensures lines { IfOk result (λ lines. AreLines (T.pages timeline.now) (T.touches timeline.now) cases.now lines.items) }
+    ensures lines { IfOk result (λ lines. AreLines (T.pages timeline.now) (T.touches timeline.now)
+        cases.now lines.items) }
     ensures refusal { IfErr result (λ e. e ≡ SweepError.Memory) }
 {
     let mut taken = taken;
@@ -145,11 +148,12 @@ fn place_all<T: Timeline>(
     _timeline: &T,
     _cases: &[Settings],
     taken: &mut Vec<Option<Line>>,
-    made: Vec<Result<Vec<Numbered>, SweepError>>,
+    made: Vec<Result<Vec<CaseLine>, SweepError>>,
 ) -> Result<(), SweepError>
     requires made { All (IsWork (T.pages _timeline.now) (T.touches _timeline.now) _cases.now) made.items }
     requires taken { AreTaken (T.pages _timeline.now) (T.touches _timeline.now) _cases.now taken.old.items }
-    ensures taken { OnOk result (AreTaken (T.pages _timeline.now) (T.touches _timeline.now) _cases.now taken.new.items) }
+    ensures taken { OnOk result (AreTaken (T.pages _timeline.now) (T.touches _timeline.now) _cases.now
+        taken.new.items) }
     ensures refusal { IfErr result (λ e. e ≡ SweepError.Memory) }
 {
     for some in made {
@@ -174,9 +178,10 @@ fn make_beside<R: Threads + Sync, T: Timeline + Sync>(
     ensures refusal { IfErr result (λ e. e ≡ SweepError.Memory) }
 {
     let next = AtomicUsize::new(0);
-    let work = |_worker: usize| -> Result<Vec<Numbered>, SweepError>
+    let work = |_worker: usize| -> Result<Vec<CaseLine>, SweepError>
         requires { IsRoundIndexOf (T.pages timeline.now) (T.touches timeline.now) index.now }
-        ensures made { IfOk result (λ made. AreNumbered (T.pages timeline.entry.now) (T.touches timeline.entry.now) cases.entry.now made.items) }
+        ensures made { IfOk result (λ made. AreNumbered (T.pages timeline.entry.now) (T.touches timeline.entry.now)
+            cases.entry.now made.items) }
         ensures refusal { IfErr result (λ e. e ≡ SweepError.Memory) }
     { take_cases(alloc, timeline, index, cases, &next) };
     let made = thread::map_indices(rt, alloc, workers, &work)?;
@@ -226,7 +231,8 @@ fn one_by_one<T: Timeline>(
     timeline: &T,
     cases: &[Settings],
 ) -> Result<Vec<Line>, SweepError>
-    ensures lines { IfOk result (λ lines. AreLines (T.pages timeline.now) (T.touches timeline.now) cases.now lines.items) }
+    ensures lines { IfOk result (λ lines. AreLines (T.pages timeline.now) (T.touches timeline.now)
+        cases.now lines.items) }
     ensures refusal { IfErr result (λ e. e ≡ SweepError.Memory) }
 {
     let mut lines = Vec::with_capacity(alloc, cases.len())?;
@@ -246,7 +252,8 @@ pub fn sweep<R: Threads + Sync, T: Timeline + Sync>(
     cases: &[Settings],
     workers: usize,
 ) -> Result<Vec<Line>, SweepError>
-    ensures lines { IfOk result (λ lines. AreLines (T.pages timeline.now) (T.touches timeline.now) cases.now lines.items) }
+    ensures lines { IfOk result (λ lines. AreLines (T.pages timeline.now) (T.touches timeline.now)
+        cases.now lines.items) }
     ensures refusal { IfErr result (λ e. e ≡ SweepError.Memory) }
 {
     if cases.len() < WORTH_AN_INDEX {

@@ -1,4 +1,3 @@
 pub mod Refusals
 pub mod Reading
-pub mod Writes
 pub mod Source

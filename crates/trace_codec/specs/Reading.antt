@@ -33,7 +33,8 @@ abbrev pub RefusesBody : ℕ → ℕ → ℕ → ℕ → List ℕ → TraceError
 RefusesBody version shift pages count bytes e =
     ((n : ℕ) × (last : ℕ) × (rest : List ℕ) × (n < count) × ReadsTo version shift pages n bytes last rest
     × (write_refusal version shift pages last n rest ≡ Some e))
-    ⊎ ((last : ℕ) × (rest : List ℕ) × ReadsTo version shift pages count bytes last rest × (0 < length rest) × (e ≡ TrailingBytes))
+    ⊎ ((last : ℕ) × (rest : List ℕ) × ReadsTo version shift pages count bytes last rest × (0 < length rest)
+    × (e ≡ TrailingBytes))
 
 -- the version and the sizes in the first 16 bytes, and the bytes behind them
 pub record IsCut (bytes : List ℕ) (version shift pages count : ℕ) (body : List ℕ) : Type 0 where

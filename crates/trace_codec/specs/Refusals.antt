@@ -1,16 +1,23 @@
 -- Why bytes are refused as a trace: the first cause in them. This project's own.
-use Rattle.std.specs.Prelude.{◌≡◌, ◌<◌, ◌≤◌, ℕ, ◌+◌, ◌^◌, ◌==◌, ◌&&◌, ◌⊎◌, nat_lt, nat_le, not, Bool, if◌then◌else◌, List, ◌∷◌, ◌++◌, length, drop, slice_index, Option, Some, None}
+use Rattle.std.specs.Prelude.{◌≡◌, ◌<◌, ◌≤◌, ℕ, ◌+◌, ◌^◌, ◌==◌, ◌&&◌, ◌⊎◌, nat_lt, nat_le, not, Bool, if◌then◌else◌}
+use Rattle.std.specs.Prelude.{List, ◌∷◌, ◌++◌, length, drop, slice_index, Option, Some, None}
 use Rattle.std.specs.Int.{w32}
 use Rattle.std.specs.List.{flat_map}
 use Rattle.migration_model.specs.Numbers.{number_in}
-use Rattle.migration_model.specs.Trace.{GuestWrite, GuestTrace, IsGuestSize, AreGuestWrites, last_tick, header_text, write_text, trace_text}
+use Rattle.migration_model.specs.Trace.{GuestWrite, GuestTrace, IsGuestSize, AreGuestWrites, last_tick, header_text}
+use Rattle.migration_model.specs.Trace.{write_text, trace_text}
 use Rattle.migration_model.specs.TraceReading.{tick_in, page_in, offset_in, length_in}
 use Rattle.trace_codec.specs.declared.error.TraceError.{TraceError}
-use Rattle.trace_codec.specs.declared.error.TraceError.TheVariants.{TooLong, ShortHeader, BadMagic, BadVersion, BadShift, BadReserved, BadPages, TooManyWrites, ShortRecord, TickOrder, TickTooLarge, PageOutOfRange, EmptyWrite, OutOfPage, TrailingBytes, Memory}
+use Rattle.trace_codec.specs.declared.error.TraceError.TheVariants.{TooLong, ShortHeader, BadMagic, BadVersion}
+use Rattle.trace_codec.specs.declared.error.TraceError.TheVariants.{BadShift, BadReserved, BadPages, TooManyWrites}
+use Rattle.trace_codec.specs.declared.error.TraceError.TheVariants.{ShortRecord, TickOrder, TickTooLarge}
+use Rattle.trace_codec.specs.declared.error.TraceError.TheVariants.{PageOutOfRange, EmptyWrite, OutOfPage}
+use Rattle.trace_codec.specs.declared.error.TraceError.TheVariants.{TrailingBytes, Memory}
 
 -- the bytes begin with "PCWT"
 abbrev pub is_magic : List ℕ → Bool
-is_magic bytes = (slice_index bytes 0 == 80) && (slice_index bytes 1 == 67) && (slice_index bytes 2 == 87) && (slice_index bytes 3 == 84)
+is_magic bytes = (slice_index bytes 0 == 80) && (slice_index bytes 1 == 67) && (slice_index bytes 2 == 87)
+    && (slice_index bytes 3 == 84)
 
 -- the versions of the format, and the sizes that a guest may have
 abbrev pub is_version : ℕ → Bool
@@ -114,6 +121,7 @@ pub record RefusesRecord (version shift pages : ℕ) (writes : List GuestWrite) 
 
 -- the first cause in a trace: in its version and sizes, or in a write
 pub data RefusesTrace (trace : GuestTrace) (e : TraceError) : Type 0 where
-  in_sizes : sizes_refusal (is_short trace) trace.version trace.shift trace.pages (length trace.writes) ≡ Some e → RefusesTrace trace e
+  in_sizes : sizes_refusal (is_short trace) trace.version trace.shift trace.pages (length trace.writes) ≡ Some e
+      → RefusesTrace trace e
   in_record : sizes_refusal (is_short trace) trace.version trace.shift trace.pages (length trace.writes) ≡ None
       → RefusesRecord trace.version trace.shift trace.pages trace.writes e → RefusesTrace trace e

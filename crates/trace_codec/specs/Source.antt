@@ -18,7 +18,8 @@ source_state remaining has_failed = record { remaining = remaining; has_failed =
 -- took none.
 abbrev pub ReadsFrom : Option (List ℕ) → Option (List ℕ) → Option ℕ → List ℕ → Type 0
 ReadsFrom old new None buffer = Keeps old new
-ReadsFrom old new (Some n) buffer = (n ≤ length buffer) × Consumes old new (take n buffer) × (n ≡ 0 → 0 < length buffer → IsAtEnd new)
+ReadsFrom old new (Some n) buffer = (n ≤ length buffer) × Consumes old new (take n buffer)
+    × (n ≡ 0 → 0 < length buffer → IsAtEnd new)
 
 -- All bytes were read, or more of them than a trace may have.
 abbrev pub ReadsWhole : Option (List ℕ) → Option (List ℕ) → List ℕ → Type 0

@@ -8,8 +8,7 @@ use crate::error::TraceError;
 use crate::limits::{
     MAX_LENGTH, MAX_WRITES, TICK_LIMIT, is_empty_write, is_page_count, is_shift, is_version,
 };
-use crate::shape::{Header, Shape};
-use crate::write::Write;
+use guest_log::{Header, Shape, Write};
 
 /// Returns whether the encoding of a trace of these writes has at most `MAX_LENGTH` bytes.
 fn has_short_text(writes: &[Write]) -> bool
@@ -27,8 +26,10 @@ fn has_short_text(writes: &[Write]) -> bool
 
 /// Tests write `index` of a trace with this header; the write before it was at tick `before`.
 fn check_record(header: Header, before: u64, index: u32, write: &Write) -> Result<(), TraceError>
-    ensures refused { IfErr result (λ e. record_refusal header.version header.shape.shift header.shape.pages before index write.now ≡ Some e) }
-    ensures accepted { OnOk result (record_refusal header.version header.shape.shift header.shape.pages before index write.now ≡ None) }
+    ensures refused { IfErr result (λ e. record_refusal header.version header.shape.shift header.shape.pages before
+        index write.now ≡ Some e) }
+    ensures accepted { OnOk result (record_refusal header.version header.shape.shift header.shape.pages before index
+        write.now ≡ None) }
 {
     let shape = header.shape;
     if write.tick < before {

@@ -7,8 +7,8 @@ ghost use Rattle.migration_model.specs.Trace.{Spells, header_text, trace_text, w
 
 use crate::error::TraceError;
 use crate::trace::Trace;
-use crate::write::Write;
 use byteorder::{ByteOrder, LittleEndian};
+use guest_log::Write;
 use std::alloc::{AllocError, Global};
 
 /// Returns the 16 bytes in front of the records.

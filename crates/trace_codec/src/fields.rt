@@ -10,8 +10,8 @@ use crate::error::TraceError;
 use crate::limits::{
     MAX_LENGTH, MAX_WRITES, TICK_LIMIT, is_empty_write, is_page_count, is_shift, is_version,
 };
-use crate::shape::{Header, Shape};
 use byteorder::{ByteOrder, LittleEndian};
+use guest_log::{Header, Shape};
 
 #[tactic(auto, unfolding(migration_model::specs::Numbers::number_in))]
 pub(crate) fn u64_in(bytes: &[u8]) -> u64
@@ -101,8 +101,10 @@ pub fn checked_write<'a>(
     index: u32,
     bytes: &'a [u8],
 ) -> Result<(u64, &'a [u8]), TraceError>
-    ensures refused { IfErr result (λ e. write_refusal header.version header.shape.shift header.shape.pages before index bytes.now ≡ Some e) }
-    ensures accepted { OnOk result (write_refusal header.version header.shape.shift header.shape.pages before index bytes.now ≡ None) }
+    ensures refused { IfErr result (λ e. write_refusal header.version header.shape.shift header.shape.pages before
+        index bytes.now ≡ Some e) }
+    ensures accepted { OnOk result (write_refusal header.version header.shape.shift header.shape.pages before index
+        bytes.now ≡ None) }
     ensures tick { IfOk result (λ found. found.0 ≡ tick_in bytes.now) }
     ensures rest { IfOk result (λ found. found.1.now ≡ rest_after bytes.now) }
 {

@@ -1,13 +1,13 @@
 //! The limits of the format, and the tests of them.
 
 ghost use Rattle.std.specs.Prelude.{◌≡◌};
-ghost use Rattle.trace_codec.specs.Refusals.{is_empty_write as is_empty, is_page_count as is_count, is_shift as is_page_shift, is_version as is_known};
+ghost use Rattle.trace_codec.specs.Refusals.{is_empty_write as is_empty, is_page_count as is_count};
+ghost use Rattle.trace_codec.specs.Refusals.{is_shift as is_page_shift, is_version as is_known};
+
+use guest_log::LAST_VERSION;
 
 /// The most bytes that a trace may have, `2^28`.
 pub const MAX_LENGTH: usize = 268_435_456;
-
-/// The last version of the format. In it a write of no bytes releases its page.
-pub const LAST_VERSION: u8 = 2;
 
 /// No tick of a trace reaches this one, `2^40`.
 pub const TICK_LIMIT: u64 = 1_099_511_627_776;

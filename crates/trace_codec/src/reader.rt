@@ -5,13 +5,12 @@ ghost use Rattle.migration_model.specs.Trace.{AreGuestWrites, IsGuestWrite, Spel
 ghost use Rattle.migration_model.specs.TraceReading.{writes_in};
 ghost use Rattle.trace_codec.specs.Reading.{IsReading, ReaderState, reader_state};
 ghost use Rattle.trace_codec.specs.Refusals.{Refuses};
-ghost use Rattle.trace_codec.specs.Writes.{shown};
+ghost use Rattle.guest_log.specs.Writes.{shown};
 
 use crate::error::TraceError;
 use crate::fields::{checked_write, read_header};
 use crate::records::first_write;
-use crate::shape::{Header, Shape};
-use crate::write::WriteView;
+use guest_log::{Header, Shape, WriteView};
 use std::marker::Model;
 
 /// A reader on its way through the bytes of a trace, for a caller that can undo what it did with the first writes
@@ -28,9 +27,11 @@ pub struct TraceReader<'a> {
 impl<'a> Model for TraceReader<'a> {
     ghost Value = { ReaderState };
 
-    ghost view = { λ r. reader_state r.bytes.now r.header.version r.header.shape.shift r.header.shape.pages r.header.shape.writes (writes_in r.index (drop 16 r.bytes.now)) };
+    ghost view = { λ r. reader_state r.bytes.now r.header.version r.header.shape.shift r.header.shape.pages
+        r.header.shape.writes (writes_in r.index (drop 16 r.bytes.now)) };
 
-    ghost invariant = { λ r. IsReading r.bytes.now r.header.version r.header.shape.shift r.header.shape.pages r.header.shape.writes r.index r.last r.rest.now };
+    ghost invariant = { λ r. IsReading r.bytes.now r.header.version r.header.shape.shift r.header.shape.pages
+        r.header.shape.writes r.index r.last r.rest.now };
 }
 
 impl<'a> TraceReader<'a> {
@@ -74,9 +75,12 @@ impl<'a> TraceReader<'a> {
     /// reader is as before.
     pub fn read_record(&mut self) -> Result<WriteView<'a>, TraceError>
         requires { length self.old.writes < self.old.count }
-        ensures read { IfOk result (λ write. self.new ≡ record self.old { writes = self.old.writes ++ shown write ∷ [] }) }
-        ensures fits { IfOk result (λ write. IsGuestWrite self.old.version self.old.shift self.old.pages (shown write)) }
-        ensures order { IfOk result (λ write. AreGuestWrites self.old.version self.old.shift self.old.pages (self.old.writes ++ shown write ∷ [])) }
+        ensures read { IfOk result (λ write. self.new
+            ≡ record self.old { writes = self.old.writes ++ shown write ∷ [] }) }
+        ensures fits { IfOk result (λ write. IsGuestWrite self.old.version self.old.shift
+            self.old.pages (shown write)) }
+        ensures order { IfOk result (λ write. AreGuestWrites self.old.version self.old.shift self.old.pages
+            (self.old.writes ++ shown write ∷ [])) }
         ensures refused { IfErr result (Refuses self.old.bytes) }
         ensures kept { OnErr result (self.new ≡ self.old) }
     {
@@ -91,7 +95,8 @@ impl<'a> TraceReader<'a> {
     /// Tests that nothing stands behind the last write.
     pub fn finish(self) -> Result<(), TraceError>
         requires { length self.writes ≡ self.count }
-        ensures spelled { OnOk result (Spells self.entry.bytes (trace_with self.entry.version self.entry.shift self.entry.pages self.entry.writes)) }
+        ensures spelled { OnOk result (Spells self.entry.bytes
+            (trace_with self.entry.version self.entry.shift self.entry.pages self.entry.writes)) }
         ensures refused { IfErr result (Refuses self.entry.bytes) }
     {
         if !self.rest.is_empty() {

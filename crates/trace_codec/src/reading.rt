@@ -1,6 +1,7 @@
 //! A trace from a source of bytes.
 
-ghost use Rattle.std.specs.Prelude.{◌≡◌, ◌↔◌, IfErr, IfOk, Err, Some, List, ℕ, MatchResult, true, false, ◌<◌, ◌≤◌, ◌+◌, take, drop, vec_len, is_none};
+ghost use Rattle.std.specs.Prelude.{◌≡◌, ◌↔◌, IfErr, IfOk, Err, Some, List, ℕ, MatchResult, true, false, ◌<◌, ◌≤◌, ◌+◌};
+ghost use Rattle.std.specs.Prelude.{take, drop, vec_len, is_none};
 ghost use Rattle.migration_model.specs.Numbers.{IsBytes};
 ghost use Rattle.migration_model.specs.Trace.{GuestTrace, Spells};
 ghost use Rattle.trace_codec.specs.Source.{ReadsFrom, ReadsWhole, IsOutside, SourceSpells, SourceRefuses};

@@ -5,10 +5,10 @@ ghost use Rattle.std.specs.Iterator.{item_count, YieldsFirstBy};
 ghost use Rattle.migration_model.specs.Trace.{GuestWrite};
 ghost use Rattle.migration_model.specs.TraceReading.{length_in, rest_after, write_in, writes_in};
 ghost use Rattle.trace_codec.specs.Reading.{HoldsWrites};
-ghost use Rattle.trace_codec.specs.Writes.{shown};
+ghost use Rattle.guest_log.specs.Writes.{shown};
 
 use crate::fields::{u16_in, u32_in, u64_in};
-use crate::write::WriteView;
+use guest_log::WriteView;
 use std::marker::Model;
 
 /// Returns the write at the front of some bytes, and the bytes behind it.

@@ -1,61 +1,10 @@
-//! When pages are written, without the bytes.
+//! When the pages of a trace are written.
 
-ghost use Rattle.std.specs.Prelude.{◌≡◌, ◌<◌, ◌≤◌, ℕ, true, false, nat_lt, List, length, slice_index_or};
-ghost use Rattle.std.specs.List.Sorted.{IsPartitionPoint};
-ghost use Rattle.migration_model.specs.Touches.{AreTouches, GuestTouch, no_touch, touches_of};
+ghost use Rattle.std.specs.Prelude.{◌≡◌, nat_lt};
+ghost use Rattle.migration_model.specs.Touches.{touches_of};
 
 use crate::trace::Trace;
-use crate::write::Write;
-use std::marker::Model;
-
-/// When a write was, in ticks, and to which page.
-#[derive(Clone, Copy, Debug)]
-pub struct Touch {
-    /// The tick of the write.
-    pub tick: u64,
-    /// The page that it is to.
-    pub page: u32,
-}
-
-impl Model for Touch {
-    ghost use Rattle.migration_model.specs.Touches.{GuestTouch, touch_with};
-
-    ghost Value = { GuestTouch };
-
-    ghost view = { λ t. touch_with t.tick t.page };
-
-    ghost inverse = { λ t. record { tick = t.tick; page = t.page } };
-}
-
-/// Reads when each page of a guest was written: all that working sets and rounds need.
-pub trait Timeline {
-    // The touches in order.
-    ghost touches: { Self → List GuestTouch };
-
-    // How many pages the guest has.
-    ghost pages: { Self → ℕ };
-
-    /// Returns how many pages the guest has.
-    fn page_count(&self) -> u32
-        ensures pages { result ≡ pages self.now }
-        ensures some { 1 ≤ result }
-        ensures few { result ≤ 65_536 };
-
-    /// Returns how many touches there are.
-    fn touch_count(&self) -> usize
-        ensures count { result ≡ length (touches self.now) }
-        ensures fits { AreTouches (pages self.now) (touches self.now) };
-
-    /// Returns touch `index`. The first has index 0.
-    fn touch(&self, index: usize) -> Touch
-        requires { index < length (touches self.now) }
-        ensures { result ≡ slice_index_or (touches self.now) index no_touch };
-
-    /// Returns how many touches there are before a tick, by binary search.
-    fn before(&self, tick: u64) -> usize
-        ensures bound { result ≤ length (touches self.now) }
-        ensures point { IsPartitionPoint (λ touch. nat_lt touch.tick tick ≡ true) (λ touch. nat_lt touch.tick tick ≡ false) (touches self.now) result };
-}
+use guest_log::{Timeline, Touch, Write};
 
 impl Timeline for Trace {
     ghost touches = { touches_of };

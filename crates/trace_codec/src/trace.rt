@@ -6,8 +6,7 @@ ghost use Rattle.trace_codec.specs.Refusals.{RefusesTrace};
 
 use crate::building::check_trace;
 use crate::error::TraceError;
-use crate::shape::Shape;
-use crate::write::Write;
+use guest_log::{Shape, Write};
 use std::marker::Model;
 
 /// A recorded trace: a guest of `pages` pages of `2^shift` bytes, and its writes in the order of their ticks. Each
@@ -34,8 +33,8 @@ impl Model for Trace {
 
 impl Trace {
     /// Returns the trace of these writes. It is refused for `E15` where its encoding would be too long, then for its
-    /// version (`E3`) and its sizes (`E4`, `E6`, `E7`), and then record by record (`E9` to `E13`); records count from 0.
-    /// It allocates nothing.
+    /// version (`E3`) and its sizes (`E4`, `E6`, `E7`), and then record by record (`E9` to `E13`); records count from
+    /// 0. It allocates nothing.
     pub fn new(version: u8, shift: u8, pages: u32, writes: Vec<Write>) -> Result<Trace, TraceError>
         ensures made { IfOk result (λ trace. trace ≡ trace_with version shift pages writes.items) }
         ensures valid { IfOk result IsTrace }

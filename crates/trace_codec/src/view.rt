@@ -9,15 +9,17 @@ ghost use Rattle.trace_codec.specs.Refusals.{Refuses};
 use crate::error::TraceError;
 use crate::fields::{checked_write, read_header};
 use crate::records::Records;
-use crate::shape::{Header, Shape};
 use crate::trace::Trace;
+use guest_log::{Header, Shape};
 use std::alloc::{AllocError, Global};
 use std::marker::Model;
 
 /// Tests the writes of a trace with this header, behind which the bytes may hold nothing.
 fn check_writes(header: Header, bytes: &[u8]) -> Result<(), TraceError>
-    ensures refused { IfErr result (RefusesBody header.version header.shape.shift header.shape.pages header.shape.writes bytes.now) }
-    ensures accepted { OnOk result (IsBody header.version header.shape.shift header.shape.pages header.shape.writes bytes.now) }
+    ensures refused { IfErr result (RefusesBody header.version header.shape.shift header.shape.pages
+        header.shape.writes bytes.now) }
+    ensures accepted { OnOk result (IsBody header.version header.shape.shift header.shape.pages
+        header.shape.writes bytes.now) }
 {
     let mut last = 0;
     let mut rest = bytes;
@@ -42,9 +44,11 @@ pub struct TraceView<'a> {
 impl<'a> Model for TraceView<'a> {
     ghost Value = { GuestTrace };
 
-    ghost view = { λ v. trace_with v.header.version v.header.shape.shift v.header.shape.pages (writes_in v.header.shape.writes v.body.now) };
+    ghost view = { λ v. trace_with v.header.version v.header.shape.shift v.header.shape.pages
+        (writes_in v.header.shape.writes v.body.now) };
 
-    ghost invariant = { λ v. IsView v.header.version v.header.shape.shift v.header.shape.pages v.header.shape.writes v.body.now };
+    ghost invariant = { λ v. IsView v.header.version v.header.shape.shift v.header.shape.pages
+        v.header.shape.writes v.body.now };
 }
 
 impl<'a> TraceView<'a> {

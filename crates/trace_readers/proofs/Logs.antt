@@ -14,7 +14,7 @@ use Rattle.std.specs.Prelude.{IfErr, IfOk, IfSome, MatchResult}
 use Rattle.trace_codec.specs.declared.error.TraceError.{TraceError}
 use Rattle.trace_codec.specs.declared.error.TraceError.TheVariants.{TooLong, TrailingBytes}
 use Rattle.trace_readers.specs.declared.log_reader.LogReader.{LogReader}
-use Rattle.trace_codec.specs.declared.shape.Header.{Header}
+use Rattle.guest_log.specs.declared.shape.Header.{Header}
 use Rattle.migration_model.proofs.Touches.{AreTouches-from_trace}
 use Rattle.migration_model.proofs.Traces.{one_trace_lem}
 use Rattle.trace_codec.proofs.Never.{never_refused}

@@ -9,7 +9,7 @@ use Rattle.migration_model.specs.TraceReading.{length_in, write_in, rest_after, 
 use Rattle.migration_model.proofs.Writes.{length-writes_in}
 use Rattle.trace_codec.specs.Reading.{HoldsWrites}
 use Rattle.trace_readers.specs.Texts.{ArePositions, IsHeldText, held_trace}
-use Rattle.trace_codec.specs.Writes.{no_write}
+use Rattle.guest_log.specs.Writes.{no_write}
 
 -- one of the writes stands behind those before it
 pub write_at : (count n : ℕ) (bytes : List ℕ) (d : GuestWrite) → n < count → get_or (writes_in count bytes) n d ≡ write_in (rest_of n bytes)

@@ -55,7 +55,8 @@ wants_bytes e = false
 -- the reader has logged the touches of the first writes of these bytes, the last of them at its last tick, and `rest`
 -- is the bytes behind them
 pub record IsLogged (text : List ℕ) (reader : LogReader) (rest : List ℕ) : Type 0 where
-  pub reads : IsReading text reader.header.version reader.header.shape.shift reader.header.shape.pages reader.header.shape.writes (length reader.touches.items) reader.last rest
+  pub reads : IsReading text reader.header.version reader.header.shape.shift reader.header.shape.pages
+      reader.header.shape.writes (length reader.touches.items) reader.last rest
   pub touched : reader.touches.items ≡ map touch_of (writes_in (length reader.touches.items) (drop 16 text))
 
 -- the reader has logged the bytes that came, unless they are longer than a trace may be
@@ -71,7 +72,8 @@ pub record IsAllLogged (old : Option (List ℕ)) (reader : LogReader) : Type 0 w
   pub count : length reader.touches.items ≡ reader.header.shape.writes
   pub is_trace : IsTrace trace
   pub held : SourceSpells old trace
-  pub log_is : touches_with reader.header.version reader.header.shape.shift reader.header.shape.pages reader.touches.items ≡ touches_in trace
+  pub log_is : touches_with reader.header.version reader.header.shape.shift reader.header.shape.pages
+      reader.touches.items ≡ touches_in trace
 
 -- the log of a trace that the source holds
 abbrev pub IsLogOf : Option (List ℕ) → GuestTouches → Type 0

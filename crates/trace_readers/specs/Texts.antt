@@ -23,7 +23,8 @@ pub record IsHeldText (version shift pages count : ℕ) (bytes positions : List 
 -- the first records of these bytes are right, the last of them at its last tick: these are their offsets, and there
 -- they end
 pub record IsTested (text : List ℕ) (front : FrontRecords) : Type 0 where
-  pub reads : IsReading text front.header.version front.header.shape.shift front.header.shape.pages front.header.shape.writes (length front.positions.items) front.last (drop front.end text)
+  pub reads : IsReading text front.header.version front.header.shape.shift front.header.shape.pages
+      front.header.shape.writes (length front.positions.items) front.last (drop front.end text)
   pub found : ArePositions text (length front.positions.items) front.positions.items
   pub within : front.end ≤ length text
 

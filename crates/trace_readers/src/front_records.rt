@@ -71,8 +71,11 @@ impl FrontRecords {
     /// Returns all records of a whole trace, behind which no bytes follow.
     pub(crate) fn all(self, bytes: &[u8]) -> Result<FrontRecords, TraceError>
         requires { IsTested bytes.now self }
-        ensures spelled { IfOk result (λ all. Spells bytes.now (held_trace all.header.version all.header.shape.shift all.header.shape.pages all.header.shape.writes bytes.now)) }
-        ensures held { IfOk result (λ all. IsHeldText all.header.version all.header.shape.shift all.header.shape.pages all.header.shape.writes bytes.now all.positions.items) }
+        ensures spelled { IfOk result (λ all. Spells bytes.now
+            (held_trace all.header.version all.header.shape.shift all.header.shape.pages
+            all.header.shape.writes bytes.now)) }
+        ensures held { IfOk result (λ all. IsHeldText all.header.version all.header.shape.shift all.header.shape.pages
+            all.header.shape.writes bytes.now all.positions.items) }
         ensures refused { IfErr result (RefusesUnlessMemory bytes.now) }
     {
         let mut front = self;

@@ -1,13 +1,14 @@
 //! A trace that is held as its bytes.
 
-ghost use Rattle.std.specs.Prelude.{◌≡◌, ◌↔◌, ◌+◌, ◌<◌, ◌≤◌, Err, IfErr, IfOk, List, MatchResult, Some, false, length, refl, slice_index_or, true, ℕ};
+ghost use Rattle.std.specs.Prelude.{◌≡◌, ◌↔◌, ◌+◌, ◌<◌, ◌≤◌, Err, IfErr, IfOk, List, MatchResult, Some, false, length};
+ghost use Rattle.std.specs.Prelude.{refl, slice_index_or, true, ℕ};
 ghost use Rattle.migration_model.specs.Touches.{touches_of};
 ghost use Rattle.migration_model.specs.Trace.{GuestTrace, IsTrace, Spells};
 ghost use Rattle.migration_model.specs.TraceReading.{length_in, write_in};
 ghost use Rattle.trace_codec.specs.Refusals.{RefusesUnlessMemory};
 ghost use Rattle.trace_codec.specs.Source.{IsOutside, SourceRefuses, SourceSpells};
 ghost use Rattle.trace_readers.specs.Texts.{IsHeldText, held_trace};
-ghost use Rattle.trace_codec.specs.Writes.{no_write};
+ghost use Rattle.guest_log.specs.Writes.{no_write};
 
 use crate::front_records::FrontRecords;
 use crate::text_reading::{ComingText, read_text};
@@ -30,9 +31,11 @@ pub struct HeldTrace {
 impl Model for HeldTrace {
     ghost Value = { GuestTrace };
 
-    ghost view = { λ t. held_trace t.header.version t.header.shape.shift t.header.shape.pages t.header.shape.writes t.bytes.items };
+    ghost view = { λ t. held_trace t.header.version t.header.shape.shift t.header.shape.pages
+        t.header.shape.writes t.bytes.items };
 
-    ghost invariant = { λ t. IsHeldText t.header.version t.header.shape.shift t.header.shape.pages t.header.shape.writes t.bytes.items t.positions.items };
+    ghost invariant = { λ t. IsHeldText t.header.version t.header.shape.shift t.header.shape.pages
+        t.header.shape.writes t.bytes.items t.positions.items };
 }
 
 impl HeldTrace {

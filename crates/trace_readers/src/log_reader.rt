@@ -1,8 +1,10 @@
 //! The touches of a trace, from bytes that come piece by piece.
 
 ghost use Rattle.std.specs.Io.KnownBytes.{IsAtEnd};
-ghost use Rattle.std.specs.Prelude.{◌≡◌, ◌≢◌, ◌<◌, ◌≤◌, ◌+◌, ◌-◌, ◌↔◌, ◌^◌, [], ℕ, List, Option, Err, IfErr, IfOk, OnErr, OnOk, drop, false, length, true};
-ghost use Rattle.trace_readers.specs.Pieces.{HasHeader, IsAllLogged, IsLogged, IsLogging, IsLogOf, IsUntaken, pieces_state, wants_bytes};
+ghost use Rattle.std.specs.Prelude.{◌≡◌, ◌≢◌, ◌<◌, ◌≤◌, ◌+◌, ◌-◌, ◌↔◌, ◌^◌, [], ℕ, List, Option, Err, IfErr, IfOk};
+ghost use Rattle.std.specs.Prelude.{OnErr, OnOk, drop, false, length, true};
+ghost use Rattle.trace_readers.specs.Pieces.{HasHeader, IsAllLogged, IsLogged, IsLogging, IsLogOf, IsUntaken};
+ghost use Rattle.trace_readers.specs.Pieces.{pieces_state, wants_bytes};
 ghost use Rattle.trace_codec.specs.Refusals.{RefusesUnlessMemory};
 ghost use Rattle.trace_codec.specs.Source.{SourceRefuses};
 
@@ -26,12 +28,15 @@ impl LogReader {
     fn take_record<'a>(&mut self, bytes: &'a [u8]) -> Result<&'a [u8], TraceError>
         requires { length self.old.touches.items < self.old.header.shape.writes }
         ensures header { self.new.header ≡ self.old.header }
-        ensures logged { IfOk result (λ rest. (text : List ℕ) → IsLogged text self.old bytes.now → IsLogged text self.new rest.now) }
+        ensures logged { IfOk result (λ rest. (text : List ℕ) → IsLogged text self.old bytes.now
+            → IsLogged text self.new rest.now) }
         ensures within { IfOk result (λ rest. length rest.now ≤ length bytes.now) }
         ensures rest { IfOk result (λ rest. rest.now ≡ drop (length bytes.now - length rest.now) bytes.now) }
         ensures more { OnOk result (length self.new.touches.items ≡ length self.old.touches.items + 1) }
-        ensures kept { OnErr result ((text : List ℕ) → IsLogged text self.old bytes.now → IsLogged text self.new bytes.now) }
-        ensures refused { IfErr result (λ e. (text : List ℕ) → IsLogged text self.old bytes.now → RefusesUnlessMemory text e) }
+        ensures kept { OnErr result ((text : List ℕ) → IsLogged text self.old bytes.now
+            → IsLogged text self.new bytes.now) }
+        ensures refused { IfErr result (λ e. (text : List ℕ) → IsLogged text self.old bytes.now
+            → RefusesUnlessMemory text e) }
         ensures room { IfErr result (λ e. wants_bytes e ≡ true → length bytes.now < 65_551) }
         ensures fault { IfErr result (λ e. e ≢ TraceError.ReadFault) }
     {
@@ -50,10 +55,13 @@ impl LogReader {
     /// trace is refused for if no more bytes come.
     fn take_records(&mut self, bytes: &[u8]) -> (usize, Result<(), TraceError>)
         ensures within { result.0 ≤ length bytes.now }
-        ensures logged { (text : List ℕ) → IsLogged text self.old bytes.now → IsLogged text self.new (drop result.0 bytes.now) }
-        ensures all { OnOk result.1 ((text : List ℕ) → IsLogged text self.old bytes.now → length self.new.touches.items ≡ self.new.header.shape.writes) }
+        ensures logged { (text : List ℕ) → IsLogged text self.old bytes.now
+            → IsLogged text self.new (drop result.0 bytes.now) }
+        ensures all { OnOk result.1 ((text : List ℕ) → IsLogged text self.old bytes.now
+            → length self.new.touches.items ≡ self.new.header.shape.writes) }
         ensures none { OnOk result.1 (drop result.0 bytes.now ≡ []) }
-        ensures refused { IfErr result.1 (λ e. (text : List ℕ) → IsLogged text self.old bytes.now → RefusesUnlessMemory text e) }
+        ensures refused { IfErr result.1 (λ e. (text : List ℕ) → IsLogged text self.old bytes.now
+            → RefusesUnlessMemory text e) }
         ensures room { IfErr result.1 (λ e. wants_bytes e ≡ true → length (drop result.0 bytes.now) < 65_551) }
         ensures fault { IfErr result.1 (λ e. e ≢ TraceError.ReadFault) }
     {
@@ -97,7 +105,8 @@ fn fill_front<S: Source>(source: &mut S, pieces: &mut Pieces) -> Result<bool, Tr
 fn take_header<S: Source>(source: &mut S, pieces: &mut Pieces) -> Result<Header, TraceError>
     requires unfailed { S.has_failed source.old ≡ false }
     requires none { pieces.old ≡ pieces_state [] 0 }
-    ensures header { IfOk result (λ h. HasHeader (S.remaining source.old) (S.remaining source.new) h.version h.shape.shift h.shape.pages h.shape.writes pieces.new) }
+    ensures header { IfOk result (λ h. HasHeader (S.remaining source.old) (S.remaining source.new) h.version
+        h.shape.shift h.shape.pages h.shape.writes pieces.new) }
     ensures refused { IfErr result (SourceRefuses (S.remaining source.old)) }
     ensures failed { (result ≡ Err TraceError.ReadFault) ↔ (S.has_failed source.new ≡ true) }
 {
@@ -122,12 +131,15 @@ fn read_piece<S: Source>(
 ) -> Result<bool, TraceError>
     requires unfailed { S.has_failed source.old ≡ false }
     requires short { pieces.old.count ≤ 2 ^ 28 }
-    ensures logging { IfOk result (λ more. more ≡ true → (old : Option (List ℕ)) → IsLogging old (S.remaining source.old) reader.old pieces.old
+    ensures logging { IfOk result (λ more. more ≡ true → (old : Option (List ℕ))
+        → IsLogging old (S.remaining source.old) reader.old pieces.old
         → IsLogging old (S.remaining source.new) reader.new pieces.new) }
     ensures more { IfOk result (λ more. more ≡ true → pieces.old.count < pieces.new.count) }
-    ensures all { IfOk result (λ more. more ≡ false → (old : Option (List ℕ)) → IsLogging old (S.remaining source.old) reader.old pieces.old
+    ensures all { IfOk result (λ more. more ≡ false → (old : Option (List ℕ))
+        → IsLogging old (S.remaining source.old) reader.old pieces.old
         → IsAllLogged old reader.new) }
-    ensures refused { IfErr result (λ e. (old : Option (List ℕ)) → IsLogging old (S.remaining source.old) reader.old pieces.old → SourceRefuses old e) }
+    ensures refused { IfErr result (λ e. (old : Option (List ℕ))
+        → IsLogging old (S.remaining source.old) reader.old pieces.old → SourceRefuses old e) }
     ensures failed { (result ≡ Err TraceError.ReadFault) ↔ (S.has_failed source.new ≡ true) }
 {
     let (taken, end) = reader.take_records(pieces.rest());

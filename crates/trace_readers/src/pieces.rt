@@ -1,6 +1,7 @@
 //! The bytes of a source piece by piece, in one buffer that is used again.
 
-ghost use Rattle.std.specs.Prelude.{◌≡◌, ◌≢◌, ◌<◌, ◌≤◌, ◌+◌, ◌↔◌, ◌^◌, [], ℕ, List, Option, IfErr, IfOk, OnErr, OnOk, drop, false, length, take, true, vec_len, Err};
+ghost use Rattle.std.specs.Prelude.{◌≡◌, ◌≢◌, ◌<◌, ◌≤◌, ◌+◌, ◌↔◌, ◌^◌, [], ℕ, List, Option, IfErr, IfOk, OnErr, OnOk};
+ghost use Rattle.std.specs.Prelude.{drop, false, length, take, true, vec_len, Err};
 ghost use Rattle.std.specs.Io.KnownBytes.{Consumes};
 ghost use Rattle.trace_readers.specs.Pieces.{CameAs, HasRead, PiecesState, pieces_state, wants_bytes};
 ghost use Rattle.trace_codec.specs.Refusals.{Refuses, RefusesUnlessMemory};
@@ -110,7 +111,8 @@ impl Pieces {
         requires short { self.old.count ≤ 2 ^ 28 }
         requires fault { cause ≢ TraceError.ReadFault }
         requires some { wants_bytes cause ≡ false }
-        ensures refused { (old : Option (List ℕ)) (text : List ℕ) → Consumes old (S.remaining source.old) text → self.old.count ≡ length text
+        ensures refused { (old : Option (List ℕ)) (text : List ℕ) → Consumes old (S.remaining source.old) text
+            → self.old.count ≡ length text
             → Refuses text cause → SourceRefuses old result }
         ensures failed { (result ≡ TraceError.ReadFault) ↔ (S.has_failed source.new ≡ true) }
     {
@@ -137,7 +139,8 @@ impl Pieces {
         requires short { self.old.count ≤ 2 ^ 28 }
         requires fault { cause ≢ TraceError.ReadFault }
         ensures read { OnOk result (HasRead (S.remaining source.old) (S.remaining source.new) self.old self.new true) }
-        ensures refused { IfErr result (λ e. (old : Option (List ℕ)) (text : List ℕ) → CameAs old (S.remaining source.old) self.old.count text
+        ensures refused { IfErr result (λ e. (old : Option (List ℕ)) (text : List ℕ)
+            → CameAs old (S.remaining source.old) self.old.count text
             → RefusesUnlessMemory text cause → SourceRefuses old e) }
         ensures failed { (result ≡ Err TraceError.ReadFault) ↔ (S.has_failed source.new ≡ true) }
     {

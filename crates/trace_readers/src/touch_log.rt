@@ -1,6 +1,7 @@
 //! A trace without the bytes of its writes.
 
-ghost use Rattle.std.specs.Prelude.{◌≡◌, ◌↔◌, [], ℕ, List, Err, IfErr, IfOk, MatchResult, Some, false, length, nat_lt, true};
+ghost use Rattle.std.specs.Prelude.{◌≡◌, ◌↔◌, [], ℕ, List, Err, IfErr, IfOk, MatchResult, Some, false, length, nat_lt};
+ghost use Rattle.std.specs.Prelude.{true};
 ghost use Rattle.migration_model.specs.Trace.{GuestTrace, Spells};
 ghost use Rattle.migration_model.specs.Touches.{AreTouches, GuestTouches, touches_in, touches_with};
 ghost use Rattle.trace_readers.specs.Pieces.{IsLogOf};
@@ -27,7 +28,8 @@ impl Model for TouchLog {
 
     ghost view = { λ l. touches_with l.header.version l.header.shape.shift l.header.shape.pages l.touches.items };
 
-    ghost invariant = { λ l. (length l.touches.items ≡ l.header.shape.writes) × AreTouches l.header.shape.pages l.touches.items };
+    ghost invariant = { λ l. (length l.touches.items ≡ l.header.shape.writes) × AreTouches l.header.shape.pages
+        l.touches.items };
 }
 
 /// Returns the log of the writes that a reader has in front of it, with slots reserved for `room` of them.
@@ -37,7 +39,8 @@ fn log_of_reader(
     room: usize,
 ) -> Result<TouchLog, TraceError>
     requires { reader.writes ≡ [] }
-    ensures made { IfOk result (λ log. (trace : GuestTrace) × Spells reader.entry.bytes trace × (log ≡ touches_in trace)) }
+    ensures made { IfOk result (λ log. (trace : GuestTrace) × Spells reader.entry.bytes trace
+        × (log ≡ touches_in trace)) }
     ensures refused { IfErr result (RefusesUnlessMemory reader.entry.bytes) }
 {
     let mut reader = reader;

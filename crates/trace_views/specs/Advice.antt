@@ -1,6 +1,7 @@
--- The case to take where a migration has a budget: the one with the fewest pages sent of those that keep it, or else the
--- one with the least downtime. That the pages sent count first within a budget is this project's own.
-use Rattle.std.specs.Prelude.{◌≡◌, ℕ, ◌<◌, nat_lt, nat_le, ◌&&◌, ◌||◌, ◌==◌, Bool, true, false, Option, None, Some, List, length, slice_index_or}
+-- The case to take where a migration has a budget: the one with the fewest pages sent of those that keep it, or else
+-- the one with the least downtime. That the pages sent count first within a budget is this project's own.
+use Rattle.std.specs.Prelude.{◌≡◌, ℕ, ◌<◌, nat_lt, nat_le, ◌&&◌, ◌||◌, ◌==◌, Bool, true, false, Option, None, Some}
+use Rattle.std.specs.Prelude.{List, length, slice_index_or}
 use Rattle.migration_model.specs.Sweeps.{SweepLine, best_of}
 use Rattle.trace_views.specs.declared.budget.Budget.{Budget}
 use Rattle.trace_views.specs.declared.budget.Advice.{Advice}
@@ -48,6 +49,7 @@ IsFound budget lines n (Some at) = IsCheapest budget lines n at
 abbrev pub IsAdvice : Budget → List SweepLine → Advice → Type 0
 IsAdvice budget lines (advices.Fits case) = IsCheapest budget lines (length lines) case
 IsAdvice budget lines (advices.OverTotal nearest cheapest) =
-    NoneKeeps budget lines (length lines) × (nearest ≡ best_of lines) × IsCheapest (downtime_alone budget) lines (length lines) cheapest
+    NoneKeeps budget lines (length lines) × (nearest ≡ best_of lines)
+    × IsCheapest (downtime_alone budget) lines (length lines) cheapest
 IsAdvice budget lines (advices.OverDown nearest) =
     NoneKeeps (downtime_alone budget) lines (length lines) × (nearest ≡ best_of lines)

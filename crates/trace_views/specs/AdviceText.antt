@@ -19,8 +19,10 @@ base_field (Some base) = field (codes " --base ") base
 
 -- the words that run a live migration with some settings
 abbrev pub live_fields : MigrationSettings → List (List ℕ)
-live_fields s = field (codes "precopy live --min ") s.min ∷ field (codes " --max ") s.max ∷ field (codes " --inc ") s.increment
-    ∷ field (codes " --threshold ") s.threshold ∷ field (codes " --rounds ") s.rounds ∷ field (codes " --start ") s.start
+live_fields s = field (codes "precopy live --min ") s.min ∷ field (codes " --max ") s.max ∷ field
+    (codes " --inc ") s.increment
+    ∷ field (codes " --threshold ") s.threshold ∷ field (codes " --rounds ") s.rounds ∷ field
+    (codes " --start ") s.start
     ∷ base_field s.base ∷ (if s.skip then codes " --skip" else codes "") ∷ []
 
 abbrev pub live_line : MigrationSettings → List ℕ

@@ -39,22 +39,26 @@ member_of name value = key name ∷ value
 -- the sizes of a trace
 abbrev pub trace_object : ℕ → ℕ → ℕ → List Token
 trace_object pages size writes =
-    object_of (number_member (codes "pages") pages ∷ number_member (codes "size") size ∷ number_member (codes "writes") writes ∷ [])
+    object_of (number_member (codes "pages") pages ∷ number_member (codes "size") size ∷ number_member
+    (codes "writes") writes ∷ [])
 
 abbrev pub window_object : WindowRow → List Token
 window_object row =
-    object_of (number_member (codes "window") row.number ∷ number_member (codes "writes") row.writes ∷ number_member (codes "pages") row.pages
+    object_of (number_member (codes "window") row.number ∷ number_member (codes "writes") row.writes ∷ number_member
+    (codes "pages") row.pages
     ∷ number_member (codes "again") row.again ∷ number_member (codes "fresh") row.fresh ∷ [])
 
 -- the setting that makes a page hot, and the hot pages
 abbrev pub hot_object : ℕ → List ℕ → List Token
 hot_object hot pages =
-    object_of (number_member (codes "windows") hot ∷ member_of (codes "pages") (array_of (flat_map (λ page. number_token page ∷ []) pages)) ∷ [])
+    object_of (number_member (codes "windows") hot ∷ member_of (codes "pages")
+    (array_of (flat_map (λ page. number_token page ∷ []) pages)) ∷ [])
 
 -- a round of a plan, by its number
 abbrev pub round_object : ℕ → PlannedRound → List Token
 round_object n round =
-    object_of (number_member (codes "round") n ∷ number_member (codes "from") round.from ∷ number_member (codes "to") round.to
+    object_of (number_member (codes "round") n ∷ number_member (codes "from") round.from ∷ number_member
+    (codes "to") round.to
     ∷ number_member (codes "rate") round.rate ∷ number_member (codes "pages") (length round.pages)
     ∷ number_member (codes "sent") (length round.sent) ∷ number_member (codes "dirtied") round.dirtied ∷ [])
 
@@ -65,13 +69,15 @@ round_objects rounds = flat_map (λ at. round_object at.0 at.1) (enumerate_from 
 -- the end of a plan
 abbrev pub stop_object : MigrationPlan → List Token
 stop_object plan =
-    object_of (text_member (codes "why") (word_of plan.reason) ∷ number_member (codes "at") plan.stop ∷ number_member (codes "pages") (length plan.last)
+    object_of (text_member (codes "why") (word_of plan.reason) ∷ number_member (codes "at") plan.stop ∷ number_member
+    (codes "pages") (length plan.last)
     ∷ number_member (codes "down") plan.down ∷ number_member (codes "total") (total_of plan) ∷ [])
 
 -- the members of a report on working sets, and on a plan
 abbrev pub sets_members : ℕ → WorkingSets → List Token
 sets_members hot sets =
-    member_of (codes "windows") (array_of (flat_map window_object sets.windows)) ++ member_of (codes "hot") (hot_object hot sets.hot)
+    member_of (codes "windows") (array_of (flat_map window_object sets.windows)) ++ member_of (codes "hot")
+    (hot_object hot sets.hot)
 
 abbrev pub plan_members : MigrationPlan → List Token
 plan_members plan =
@@ -80,7 +86,8 @@ plan_members plan =
 -- the facts of a report
 abbrev pub report_object : ℕ → ℕ → ℕ → ℕ → WorkingSets → MigrationPlan → List Token
 report_object shift pages writes hot sets plan =
-    object_of (member_of (codes "trace") (trace_object pages (2 ^ shift) writes) ∷ sets_members hot sets ∷ plan_members plan ∷ [])
+    object_of (member_of (codes "trace") (trace_object pages (2 ^ shift) writes) ∷ sets_members hot sets ∷
+    plan_members plan ∷ [])
 
 -- ---- the parts of a sweep
 
@@ -88,17 +95,20 @@ report_object shift pages writes hot sets plan =
 abbrev pub settings_members : MigrationSettings → List (List Token)
 settings_members s =
     number_member (codes "min") s.min ∷ number_member (codes "max") s.max ∷ number_member (codes "inc") s.increment
-    ∷ number_member (codes "threshold") s.threshold ∷ number_member (codes "limit") s.rounds ∷ flag_member (codes "skip") s.skip ∷ []
+    ∷ number_member (codes "threshold") s.threshold ∷ number_member (codes "limit") s.rounds ∷ flag_member
+    (codes "skip") s.skip ∷ []
 
 -- the sums of a case's plan
 abbrev pub outcome_members : PlanOutcome → List (List Token)
 outcome_members outcome =
-    number_member (codes "rounds") outcome.rounds ∷ text_member (codes "stop") (word_of outcome.reason) ∷ number_member (codes "at") outcome.stop
+    number_member (codes "rounds") outcome.rounds ∷ text_member (codes "stop") (word_of outcome.reason) ∷ number_member
+    (codes "at") outcome.stop
     ∷ number_member (codes "down") outcome.down ∷ number_member (codes "total") outcome.total ∷ []
 
 -- a case, by its number
 abbrev pub case_object : ℕ → SweepLine → List Token
-case_object n line = object_of (number_member (codes "case") n ∷ (settings_members line.settings ++ outcome_members line.outcome))
+case_object n line = object_of (number_member (codes "case") n ∷
+    (settings_members line.settings ++ outcome_members line.outcome))
 
 -- the cases of a sweep, numbered from the first
 abbrev pub case_objects : List SweepLine → List Token

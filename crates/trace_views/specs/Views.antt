@@ -18,7 +18,8 @@ pub record IsReportView (log : GuestTouches) (settings : MigrationSettings) (tex
   pub plan : MigrationPlan
   pub is_plan : IsPlan log.pages log.touches settings plan
   pub text_is : text
-      ≡ line_of (report_object log.shift log.pages (length log.touches) settings.hot (working_sets_of log.pages log.touches settings) plan)
+      ≡ line_of (report_object log.shift log.pages (length log.touches) settings.hot
+      (working_sets_of log.pages log.touches settings) plan)
 
 -- the facts of a sweep, as a JSON document: the sums of each case's plan, and the best of them
 pub record IsSweepView (log : GuestTouches) (cases : List MigrationSettings) (text : List ℕ) : Type 0 where

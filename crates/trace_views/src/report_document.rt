@@ -2,14 +2,16 @@
 
 ghost use Rattle.std.specs.Prelude.{◌≡◌, ◌^◌, ◌++◌, ◌∷◌, [], IfOk, OnOk, length};
 ghost use Rattle.std.specs.List.{flat_map};
-ghost use Rattle.trace_views.specs.Json.{array_of, hot_object, line_of, number_token, plan_members, report_object, round_object, round_objects, sets_members, stop_object, trace_object, window_object};
+ghost use Rattle.trace_views.specs.Json.{array_of, hot_object, line_of, number_token, plan_members, report_object};
+ghost use Rattle.trace_views.specs.Json.{round_object, round_objects, sets_members, stop_object, trace_object};
+ghost use Rattle.trace_views.specs.Json.{window_object};
 
 use crate::document::Document;
 use crate::error::ViewError;
+use guest_log::Shape;
 use rate_limit::Settings;
 use round_planner::{Plan, Round};
 use std::alloc::{AllocError, Global};
-use trace_codec::Shape;
 use working_sets::{Tables, Window};
 
 /// Writes the sizes of a trace: its pages, the bytes of each, and its writes.
@@ -141,7 +143,8 @@ pub fn json_report(
     plan: &Plan,
 ) -> Result<Vec<u8>, ViewError>
     ensures { IfOk result (λ text. text.items
-        ≡ line_of (report_object shape.now.shift shape.now.pages shape.now.writes settings.now.hot tables.now plan.now)) }
+        ≡ line_of (report_object shape.now.shift shape.now.pages shape.now.writes settings.now.hot
+        tables.now plan.now)) }
 {
     let mut out = Document::new(alloc);
     out.begin_object()?;

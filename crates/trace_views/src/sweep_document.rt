@@ -2,7 +2,8 @@
 
 ghost use Rattle.std.specs.Prelude.{◌≡◌, ◌++◌, ◌∷◌, [], IfOk, OnOk};
 ghost use Rattle.std.specs.List.{flat_map};
-ghost use Rattle.trace_views.specs.Json.{best_member, case_object, case_objects, line_of, outcome_members, settings_members, sweep_object};
+ghost use Rattle.trace_views.specs.Json.{best_member, case_object, case_objects, line_of, outcome_members};
+ghost use Rattle.trace_views.specs.Json.{settings_members, sweep_object};
 
 use crate::document::Document;
 use crate::error::ViewError;

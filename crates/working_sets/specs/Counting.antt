@@ -1,5 +1,6 @@
 -- The state of one pass over writes, and its steps. No contract of a public call speaks of it.
-use Rattle.std.specs.Prelude.{ℕ, ◌+◌, ◌*◌, ◌/◌, ◌^◌, ◌<◌, ◌≤◌, ◌&&◌, length, ◌==◌, nat_lt, nat_le, not, Bool, cond, if◌then◌else◌, List, [], ◌∷◌, ◌++◌, slice_index_or, slice_set, replicate}
+use Rattle.std.specs.Prelude.{ℕ, ◌+◌, ◌*◌, ◌/◌, ◌^◌, ◌<◌, ◌≤◌, ◌&&◌, length, ◌==◌, nat_lt, nat_le, not, Bool, cond}
+use Rattle.std.specs.Prelude.{if◌then◌else◌, List, [], ◌∷◌, ◌++◌, slice_index_or, slice_set, replicate}
 use Rattle.std.specs.List.{filter, range_with_len}
 use Rattle.migration_model.specs.Windows.{WindowRow, WorkingSets}
 
@@ -69,7 +70,13 @@ written s page = record s {
 
 -- the state before any write
 abbrev pub started : ℕ → ℕ → Counting
-started window pages = record { window = window; end = window; rows = []; row = blank 0; marks = replicate pages unmarked }
+started window pages = record {
+  window = window;
+  end = window;
+  rows = [];
+  row = blank 0;
+  marks = replicate pages unmarked;
+}
 
 -- the counts of a row can grow by 1
 pub record HasRoom (row : WindowRow) : Type 0 where
@@ -90,7 +97,8 @@ pub record CanAdd (s : Counting) (tick page : ℕ) : Type 0 where
 
 -- the pages whose marks have at least so many windows, rising
 abbrev pub hot_of : List PageMark → ℕ → List ℕ
-hot_of marks hot = filter (λ page. nat_le hot (slice_index_or marks page unmarked).windows) (range_with_len 0 (length marks))
+hot_of marks hot = filter (λ page. nat_le hot (slice_index_or marks page unmarked).windows)
+    (range_with_len 0 (length marks))
 
 -- the tables after the last write
 abbrev pub finished : Counting → ℕ → WorkingSets

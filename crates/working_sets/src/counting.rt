@@ -1,7 +1,8 @@
 //! One pass over the writes of a trace.
 
 ghost use Rattle.std.specs.Prelude.{◌≡◌, ◌+◌, ◌^◌, ◌<◌, ◌≤◌, IfOk, OnOk, length, nat_le};
-ghost use Rattle.working_sets.specs.Counting.{blank, CanAdd, counted, finished, HasRoom, mark_of, marked, started, turned, with_row, written};
+ghost use Rattle.working_sets.specs.Counting.{blank, CanAdd, counted, finished, HasRoom, mark_of, marked, started};
+ghost use Rattle.working_sets.specs.Counting.{turned, with_row, written};
 
 use crate::hot::hot_pages;
 use crate::window::{Tables, Window};
@@ -51,7 +52,13 @@ impl Model for Pass {
 
     ghost Value = { Counting };
 
-    ghost view = { λ p. record { window = p.window; end = p.end; rows = p.rows.items; row = p.row; marks = p.marks.items } };
+    ghost view = { λ p. record {
+      window = p.window;
+      end = p.end;
+      rows = p.rows.items;
+      row = p.row;
+      marks = p.marks.items;
+    } };
 }
 
 /// Returns the row of a window without writes.

@@ -6,10 +6,10 @@ ghost use Rattle.migration_model.specs.Windows.{working_sets_of};
 use crate::counting::Pass;
 use crate::error::TablesError;
 use crate::window::Tables;
+use guest_log::Timeline;
 use rate_limit::Settings;
 use std::alloc::Global;
 use std::thread::Threads;
-use trace_codec::Timeline;
 
 /// Returns the rows of the windows of a trace, and its hot pages. It passes once over the touches, whatever the length
 /// of a window. The error is `Memory`, where memory runs out for the marks of the pages, the rows or the hot pages.
@@ -18,7 +18,8 @@ pub fn tables<T: Timeline>(
     timeline: &T,
     settings: &Settings,
 ) -> Result<Tables, TablesError>
-    ensures answer { IfOk result (λ tables. tables ≡ working_sets_of (T.pages timeline.now) (T.touches timeline.now) settings.now) }
+    ensures answer { IfOk result (λ tables. tables
+        ≡ working_sets_of (T.pages timeline.now) (T.touches timeline.now) settings.now) }
     ensures refusal { IfErr result (λ e. e ≡ TablesError.Memory) }
 {
     let asked = settings.asked();
@@ -38,7 +39,8 @@ pub fn par_tables<R: Threads + Sync, T: Timeline + Sync>(
     settings: &Settings,
     _workers: usize,
 ) -> Result<Tables, TablesError>
-    ensures answer { IfOk result (λ tables. tables ≡ working_sets_of (T.pages timeline.now) (T.touches timeline.now) settings.now) }
+    ensures answer { IfOk result (λ tables. tables
+        ≡ working_sets_of (T.pages timeline.now) (T.touches timeline.now) settings.now) }
     ensures refusal { IfErr result (λ e. e ≡ TablesError.Memory) }
 {
     tables(alloc, timeline, settings)

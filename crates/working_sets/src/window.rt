@@ -22,9 +22,21 @@ impl Model for Window {
 
     ghost Value = { WindowRow };
 
-    ghost view = { λ w. record { number = w.number; writes = w.writes; pages = w.pages; again = w.again; fresh = w.fresh } };
+    ghost view = { λ w. record {
+      number = w.number;
+      writes = w.writes;
+      pages = w.pages;
+      again = w.again;
+      fresh = w.fresh;
+    } };
 
-    ghost inverse = { λ w. record { number = w.number; writes = w.writes; pages = w.pages; again = w.again; fresh = w.fresh } };
+    ghost inverse = { λ w. record {
+      number = w.number;
+      writes = w.writes;
+      pages = w.pages;
+      again = w.again;
+      fresh = w.fresh;
+    } };
 }
 
 /// The tables of a trace: its writable working sets by windows (after Clark and others 2005, section 4).

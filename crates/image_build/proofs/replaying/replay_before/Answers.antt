@@ -2,7 +2,7 @@ use Rattle.std.proofs.Common.{◌<◌, ◌≡◌, Bool, false, ltb, true, length
 use Rattle.std.proofs.lemmas.Bool.{le-ltb, lt-ltb}
 use Rattle.migration_model.specs.Memory.{image_before}
 use Rattle.migration_model.specs.Trace.{GuestWrite}
-use Rattle.trace_codec.specs.Writes.{shown}
+use Rattle.guest_log.specs.Writes.{shown}
 use Rattle.image_build.proofs.Replays.{Becomes-left, Becomes-passed, item_fits, write_fits}
 use Rattle.image_build.proofs.replaying.replay_before.Goals.{then-write-tick, else-write-tick}
 use Rattle.image_build.proofs.replaying.replay_before.Goals as goal

@@ -4,7 +4,7 @@ use Rattle.migration_model.specs.Trace.{IsGuestWrite}
 use Rattle.migration_model.proofs.Pages.{length-put}
 use Rattle.migration_model.specs.Memory.{bytes_put}
 use Rattle.trace_codec.specs.Reading.{ReaderState}
-use Rattle.trace_codec.specs.Writes.{shown}
+use Rattle.guest_log.specs.Writes.{shown}
 use Rattle.image_build.proofs.Replays.{replay-push, write_fits}
 use Rattle.image_build.proofs.replaying.replay_reader.Goals as goal
 

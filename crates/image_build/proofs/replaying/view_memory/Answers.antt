@@ -2,7 +2,7 @@ use Rattle.std.proofs.Common.{arith}
 use Rattle.std.proofs.lemmas.List.Elements.{All-head, All-tail}
 use Rattle.migration_model.specs.Trace.{IsGuestWrite}
 use Rattle.migration_model.specs.Memory.{image_of}
-use Rattle.trace_codec.specs.Writes.{shown}
+use Rattle.guest_log.specs.Writes.{shown}
 use Rattle.image_build.proofs.Replays.{Becomes-next, write_fits}
 use Rattle.image_build.proofs.replaying.view_memory.Goals as goal
 

@@ -22,8 +22,8 @@ returns g c =
     ∙ sym (get_or-map (λ h. identity_of h.promise.receiver.value) handles i kept.handle d (omega (arith, inside, count)))) in
     elim c.match-start_receivers.branch [
       | in-Ok w ↦ record {
-        done = subst (λ r. IfOk r (λ p. AreDone (g.W.WriteLog.trace c.args.crew.now.trace.now) c.args.settings.now c.args.plan.now c.args.crew.now.team c.args.desks.items
-            p.closed p.rounds.items p.desks.items)) (sym w.done-is ∙ c.in_ok-progress.was) w.run_rounds-done.ensures;
+        done = subst (λ r. IfOk r (λ p. AreDone (g.W.WriteLog.trace c.args.migration.now.trace.now) c.args.settings.now c.args.plan.now c.args.migration.now.team c.args.states.items
+            p.closed p.rounds.items p.states.items)) (sym w.done-is ∙ c.in_ok-progress.was) w.run_rounds-done.ensures;
         same = kept ∙ w.in-Ok.ensures;
       }
       | in-Err w ↦ absurd (subst (λ r. OnOk r ⊥) (sym w.done-is ∙ c.in_ok-progress.was) tt)

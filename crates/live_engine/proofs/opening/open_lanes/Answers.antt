@@ -7,7 +7,7 @@ use Rattle.page_message.specs.Shapes.{shape_of}
 use Rattle.stream_lanes.specs.Ends.{LaneId, OutView}
 use Rattle.stream_lanes.specs.Grids.{IsGrid}
 use Rattle.stream_receivers.specs.Receivers.{ReceiverView}
-use Rattle.live_seats.specs.Desks.{DeskView}
+use Rattle.live_tasks.specs.CopierStates.{CopierStateView}
 use Rattle.live_engine.specs.Joining.{HaveCapacity, HaveSentNothing, lanes_of}
 use Rattle.live_engine.specs.Lists.{rows_of}
 use Rattle.live_engine.specs.Receiving.{AreCrossed, lanes_in}
@@ -25,14 +25,14 @@ returns g c =
     let outs = c.in_ok-outs.field-0.outs.items in
     let ins = c.in_ok-outs.field-0.ins.items in
     let grid : IsGrid team.copiers team.streams team.lane outs ins = c.in_ok-outs.ensures in
-    let desks = c.in_ok-desks.desks.items in
+    let states = c.in_ok-states.states.items in
     let receivers = c.in_ok-receivers.receivers.items in
-    let rows : rows_of desks ≡ map (λ r. r.items) outs = c.in_ok-desks.ensures.rows in
+    let rows : rows_of states ≡ map (λ r. r.items) outs = c.in_ok-states.ensures.rows in
     let shape : shape_of c.shape-shape.result ≡ shape_of_trace trace = λ i. shape_with (c.shape-shape.ensures.shift i) (c.shape-shape.ensures.pages i) (c.shape-shape.ensures.writes i) in
     record {
-      desks_are = record {
-        count = sym (length-map desks (λ (d : DeskView). d.outs)) ∙ ap length rows ∙ length-map outs (λ r. r.items) ∙ grid.workers_are;
-        each = c.in_ok-desks.ensures.each trace team.streams (sym c.shape-shape.ensures.shift) (sym c.shape-shape.ensures.pages) grid.out_rows;
+      states_are = record {
+        count = sym (length-map states (λ (d : CopierStateView). d.outs)) ∙ ap length rows ∙ length-map outs (λ r. r.items) ∙ grid.workers_are;
+        each = c.in_ok-states.ensures.each trace team.streams (sym c.shape-shape.ensures.shift) (sym c.shape-shape.ensures.pages) grid.out_rows;
         new = subst HaveSentNothing (sym rows) (nothing_sent team.copiers team.streams team.lane outs ins grid);
       };
       crossed = subst (λ (sends : List (List OutView)). AreCrossed team.copiers team.streams (lanes_of sends) (map lanes_in receivers)) (sym rows)

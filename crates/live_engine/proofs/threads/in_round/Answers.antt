@@ -3,7 +3,7 @@ use Rattle.std.specs.Prelude.{IfOk, OnOk, slice_index_or}
 use Rattle.std.proofs.lemmas.List.FromFn.{length-map-range_with_len}
 use Rattle.dirty_words.specs.Seats.{guest_view, copy_view}
 use Rattle.dirty_words.specs.Facts.{first_guest, first_copier}
-use Rattle.live_seats.specs.Copies.{HasCopied}
+use Rattle.live_tasks.specs.Copies.{HasCopied}
 use Rattle.live_engine.specs.Lists.{rows_of}
 use Rattle.live_engine.specs.Seated.{CopyTask, EachAt, ReplayTask, IsReplayed, copy_task}
 use Rattle.live_engine.proofs.Each.{each_from, each_kept, each_ok, from_ok}
@@ -44,10 +44,10 @@ returns-clause-copiers g c =
                 ∙ length-map-range_with_len (λ (n : ℕ). copy_view table.id (first_copier table.start n)) 0 table.start.copiers;
             each = each_ok _ c.in_ok-copiers.copiers.items _ c.in_ok-copiers.ensures.same
                 (each_kept _ _ _ _ copied count
-                (subst (λ hs. EachAt (λ h i. h.promise ≡ copy_task trace round.skip table round.streams i (slice_index_or (rows_of c.args.desks.items) i [])) hs) (sym same)
+                (subst (λ hs. EachAt (λ h i. h.promise ≡ copy_task trace round.skip table round.streams i (slice_index_or (rows_of c.args.states.items) i [])) hs) (sym same)
                 (from_ok _ _ ok w.start_copiers-started.ensures.started))
                 (each_from _ copied (λ i d low. let k = (kept i d (omega (arith, low, count))).1 in (k.handle, k.handle_is, k.kept)))
-                (λ h r i told kept. subst (λ (t : CopyTask). IfOk r (λ copier. HasCopied t.trace t.skip t.table t.number t.streams t.outs copier.seat copier.desk)) told kept));
+                (λ h r i told kept. subst (λ (t : CopyTask). IfOk r (λ copier. HasCopied t.trace t.skip t.table t.number t.streams t.outs copier.seat copier.state)) told kept));
           }
       | in-Err w ↦ absurd (subst (λ r. OnOk r ⊥) (sym w.started-is ∙ c.in_ok-started.was) tt)
     ]

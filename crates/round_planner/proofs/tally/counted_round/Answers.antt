@@ -14,7 +14,7 @@ first_touches-dirtied-requires-clause-few g c = omega (arith, c.requires.index.e
 pub first_touches-dirtied-requires-clause-order : goal.first_touches-dirtied-requires-clause-order
 first_touches-dirtied-requires-clause-order g c =
     let at = c.requires.now.at in
-    points_rise (g.T.Timeline.touches c.args.timeline.now) c.requires.now.coming.from (c.args.now.now.from + c.duration.result) c.args.now.now.next c.before-next.result
+    points_rise (g.T.Timeline.touches c.args.timeline.now) c.requires.now.coming.from (c.args.now.now.step.from + c.duration.result) c.args.now.now.next c.before-next.result
     (omega (arith, at.from_is)) at.bound at.point c.before-next.ensures.point
 
 pub returns : goal.returns
@@ -25,7 +25,7 @@ returns g c coming at plain =
     let index = c.requires.index in
     let ticks = c.duration.result in
     let to = coming.from + ticks in
-    let to_is : c.args.now.now.from + ticks ≡ to = ap (λ a. a + ticks) at.from_is in
+    let to_is : c.args.now.now.step.from + ticks ≡ to = ap (λ a. a + ticks) at.from_is in
     let dirtied = pages_written pages touches coming.from to in
     let round : PlannedRound = record { from = coming.from; to = to; rate = coming.rate; pages = coming.pages; sent = coming.pages; dirtied = length dirtied } in
     let ticks_are : ticks ≡ duration_of (length coming.pages) coming.rate = c.duration.ensures.value ∙ (λ i. duration_of (at.listed_is i) (at.rate_is i)) in

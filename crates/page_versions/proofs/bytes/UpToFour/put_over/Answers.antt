@@ -1,6 +1,6 @@
 use Rattle.std.proofs.Common.{◌+◌, ◌≤◌, ◌∷◌, [], length, sym, arith}
 use Rattle.migration_model.specs.Trace.{GuestWrite}
-use Rattle.trace_codec.specs.Writes.{no_write, shown}
+use Rattle.guest_log.specs.Writes.{no_write, shown}
 use Rattle.page_versions.specs.Pages.{PutsWithin}
 use Rattle.page_versions.proofs.Pages.{taken_has}
 use Rattle.page_versions.proofs.bytes.UpToFour.put_over.Goals as goal

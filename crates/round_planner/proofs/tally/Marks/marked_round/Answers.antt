@@ -22,7 +22,7 @@ turn-dirtied-requires-clause-room g c =
     let has = c.count_sent-sent.ensures.sent coming is in
     let scan =
     walked_on (g.T.Timeline.pages c.args.timeline.now) (g.T.Timeline.touches c.args.timeline.now) coming.from coming.rate c.count_sent-sent.result c.duration.result
-    (c.args.now.now.from + c.duration.result) _ _ _ _ (ap (λ t. t + c.duration.result) is.at.from_is) (rw (is.at.rate_is) at c.duration.ensures.enough) has.within c.advance.ensures.walked in
+    (c.args.now.now.step.from + c.duration.result) _ _ _ _ (ap (λ t. t + c.duration.result) is.at.from_is) (rw (is.at.rate_is) at c.duration.ensures.enough) has.within c.advance.ensures.walked in
     omega (arith, marked_few _ _ coming.from _ _ _ scan, c.count_sent-sent.ensures.room, is.room)
 
 pub returns-clause-room : goal.returns-clause-room
@@ -35,7 +35,7 @@ returns-clause-turned g c =
     let coming = c.requires.marks.coming in
     let at = c.requires.marks.is.at in
     let has = c.count_sent-sent.ensures.sent coming c.requires.marks.is in
-    let to = c.args.now.now.from + c.duration.result in
+    let to = c.args.now.now.step.from + c.duration.result in
     let scan =
     walked_on pages touches coming.from coming.rate c.count_sent-sent.result c.duration.result to _ _ _ _ (ap (λ t. t + c.duration.result) at.from_is)
     (rw (at.rate_is) at c.duration.ensures.enough) has.within c.advance.ensures.walked in
@@ -49,7 +49,7 @@ returns-clause-ran g c coming is =
     let ticks = c.duration.result in
     let has = c.count_sent-sent.ensures.sent coming is in
     let to = coming.from + ticks in
-    let to_is : c.args.now.now.from + ticks ≡ to = ap (λ a. a + ticks) at.from_is in
+    let to_is : c.args.now.now.step.from + ticks ≡ to = ap (λ a. a + ticks) at.from_is in
     let next = c.advance.new.self.next in
     let marks = c.advance.new.self.marks.items in
     let scan =

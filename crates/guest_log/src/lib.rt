@@ -1,0 +1,15 @@
+//! What a log of guest writes tells: the sizes of the guest, when its pages are written, and what is written.
+//!
+//! Working sets and rounds need a [`Timeline`] alone. What needs the bytes of writes takes a [`WriteLog`]. A trace is
+//! both; so is any other source of writes that keeps to these contracts.
+#![tactic(auto)]
+
+mod shape;
+mod timeline;
+mod write;
+mod write_log;
+
+pub use shape::{Header, LAST_VERSION, Shape};
+pub use timeline::{Timeline, Touch};
+pub use write::{Write, WriteView};
+pub use write_log::WriteLog;

@@ -1,0 +1,249 @@
+//! A migration under way, round by round.
+
+ghost use Rattle.std.specs.Prelude.{◌≡◌, ◌&&◌, nat_le, ◌<◌, ◌≤◌, ◌++◌, ◌∷◌, ℕ, [], List, Option, IfOk, IfSome, map};
+ghost use Rattle.std.specs.Prelude.{slice_index_or};
+ghost use Rattle.image_build.specs.Joins.{memory_by};
+ghost use Rattle.live_engine.specs.Joining.{AreJoined, HaveCapacity, lanes_of};
+ghost use Rattle.live_engine.specs.Lists.{rows_of};
+ghost use Rattle.live_engine.specs.Runs.{AllArrived, AreDone, AreNewStates, IsStoppedAt, IsTeam, IsUnderWay};
+ghost use Rattle.migration_model.specs.Live.{LiveRounds};
+ghost use Rattle.migration_model.specs.Memory.{image_before};
+ghost use Rattle.migration_model.specs.Rounds.{IsPlan, PlannedRound};
+ghost use Rattle.migration_model.specs.Touches.{touches_of};
+ghost use Rattle.migration_model.specs.Versions.{version_before};
+ghost use Rattle.page_versions.specs.Index.{IsIndexOf};
+
+use crate::error::LiveError;
+use crate::opening::{Team, versions_before};
+use crate::receivers::Signals;
+use crate::stopped::{LiveRound, list};
+use crate::threads::run_threads;
+use crate::warm::pages_lacking;
+use collector::Part;
+use dirty_core::Opening;
+use dirty_words::{Closed, CopySeat, Opened, RoundTable};
+use guest_log::WriteLog;
+use image_build::JoinedParts;
+use live_tasks::{Copier, CopierState, Gate, Point, Round, Ticks};
+use migration_model::{current_copies_make_memory, final_copy_makes_current};
+use page_versions::PageIndex;
+use rate_limit::Settings;
+use round_planner::Plan;
+use std::alloc::Global;
+use std::collections::VecDeque;
+use std::sync::Wait;
+use std::sync::atomic::Ordering;
+use std::thread::Threads;
+use stop_copy::final_copy;
+
+/// A migration under way: what does not change from round to round.
+#[derive(Drop)]
+pub(crate) struct Migration<'a, W: WriteLog, G> {
+    pub(crate) trace: &'a W,
+    pub(crate) index: &'a PageIndex,
+    pub(crate) gate: &'a G,
+    pub(crate) signals: &'a Signals,
+    pub(crate) team: Team,
+    pub(crate) ghost is_index: { IsIndexOf index.now (W.trace trace.now) },
+    pub(crate) ghost is_team: { IsTeam team },
+}
+
+/// What a migration has come to between two rounds.
+#[derive(Drop)]
+pub(crate) struct Progress {
+    pub(crate) closed: Closed,
+    pub(crate) states: VecDeque<CopierState>,
+    pub(crate) rounds: Vec<LiveRound>,
+}
+
+/// Returns whether pages may be skipped in the round with this number: never in the first.
+fn may_skip(skip: bool, number: usize) -> bool
+    ensures { result ≡ (skip && nat_le 1 number) }
+{
+    skip && number >= 1
+}
+
+/// Returns the seats of copiers and their states, apart.
+fn take_apart(
+    alloc: Global,
+    copiers: Vec<Copier>,
+) -> Result<(Vec<CopySeat>, Vec<CopierState>), LiveError>
+    ensures seats { IfOk result (λ parts. parts.0.items ≡ map (λ c. c.seat) copiers.items) }
+    ensures states { IfOk result (λ parts. parts.1.items ≡ map (λ c. c.state) copiers.items) }
+{
+    let mut seats = Vec::with_capacity(alloc, copiers.len())?;
+    let mut states = Vec::with_capacity(alloc, copiers.len())?;
+    for copier in copiers {
+        let Copier { seat, state } = copier;
+        seats.push(seat)?;
+        states.push(state)?;
+    }
+    Ok((seats, states))
+}
+
+impl<'a, W: WriteLog + Sync, G: Gate> Migration<'a, W, G> {
+    /// Returns what there is before the first round: the pages that the destination lacks are marked, and nothing was
+    /// sent.
+    fn begin(
+        &self,
+        alloc: Global,
+        base: Option<u64>,
+        start: u64,
+        states: VecDeque<CopierState>,
+    ) -> Result<Progress, LiveError>
+        requires base { IfSome base (λ tick. tick ≤ start) }
+        requires states { AreNewStates (W.trace self.now.trace.now) self.now.team states.items }
+        ensures none { IfOk result (λ p. p.rounds.items ≡ []) }
+        ensures states { IfOk result (λ p. p.states.items ≡ states.items) }
+        ensures under_way { IfOk result (λ p. IsUnderWay (W.trace self.now.trace.now) self.now.team
+            p.closed p.states.items) }
+        ensures joined { IfOk result (λ p. AreJoined (W.trace self.now.trace.now) base self.now.team.copiers start [] []
+            p.closed (rows_of p.states.items)) }
+    {
+        let versions = versions_before(alloc, self.trace, self.index, start)?;
+        let dirty = pages_lacking(alloc, self.trace, self.index, base, start, &versions)?;
+        Ok(Progress {
+            closed: Closed { versions, dirty },
+            states,
+            rounds: Vec::new(alloc),
+        })
+    }
+
+    /// Runs the next round, in the ticks that were planned for it: opens a table with what the round before closed,
+    /// runs the round's threads on it, and closes it. After a refusal no table is closed.
+    fn run_round<R: Threads + Wait + Sync>(
+        &self,
+        rt: &R,
+        alloc: Global,
+        skip: bool,
+        planned: &round_planner::Round,
+        progress: Progress,
+    ) -> Result<Progress, LiveError>
+        requires span { planned.now.from ≤ planned.now.to }
+        requires under_way { IsUnderWay (W.trace self.now.trace.now) self.now.team progress.closed
+            progress.states.items }
+        requires joined { (base : Option ℕ) × (before : List PlannedRound)
+            × AreJoined (W.trace self.now.trace.now) base self.now.team.copiers planned.now.from before
+            progress.rounds.items progress.closed (rows_of progress.states.items) }
+        ensures under_way { IfOk result (λ p. IsUnderWay (W.trace self.now.trace.now) self.now.team
+            p.closed p.states.items) }
+        ensures lanes { IfOk result (λ p. lanes_of (rows_of p.states.items)
+            ≡ lanes_of (rows_of progress.states.items)) }
+        ensures joined { (base : Option ℕ) (before : List PlannedRound)
+            → AreJoined (W.trace self.now.trace.now) base self.now.team.copiers planned.now.from
+            before progress.rounds.items progress.closed (rows_of progress.states.items)
+            → IfOk result (λ p. AreJoined (W.trace self.now.trace.now) base self.now.team.copiers planned.now.to
+            (before ++ planned.now ∷ []) p.rounds.items p.closed (rows_of p.states.items)) }
+        ensures law { (base : Option ℕ) (lane : ℕ) (before : List PlannedRound)
+            → HaveCapacity lane (lanes_of (rows_of progress.states.items))
+            → AreJoined (W.trace self.now.trace.now) base self.now.team.copiers planned.now.from
+            before progress.rounds.items progress.closed (rows_of progress.states.items)
+            → LiveRounds (W.trace self.now.trace.now) base skip self.now.team.copiers lane before progress.rounds.items
+            → IfOk result (λ p. LiveRounds (W.trace self.now.trace.now) base skip self.now.team.copiers lane
+            (before ++ planned.now ∷ []) p.rounds.items) }
+    {
+        let Progress {
+            closed,
+            states,
+            rounds,
+        } = progress;
+        let mut rounds = rounds;
+        let number = rounds.len();
+        let ticks = Ticks {
+            from: planned.from,
+            to: planned.to,
+        };
+        if self.signals.refused.load(Ordering::SeqCst) {
+            return Err(LiveError::Memory);
+        }
+        let Closed { versions, dirty } = closed;
+        let Some(opening) = Opening::new(versions, dirty, self.team.replayers, self.team.copiers)
+        else {
+            unreachable!()
+        };
+        let Opened {
+            table,
+            guests,
+            copiers,
+        } = RoundTable::open(alloc, opening)?;
+        let round = Round {
+            trace: self.trace,
+            index: self.index,
+            table: &table,
+            gate: self.gate,
+            skip: may_skip(skip, number),
+            streams: self.team.streams,
+        };
+        let (guests, copiers) = run_threads(rt, alloc, &round, ticks, guests, copiers, states)?;
+        let (seats, states) = take_apart(alloc, copiers)?;
+        let closed = table.close(guests, seats);
+        self.gate.at(Point::RoundClosed { round: number });
+        let (listed, states) = list(alloc, states)?;
+        rounds.push(listed)?;
+        Ok(Progress {
+            closed,
+            states,
+            rounds,
+        })
+    }
+
+    /// Runs all planned rounds.
+    pub(crate) fn run_rounds<R: Threads + Wait + Sync>(
+        &self,
+        rt: &R,
+        alloc: Global,
+        settings: &Settings,
+        plan: &Plan,
+        states: VecDeque<CopierState>,
+    ) -> Result<Progress, LiveError>
+        requires plan { IsPlan (W.trace self.now.trace.now).pages (touches_of (W.trace self.now.trace.now))
+            settings.now plan.now }
+        requires states { AreNewStates (W.trace self.now.trace.now) self.now.team states.items }
+        ensures { IfOk result (λ p. AreDone (W.trace self.now.trace.now) settings.now plan.now
+            self.now.team states.items
+            p.closed p.rounds.items p.states.items) }
+    {
+        let asked = settings.asked();
+        let mut progress = self.begin(alloc, asked.base, asked.start, states)?;
+        for number in 0..plan.rounds.len() {
+            progress = self.run_round(rt, alloc, asked.skip, &plan.rounds[number], progress)?;
+        }
+        Ok(progress)
+    }
+}
+
+/// Sends the pages that are marked still. Returns the parts, which then have all of the guest's memory.
+pub(crate) fn finish<W: WriteLog + Sync, R: Threads + Wait + Sync>(
+    rt: &R,
+    alloc: Global,
+    trace: &W,
+    index: &PageIndex,
+    team: Team,
+    closed: &Closed,
+    parts: Vec<Part>,
+) -> Result<JoinedParts, LiveError>
+    requires index { IsIndexOf index.now (W.trace trace.now) }
+    requires team { IsTeam team }
+    requires arrived { AllArrived (W.trace trace.now) team.streams closed.now parts.items }
+    ensures at_stop { IfOk result (λ memory. (tick : ℕ)
+        → ((page : ℕ) → page < (W.trace trace.now).pages
+        → slice_index_or closed.now.versions page 0 ≡ version_before (W.trace trace.now) page tick)
+        → memory_by memory ≡ image_before (W.trace trace.now) tick) }
+    ensures stopped { IfOk result (λ memory. IsStoppedAt (W.trace trace.now) closed.now.versions index.now
+        (memory_by memory)) }
+{
+    let copied = final_copy(
+        rt,
+        alloc,
+        trace,
+        index,
+        closed,
+        team.copiers,
+        team.streams,
+        parts,
+    )?;
+    final_copy_makes_current();
+    current_copies_make_memory();
+    let memory = JoinedParts::new(trace.shape(), copied)?;
+    Ok(memory)
+}

@@ -1,0 +1,5 @@
+pub mod Replays
+pub mod RoundLogs
+pub mod CopierStates
+pub mod Scans
+pub mod Copies

@@ -1,0 +1,196 @@
+//! What a copier keeps from round to round.
+
+ghost use Rattle.std.specs.Prelude.{◌≡◌, ◌+◌, ◌%◌, ◌≤◌, [], IfNone, IfOk, IfSome, length};
+ghost use Rattle.migration_model.specs.Trace.{GuestTrace};
+ghost use Rattle.live_tasks.specs.Copies.{HasRoomAt, HasSentFrame, IsFullAt, KeepsSent};
+ghost use Rattle.live_tasks.specs.CopierStates.{IsCopierState, cache_capacity, state_with, round_state_with};
+ghost use Rattle.live_tasks.specs.RoundLogs.{IsCrowded, empty_log};
+ghost use Rattle.page_cache.specs.Cache.{AreKept, cache_with, pages_with};
+ghost use Rattle.page_versions.specs.Index.{IsIndexOf};
+ghost use Rattle.stream_split.specs.Deals.{turn_with};
+
+use crate::error::SeatError;
+use crate::round_log::RoundLog;
+use guest_log::{Shape, WriteLog};
+use page_cache::{KeptPages, PageCache};
+use page_versions::PageIndex;
+use std::alloc::Global;
+use std::marker::Model;
+use stream_lanes::LaneOut;
+use stream_split::Dealer;
+
+/// A copier's cache holds as many pages as have so many bytes together, within the two bounds below.
+const CACHE_BYTES: usize = 1 << 22;
+
+/// How many pages a copier's cache holds at least, once it is full.
+const LEAST_CAPACITY: usize = 64;
+
+/// How many pages a copier's cache holds at most.
+const MOST_CAPACITY: usize = 4_096;
+
+/// Returns how many pages a copier's cache holds at most, for a guest of this shape.
+fn capacity_for(shape: &Shape) -> usize
+    ensures { result ≡ cache_capacity shape.now.shift }
+{
+    MOST_CAPACITY.min(LEAST_CAPACITY.max(CACHE_BYTES / shape.page_size()))
+}
+
+/// What a copier keeps from round to round: which stream's turn it is, its cache of the pages that it sent, the log of
+/// the last round, whose buffers the next round uses again, and the sending ends of its lanes.
+#[derive(Drop)]
+pub struct CopierState {
+    pub dealer: Dealer,
+    pub pages: KeptPages,
+    /// A buffer in which it makes the pages that its cache does not keep.
+    pub page: Vec<u8>,
+    pub log: RoundLog,
+    /// The sending ends: one for each stream, in the order of the streams.
+    pub outs: Vec<LaneOut>,
+}
+
+impl Model for CopierState {
+    ghost use Rattle.live_tasks.specs.CopierStates.{CopierStateView, state_with};
+
+    ghost Value = { CopierStateView };
+
+    ghost view = { λ d. state_with d.dealer d.pages d.log d.outs.items };
+}
+
+/// The state of a copier while a round lasts: its cache is open over the trace.
+#[derive(Drop)]
+pub(crate) struct RoundState<'a, W: WriteLog> {
+    pub(crate) dealer: Dealer,
+    pub(crate) cache: PageCache<'a, W>,
+    pub(crate) page: Vec<u8>,
+    pub(crate) log: RoundLog,
+    pub(crate) outs: Vec<LaneOut>,
+}
+
+impl<'a, W: WriteLog> Model for RoundState<'a, W> {
+    ghost use Rattle.live_tasks.specs.CopierStates.{RoundStateView, round_state_with};
+
+    ghost Value = { RoundStateView };
+
+    ghost view = { λ d. round_state_with d.dealer d.cache d.log d.outs.items };
+}
+
+impl CopierState {
+    /// Returns the state before the first round over a guest of this shape, with the sending ends of a copier's lanes,
+    /// one for each of 1 to 16 streams. The error is `Memory`.
+    pub fn new(alloc: Global, shape: &Shape, outs: Vec<LaneOut>) -> Result<CopierState, SeatError>
+        requires some { 1 ≤ length outs.items }
+        requires few { length outs.items ≤ 16 }
+        ensures state { (trace : GuestTrace) → trace.shift ≡ shape.now.shift → trace.pages ≡ shape.now.pages
+            → IfOk result (IsCopierState trace (length outs.items)) }
+        ensures capacity { IfOk result (λ state. state.pages ≡ pages_with [] (cache_capacity shape.now.shift)) }
+        ensures turn { IfOk result (λ state. state.turn ≡ turn_with (length outs.items) 0) }
+        ensures outs { IfOk result (λ state. state.outs ≡ outs.items) }
+    {
+        let pages = KeptPages::new(alloc, capacity_for(shape))?;
+        Ok(CopierState {
+            dealer: Dealer::new(outs.len()),
+            pages,
+            page: Vec::new(alloc),
+            log: RoundLog::new(alloc),
+            outs,
+        })
+    }
+
+    /// Returns the state at the beginning of a round, with an empty log that keeps its buffers.
+    pub(crate) fn open<'a, W: WriteLog>(
+        self,
+        trace: &'a W,
+        index: &'a PageIndex,
+    ) -> RoundState<'a, W>
+        requires of { IsIndexOf index.now (W.trace trace.now) }
+        requires kept { AreKept (W.trace trace.now) self.pages.entries }
+        ensures { result ≡ round_state_with self.turn
+            (cache_with (W.trace trace.entry.now) self.pages.entries self.pages.capacity)
+            empty_log self.outs }
+    {
+        let CopierState {
+            dealer,
+            pages,
+            page,
+            log,
+            outs,
+        } = self;
+        let mut log = log;
+        log.clear();
+        RoundState {
+            dealer,
+            cache: PageCache::with_pages(trace, index, pages),
+            page,
+            log,
+            outs,
+        }
+    }
+}
+
+impl<'a, W: WriteLog> RoundState<'a, W> {
+    /// Returns the stream whose turn it is, if one more frame fits on its lane. In either case the next stream's turn
+    /// comes.
+    pub(crate) fn next_lane(&mut self) -> Option<usize>
+        requires lanes { length self.old.outs ≡ self.old.turn.streams }
+        ensures lane { IfSome result (λ stream. stream ≡ self.old.turn.next) }
+        ensures room { IfSome result (HasRoomAt self.new.outs) }
+        ensures full { IfNone result (IsCrowded self.new.outs) }
+        ensures full_lane { IfNone result (IsFullAt self.new.outs self.old.turn.next) }
+        ensures sent { KeepsSent self.old.outs self.new.outs }
+        ensures turn { self.new.turn ≡ turn_with self.old.turn.streams
+            ((self.old.turn.next + 1) % self.old.turn.streams) }
+        ensures cache { self.new.cache ≡ self.old.cache }
+        ensures log { self.new.log ≡ self.old.log }
+    {
+        let stream = self.dealer.deal();
+        if self.outs[stream].has_room() {
+            return Some(stream);
+        }
+        None
+    }
+
+    /// Returns a buffer for a frame that goes on the lane of a stream: one that came back on it, or a new one.
+    pub(crate) fn text(&mut self, alloc: Global, stream: usize) -> Vec<u8>
+        requires { HasRoomAt self.old.outs stream }
+        ensures { self.new ≡ self.old }
+    {
+        match self.outs[stream].spare() {
+            Some(text) => text,
+            None => Vec::new(alloc),
+        }
+    }
+
+    /// Sends a frame on the lane of a stream.
+    pub(crate) fn send(&mut self, stream: usize, frame: Vec<u8>)
+        requires { HasRoomAt self.old.outs stream }
+        ensures sent { HasSentFrame frame.items self.old.outs self.new.outs }
+        ensures turn { self.new.turn ≡ self.old.turn }
+        ensures cache { self.new.cache ≡ self.old.cache }
+        ensures log { self.new.log ≡ self.old.log }
+    {
+        self.outs[stream].send(frame);
+    }
+
+    /// Returns the state at the end of the round.
+    pub(crate) fn close(self) -> CopierState
+        ensures state { result ≡ state_with self.entry.turn
+            (pages_with self.entry.cache.entries self.entry.cache.capacity)
+            self.entry.log self.entry.outs }
+        ensures kept { AreKept self.entry.cache.trace self.entry.cache.entries }
+    {
+        let RoundState {
+            dealer,
+            cache,
+            page,
+            log,
+            outs,
+        } = self;
+        CopierState {
+            dealer,
+            pages: cache.into_pages(),
+            page,
+            log,
+            outs,
+        }
+    }
+}
