@@ -1,10 +1,11 @@
 //! A migration, from its plan to its final copy.
 
-ghost use Rattle.std.specs.Prelude.{IfOk};
+ghost use Rattle.std.specs.Prelude.{◌≡◌, IfOk, Some, option_map};
 ghost use Rattle.image_build.specs.Joins.{memory_by};
 ghost use Rattle.live_engine.specs.Runs.{AreNewStates, HaveEnded, IsLiveRun, IsStopped, MayBegin};
 ghost use Rattle.migration_model.specs.Rounds.{IsPlan};
 ghost use Rattle.migration_model.specs.Touches.{touches_of};
+ghost use Rattle.migration_model.specs.Warm.{first_part};
 ghost use Rattle.page_versions.specs.Index.{IsIndexOf};
 
 use crate::error::LiveError;
@@ -13,6 +14,7 @@ use crate::receivers::{Signals, drain_all, start_receivers};
 use crate::rounds::{Migration, Progress, finish};
 use crate::stopped::{LiveRound, StoppedGuest};
 use crate::warm::{part_at_first, with_first};
+use collector::Part;
 use guest_log::WriteLog;
 use image_build::{Image, resume};
 use joined_threads::join_all;
@@ -90,6 +92,90 @@ fn in_run<'s, E, W: WriteLog + Sync, G: Gate, R: Threads + Wait + Sync>(
     Ok((progress, receivers))
 }
 
+/// Runs all rounds and the receivers beside them, in threads that have ended when it returns.
+fn in_threads<W: WriteLog + Sync, G: Gate, R: Threads + Wait + Sync>(
+    rt: &R,
+    alloc: Global,
+    trace: &W,
+    settings: &Settings,
+    gate: &G,
+    plan: &Plan,
+    index: &PageIndex,
+    team: Team,
+    states: VecDeque<CopierState>,
+    receivers: Vec<Receiver>,
+) -> Result<(Progress, Vec<Receiver>), LiveError>
+    requires { MayBegin (W.trace trace.now) index.now settings.now plan.now team states.items }
+    ensures { IfOk result (λ ended. HaveEnded (W.trace trace.now) settings.now plan.now team
+        states.items receivers.items ended.0.closed ended.0.rounds.items ended.0.states.items ended.1.items) }
+{
+    let signals = Signals::new();
+    let told = &signals;
+    thread::scope(
+        scope_env(),
+        rt,
+        move |scope| -> Result<(Progress, Vec<Receiver>), LiveError>
+            requires { MayBegin (W.trace trace.now) index.now settings.now plan.now team states.items }
+            ensures { IfOk result (λ ended. HaveEnded (W.trace trace.entry.now) settings.entry.now
+                plan.entry.now team
+                states.items receivers.items ended.0.closed ended.0.rounds.items ended.0.states.items ended.1.items) }
+        {
+            let migration = Migration {
+                trace,
+                index,
+                gate,
+                signals: told,
+                team,
+            };
+            in_run(
+                rt, scope, alloc, &migration, settings, plan, states, receivers,
+            )
+        },
+    )
+}
+
+/// Runs all rounds. Where there is a base, the part that the destination has before the first of them is made beside
+/// them, in a thread of its own.
+fn beside_first<W: WriteLog + Sync, G: Gate, R: Threads + Wait + Sync>(
+    rt: &R,
+    alloc: Global,
+    trace: &W,
+    settings: &Settings,
+    gate: &G,
+    plan: &Plan,
+    index: &PageIndex,
+    team: Team,
+    states: VecDeque<CopierState>,
+    receivers: Vec<Receiver>,
+) -> Result<(Option<Part>, Progress, Vec<Receiver>), LiveError>
+    requires { MayBegin (W.trace trace.now) index.now settings.now plan.now team states.items }
+    ensures first { IfOk result (λ made. made.0 ≡ option_map (λ tick. first_part (W.trace trace.now) (Some tick))
+        settings.now.base) }
+    ensures ended { IfOk result (λ made. HaveEnded (W.trace trace.now) settings.now plan.now team
+        states.items receivers.items made.1.closed made.1.rounds.items made.1.states.items made.2.items) }
+{
+    let first = || -> Result<Option<Part>, LiveError>
+        requires { IsIndexOf index.now (W.trace trace.now) }
+        ensures { IfOk result (λ first. first ≡ option_map (λ tick. first_part (W.trace trace.entry.now) (Some tick))
+            settings.entry.now.base) }
+    { part_at_first(alloc, trace, index, settings) };
+    let rounds = move || -> Result<(Progress, Vec<Receiver>), LiveError>
+        requires { MayBegin (W.trace trace.now) index.now settings.now plan.now team states.items }
+        ensures { IfOk result (λ ended. HaveEnded (W.trace trace.entry.now) settings.entry.now plan.entry.now team
+            states.items receivers.items ended.0.closed ended.0.rounds.items ended.0.states.items ended.1.items) }
+    {
+        in_threads(
+            rt, alloc, trace, settings, gate, plan, index, team, states, receivers,
+        )
+    };
+    let (first, ended) = match settings.asked().base {
+        None => (first(), rounds()),
+        Some(_) => thread::join(rt, first, rounds),
+    };
+    let (progress, receivers) = ended?;
+    Ok((first?, progress, receivers))
+}
+
 /// Performs a migration over the trace until the guest has stopped and all of its memory has come. In the ticks of each
 /// planned round replayers change the guest's pages while copiers send them over lanes, from which receivers take them,
 /// each in a thread of its own. Then the guest stops, and the pages that are dirty still are sent. The error is `L2`
@@ -106,30 +192,9 @@ pub fn migrate<W: WriteLog + Sync, G: Gate, R: Threads + Wait + Sync>(
 {
     let (plan, index) = plan_and_index(rt, alloc, trace, settings)?;
     let team = Team::of(settings);
-    let first = part_at_first(alloc, trace, &index, settings)?;
     let (states, receivers) = open_lanes(alloc, trace, team)?;
-    let signals = Signals::new();
-    let (indexed, planned, told) = (&index, &plan, &signals);
-    let (progress, receivers) = thread::scope(
-        scope_env(),
-        rt,
-        move |scope| -> Result<(Progress, Vec<Receiver>), LiveError>
-            requires { MayBegin (W.trace trace.now) indexed.now settings.now planned.now team states.items }
-            ensures { IfOk result (λ ended. HaveEnded (W.trace trace.entry.now) settings.entry.now
-                planned.entry.now team
-                states.items receivers.items ended.0.closed ended.0.rounds.items ended.0.states.items ended.1.items) }
-        {
-            let migration = Migration {
-                trace,
-                index: indexed,
-                gate,
-                signals: told,
-                team,
-            };
-            in_run(
-                rt, scope, alloc, &migration, settings, planned, states, receivers,
-            )
-        },
+    let (first, progress, receivers) = beside_first(
+        rt, alloc, trace, settings, gate, &plan, &index, team, states, receivers,
     )?;
     let Progress {
         closed,
