@@ -1,4 +1,5 @@
-//! Memory that `image` makes page by page, since it is too large to be made whole.
+//! Memory that `image` makes page by page, since it is too large to be made whole, and memory that it makes whole once
+//! as many bytes of the trace have come.
 
 use crate::tests::ran;
 use migration_jobs::{Job, RunError, TestSink};
@@ -113,6 +114,76 @@ fn writes_a_beginning_of_large_memory(rt: HostRuntime) -> Result<(), Fail> {
 fn refuses_large_memory_before_it_writes(rt: HostRuntime) -> Result<(), Fail> {
     let alloc = rt.alloc();
     let mut bytes = wide(alloc)?;
+    bytes.push(0)?;
+    let source = TestSource::new(bytes, usize::MAX, None);
+    let sink = TestSink::new(Vec::new(alloc), usize::MAX, None, false);
+    let (answer, sink) = ran(&rt, alloc, &Job::Image, source, sink);
+    let trailing = Err(RunError::Trace(trace_codec::TraceError::TrailingBytes));
+    assert!(rt; answer == trailing && sink.bytes().is_empty());
+    Ok(())
+}
+
+/// Returns a trace of 512 pages of 4,096 bytes, 2 MiB: so many writes of whole pages, one page after another and then
+/// from the first on again. Write `n` has bytes `n % 255 + 1`.
+fn pages_in_turn(alloc: Global, count: u16) -> Result<Vec<u8>, AllocError> {
+    let mut bytes = Vec::from_slice(alloc, &[80, 67, 87, 84, 1, 12, 0, 0, 0, 2, 0, 0])?;
+    bytes.extend_from_slice(&u32::from(count).to_le_bytes())?;
+    for number in 0..count {
+        bytes.extend_from_slice(&u64::from(number).to_le_bytes())?;
+        bytes.extend_from_slice(&u32::from(number % 512).to_le_bytes())?;
+        bytes.extend_from_slice(&[0, 0, 0, 0x10])?;
+        let end = bytes.len().saturating_add(4096);
+        bytes.resize(end, (number % 255 + 1) as u8)?;
+    }
+    Ok(bytes)
+}
+
+/// Returns whether each page of memory has the bytes of the last of so many writes to it, in turn.
+fn are_last_written(memory: &[u8], count: u16) -> bool {
+    for page in 0..512u16 {
+        let place = page as usize * 4096;
+        let last = if page.saturating_add(512) < count {
+            page.saturating_add(512)
+        } else {
+            page
+        };
+        let byte = if page < count {
+            (last % 255 + 1) as u8
+        } else {
+            0
+        };
+        let Some(bytes) = memory.get(place..place + 4096) else {
+            return false;
+        };
+        if !bytes.iter().all(|found| *found == byte) {
+            return false;
+        }
+    }
+    memory.len() == 2_097_152
+}
+
+#[test]
+fn writes_memory_that_is_shorter_or_longer_than_its_trace(rt: HostRuntime) -> Result<(), Fail> {
+    let alloc = rt.alloc();
+    // 520 writes have 2,138,256 bytes, more than the memory; 4 have fewer.
+    for count in [4u16, 520] {
+        for greatest in [100_000, usize::MAX] {
+            let source = TestSource::new(pages_in_turn(alloc, count)?, greatest, None);
+            let sink = TestSink::new(Vec::new(alloc), usize::MAX, None, false);
+            let (answer, sink) = ran(&rt, alloc, &Job::Image, source, sink);
+            assert!(rt;
+                answer == Ok(()) && are_last_written(sink.bytes(), count),
+                "{count}"
+            );
+        }
+    }
+    Ok(())
+}
+
+#[test]
+fn refuses_a_longer_trace_before_it_writes(rt: HostRuntime) -> Result<(), Fail> {
+    let alloc = rt.alloc();
+    let mut bytes = pages_in_turn(alloc, 520)?;
     bytes.push(0)?;
     let source = TestSource::new(bytes, usize::MAX, None);
     let sink = TestSink::new(Vec::new(alloc), usize::MAX, None, false);

@@ -4,6 +4,8 @@
 #[cfg(test)]
 mod image_tests;
 #[cfg(test)]
+mod incoming_tests;
+#[cfg(test)]
 mod live_tests;
 #[cfg(test)]
 mod piece_tests;

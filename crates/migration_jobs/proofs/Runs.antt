@@ -1,32 +1,32 @@
 -- What was made of the bytes that were read, said of what the source held.
-use Rattle.std.proofs.Common.{◌≡◌, ℕ, List, Option, Some, None, Result, Ok, Err, refl, sym, subst, inl, inr}
+use Rattle.std.proofs.Common.{◌≡◌, ℕ, List, Option, Some, None, Result, Ok, Err, refl, sym, ap, subst, ◌∙◌, inl, inr}
+use Rattle.std.specs.List.{fold}
 use Rattle.std.specs.Prelude.{IfErr, IfSome}
 use Rattle.migration_model.specs.Trace.{GuestTrace, IsTrace, Spells, trace_text}
-use Rattle.trace_codec.specs.Source.{ReadsWhole, SourceSpells}
-use Rattle.trace_codec.proofs.Sources.{refused_whole, spelled_whole}
-use Rattle.migration_jobs.specs.Output.{IsOutputOf, IsOutput, IsOutsideRun, RefusesRun, RefusesText}
+use Rattle.trace_codec.specs.Refusals.{Refuses}
+use Rattle.trace_codec.specs.Source.{SourceSpells}
+use Rattle.trace_codec.proofs.Never.{never_refused}
+use Rattle.migration_jobs.specs.Output.{IsImageOf, IsOutputOf, IsOutput, IsOutsideRun, RefusesRun}
+use Rattle.migration_model.specs.Memory.{GuestMemory, apply, zeros}
+use Rattle.guest_log.specs.declared.shape.Header.{Header}
+use Rattle.trace_readers.specs.Visits.{IsAllVisited}
 use Rattle.job_kinds.specs.declared.job.Job.{Job}
 use Rattle.migration_jobs.specs.declared.error.RunError.{RunError}
 use Rattle.migration_jobs.specs.declared.error.RunError.TheVariants as errors
-
-pub refused_run : {T : Type 0} (r : Result T RunError) (old new : Option (List ℕ)) (bytes : List ℕ) → ReadsWhole old new bytes
-    → IfErr r (RefusesText bytes) → IfErr r (RefusesRun old)
-refused_run (Ok x) old new bytes whole refused = tt
-refused_run (Err (errors.Trace e)) old new bytes whole (inl memory) = inl (inl memory)
-refused_run (Err (errors.Trace e)) old new bytes whole (inr refused) = inr (refused_whole old new bytes e whole refused)
-refused_run (Err errors.Memory) old new bytes whole refused = tt
-refused_run (Err errors.Thread) old new bytes whole refused = tt
-refused_run (Err (errors.Live e)) old new bytes whole refused = absurd refused
-refused_run (Err errors.Write) old new bytes whole refused = tt
 
 pub memory_run : {T : Type 0} (r : Result T RunError) → IfErr r (λ e. e ≡ errors.Memory) → IfErr r IsOutsideRun
 memory_run (Ok x) memory = tt
 memory_run (Err e) memory = subst IsOutsideRun (sym memory) tt
 
--- what was made of the bytes that were read was made of the trace that the source held
-pub made_source : (P : GuestTrace → Type 0) (old new : Option (List ℕ)) (bytes : List ℕ) → ReadsWhole old new bytes
-    → (trace : GuestTrace) × Spells bytes trace × P trace → (trace : GuestTrace) × IsTrace trace × SourceSpells old trace × P trace
-made_source P old new bytes whole made = (made.0, made.1.is_trace, spelled_whole old new bytes made.0 whole made.1, made.2)
+-- a source that holds a trace is refused for nothing in it
+pub only_run : (known : Option (List ℕ)) (bytes : List ℕ) (trace : GuestTrace) (e : RunError) → known ≡ Some bytes → Spells bytes trace → RefusesRun known e → IsOutsideRun e
+only_run known bytes trace (errors.Trace e) is spells (inl outside) = outside
+only_run known bytes trace (errors.Trace e) is spells (inr refused) =
+    absurd (never_refused bytes trace e spells (subst (λ k. IfSome k (λ held. Refuses held e)) is refused))
+only_run known bytes trace errors.Memory is spells refused = tt
+only_run known bytes trace errors.Thread is spells refused = tt
+only_run known bytes trace (errors.Live e) is spells refused = tt
+only_run known bytes trace errors.Write is spells refused = tt
 
 -- the bytes that a source held, where they encode a trace
 held_text : (known : Option (List ℕ)) (trace : GuestTrace) → SourceSpells known trace → IfSome known (λ held. held ≡ trace_text trace)
@@ -44,3 +44,14 @@ made_run job output known made =
       spells = record { is_trace = made.1; text = refl };
       is_output = made.3;
     }
+
+-- the memory that all writes of a trace made of zeros
+pub image_made : (known : Option (List ℕ)) (header : Header) (start made : GuestMemory) (bytes : List ℕ) → start ≡ zeros header.shape.shift header.shape.pages → bytes ≡ made.bytes
+    → IsAllVisited (λ writes. fold apply start writes ≡ made) known header → IsImageOf known bytes
+image_made known header start made bytes blank is all =
+    let same : start ≡ zeros all.trace.shift all.trace.pages = blank ∙ (λ i. zeros (sym all.shift i) (sym all.pages i)) in (
+      all.trace,
+      all.is_trace,
+      all.held,
+      is ∙ ap (λ (m : GuestMemory). m.bytes) (sym all.made) ∙ ap (λ (m : GuestMemory). (fold apply m all.trace.writes).bytes) same,
+    )

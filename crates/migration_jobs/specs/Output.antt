@@ -1,6 +1,6 @@
 -- What a job writes, and why it does not.
 use Rattle.std.specs.Prelude.{◌≡◌, ℕ, List, Option, IfSome, ⊤, length}
-use Rattle.migration_model.specs.Trace.{GuestTrace, Spells}
+use Rattle.migration_model.specs.Trace.{GuestTrace, IsTrace, Spells}
 use Rattle.migration_model.specs.Memory.{image_before, image_of}
 use Rattle.migration_model.specs.Rates.{MigrationSettings}
 use Rattle.migration_model.specs.Rounds.{IsPlan, MigrationPlan}
@@ -8,8 +8,7 @@ use Rattle.migration_model.specs.Sweeps.{SweepLine, AreLines}
 use Rattle.migration_model.specs.Touches.{touches_of}
 use Rattle.migration_model.specs.Windows.{working_sets_of}
 use Rattle.sweep_report.specs.Texts.{report_of, sweep_of}
-use Rattle.trace_codec.specs.Refusals.{RefusesUnlessMemory}
-use Rattle.trace_codec.specs.Source.{SourceRefuses, IsOutside}
+use Rattle.trace_codec.specs.Source.{IsOutside, SourceRefuses, SourceSpells}
 use Rattle.job_kinds.specs.declared.job.Job.{Job}
 use Rattle.job_kinds.specs.declared.job.Job.TheVariants as jobs
 use Rattle.job_kinds.specs.declared.job.Show.{Show}
@@ -40,6 +39,11 @@ pub record IsStopMemory (trace : GuestTrace) (settings : MigrationSettings) (byt
 abbrev pub IsShown : Show → GuestTrace → MigrationSettings → List ℕ → Type 0
 IsShown shows.Stop trace settings bytes = IsStopMemory trace settings bytes
 IsShown shows.End trace settings bytes = bytes ≡ (image_of trace).bytes
+
+-- these bytes are the memory after all writes of the trace that a source holds
+abbrev pub IsImageOf : Option (List ℕ) → List ℕ → Type 0
+IsImageOf known bytes = (trace : GuestTrace) × IsTrace trace × SourceSpells known trace
+    × (bytes ≡ (image_of trace).bytes)
 
 -- the whole output of a job over a trace
 abbrev pub IsOutputOf : Job → GuestTrace → List ℕ → Type 0
@@ -93,11 +97,3 @@ IsRefusalOf job errors.Memory = ⊤
 IsRefusalOf job errors.Write = ⊤
 IsRefusalOf job (errors.Live e) = IsLiveJob job
 IsRefusalOf job errors.Thread = IsPlanningJob job
-
--- the bytes are refused as a trace for this, or memory ran out
-abbrev pub RefusesText : List ℕ → RunError → Type 0
-RefusesText bytes (errors.Trace e) = RefusesUnlessMemory bytes e
-RefusesText bytes errors.Memory = ⊤
-RefusesText bytes errors.Thread = ⊥
-RefusesText bytes (errors.Live e) = ⊥
-RefusesText bytes errors.Write = ⊥

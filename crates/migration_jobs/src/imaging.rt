@@ -1,103 +1,119 @@
-//! The memory after all writes of the trace that was read.
+//! The memory after all writes of the trace that is read.
 
-ghost use Rattle.std.specs.Prelude.{◌≡◌, ◌≢◌, ◌↔◌, ℕ, List, IfErr, IfOk, Err, Some, false, true};
-ghost use Rattle.migration_model.specs.Trace.{GuestTrace, IsTrace, Spells};
-ghost use Rattle.migration_model.specs.Memory.{image_of};
+ghost use Rattle.std.specs.Io.KnownBytes.{Consumes};
+ghost use Rattle.std.specs.Prelude.{◌≡◌, ◌≢◌, ◌↔◌, ℕ, List, Option, IfErr, IfOk, IfSome, OnOk, Err, Some, false, true};
+ghost use Rattle.migration_model.specs.Trace.{GuestTrace, Spells};
 ghost use Rattle.trace_codec.specs.declared.error.TraceError.TheVariants.{ReadFault};
-ghost use Rattle.trace_codec.specs.Refusals.{RefusesUnlessMemory};
-ghost use Rattle.trace_codec.specs.Source.{SourceSpells};
-ghost use Rattle.image_build.specs.Replay.{RefusesReplay};
+ghost use Rattle.trace_codec.specs.Source.{IsOutside};
+ghost use Rattle.trace_readers.specs.Visits.{IsHeaderOf};
 ghost use Rattle.migration_jobs.specs.Bytes.{bytes_in};
-ghost use Rattle.migration_jobs.specs.Output.{IsOutsideRun, IsRefusalOf, RefusesRun, RefusesText};
+ghost use Rattle.migration_jobs.specs.Output.{IsImageOf, IsOutsideRun, IsRefusalOf, RefusesRun};
 
 use crate::error::RunError;
 use crate::output::Output;
 use crate::replayed::ReplayedMemory;
-use image_build::{ReplayError, replay_bytes};
+use crate::written_memory::WrittenMemory;
 use job_kinds::Job;
 use std::alloc::Global;
 use std::thread::Threads;
-use trace_codec::{Source, TraceError, read_bytes, read_header};
-use trace_readers::HeldTrace;
+use trace_codec::{Header, Source, TraceError};
+use trace_readers::IncomingTrace;
 
-/// Memory of up to so many bytes, `2^25`, is made whole: that takes less time than pages one by one, and little memory.
+/// Memory of up to so many bytes, `2^20`, is made whole from the first write on.
+const SMALL_MEMORY: usize = 1_048_576;
+
+/// Memory of up to so many bytes, `2^25`, is made whole once as many bytes of the trace have come: that takes less time
+/// than pages one by one, and little memory.
 const WHOLE_MEMORY: usize = 33_554_432;
 
-/// Returns whether the bytes begin with the header of a trace, and the memory that it tells is to be made page by page.
-fn is_large(bytes: &[u8]) -> bool {
-    match read_header(bytes) {
-        Ok(header) => (header.shape.pages as usize) << header.shape.shift > WHOLE_MEMORY,
-        Err(_) => false,
-    }
-}
-
-/// Returns a replay's error as one of a run.
-fn replay_error(error: ReplayError) -> RunError
-    ensures refused { (bytes : List ℕ) → RefusesReplay bytes error → RefusesText bytes result }
-    ensures memory { error ≡ ReplayError.Memory → result ≡ RunError.Memory }
+/// Reads on until the memory of the trace may be made whole. Returns the trace's header then, or None where the memory
+/// is to be made page by page.
+fn header_for_whole<S: Source>(
+    source: &mut S,
+    incoming: &mut IncomingTrace,
+) -> Result<Option<Header>, TraceError>
+    requires { S.has_failed source.old ≡ false }
+    ensures came { OnOk result ((old : Option (List ℕ)) → Consumes old (S.remaining source.old) incoming.old
+        → Consumes old (S.remaining source.new) incoming.new) }
+    ensures header { IfOk result (λ found. IfSome found (IsHeaderOf incoming.new)) }
+    ensures outside { IfErr result IsOutside }
+    ensures failed { (result ≡ Err ReadFault) ↔ (S.has_failed source.new ≡ true) }
 {
-    match error {
-        ReplayError::Trace(error) => RunError::Trace(error),
-        ReplayError::Memory => RunError::Memory,
+    let Ok(header) = incoming.header() else {
+        return Ok(None);
+    };
+    let size = (header.shape.pages as usize) << header.shape.shift;
+    if size > WHOLE_MEMORY {
+        return Ok(None);
     }
+    if size > SMALL_MEMORY && !incoming.read_to(source, size)? {
+        return Ok(None);
+    }
+    Ok(incoming.header().ok())
 }
 
-/// Returns the memory after all writes of the trace that the bytes encode, made whole.
-fn whole_image(alloc: Global, bytes: &[u8]) -> Result<Vec<u8>, RunError>
-    ensures made { IfOk result (λ v. (trace : GuestTrace) × Spells bytes.now trace
-        × (v.items ≡ (image_of trace).bytes)) }
-    ensures refused { IfErr result (RefusesText bytes.now) }
-    ensures only { (trace : GuestTrace) → Spells bytes.now trace → IfErr result (λ e. e ≡ RunError.Memory) }
+/// Reads the beginning of the trace that a source holds. Returns it with its header where its memory is to be made
+/// whole.
+fn opened<S: Source>(
+    alloc: Global,
+    source: &mut S,
+) -> Result<(IncomingTrace, Option<Header>), TraceError>
+    requires { S.has_failed source.old ≡ false }
+    ensures came { IfOk result (λ found. Consumes (S.remaining source.old) (S.remaining source.new) found.0) }
+    ensures header { IfOk result (λ found. IfSome found.1 (IsHeaderOf found.0)) }
+    ensures outside { IfErr result IsOutside }
+    ensures failed { (result ≡ Err ReadFault) ↔ (S.has_failed source.new ≡ true) }
 {
-    match replay_bytes(alloc, bytes) {
-        Ok(image) => Ok(image.into_bytes()),
-        Err(error) => Err(replay_error(error)),
-    }
+    let mut incoming = IncomingTrace::open(alloc, source)?;
+    let header = header_for_whole(source, &mut incoming)?;
+    Ok((incoming, header))
 }
 
-/// Returns the refusal of bytes that are to be held as one of a run.
-fn held_error(error: TraceError) -> RunError
-    ensures refused { (bytes : List ℕ) → RefusesUnlessMemory bytes error → RefusesText bytes result }
-    ensures memory { error ≡ TraceError.Memory → result ≡ RunError.Memory }
+/// Returns the memory after all writes of a trace, made whole while the trace comes.
+fn whole_image<S: Source>(
+    alloc: Global,
+    source: &mut S,
+    incoming: IncomingTrace,
+    header: Header,
+) -> Result<Vec<u8>, RunError>
+    requires unfailed { S.has_failed source.old ≡ false }
+    requires header { IsHeaderOf incoming header }
+    ensures made { IfOk result (λ v. (old : Option (List ℕ)) → Consumes old (S.remaining source.old) incoming
+        → IsImageOf old v.items) }
+    ensures refused { IfErr result (λ e. (old : Option (List ℕ)) → Consumes old (S.remaining source.old) incoming
+        → RefusesRun old e) }
+    ensures own { IfErr result (λ e. (job : Job) → IsRefusalOf job e) }
+    ensures unwritten { IfErr result (λ e. e ≢ RunError.Write) }
+    ensures read_failed { (result ≡ Err (RunError.Trace ReadFault)) ↔ (S.has_failed source.new ≡ true) }
 {
-    match error {
-        TraceError::Memory => RunError::Memory,
-        error => RunError::Trace(error),
+    let Ok(mut memory) = WrittenMemory::blank(alloc, header.shape) else {
+        return Err(RunError::Memory);
+    };
+    match incoming.visit(source, header, &mut memory) {
+        Ok(()) => Ok(memory.into_bytes()),
+        Err(error) => Err(RunError::Trace(error)),
     }
 }
 
-/// Returns the memory after all writes of the trace that the bytes encode, to be made page by page.
-fn paged_image<R: Threads + Sync>(
+/// Returns the memory after all writes of a trace, to be made page by page.
+fn paged_image<R: Threads + Sync, S: Source>(
     rt: &R,
     alloc: Global,
-    bytes: Vec<u8>,
+    source: &mut S,
+    incoming: IncomingTrace,
 ) -> Result<ReplayedMemory, RunError>
-    ensures made { IfOk result (λ m. (trace : GuestTrace) × Spells bytes.items trace
-        × (m.bytes ≡ (image_of trace).bytes)) }
-    ensures refused { IfErr result (RefusesText bytes.items) }
-    ensures only { (trace : GuestTrace) → Spells bytes.items trace → IfErr result (λ e. e ≡ RunError.Memory) }
+    requires { S.has_failed source.old ≡ false }
+    ensures made { IfOk result (λ m. (old : Option (List ℕ)) → Consumes old (S.remaining source.old) incoming
+        → IsImageOf old m.bytes) }
+    ensures refused { IfErr result (λ e. (old : Option (List ℕ)) → Consumes old (S.remaining source.old) incoming
+        → RefusesRun old e) }
+    ensures own { IfErr result (λ e. (job : Job) → IsRefusalOf job e) }
+    ensures unwritten { IfErr result (λ e. e ≢ RunError.Write) }
+    ensures read_failed { (result ≡ Err (RunError.Trace ReadFault)) ↔ (S.has_failed source.new ≡ true) }
 {
-    match HeldTrace::parse(alloc, bytes) {
+    match incoming.hold(alloc, source) {
         Ok(trace) => ReplayedMemory::of(rt, alloc, trace).or(Err(RunError::Memory)),
-        Err(error) => Err(held_error(error)),
-    }
-}
-
-/// Returns the memory after all writes of the trace that the bytes encode.
-fn image_of_bytes<R: Threads + Sync>(
-    rt: &R,
-    alloc: Global,
-    bytes: Vec<u8>,
-) -> Result<Output, RunError>
-    ensures made { IfOk result (λ output. (trace : GuestTrace) × Spells bytes.items trace
-        × (bytes_in output ≡ (image_of trace).bytes)) }
-    ensures refused { IfErr result (RefusesText bytes.items) }
-    ensures only { (trace : GuestTrace) → Spells bytes.items trace → IfErr result (λ e. e ≡ RunError.Memory) }
-{
-    if is_large(&bytes) {
-        Ok(Output::Replayed(paged_image(rt, alloc, bytes)?))
-    } else {
-        Ok(Output::Text(whole_image(alloc, &bytes)?))
+        Err(error) => Err(RunError::Trace(error)),
     }
 }
 
@@ -108,8 +124,7 @@ pub(crate) fn image_output<R: Threads + Sync, S: Source>(
     source: &mut S,
 ) -> Result<Output, RunError>
     requires { S.has_failed source.old ≡ false }
-    ensures made { IfOk result (λ output. (trace : GuestTrace) × IsTrace trace
-        × SourceSpells (S.remaining source.old) trace × (bytes_in output ≡ (image_of trace).bytes)) }
+    ensures made { IfOk result (λ output. IsImageOf (S.remaining source.old) (bytes_in output)) }
     ensures refused { IfErr result (RefusesRun (S.remaining source.old)) }
     ensures own { IfErr result (λ e. (job : Job) → IsRefusalOf job e) }
     ensures unwritten { IfErr result (λ e. e ≢ RunError.Write) }
@@ -117,8 +132,12 @@ pub(crate) fn image_output<R: Threads + Sync, S: Source>(
         → IfErr result IsOutsideRun }
     ensures read_failed { (result ≡ Err (RunError.Trace ReadFault)) ↔ (S.has_failed source.new ≡ true) }
 {
-    match read_bytes(alloc, source) {
-        Ok(bytes) => image_of_bytes(rt, alloc, bytes),
-        Err(error) => Err(RunError::Trace(error)),
+    let (incoming, header) = match opened(alloc, source) {
+        Ok(found) => found,
+        Err(error) => return Err(RunError::Trace(error)),
+    };
+    match header {
+        Some(header) => Ok(Output::Text(whole_image(alloc, source, incoming, header)?)),
+        None => Ok(Output::Replayed(paged_image(rt, alloc, source, incoming)?)),
     }
 }

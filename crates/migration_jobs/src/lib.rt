@@ -11,6 +11,7 @@ mod running;
 mod shown;
 mod sink;
 mod test_sink;
+mod written_memory;
 
 pub use error::RunError;
 pub use job_kinds::{Job, Show};

@@ -12,7 +12,7 @@ use Rattle.trace_codec.specs.declared.error.TraceError.{TraceError}
 use Rattle.trace_codec.specs.declared.error.TraceError.TheVariants.{TrailingBytes}
 use Rattle.trace_readers.specs.declared.front_records.FrontRecords.{FrontRecords}
 use Rattle.guest_log.specs.declared.shape.Header.{Header}
-use Rattle.trace_readers.proofs.Logs.{behind_is, behind_twice}
+use Rattle.trace_readers.proofs.Visits.{behind_is, behind_twice}
 use Rattle.trace_readers.proofs.Longer.{header_long, positions_longer, reading_longer}
 use Rattle.trace_codec.proofs.Readers.{end_refused, end_spelled, read_refused, reads_on}
 use Rattle.trace_codec.proofs.Steps.{IsRight-from_none}

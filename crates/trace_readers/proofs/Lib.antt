@@ -1,5 +1,5 @@
 pub mod Texts
 pub mod Longer
 pub mod OneMore
-pub mod Logs
+pub mod Visits
 pub mod Fronts

@@ -11,7 +11,7 @@ ghost use Rattle.trace_readers.specs.Texts.{IsHeldText, held_trace};
 ghost use Rattle.guest_log.specs.Writes.{no_write};
 
 use crate::front_records::FrontRecords;
-use crate::text_reading::{ComingText, read_text};
+use crate::text_reading::{ComingText, read_on};
 use crate::touch_log::SHORTEST_RECORD;
 use std::alloc::Global;
 use std::marker::Model;
@@ -41,7 +41,7 @@ impl Model for HeldTrace {
 impl HeldTrace {
     /// Takes over the bytes of a trace, of which the first records may be tested already. Where none are, the slots
     /// for the offsets follow the bytes, whatever the header claims.
-    fn of_text(alloc: Global, text: ComingText) -> Result<HeldTrace, TraceError>
+    pub(crate) fn of_text(alloc: Global, text: ComingText) -> Result<HeldTrace, TraceError>
         ensures found { IfOk result (λ trace. Spells text trace) }
         ensures refused { IfErr result (RefusesUnlessMemory text) }
     {
@@ -83,7 +83,7 @@ impl HeldTrace {
             → MatchResult result (λ found. found ≡ trace) IsOutside }
         ensures failed { (result ≡ Err TraceError.ReadFault) ↔ (S.has_failed source.new ≡ true) }
     {
-        let text = read_text(alloc, source)?;
+        let text = read_on(alloc, source, Vec::new(alloc))?;
         HeldTrace::of_text(alloc, text)
     }
 

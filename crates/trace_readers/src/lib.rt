@@ -6,10 +6,14 @@
 
 mod front_records;
 mod held_trace;
-mod log_reader;
+mod incoming_trace;
 mod pieces;
 mod text_reading;
 mod touch_log;
+mod visiting;
+mod write_visitor;
 
 pub use held_trace::HeldTrace;
+pub use incoming_trace::IncomingTrace;
 pub use touch_log::TouchLog;
+pub use write_visitor::WriteVisitor;

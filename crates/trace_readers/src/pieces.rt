@@ -1,11 +1,11 @@
 //! The bytes of a source piece by piece, in one buffer that is used again.
 
-ghost use Rattle.std.specs.Prelude.{◌≡◌, ◌≢◌, ◌<◌, ◌≤◌, ◌+◌, ◌↔◌, ◌^◌, [], ℕ, List, Option, IfErr, IfOk, OnErr, OnOk};
+ghost use Rattle.std.specs.Prelude.{◌≡◌, ◌≢◌, ◌<◌, ◌≤◌, ◌+◌, ◌-◌, ◌↔◌, ◌^◌, [], ℕ, List, Option, IfErr, IfOk, OnErr, OnOk};
 ghost use Rattle.std.specs.Prelude.{drop, false, length, take, true, vec_len, Err};
 ghost use Rattle.std.specs.Io.KnownBytes.{Consumes};
 ghost use Rattle.trace_readers.specs.Pieces.{CameAs, HasRead, PiecesState, pieces_state, wants_bytes};
 ghost use Rattle.trace_codec.specs.Refusals.{Refuses, RefusesUnlessMemory};
-ghost use Rattle.trace_codec.specs.Source.{SourceRefuses};
+ghost use Rattle.trace_codec.specs.Source.{IsOutside, SourceRefuses};
 
 use std::alloc::{AllocError, Global};
 use std::marker::Model;
@@ -15,10 +15,12 @@ use trace_codec::{MAX_LENGTH, Source, TraceError, read_behind};
 /// in a processor's cache.
 pub(crate) const ROOM: usize = 262_144;
 
-/// The bytes of a source that came and are not taken yet, and how many came at all.
+/// The bytes of a source that came and are not taken yet, and how many came at all. The buffer holds them from `start`
+/// on and before `filled`, and has room for one more piece at most.
 #[derive(Drop)]
 pub(crate) struct Pieces {
     room: Vec<u8>,
+    start: usize,
     filled: usize,
     count: usize,
 }
@@ -26,9 +28,10 @@ pub(crate) struct Pieces {
 impl Model for Pieces {
     ghost Value = { PiecesState };
 
-    ghost view = { λ p. pieces_state (take p.filled p.room.items) p.count };
+    ghost view = { λ p. pieces_state (drop p.start (take p.filled p.room.items)) p.count };
 
-    ghost invariant = { λ p. (p.filled ≤ vec_len p.room) × (vec_len p.room ≡ 262_144) };
+    ghost invariant = { λ p. (p.start ≤ p.filled) × (p.filled ≤ vec_len p.room) × (262_144 ≤ vec_len p.room)
+        × (vec_len p.room ≤ p.filled + 262_144) };
 }
 
 /// Returns whether more bytes may end this refusal.
@@ -47,6 +50,37 @@ pub(crate) fn room_of(alloc: Global, size: usize) -> Result<Vec<u8>, AllocError>
     Ok(room)
 }
 
+/// Moves the bytes from `start` on and before `filled` to the front of the buffer, which is cut to the usual size.
+/// Returns how many they are.
+fn move_to_front(room: &mut Vec<u8>, start: usize, filled: usize) -> usize
+    requires order { start ≤ filled }
+    requires bound { filled ≤ vec_len room.old }
+    requires long { 262_144 ≤ vec_len room.old }
+    requires few { filled - start < 262_144 }
+    ensures count { result ≡ filled - start }
+    ensures kept { take result room.new.items ≡ drop start (take filled room.old.items) }
+    ensures len { vec_len room.new ≡ 262_144 }
+{
+    room.copy_within(start..filled, 0);
+    room.truncate(ROOM);
+    filled - start
+}
+
+/// Makes room for one more piece behind the first `filled` bytes, where there is none.
+fn grow(room: &mut Vec<u8>, filled: usize) -> Result<(), AllocError>
+    requires bound { filled ≤ vec_len room.old }
+    requires few { vec_len room.old ≤ filled + 262_144 }
+    ensures kept { take filled room.new.items ≡ take filled room.old.items }
+    ensures long { vec_len room.old ≤ vec_len room.new }
+    ensures few { vec_len room.new ≤ filled + 262_144 }
+    ensures some { OnOk result (filled < vec_len room.new) }
+{
+    if filled == room.len() {
+        room.resize(filled + ROOM, 0)?;
+    }
+    Ok(())
+}
+
 impl Pieces {
     /// Returns pieces of which no bytes came yet.
     pub(crate) fn new(alloc: Global) -> Result<Pieces, AllocError>
@@ -54,6 +88,7 @@ impl Pieces {
     {
         Ok(Pieces {
             room: room_of(alloc, ROOM)?,
+            start: 0,
             filled: 0,
             count: 0,
         })
@@ -63,7 +98,8 @@ impl Pieces {
     pub(crate) fn rest(&self) -> &[u8]
         ensures { result.now ≡ self.now.rest }
     {
-        let (rest, _) = self.room.split_at(self.filled);
+        let (came, _) = self.room.split_at(self.filled);
+        let (_, rest) = came.split_at(self.start);
         rest
     }
 
@@ -80,11 +116,10 @@ impl Pieces {
         ensures rest { self.new.rest ≡ drop taken self.old.rest }
         ensures count { self.new.count ≡ self.old.count }
     {
-        self.room.copy_within(taken..self.filled, 0);
-        self.filled -= taken;
+        self.start += taken;
     }
 
-    /// Reads once behind the bytes that are left. Returns false at the end of the source.
+    /// Reads once behind the bytes that are left, which move to the front. Returns false at the end of the source.
     pub(crate) fn read_more<S: Source>(&mut self, source: &mut S) -> Result<bool, TraceError>
         requires unfailed { S.has_failed source.old ≡ false }
         requires room { length self.old.rest < 262_144 }
@@ -94,6 +129,8 @@ impl Pieces {
         ensures refused { IfErr result (λ e. e ≡ TraceError.ReadFault) }
         ensures failed { OnErr result (S.has_failed source.new ≡ true) }
     {
+        self.filled = move_to_front(&mut self.room, self.start, self.filled);
+        self.start = 0;
         match read_behind(source, &mut self.room, self.filled) {
             None => Err(TraceError::ReadFault),
             Some(count) => {
@@ -102,6 +139,45 @@ impl Pieces {
                 Ok(count > 0)
             }
         }
+    }
+
+    /// Reads once behind the bytes that are left, which stay where they are: the buffer grows where it is full. Returns
+    /// false at the end of the source. The errors are `E16` and `E17` alone.
+    pub(crate) fn read_grown<S: Source>(&mut self, source: &mut S) -> Result<bool, TraceError>
+        requires unfailed { S.has_failed source.old ≡ false }
+        requires short { self.old.count ≤ 2 ^ 28 }
+        ensures read { IfOk result (HasRead (S.remaining source.old) (S.remaining source.new) self.old self.new) }
+        ensures left { OnErr result (self.new ≡ self.old) }
+        ensures refused { IfErr result IsOutside }
+        ensures failed { (result ≡ Err TraceError.ReadFault) ↔ (S.has_failed source.new ≡ true) }
+    {
+        grow(&mut self.room, self.filled)?;
+        match read_behind(source, &mut self.room, self.filled) {
+            None => Err(TraceError::ReadFault),
+            Some(count) => {
+                self.filled += count;
+                self.count += count;
+                Ok(count > 0)
+            }
+        }
+    }
+
+    /// Returns the bytes that are not taken yet, and takes the pieces apart.
+    pub(crate) fn into_rest(self) -> Vec<u8>
+        ensures { result.items ≡ self.rest }
+    {
+        let Pieces {
+            mut room,
+            start,
+            filled,
+            count: _,
+        } = self;
+        room.truncate(filled);
+        if start > 0 {
+            room.copy_within(start..filled, 0);
+            room.truncate(filled - start);
+        }
+        room
     }
 
     /// Reads on to the end of the source after a cause was found in front of it. Returns that cause if the source ends

@@ -1,6 +1,7 @@
 //! The bytes of a trace from a source, tested as they come.
 
-ghost use Rattle.std.specs.Prelude.{◌≡◌, ◌↔◌, ◌++◌, Err, IfErr, IfOk, IfSome, List, [], false, true, ℕ};
+ghost use Rattle.std.specs.Prelude.{◌≡◌, ◌↔◌, ◌++◌, Err, IfErr, IfOk, IfSome, List, Option, false, true, ℕ};
+ghost use Rattle.std.specs.Io.KnownBytes.{Consumes};
 ghost use Rattle.trace_codec.specs.Source.{IsOutside, ReadsWhole};
 ghost use Rattle.trace_readers.specs.Texts.{IsTested, IsTestedBefore};
 
@@ -56,16 +57,6 @@ fn tested_on(alloc: Global, front: Option<FrontRecords>, bytes: &[u8]) -> Option
 }
 
 impl ComingText {
-    /// Returns no bytes.
-    fn new(alloc: Global) -> ComingText
-        ensures { result ≡ [] }
-    {
-        ComingText {
-            bytes: Vec::new(alloc),
-            front: None,
-        }
-    }
-
     /// Returns these bytes with one more piece behind them.
     fn with_piece(self, alloc: Global, piece: &[u8]) -> Result<ComingText, AllocError>
         ensures { IfOk result (λ text. text ≡ self ++ piece.now) }
@@ -77,16 +68,21 @@ impl ComingText {
     }
 }
 
-/// Returns the bytes of a source to its end, or until more have come than a trace may have. The errors are `E16` and
-/// `E17` alone.
-pub(crate) fn read_text<S: Source>(alloc: Global, source: &mut S) -> Result<ComingText, TraceError>
+/// Returns the bytes that came of a source and those that still come, to its end, or until more have come than a trace
+/// may have. The errors are `E16` and `E17` alone.
+pub(crate) fn read_on<S: Source>(
+    alloc: Global,
+    source: &mut S,
+    bytes: Vec<u8>,
+) -> Result<ComingText, TraceError>
     requires { S.has_failed source.old ≡ false }
-    ensures whole { IfOk result (ReadsWhole (S.remaining source.old) (S.remaining source.new)) }
+    ensures whole { IfOk result (λ text. (old : Option (List ℕ)) → Consumes old (S.remaining source.old) bytes.items
+        → ReadsWhole old (S.remaining source.new) text) }
     ensures refused { IfErr result IsOutside }
     ensures failed { (result ≡ Err TraceError.ReadFault) ↔ (S.has_failed source.new ≡ true) }
 {
     let mut room = room_of(alloc, ROOM)?;
-    let mut text = ComingText::new(alloc);
+    let mut text = ComingText { bytes, front: None };
     while text.bytes.len() <= MAX_LENGTH {
         match source.read(&mut room) {
             None => return Err(TraceError::ReadFault),

@@ -1,17 +1,20 @@
 //! A trace without the bytes of its writes.
 
 ghost use Rattle.std.specs.Prelude.{◌≡◌, ◌↔◌, [], ℕ, List, Err, IfErr, IfOk, MatchResult, Some, false, length, nat_lt};
-ghost use Rattle.std.specs.Prelude.{true};
+ghost use Rattle.std.specs.Prelude.{◌++◌, map, true, ⊤};
 ghost use Rattle.migration_model.specs.Trace.{GuestTrace, Spells};
-ghost use Rattle.migration_model.specs.Touches.{AreTouches, GuestTouches, touches_in, touches_with};
+ghost use Rattle.migration_model.specs.Touches.{AreTouches, GuestTouches, touch_of, touches_in, touches_with};
+ghost use Rattle.guest_log.specs.Writes.{shown};
 ghost use Rattle.trace_readers.specs.Pieces.{IsLogOf};
 ghost use Rattle.trace_codec.specs.Refusals.{RefusesUnlessMemory};
 ghost use Rattle.trace_codec.specs.Source.{IsOutside, SourceRefuses};
 
-use crate::log_reader::log_of_source;
-use std::alloc::Global;
+use crate::pieces::Pieces;
+use crate::visiting::{Taken, take_header, visit_rest};
+use crate::write_visitor::WriteVisitor;
+use std::alloc::{AllocError, Global};
 use std::marker::Model;
-use trace_codec::{Header, Shape, Source, Timeline, Touch, TraceError, TraceReader};
+use trace_codec::{Header, Shape, Source, Timeline, Touch, TraceError, TraceReader, WriteView};
 
 /// How many bytes the shortest record has: that of a release, which has its 16 bytes of numbers alone.
 pub(crate) const SHORTEST_RECORD: usize = 16;
@@ -32,6 +35,16 @@ impl Model for TouchLog {
         l.touches.items };
 }
 
+/// Returns when a write was, and to which page.
+fn touch_in(write: &WriteView<'_>) -> Touch
+    ensures { result ≡ touch_of (shown write.now) }
+{
+    Touch {
+        tick: write.tick,
+        page: write.page,
+    }
+}
+
 /// Returns the log of the writes that a reader has in front of it, with slots reserved for `room` of them.
 fn log_of_reader(
     alloc: Global,
@@ -48,10 +61,7 @@ fn log_of_reader(
     let mut touches = Vec::with_capacity(alloc, room)?;
     for _ in 0..header.shape.writes {
         let write = reader.read_record()?;
-        touches.push(Touch {
-            tick: write.tick,
-            page: write.page,
-        })?;
+        touches.push(touch_in(&write))?;
     }
     reader.finish()?;
     Ok(TouchLog { header, touches })
@@ -65,6 +75,42 @@ fn log_of_bytes(alloc: Global, bytes: &[u8]) -> Result<TouchLog, TraceError>
     let reader = TraceReader::new(bytes)?;
     let claimed = reader.shape().writes as usize;
     log_of_reader(alloc, reader, claimed.min(bytes.len() / SHORTEST_RECORD))
+}
+
+/// The touches of the writes that came so far.
+#[derive(Drop)]
+struct Touches {
+    all: Vec<Touch>,
+}
+
+impl WriteVisitor for Touches {
+    ghost takes = { λ touches write. ⊤ };
+
+    ghost makes = { λ start now writes. now.all.items ≡ start.all.items ++ map touch_of writes };
+
+    fn visit(&mut self, write: &WriteView<'_>) -> Result<(), AllocError> {
+        self.all.push(touch_in(write))?;
+        Ok(())
+    }
+}
+
+/// Returns the log of the trace that a source holds.
+fn log_of_source<S: Source>(alloc: Global, source: &mut S) -> Result<TouchLog, TraceError>
+    requires { S.has_failed source.old ≡ false }
+    ensures found { IfOk result (IsLogOf (S.remaining source.old)) }
+    ensures refused { IfErr result (SourceRefuses (S.remaining source.old)) }
+    ensures failed { (result ≡ Err TraceError.ReadFault) ↔ (S.has_failed source.new ≡ true) }
+{
+    let mut pieces = Pieces::new(alloc)?;
+    let header = take_header(source, &mut pieces)?;
+    let mut touches = Touches {
+        all: Vec::new(alloc),
+    };
+    visit_rest(source, &mut pieces, Taken::none(header), &mut touches)?;
+    Ok(TouchLog {
+        header,
+        touches: touches.all,
+    })
 }
 
 impl TouchLog {

@@ -1,15 +1,15 @@
-use Rattle.std.proofs.lemmas.Result.{IfOk-weaker}
-use Rattle.migration_jobs.proofs.Runs.{made_source, memory_run, refused_run}
-use Rattle.trace_codec.proofs.Sources.{only_whole}
+use Rattle.std.proofs.lemmas.Result.{err_from_is_err_and}
+use Rattle.migration_jobs.proofs.Runs.{only_run}
 use Rattle.migration_jobs.proofs.imaging.image_output.Goals as goal
 
-pub returns-in-Ok-clause-made : goal.returns-in-Ok-clause-made
-returns-in-Ok-clause-made g c =
-    IfOk-weaker c.image_of_bytes.result _ _ (λ output made. made_source _ _ _ c.in-Ok.bytes.items c.in-Ok.ensures.whole made) c.image_of_bytes.ensures.made
+pub returns-in_err-whole_image-in-Some-clause-only : goal.returns-in_err-whole_image-in-Some-clause-only
+returns-in_err-whole_image-in-Some-clause-only g c bytes trace is spells =
+    let old = g.S.Source.remaining c.args.source.now in
+    let p = err_from_is_err_and c.from_residual.result c.from_residual.ensures.1 in
+    rw (p.1, p.2) (only_run old bytes trace _ is spells (c.in_err-whole_image-in-Some.ensures.refused old c.in-Ok.ensures.came))
 
-pub returns-in-Ok-clause-refused : goal.returns-in-Ok-clause-refused
-returns-in-Ok-clause-refused g c = refused_run c.image_of_bytes.result _ _ c.in-Ok.bytes.items c.in-Ok.ensures.whole c.image_of_bytes.ensures.refused
-
-pub returns-in-Ok-clause-only : goal.returns-in-Ok-clause-only
-returns-in-Ok-clause-only g c bytes trace is spells =
-    memory_run c.image_of_bytes.result (c.image_of_bytes.ensures.only trace (only_whole _ _ bytes c.in-Ok.bytes.items trace is spells c.in-Ok.ensures.whole))
+pub returns-in_err-paged_image-in-None-clause-only : goal.returns-in_err-paged_image-in-None-clause-only
+returns-in_err-paged_image-in-None-clause-only g c bytes trace is spells =
+    let old = g.S.Source.remaining c.args.source.now in
+    let p = err_from_is_err_and c.from_residual-in_err-paged_image-in-None.result c.from_residual-in_err-paged_image-in-None.ensures.1 in
+    rw (p.1, p.2) (only_run old bytes trace _ is spells (c.in_err-paged_image-in-None.ensures.refused old c.in-Ok.ensures.came))

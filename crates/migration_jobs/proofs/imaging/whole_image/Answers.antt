@@ -1,4 +1,6 @@
+use Rattle.migration_jobs.proofs.Runs.{image_made}
 use Rattle.migration_jobs.proofs.imaging.whole_image.Goals as goal
 
-pub returns-in-Err-clause-refused : goal.returns-in-Err-clause-refused
-returns-in-Err-clause-refused c = c.replay_error.ensures.refused c.args.bytes.now c.in-Err.ensures.refused
+pub returns-in-Ok-visit-clause-made : goal.returns-in-Ok-visit-clause-made
+returns-in-Ok-visit-clause-made g c old came =
+    image_made old c.args.header c.in-Ok.memory c.visit.new.visitor c.into_bytes.result.items c.in-Ok.ensures c.into_bytes.ensures (c.in-Ok-visit.ensures.all old came)

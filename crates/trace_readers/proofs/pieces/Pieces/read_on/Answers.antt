@@ -1,4 +1,4 @@
-use Rattle.std.proofs.Common.{◌<◌, ◌≡◌, ◌≤◌, [], ◌++◌, ap, length, take, arith}
+use Rattle.std.proofs.Common.{◌<◌, ◌≡◌, ◌≤◌, [], ◌++◌, ap, length, take, vec_len, arith}
 use Rattle.std.proofs.lemmas.List.{length-append, length-take}
 use Rattle.trace_readers.specs.Pieces.{PiecesState}
 use Rattle.trace_codec.proofs.Sources.{Consumes-nil, Consumes-then, long_refused}
@@ -18,7 +18,7 @@ loop-count-preserved g c =
     let more = before.came.0 in
     let piece = take n c.read.new.buffer in
     let size : length piece ≡ n = omega (arith, read.bytes.0, length-take n c.read.new.buffer) in
-    let low : n ≤ 262144 = omega (arith, read.bytes.0, c.read.auto.buffer, c.deref_mut.ensures.len, before.room) in
+    let low : n ≤ vec_len c.loop-count.self-inside.room = omega (arith, read.bytes.0, c.read.auto.buffer, c.deref_mut.ensures.len) in
     record {
       came = (more ++ piece, Consumes-then _ _ _ more piece before.came.1 read.bytes.1, omega (arith, before.came.2, size, length-append more piece));
       room = before.room;

@@ -1,4 +1,4 @@
-use Rattle.trace_readers.proofs.Logs.{only_outside}
+use Rattle.trace_readers.proofs.Visits.{only_outside}
 use Rattle.trace_readers.proofs.touch_log.TouchLog.read.Goals as goal
 
 pub returns-clause-only : goal.returns-clause-only

@@ -1,0 +1,112 @@
+//! A trace on its way from a source, before it is known what becomes of it.
+
+ghost use Rattle.std.specs.Io.KnownBytes.{Consumes};
+ghost use Rattle.std.specs.Prelude.{◌≡◌, ◌↔◌, ◌-◌, ◌^◌, ◌≤◌, [], ℕ, List, Option, Err, IfErr, IfOk, OnOk, false};
+ghost use Rattle.std.specs.Prelude.{length, true};
+ghost use Rattle.migration_model.specs.Numbers.{IsBytes};
+ghost use Rattle.trace_codec.specs.Refusals.{header_refusal};
+ghost use Rattle.trace_codec.specs.Source.{IsOutside, SourceRefuses, SourceSpells};
+ghost use Rattle.trace_readers.specs.Visits.{CanVisit, IsAllVisited, IsHeaderOf};
+
+use crate::held_trace::HeldTrace;
+use crate::pieces::Pieces;
+use crate::text_reading::read_on;
+use crate::visiting::{Taken, fill_front, visit_rest};
+use crate::write_visitor::WriteVisitor;
+use std::alloc::Global;
+use std::marker::Model;
+use trace_codec::{Header, Source, TraceError, read_header};
+
+/// The bytes of a trace that came from a source so far, all of them. Whoever knows its header decides how to go on: to
+/// hold the trace, or to hand its writes to a visitor, and hold none of them.
+#[derive(Drop)]
+pub struct IncomingTrace {
+    pieces: Pieces,
+}
+
+impl Model for IncomingTrace {
+    ghost Value = { List ℕ };
+
+    ghost view = { λ t. t.pieces.rest };
+
+    ghost invariant = { λ t. (t.pieces.count ≡ length t.pieces.rest) × IsBytes t.pieces.rest };
+}
+
+impl IncomingTrace {
+    /// Reads until there are the 16 bytes of a header, or the source ends. The errors are `E16` and `E17` alone.
+    pub fn open<S: Source>(alloc: Global, source: &mut S) -> Result<IncomingTrace, TraceError>
+        requires { S.has_failed source.old ≡ false }
+        ensures came { IfOk result (Consumes (S.remaining source.old) (S.remaining source.new)) }
+        ensures outside { IfErr result IsOutside }
+        ensures failed { (result ≡ Err TraceError.ReadFault) ↔ (S.has_failed source.new ≡ true) }
+    {
+        let mut pieces = Pieces::new(alloc)?;
+        fill_front(source, &mut pieces)?;
+        Ok(IncomingTrace { pieces })
+    }
+
+    /// Returns the header, or what it is refused for.
+    pub fn header(&self) -> Result<Header, TraceError>
+        ensures header { IfOk result (IsHeaderOf self.now) }
+        ensures refused { IfErr result (λ e. header_refusal self.now ≡ Some e) }
+    {
+        read_header(self.pieces.rest())
+    }
+
+    /// Reads on until so many bytes have come, or the source ends. Returns whether they have come. Memory follows the
+    /// bytes that come. The errors are `E16` and `E17` alone.
+    pub fn read_to<S: Source>(&mut self, source: &mut S, count: usize) -> Result<bool, TraceError>
+        requires unfailed { S.has_failed source.old ≡ false }
+        requires bound { count ≤ 2 ^ 28 }
+        ensures came { OnOk result ((old : Option (List ℕ)) → Consumes old (S.remaining source.old) self.old
+            → Consumes old (S.remaining source.new) self.new) }
+        ensures enough { IfOk result (λ enough. enough ≡ true → count ≤ length self.new) }
+        ensures outside { IfErr result IsOutside }
+        ensures failed { (result ≡ Err TraceError.ReadFault) ↔ (S.has_failed source.new ≡ true) }
+    {
+        while self.pieces.count() < count {
+            if !self.pieces.read_grown(source)? {
+                return Ok(false);
+            }
+        }
+        Ok(true)
+    }
+
+    /// Hands all writes of the trace to a visitor, in order: those that came, and then those that come, piece by piece.
+    /// It reads the source to its end, or past the longest trace and no further, also where it found a refusal before.
+    /// After an error the visitor is made of the writes before the first that is refused.
+    pub fn visit<S: Source, V: WriteVisitor>(
+        self,
+        source: &mut S,
+        header: Header,
+        visitor: &mut V,
+    ) -> Result<(), TraceError>
+        requires unfailed { S.has_failed source.old ≡ false }
+        requires header { IsHeaderOf self header }
+        requires can { CanVisit (V.takes visitor.old) header }
+        requires none { V.makes visitor.old visitor.old [] }
+        ensures all { OnOk result ((old : Option (List ℕ)) → Consumes old (S.remaining source.old) self
+            → IsAllVisited (V.makes visitor.old visitor.new) old header) }
+        ensures refused { IfErr result (λ e. (old : Option (List ℕ)) → Consumes old (S.remaining source.old) self
+            → SourceRefuses old e) }
+        ensures failed { (result ≡ Err TraceError.ReadFault) ↔ (S.has_failed source.new ≡ true) }
+    {
+        let mut pieces = self.pieces;
+        pieces.take(16);
+        visit_rest(source, &mut pieces, Taken::none(header), visitor)
+    }
+
+    /// Returns the trace, held as its bytes. It reads the source to its end, or past the longest trace and no further.
+    /// Any failed read is `E17`.
+    pub fn hold<S: Source>(self, alloc: Global, source: &mut S) -> Result<HeldTrace, TraceError>
+        requires { S.has_failed source.old ≡ false }
+        ensures found { IfOk result (λ trace. (old : Option (List ℕ)) → Consumes old (S.remaining source.old) self
+            → SourceSpells old trace) }
+        ensures refused { IfErr result (λ e. (old : Option (List ℕ)) → Consumes old (S.remaining source.old) self
+            → SourceRefuses old e) }
+        ensures failed { (result ≡ Err TraceError.ReadFault) ↔ (S.has_failed source.new ≡ true) }
+    {
+        let text = read_on(alloc, source, self.pieces.into_rest())?;
+        HeldTrace::of_text(alloc, text)
+    }
+}
