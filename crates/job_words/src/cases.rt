@@ -1,5 +1,13 @@
 //! The cases of a sweep, as words.
 
+ghost use Rattle.std.specs.Prelude.{[], ◌∷◌, ◌++◌, ◌≡◌, ◌<◌, ◌≤◌, ℕ, List, false, length, map};
+ghost use Rattle.std.specs.Prelude.{Err, IfErr, IfNone, IfOk, IfSome};
+ghost use Rattle.migration_model.specs.Rates.{AreSettings};
+ghost use Rattle.job_words.specs.Cases.{AreCases, IsCase, IsNoCase, IsNumber, RefusesCase, RefusesWords};
+ghost use Rattle.job_words.specs.Cases.{SpellsNumbers};
+ghost use Rattle.clap.specs.Words.{rule_of};
+ghost use Rattle.job_words.specs.Commands.{AddsRules, case_rule, sweep_rules};
+
 use crate::command::{WordsError, WordsRefusal};
 use crate::options::with_sweep;
 use clap::{Arg, ArgAction, Command};
@@ -12,48 +20,60 @@ const MAX_CASES: usize = 256;
 /// The most digits of a number of a case.
 const MAX_DIGITS: usize = 13;
 
-/// Returns the command with the options and the cases of a sweep. It takes any number of cases: too many are refused
-/// later.
-pub fn with_cases<'a>(alloc: Global, command: Command<'a>) -> Result<Command<'a>, AllocError> {
-    let command = with_sweep(alloc, command)?;
-    let cases = Arg::new(alloc, "case")
+/// Returns the argument of the cases.
+fn cases_arg<'a>(alloc: Global) -> Arg<'a>
+    ensures rule { rule_of result ≡ case_rule }
+    ensures local { result.global ≡ false }
+{
+    Arg::new(alloc, "case")
         .value_name("CASE")
         .required(true)
         .num_args(1..)
         .action(ArgAction::Append)
-        .help("min,max,inc,threshold,rounds,skip: six numbers, the last 0 or 1");
-    command.arg(cases)
+        .help("min,max,inc,threshold,rounds,skip: six numbers, the last 0 or 1")
 }
 
-/// Returns a number of 1 to 13 digits.
-fn number_of(word: &str) -> Option<u64> {
-    let digits = word.as_bytes();
-    if digits.is_empty() || digits.len() > MAX_DIGITS || !digits.iter().all(u8::is_ascii_digit) {
+/// Returns the command with the options and the cases of a sweep. It takes any number of cases: too many are refused
+/// later.
+pub fn with_cases<'a>(alloc: Global, command: Command<'a>) -> Result<Command<'a>, AllocError>
+    ensures { IfOk result (λ new. AddsRules command.entry (sweep_rules ++ case_rule ∷ []) new) }
+{
+    let command = with_sweep(alloc, command)?;
+    command.arg(cases_arg(alloc))
+}
+
+/// Returns a number of 1 to 13 digits. A plus, which `parse` takes too, is no digit.
+fn number_of(word: &str) -> Option<u64>
+    ensures number { IfSome result (λ n. IsNumber word.now n) }
+    ensures none { IfNone result ((n : ℕ) → ¬ IsNumber word.now n) }
+{
+    if word.len() > MAX_DIGITS || word.starts_with('+') {
         return None;
     }
     word.parse::<u64>().ok()
 }
 
 /// Returns the six numbers of a case.
-fn numbers_of(word: &str) -> Option<[u64; 6]> {
+fn numbers_of(word: &str) -> Option<[u64; 6]>
+    ensures numbers { IfSome result (λ numbers. SpellsNumbers word.now numbers) }
+    ensures none { IfNone result ((numbers : List ℕ) → length numbers ≡ 6 → ¬ SpellsNumbers word.now numbers) }
+{
+    let mut parts = word.split(',');
     let mut numbers = [0; 6];
-    let mut count = 0usize;
-    for part in word.split(',') {
-        if count >= numbers.len() {
-            return None;
-        }
-        numbers[count] = number_of(part)?;
-        count += 1;
+    for number in numbers.iter_mut() {
+        *number = number_of(parts.next()?)?;
     }
-    if count == numbers.len() {
-        Some(numbers)
-    } else {
-        None
+    if parts.next().is_some() {
+        return None;
     }
+    Some(numbers)
 }
 
 /// Returns what a case asks for, beside the options that all cases have.
-fn asked_of(options: &Asked, word: &str) -> Option<Asked> {
+fn asked_of(options: &Asked, word: &str) -> Option<Asked>
+    ensures asked { IfSome result (λ asked. IsCase options.now word.now asked) }
+    ensures none { IfNone result (IsNoCase options.now word.now) }
+{
     let [min, max, increment, threshold, rounds, skip] = numbers_of(word)?;
     if skip > 1 {
         return None;
@@ -70,8 +90,14 @@ fn asked_of(options: &Asked, word: &str) -> Option<Asked> {
 }
 
 /// Returns the settings of the case with this number, or why it has none.
-fn case_of(options: &Asked, number: usize, word: &str) -> Result<Settings, WordsRefusal> {
-    let asked = asked_of(options, word).ok_or(WordsRefusal::Case(number))?;
+fn case_of(options: &Asked, number: usize, word: &str) -> Result<Settings, WordsRefusal>
+    ensures settings { IfOk result (λ settings. IsCase options.now word.now settings) }
+    ensures in_range { IfOk result (λ settings. AreSettings settings) }
+    ensures refused { IfErr result (λ refusal. RefusesCase options.now number word.now refusal) }
+{
+    let Some(asked) = asked_of(options, word) else {
+        return Err(WordsRefusal::Case(number));
+    };
     match Settings::new(asked) {
         Ok(settings) => Ok(settings),
         Err(error) => Err(WordsRefusal::CaseSettings(number, error)),
@@ -79,11 +105,12 @@ fn case_of(options: &Asked, number: usize, word: &str) -> Result<Settings, Words
 }
 
 /// Returns the settings of all cases, in order, or why the first that is refused has none.
-pub fn cases_of(
-    alloc: Global,
-    options: &Asked,
-    words: &[&str],
-) -> Result<Vec<Settings>, WordsError> {
+pub fn cases_of(alloc: Global, options: &Asked, words: &[&str]) -> Result<Vec<Settings>, WordsError>
+    ensures each { IfOk result (λ cases. AreCases options.now (map (λ w. w.now) words.now) cases.items) }
+    ensures few { IfOk result (λ cases. length cases.items ≤ 256) }
+    ensures refused { IfErr result (λ e. RefusesWords options.now (map (λ w. w.now) words.now) e) }
+    ensures many { 256 < length words.now → result ≡ Err (WordsError.Refused WordsRefusal.TooManyCases) }
+{
     if words.len() > MAX_CASES {
         return Err(WordsError::Refused(WordsRefusal::TooManyCases));
     }

@@ -1,7 +1,14 @@
 //! The command line: words in, a job or a refusal out.
 
+ghost use Rattle.std.specs.Prelude.{[], ◌≡◌, IfErr, IfOk, codes, map, string_bytes};
+ghost use Rattle.clap.specs.Values.{kind_of};
+ghost use Rattle.clap.specs.Words.{app_of, found_of, rows_of};
+ghost use Rattle.job_words.specs.Commands.{IsLeaf, TellsError, WordsAsk, WordsFail, precopy_line};
+ghost use Rattle.job_words.specs.Jobs.{AsksForJob, IsCommand, RefusesJob};
+ghost use Rattle.job_words.specs.declared.command.WordsError.TheVariants.{Memory};
+
 use crate::cases::{cases_of, with_cases};
-use crate::options::{settings_of, sweep_options, with_live, with_report};
+use crate::options::{is_flag, settings_of, sweep_options, with_live, with_report};
 use clap::error::ErrorKind;
 use clap::{ArgMatches, Command};
 use job_kinds::{Job, Show};
@@ -43,12 +50,16 @@ pub enum WordsRefusal {
 }
 
 impl From<AllocError> for WordsError {
+    ghost from_gives = { λ _ e. e ≡ Memory };
+
     fn from(_error: AllocError) -> WordsError {
         WordsError::Memory
     }
 }
 
 impl<T: Drop> From<AllocFailed<T>> for WordsError {
+    ghost from_gives = { λ _ e. e ≡ Memory };
+
     fn from(_error: AllocFailed<T>) -> WordsError {
         WordsError::Memory
     }
@@ -76,31 +87,53 @@ pub fn words<R: Env + AllocGlobal>(rt: &R) -> Result<Vec<String>, WordsError> {
     }
 }
 
+/// Returns a command with no options yet.
+fn command<'a>(alloc: Global, name: &'a str, about: &'a str) -> Command<'a>
+    ensures { IsLeaf result name.entry.now [] }
+{
+    Command::new(alloc, name).about(about)
+}
+
 /// Returns the program's commands.
-fn commands<'a>(alloc: Global) -> Result<Command<'a>, AllocError> {
-    let image = Command::new(alloc, "image").about(
+fn commands<'a>(alloc: Global) -> Result<Command<'a>, AllocError>
+    ensures { IfOk result (λ line. app_of line ≡ precopy_line) }
+{
+    let image = command(
+        alloc,
+        "image",
         "Writes the memory after all writes of the trace on standard input",
     );
-    let report = Command::new(alloc, "report").about(
+    let report = command(
+        alloc,
+        "report",
         "Writes the working sets of the trace on standard input",
     );
-    let live = Command::new(alloc, "live").about(
+    let live = command(
+        alloc,
+        "live",
         "Performs a migration over the trace on standard input, and writes the memory that it leaves",
     );
-    let sweep = Command::new(alloc, "sweep").about(
+    let sweep = command(
+        alloc,
+        "sweep",
         "Writes what the plans of many cases come to, over the trace on standard input",
     );
-    Command::new(alloc, "precopy")
-        .about("Predicts and performs pre-copy migrations over a trace of guest writes")
-        .subcommand_required(true)
-        .subcommand(image)?
-        .subcommand(with_report(alloc, report)?)?
-        .subcommand(with_live(alloc, live)?)?
-        .subcommand(with_cases(alloc, sweep)?)
+    command(
+        alloc,
+        "precopy",
+        "Predicts and performs pre-copy migrations over a trace of guest writes",
+    )
+    .subcommand_required(true)
+    .subcommand(image)?
+    .subcommand(with_report(alloc, report)?)?
+    .subcommand(with_live(alloc, live)?)?
+    .subcommand(with_cases(alloc, sweep)?)
 }
 
 /// Returns the error for a refusal by `clap`, with `clap`'s text.
-pub fn refusal_of(alloc: Global, error: &clap::Error) -> WordsError {
+pub fn refusal_of(alloc: Global, error: &clap::Error) -> WordsError
+    ensures { TellsError (kind_of error.now) result }
+{
     if error.kind() == ErrorKind::OutOfMemory {
         return WordsError::Memory;
     }
@@ -112,7 +145,10 @@ pub fn refusal_of(alloc: Global, error: &clap::Error) -> WordsError {
 }
 
 /// Returns the report that its options ask for.
-fn report_of(options: &ArgMatches) -> Result<Job, WordsError> {
+fn report_of(options: &ArgMatches) -> Result<Job, WordsError>
+    ensures made { IfOk result (λ job. AsksForJob (codes "report") (rows_of (found_of options.now)) job) }
+    ensures refused { IfErr result (λ e. RefusesJob (codes "report") (rows_of (found_of options.now)) e) }
+{
     match settings_of(options) {
         Ok(settings) => Ok(Job::Report(settings)),
         Err(error) => Err(WordsError::Refused(WordsRefusal::Settings(error))),
@@ -120,8 +156,11 @@ fn report_of(options: &ArgMatches) -> Result<Job, WordsError> {
 }
 
 /// Returns the live run that its options ask for.
-fn live_of(options: &ArgMatches) -> Result<Job, WordsError> {
-    let show = if options.get_flag("at-stop") {
+fn live_of(options: &ArgMatches) -> Result<Job, WordsError>
+    ensures made { IfOk result (λ job. AsksForJob (codes "live") (rows_of (found_of options.now)) job) }
+    ensures refused { IfErr result (λ e. RefusesJob (codes "live") (rows_of (found_of options.now)) e) }
+{
+    let show = if is_flag(options, "at-stop") {
         Show::Stop
     } else {
         Show::End
@@ -133,7 +172,10 @@ fn live_of(options: &ArgMatches) -> Result<Job, WordsError> {
 }
 
 /// Returns the sweep that its options and cases ask for.
-fn sweep_of(alloc: Global, options: &ArgMatches) -> Result<Job, WordsError> {
+fn sweep_of(alloc: Global, options: &ArgMatches) -> Result<Job, WordsError>
+    ensures made { IfOk result (λ job. AsksForJob (codes "sweep") (rows_of (found_of options.now)) job) }
+    ensures refused { IfErr result (λ e. RefusesJob (codes "sweep") (rows_of (found_of options.now)) e) }
+{
     let asked = sweep_options(options);
     let words = options.get_strs("case").unwrap_or(&[]);
     let cases = cases_of(alloc, &asked, words)?;
@@ -143,16 +185,31 @@ fn sweep_of(alloc: Global, options: &ArgMatches) -> Result<Job, WordsError> {
     })
 }
 
+/// Returns the job that the command of this name asks for.
+fn command_job(alloc: Global, name: &str, options: &ArgMatches) -> Result<Job, WordsError>
+    requires { IsCommand name.now }
+    ensures made { IfOk result (λ job. AsksForJob name.now (rows_of (found_of options.now)) job) }
+    ensures refused { IfErr result (λ e. RefusesJob name.now (rows_of (found_of options.now)) e) }
+{
+    match name {
+        "report" => report_of(options),
+        "live" => live_of(options),
+        "sweep" => sweep_of(alloc, options),
+        _ => Ok(Job::Image),
+    }
+}
+
 /// Returns the job that the words ask for, the program's name being the first.
-pub fn job_of(alloc: Global, words: &[String]) -> Result<Job, WordsError> {
+pub fn job_of(alloc: Global, words: &[String]) -> Result<Job, WordsError>
+    ensures made { IfOk result (λ job. WordsAsk (map string_bytes words.now) job) }
+    ensures failed { IfErr result (λ e. WordsFail (map string_bytes words.now) e) }
+{
     let matches = match commands(alloc)?.try_get_matches_from(words) {
         Ok(matches) => matches,
         Err(error) => return Err(refusal_of(alloc, &error)),
     };
     match matches.subcommand() {
-        Some(("report", options)) => report_of(options),
-        Some(("live", options)) => live_of(options),
-        Some(("sweep", options)) => sweep_of(alloc, options),
-        _ => Ok(Job::Image),
+        Some((name, options)) => command_job(alloc, name, options),
+        None => Ok(Job::Image),
     }
 }

@@ -7,4 +7,6 @@ mod options;
 
 pub use cases::{cases_of, with_cases};
 pub use command::{WordsError, WordsRefusal, job_of, refusal_of, words};
-pub use options::{flag, number, settings_of, sweep_options, with_report, with_sweep};
+pub use options::{
+    flag, given, is_flag, number, said, settings_of, sweep_options, with_report, with_sweep,
+};

@@ -1,5 +1,12 @@
 //! The options of the commands, and the settings that they make.
 
+ghost use Rattle.std.specs.Prelude.{◌≡◌, IfErr, IfOk, Some, false, map};
+ghost use Rattle.clap.specs.Simple.{new_rule};
+ghost use Rattle.clap.specs.Words.{found_of, rows_of, rule_of};
+ghost use Rattle.job_words.specs.Commands.{AddsRules, flag_rule, live_rules, number_rule, pace_rules, report_rules};
+ghost use Rattle.job_words.specs.Commands.{sweep_rules};
+ghost use Rattle.job_words.specs.Options.{AreRefused, AsksFor, AsksForSweep, IsFlag, IsGiven, Says};
+
 use clap::{Arg, ArgAction, ArgMatches, Command};
 use rate_limit::{Asked, Settings, SettingsError};
 use std::alloc::{AllocError, Global};
@@ -83,12 +90,18 @@ const LIVE: [Number<'static>; 4] = [
 const SWEEP: [Number<'static>; 3] = [START, BASE, WORKERS];
 
 /// Returns an option of this name.
-fn option<'a>(alloc: Global, name: &'a str, help: &'a str) -> Arg<'a> {
+fn option<'a>(alloc: Global, name: &'a str, help: &'a str) -> Arg<'a>
+    ensures rule { rule_of result ≡ record (new_rule name.entry.now) { long = Some name.entry.now } }
+    ensures local { result.global ≡ false }
+{
     Arg::new(alloc, name).long(name).help(help)
 }
 
 /// Returns an option that takes a whole number.
-pub fn number<'a>(alloc: Global, name: &'a str, help: &'a str) -> Arg<'a> {
+pub fn number<'a>(alloc: Global, name: &'a str, help: &'a str) -> Arg<'a>
+    ensures rule { rule_of result ≡ number_rule name.entry.now }
+    ensures local { result.global ≡ false }
+{
     option(alloc, name, help)
         .value_name("N")
         .action(ArgAction::Set)
@@ -96,7 +109,10 @@ pub fn number<'a>(alloc: Global, name: &'a str, help: &'a str) -> Arg<'a> {
 }
 
 /// Returns an option that is there or is not.
-pub fn flag<'a>(alloc: Global, name: &'a str, help: &'a str) -> Arg<'a> {
+pub fn flag<'a>(alloc: Global, name: &'a str, help: &'a str) -> Arg<'a>
+    ensures rule { rule_of result ≡ flag_rule name.entry.now }
+    ensures local { result.global ≡ false }
+{
     option(alloc, name, help).action(ArgAction::SetTrue)
 }
 
@@ -105,7 +121,9 @@ fn with_numbers<'a>(
     alloc: Global,
     command: Command<'a>,
     numbers: &[Number<'a>],
-) -> Result<Command<'a>, AllocError> {
+) -> Result<Command<'a>, AllocError>
+    ensures { IfOk result (λ new. AddsRules command.entry (map (λ n. number_rule n.0.now) numbers.now) new) }
+{
     let mut command = command;
     for (name, help) in numbers {
         command = command.arg(number(alloc, name, help))?;
@@ -114,7 +132,9 @@ fn with_numbers<'a>(
 }
 
 /// Returns the command with the options that say how a migration is paced.
-fn with_pace<'a>(alloc: Global, command: Command<'a>) -> Result<Command<'a>, AllocError> {
+fn with_pace<'a>(alloc: Global, command: Command<'a>) -> Result<Command<'a>, AllocError>
+    ensures { IfOk result (λ new. AddsRules command.entry pace_rules new) }
+{
     let command = with_numbers(alloc, command, &PACE)?;
     command.arg(flag(
         alloc,
@@ -124,16 +144,17 @@ fn with_pace<'a>(alloc: Global, command: Command<'a>) -> Result<Command<'a>, All
 }
 
 /// Returns the command with the options of a report.
-pub fn with_report<'a>(alloc: Global, command: Command<'a>) -> Result<Command<'a>, AllocError> {
+pub fn with_report<'a>(alloc: Global, command: Command<'a>) -> Result<Command<'a>, AllocError>
+    ensures { IfOk result (λ new. AddsRules command.entry report_rules new) }
+{
     let command = with_pace(alloc, command)?;
     with_numbers(alloc, command, &REPORT)
 }
 
 /// Returns the command with the options of a live run.
-pub(crate) fn with_live<'a>(
-    alloc: Global,
-    command: Command<'a>,
-) -> Result<Command<'a>, AllocError> {
+pub(crate) fn with_live<'a>(alloc: Global, command: Command<'a>) -> Result<Command<'a>, AllocError>
+    ensures { IfOk result (λ new. AddsRules command.entry live_rules new) }
+{
     let command = with_pace(alloc, command)?;
     let command = with_numbers(alloc, command, &LIVE)?;
     command.arg(flag(
@@ -144,28 +165,50 @@ pub(crate) fn with_live<'a>(
 }
 
 /// Returns the command with the options of a sweep.
-pub fn with_sweep<'a>(alloc: Global, command: Command<'a>) -> Result<Command<'a>, AllocError> {
+pub fn with_sweep<'a>(alloc: Global, command: Command<'a>) -> Result<Command<'a>, AllocError>
+    ensures { IfOk result (λ new. AddsRules command.entry sweep_rules new) }
+{
     with_numbers(alloc, command, &SWEEP)
 }
 
+/// Returns the number that was given for an option.
+pub fn said(matches: &ArgMatches, name: &str) -> Option<u64>
+    ensures { Says (rows_of (found_of matches.now)) name.now result }
+{
+    matches.get_one::<u64>(name)
+}
+
 /// Returns the number that was given for an option, or the default.
-fn given(matches: &ArgMatches, name: &str, default: u64) -> u64 {
-    matches.get_one::<u64>(name).unwrap_or(default)
+pub fn given(matches: &ArgMatches, name: &str, default: u64) -> u64
+    ensures { IsGiven (rows_of (found_of matches.now)) name.now default result }
+{
+    said(matches, name).unwrap_or(default)
+}
+
+/// Returns whether a flag is there.
+pub fn is_flag(matches: &ArgMatches, name: &str) -> bool
+    ensures { IsFlag (rows_of (found_of matches.now)) name.now result }
+{
+    matches.get_flag(name)
 }
 
 /// Returns what the options of a sweep ask for in each of its cases.
-pub fn sweep_options(matches: &ArgMatches) -> Asked {
+pub fn sweep_options(matches: &ArgMatches) -> Asked
+    ensures { AsksForSweep (rows_of (found_of matches.now)) result }
+{
     Asked {
         start: given(matches, "start", DEFAULTS.start),
         workers: given(matches, "workers", DEFAULTS.workers),
-        base: matches.get_one::<u64>("base"),
+        base: said(matches, "base"),
         ..DEFAULTS
     }
 }
 
-/// Returns the settings that a command's options make, or the first that is out of its range.
-pub fn settings_of(matches: &ArgMatches) -> Result<Settings, SettingsError> {
-    Settings::new(Asked {
+/// Returns what the options of a report or of a live run ask for.
+fn asked_of(matches: &ArgMatches) -> Asked
+    ensures { AsksFor (rows_of (found_of matches.now)) result }
+{
+    Asked {
         min: given(matches, "min", DEFAULTS.min),
         max: given(matches, "max", DEFAULTS.max),
         increment: given(matches, "inc", DEFAULTS.increment),
@@ -178,7 +221,15 @@ pub fn settings_of(matches: &ArgMatches) -> Result<Settings, SettingsError> {
         streams: given(matches, "streams", DEFAULTS.streams),
         replayers: given(matches, "replayers", DEFAULTS.replayers),
         lane: given(matches, "lane", DEFAULTS.lane),
-        skip: matches.get_flag("skip"),
-        base: matches.get_one::<u64>("base"),
-    })
+        skip: is_flag(matches, "skip"),
+        base: said(matches, "base"),
+    }
+}
+
+/// Returns the settings that a command's options make, or the first that is out of its range.
+pub fn settings_of(matches: &ArgMatches) -> Result<Settings, SettingsError>
+    ensures made { IfOk result (λ settings. AsksFor (rows_of (found_of matches.now)) settings) }
+    ensures refused { IfErr result (λ e. AreRefused (rows_of (found_of matches.now)) e) }
+{
+    Settings::new(asked_of(matches))
 }

@@ -1,7 +1,8 @@
 //! The program over words, a source and two sinks.
 
-ghost use Rattle.std.specs.Prelude.{◌≡◌, ◌≤◌, ◌⊎◌, List, ℕ, false, true};
+ghost use Rattle.std.specs.Prelude.{◌≡◌, ◌≤◌, ◌⊎◌, List, ℕ, false, map, string_bytes, true};
 ghost use Rattle.std.specs.Io.KnownBytes.{Appends};
+ghost use Rattle.job_words.specs.Commands.{AreRefusedWords, AskForHelp, IsHelp, IsWordsRefusal, WordsAsk};
 ghost use Rattle.migration_jobs.specs.Output.{IsOutput};
 
 use arrayvec::ArrayString;
@@ -85,7 +86,8 @@ pub fn refuse<K: Sink, E: Sink>(error: WordsError, sink: &mut K, faults: &mut E)
     requires untold { E.has_failed faults.old ≡ false }
     ensures status { result ≤ 2 }
     ensures flushed { result ≡ 0 → K.is_flushed sink.new ≡ true }
-    ensures refused { result ≡ 2 → sink.new ≡ sink.old }
+    ensures help { result ≡ 0 → IsHelp error }
+    ensures refused { result ≡ 2 → IsWordsRefusal error × (sink.new ≡ sink.old) }
 {
     match error {
         WordsError::Help(text) => run_help(text.as_str(), sink, faults),
@@ -117,12 +119,14 @@ pub fn start<R: Threads + Wait + Sync, S: Source, K: Sink, E: Sink>(
     ensures status { result ≤ 2 }
     // Nothing that was written is kept back.
     ensures flushed { result ≡ 0 → K.is_flushed sink.new ≡ true }
-    // What was written is the output of a job over what was read; or else, as after a request for help, nothing was
-    // read.
-    ensures written { result ≡ 0 → ((job : Job) × (output : List ℕ) × IsOutput (S.remaining source.old) job output
-        × Appends (K.contents sink.old) (K.contents sink.new) output) ⊎ (source.new ≡ source.old) }
+    // What was written is the output of the job that the words ask for, over what was read; or else they ask for help,
+    // and nothing was read.
+    ensures written { result ≡ 0 → ((job : Job) × (output : List ℕ) × WordsAsk (map string_bytes words.items) job
+        × IsOutput (S.remaining source.old) job output × Appends (K.contents sink.old) (K.contents sink.new) output)
+        ⊎ (AskForHelp (map string_bytes words.items) × (source.new ≡ source.old)) }
     // Words are refused before any byte of the trace is read, and nothing is written then.
-    ensures refused { result ≡ 2 → (source.new ≡ source.old) × (sink.new ≡ sink.old) }
+    ensures refused { result ≡ 2 → AreRefusedWords (map string_bytes words.items) × (source.new ≡ source.old)
+        × (sink.new ≡ sink.old) }
 {
     match job_of(alloc, &words) {
         Ok(job) => run_job(rt, alloc, &job, source, sink, faults),

@@ -1,7 +1,11 @@
 //! The options of advice and of reports for a terminal, and what they make.
 
+ghost use Rattle.std.specs.Prelude.{IfErr, IfNone, IfOk, IfSome};
+ghost use Rattle.clap.specs.Words.{found_of, rows_of};
+ghost use Rattle.view_words.specs.Views.{AsksForBudget, AsksForGrid, AsksForStyle, IsGridRefused, IsWidthRefused};
+
 use clap::{ArgMatches, Command};
-use job_words::{flag, number, sweep_options, with_report, with_sweep};
+use job_words::{flag, given, is_flag, number, said, sweep_options, with_report, with_sweep};
 use rate_limit::{Asked, Settings, SettingsError};
 use report_pictures::Style;
 use std::alloc::{AllocError, Global};
@@ -27,23 +31,34 @@ pub(crate) fn with_budget<'a>(
 }
 
 /// Returns what the options allow a migration to cost.
-pub(crate) fn budget_of(options: &ArgMatches) -> Budget {
+pub(crate) fn budget_of(options: &ArgMatches) -> Budget
+    ensures { AsksForBudget (rows_of (found_of options.now)) result }
+{
     Budget {
-        down: options.get_one::<u64>("down").unwrap_or(0),
-        total: options.get_one::<u64>("total"),
+        down: given(options, "down", 0),
+        total: said(options, "total"),
     }
 }
 
-/// Returns the settings that the options of advice make, or the first that is out of its range. The least rate is no
-/// greater than the greatest.
-pub(crate) fn settings_for(options: &ArgMatches) -> Result<Settings, SettingsError> {
+/// Returns what the options of advice ask for. The least rate is no greater than the greatest.
+fn grid_of(options: &ArgMatches) -> Asked
+    ensures { AsksForGrid (rows_of (found_of options.now)) result }
+{
     let asked = sweep_options(options);
-    let max = options.get_one::<u64>("max").unwrap_or(asked.max);
-    Settings::new(Asked {
+    let max = given(options, "max", asked.max);
+    Asked {
         max,
         min: asked.min.min(max),
         ..asked
-    })
+    }
+}
+
+/// Returns the settings that the options of advice make, or the first that is out of its range.
+pub(crate) fn settings_for(options: &ArgMatches) -> Result<Settings, SettingsError>
+    ensures made { IfOk result (λ settings. AsksForGrid (rows_of (found_of options.now)) settings) }
+    ensures refused { IfErr result (λ e. IsGridRefused (rows_of (found_of options.now)) e) }
+{
+    Settings::new(grid_of(options))
 }
 
 /// How wide a line may be.
@@ -68,13 +83,16 @@ pub(crate) fn with_style<'a>(
 }
 
 /// Returns how a report is shown, where its width is in range.
-pub(crate) fn style_of(options: &ArgMatches) -> Option<Style> {
-    let width = options.get_one::<u64>("width").unwrap_or(DEFAULT_WIDTH);
+pub(crate) fn style_of(options: &ArgMatches) -> Option<Style>
+    ensures style { IfSome result (λ style. AsksForStyle (rows_of (found_of options.now)) style) }
+    ensures refused { IfNone result (IsWidthRefused (rows_of (found_of options.now))) }
+{
+    let width = given(options, "width", DEFAULT_WIDTH);
     if width < MIN_WIDTH || width > MAX_WIDTH {
         return None;
     }
     Some(Style {
         width: width as usize,
-        colors: options.get_flag("color"),
+        colors: is_flag(options, "color"),
     })
 }

@@ -1,0 +1,5 @@
+pub mod CaseLemmas
+pub mod OptionLemmas
+pub mod CommandLemmas
+pub mod LineLemmas
+pub mod HelpLemmas

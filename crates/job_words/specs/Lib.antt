@@ -1,0 +1,4 @@
+pub mod Cases
+pub mod Options
+pub mod Jobs
+pub mod Commands

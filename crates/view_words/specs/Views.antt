@@ -1,0 +1,87 @@
+-- Which view a command asks for, by its name and by what clap found behind it, and why it is refused.
+use Rattle.std.specs.Prelude.{◌≡◌, ◌<◌, ◌≤◌, ◌⊎◌, ℕ, List, Some, ⊤, codes, length, min}
+use Rattle.clap.specs.Walk.{Row, Text}
+use Rattle.migration_model.specs.Rates.{MigrationSettings}
+use Rattle.rate_limit.specs.Refusals.{refusal_of}
+use Rattle.rate_limit.specs.declared.error.SettingsError.{SettingsError}
+use Rattle.job_words.specs.Jobs.{AsksForCases, RefusesSweep}
+use Rattle.job_words.specs.Options.{AreRefused, AsksFor, AsksForSweep, IsFlag, IsGiven, Says}
+use Rattle.job_words.specs.declared.command.WordsError.{WordsError}
+use Rattle.job_words.specs.declared.command.WordsError.TheVariants as errors
+use Rattle.job_words.specs.declared.command.WordsRefusal.TheVariants as refusals
+use Rattle.report_pictures.specs.declared.table.Style.{Style}
+use Rattle.trace_views.specs.declared.budget.Budget.{Budget}
+use Rattle.trace_views.specs.declared.view.View.{View}
+use Rattle.trace_views.specs.declared.view.View.TheVariants as views
+
+-- a width of a terminal's line
+abbrev pub IsWidth : ℕ → Type 0
+IsWidth n = (72 ≤ n) × (n ≤ 512)
+
+-- the options ask for this style
+pub record AsksForStyle (rows : List Row) (style : Style) : Type 0 where
+  pub width : IsGiven rows (codes "width") 80 style.width
+  pub in_range : IsWidth style.width
+  pub colors : IsFlag rows (codes "color") style.colors
+
+-- the options ask for a width that is out of range
+pub record IsWidthRefused (rows : List Row) : Type 0 where
+  pub width : ℕ
+  pub given : IsGiven rows (codes "width") 80 width
+  pub out_of_range : (width < 72) ⊎ (512 < width)
+
+-- the options ask for this budget (clap refuses words without `--down` beforehand)
+pub record AsksForBudget (rows : List Row) (budget : Budget) : Type 0 where
+  pub down : IsGiven rows (codes "down") 0 budget.down
+  pub total : Says rows (codes "total") budget.total
+
+-- The settings round which advice is sought: those of a sweep, with the greatest rate that is given, and with the
+-- least rate no greater than that.
+pub record AsksForGrid (rows : List Row) (settings : MigrationSettings) : Type 0 where
+  pub options : MigrationSettings
+  pub asked : AsksForSweep rows options
+  pub max : IsGiven rows (codes "max") options.max settings.max
+  pub others : settings ≡ record options { max = settings.max; min = min options.min settings.max }
+
+-- the options of advice ask for settings that are refused for this
+abbrev pub IsGridRefused : List Row → SettingsError → Type 0
+IsGridRefused rows e = (settings : MigrationSettings) × AsksForGrid rows settings × (refusal_of settings ≡ Some e)
+
+-- A command of this name, with what clap found behind it, asks for this view. The documents stand below `json`.
+abbrev pub AsksForView : Text → List Row → View → Type 0
+AsksForView name rows (views.JsonReport settings) = (name ≡ codes "report") × AsksFor rows settings
+AsksForView name rows (views.JsonSweep cases workers) = (name ≡ codes "sweep") × AsksForCases rows cases.items workers
+AsksForView name rows (views.Advise budget settings) =
+    (name ≡ codes "advise") × AsksForBudget rows budget × AsksForGrid rows settings
+AsksForView name rows (views.Show settings style) =
+    (name ≡ codes "show") × AsksFor rows settings × AsksForStyle rows style
+AsksForView name rows (views.Chart settings) = (name ≡ codes "chart") × AsksFor rows settings
+
+-- a view of a sweep has at most 256 cases, and a report for a terminal lines of a width that a terminal may have
+abbrev pub IsFairView : View → Type 0
+IsFairView (views.JsonReport settings) = ⊤
+IsFairView (views.JsonSweep cases workers) = length cases.items ≤ 256
+IsFairView (views.Advise budget settings) = ⊤
+IsFairView (views.Show settings style) = IsWidth style.width
+IsFairView (views.Chart settings) = ⊤
+
+-- A command of this name is refused for this: settings that are out of range, or the cases of a sweep.
+abbrev pub RefusesView : Text → List Row → WordsError → Type 0
+RefusesView name rows errors.Memory = ⊤
+RefusesView name rows (errors.Help text) = ⊥
+RefusesView name rows (errors.Usage text) = (name ≡ codes "show") × IsWidthRefused rows
+RefusesView name rows (errors.Refused (refusals.Settings e)) =
+    AreRefused rows e ⊎ ((name ≡ codes "advise") × IsGridRefused rows e)
+RefusesView name rows (errors.Refused refusals.TooManyCases) =
+    (name ≡ codes "sweep") × RefusesSweep rows refusals.TooManyCases
+RefusesView name rows (errors.Refused (refusals.Case place)) =
+    (name ≡ codes "sweep") × RefusesSweep rows (refusals.Case place)
+RefusesView name rows (errors.Refused (refusals.CaseSettings place e)) =
+    (name ≡ codes "sweep") × RefusesSweep rows (refusals.CaseSettings place e)
+
+-- a text about words that are not taken, or memory ran out
+abbrev pub IsUsage : WordsError → Type 0
+IsUsage errors.Memory = ⊤
+IsUsage (errors.Usage text) = ⊤
+IsUsage (errors.Help text) = ⊥
+IsUsage (errors.Refused refusal) = ⊥
