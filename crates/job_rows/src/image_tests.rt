@@ -1,5 +1,5 @@
-//! Memory that `image` makes page by page, since it is too large to be made whole, and memory that it makes whole once
-//! as many bytes of the trace have come.
+//! Memory that `image` makes page by page, since it is too large to be made whole, and memory that it makes whole once a
+//! quarter as many bytes of the trace have come.
 
 use crate::tests::ran;
 use migration_jobs::{Job, RunError, TestSink};
@@ -165,8 +165,8 @@ fn are_last_written(memory: &[u8], count: u16) -> bool {
 #[test]
 fn writes_memory_that_is_shorter_or_longer_than_its_trace(rt: HostRuntime) -> Result<(), Fail> {
     let alloc = rt.alloc();
-    // 520 writes have 2,138,256 bytes, more than the memory; 4 have fewer.
-    for count in [4u16, 520] {
+    // 520 writes have 2,138,256 bytes, more than the memory; 130 have a quarter as many, and 4 have fewer.
+    for count in [4u16, 130, 520] {
         for greatest in [100_000, usize::MAX] {
             let source = TestSource::new(pages_in_turn(alloc, count)?, greatest, None);
             let sink = TestSink::new(Vec::new(alloc), usize::MAX, None, false);

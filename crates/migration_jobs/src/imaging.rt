@@ -22,8 +22,8 @@ use trace_readers::IncomingTrace;
 /// Memory of up to so many bytes, `2^20`, is made whole from the first write on.
 const SMALL_MEMORY: usize = 1_048_576;
 
-/// Memory of up to so many bytes, `2^25`, is made whole once as many bytes of the trace have come: that takes less time
-/// than pages one by one, and little memory.
+/// Memory of up to so many bytes, `2^25`, is made whole once a quarter as many bytes of the trace have come: that takes
+/// less time than pages one by one, and little memory.
 const WHOLE_MEMORY: usize = 33_554_432;
 
 /// Reads on until the memory of the trace may be made whole. Returns the trace's header then, or None where the memory
@@ -46,7 +46,7 @@ fn header_for_whole<S: Source>(
     if size > WHOLE_MEMORY {
         return Ok(None);
     }
-    if size > SMALL_MEMORY && !incoming.read_to(source, size)? {
+    if size > SMALL_MEMORY && !incoming.read_to(source, size / 4)? {
         return Ok(None);
     }
     Ok(incoming.header().ok())
