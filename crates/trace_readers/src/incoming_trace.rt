@@ -1,6 +1,6 @@
 //! A trace on its way from a source, before it is known what becomes of it.
 
-ghost use Rattle.std.specs.Io.KnownBytes.{Consumes};
+ghost use Rattle.std.specs.Io.KnownBytes.{Consumes, IsAtEnd};
 ghost use Rattle.std.specs.Prelude.{◌≡◌, ◌↔◌, ◌-◌, ◌^◌, ◌≤◌, [], ℕ, List, Option, Err, IfErr, IfOk, OnOk, false};
 ghost use Rattle.std.specs.Prelude.{length, true};
 ghost use Rattle.migration_model.specs.Numbers.{IsBytes};
@@ -61,6 +61,7 @@ impl IncomingTrace {
         ensures came { OnOk result ((old : Option (List ℕ)) → Consumes old (S.remaining source.old) self.old
             → Consumes old (S.remaining source.new) self.new) }
         ensures enough { IfOk result (λ enough. enough ≡ true → count ≤ length self.new) }
+        ensures ended { IfOk result (λ enough. enough ≡ false → IsAtEnd (S.remaining source.new)) }
         ensures outside { IfErr result IsOutside }
         ensures failed { (result ≡ Err TraceError.ReadFault) ↔ (S.has_failed source.new ≡ true) }
     {
