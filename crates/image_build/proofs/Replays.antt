@@ -1,14 +1,18 @@
 -- Memory on the way through the writes.
-use Rattle.std.proofs.Common.{◌≡◌, ℕ, suc, ◌+◌, ◌*◌, ◌^◌, ◌<◌, ◌≤◌, Bool, true, false, List, [], ◌∷◌, ◌++◌, length, get_or, drop, Result, Ok, Err, refl, sym, ap, subst, ◌∙◌, arith}
+use Rattle.std.proofs.Common.{◌≡◌, ℕ, suc, ◌+◌, ◌*◌, ◌^◌, ◌<◌, ◌≤◌, Bool, true, false, List, [], ◌∷◌, ◌++◌, length, get_or, drop, ltb, Result, Ok, Err, refl, sym, ap, subst, ◌∙◌, arith}
 use Rattle.std.specs.List.{filter, fold}
-use Rattle.std.proofs.lemmas.Bool.{cond-false, cond-true}
-use Rattle.std.proofs.lemmas.List.{drop_more}
+use Rattle.std.specs.List.Sorted.{IsPartitionPoint}
+use Rattle.std.proofs.lemmas.Bool.{cond-true}
+use Rattle.std.proofs.lemmas.List.{drop_more, get_or-drop, get_or-map, length-drop, length-map}
 use Rattle.std.proofs.Math.Nat.{mul-le-mul_right}
 use Rattle.std.proofs.lemmas.List.Sums.{fold-append}
 use Rattle.std.specs.Prelude.{IfOk, IfErr, MatchResult}
 use Rattle.migration_model.specs.Trace.{GuestWrite, GuestTrace, IsGuestWrite, IsTrace, Spells}
 use Rattle.migration_model.proofs.Pages.{length-put, puts_within}
 use Rattle.migration_model.proofs.Traces.{one_trace_lem}
+use Rattle.migration_model.specs.Touches.{GuestTouch, no_touch, touch_of, touches_of}
+use Rattle.guest_log.specs.Writes.{no_write}
+use Rattle.page_versions.proofs.Places.{filter_none}
 use Rattle.trace_codec.proofs.Never.{never_refused}
 use Rattle.image_build.specs.Replay.{RefusesReplay}
 use Rattle.image_build.specs.declared.error.ReplayError.{ReplayError}
@@ -74,23 +78,44 @@ Becomes-item version shift pages memory next items i write seen whole before low
     Becomes-next version shift pages memory next seen (drop (i + 1) items) whole
     (subst (λ (l : List GuestWrite). Becomes shift pages memory l whole) (first_from items i write seen low at seen_is) before) fits is
 
--- ---- of which some are left out
+-- ---- of which the first are before a tick
 
-pub Becomes-passed : (keeps : GuestWrite → Bool) (version shift pages : ℕ) (memory next : List ℕ) (items : List GuestWrite) (i : ℕ) (write seen : GuestWrite) (whole : GuestMemory)
-    → Becomes shift pages memory (filter keeps (drop i items)) whole → i < length items → write ≡ get_or items i write → seen ≡ write → keeps seen ≡ true
-    → IsGuestWrite version shift pages seen → next ≡ put memory (seen.page * 2 ^ shift + seen.offset) (bytes_put shift seen)
-    → Becomes shift pages next (filter keeps (drop (i + 1) items)) whole
-Becomes-passed keeps version shift pages memory next items i write seen whole before low at seen_is passes fits is =
-    let rest : List GuestWrite = filter keeps (drop (i + 1) items) in
-    let kept : filter keeps (drop i items) ≡ seen ∷ rest =
-    ap (filter keeps) (first_from items i write seen low at seen_is) ∙ cond-true (keeps seen) (seen ∷ rest) rest passes in
-    Becomes-next version shift pages memory next seen rest whole (subst (λ (l : List GuestWrite). Becomes shift pages memory l whole) kept before) fits is
+abbrev pub IsPoint : GuestTrace → ℕ → ℕ → Type 0
+IsPoint trace tick count =
+    IsPartitionPoint (λ (t : GuestTouch). ltb t.tick tick ≡ true) (λ (t : GuestTouch). ltb t.tick tick ≡ false) (touches_of trace) count
 
-pub Becomes-left : (keeps : GuestWrite → Bool) (shift pages : ℕ) (memory : List ℕ) (items : List GuestWrite) (i : ℕ) (write seen : GuestWrite) (whole : GuestMemory)
-    → Becomes shift pages memory (filter keeps (drop i items)) whole → i < length items → write ≡ get_or items i write → seen ≡ write → keeps seen ≡ false
-    → Becomes shift pages memory (filter keeps (drop (i + 1) items)) whole
-Becomes-left keeps shift pages memory items i write seen whole before low at seen_is fails =
-    let rest : List GuestWrite = filter keeps (drop (i + 1) items) in
-    let left : filter keeps (drop i items) ≡ rest =
-    ap (filter keeps) (first_from items i write seen low at seen_is) ∙ cond-false (keeps seen) (seen ∷ rest) rest fails in
-    subst (λ (l : List GuestWrite). Becomes shift pages memory l whole) left before
+-- what is left of the writes before a tick, from an index on
+abbrev pub left_before : GuestTrace → ℕ → ℕ → List GuestWrite
+left_before trace tick index = filter (λ w. ltb w.tick tick) (drop index trace.writes)
+
+-- the write at an index is one of its guest
+pub write_there : (trace : GuestTrace) (index : ℕ) (seen : GuestWrite) → IsTrace trace → index < length trace.writes → seen ≡ get_or trace.writes index no_write
+    → IsGuestWrite trace.version trace.shift trace.pages seen
+write_there trace index seen is inside at = rw at (is.writes.each index no_write inside)
+
+is_before : (trace : GuestTrace) (tick count index : ℕ) → IsPoint trace tick count → index < count → index < length trace.writes
+    → ltb (get_or trace.writes index no_write).tick tick ≡ true
+is_before trace tick count index point low inside =
+    ap (λ (t : GuestTouch). ltb t.tick tick) (sym (get_or-map touch_of trace.writes index no_write no_touch inside)) ∙ point.0 index no_touch (omega arith) low
+
+-- one of them, at its index, was put
+pub Becomes-before : (trace : GuestTrace) (tick count index shift pages : ℕ) (memory next : List ℕ) (seen : GuestWrite) (whole : GuestMemory)
+    → IsPoint trace tick count → index < count → index < length trace.writes → seen ≡ get_or trace.writes index no_write
+    → Becomes shift pages memory (left_before trace tick index) whole → IsGuestWrite trace.version shift pages seen
+    → next ≡ put memory (seen.page * 2 ^ shift + seen.offset) (bytes_put shift seen)
+    → Becomes shift pages next (left_before trace tick (index + 1)) whole
+Becomes-before trace tick count index shift pages memory next seen whole point low inside at before fits is =
+    let passes : ltb seen.tick tick ≡ true = ap (λ (w : GuestWrite). ltb w.tick tick) at ∙ is_before trace tick count index point low inside in
+    let rest : List GuestWrite = left_before trace tick (index + 1) in
+    let kept : left_before trace tick index ≡ seen ∷ rest =
+    ap (filter (λ w. ltb w.tick tick)) (drop_more trace.writes index no_write inside ∙ ap (λ (w : GuestWrite). w ∷ drop (index + 1) trace.writes) (sym at)) ∙ cond-true (ltb seen.tick tick) (seen ∷ rest) rest passes in
+    Becomes-next trace.version shift pages memory next seen rest whole (subst (λ (l : List GuestWrite). Becomes shift pages memory l whole) kept before) fits is
+
+-- behind the last of them there is none
+pub none_before : (trace : GuestTrace) (tick count : ℕ) → IsPoint trace tick count → left_before trace tick count ≡ []
+none_before trace tick count point =
+    filter_none (λ (w : GuestWrite). ltb w.tick tick) (drop count trace.writes) (λ k d inside.
+    let here : count + k < length trace.writes = omega (arith, inside, length-drop count trace.writes) in
+    rw (get_or-drop count trace.writes k d)
+    (ap (λ (t : GuestTouch). ltb t.tick tick) (sym (get_or-map touch_of trace.writes (count + k) d no_touch here))
+    ∙ point.1 (count + k) no_touch (omega arith) (omega (arith, here, length-map trace.writes touch_of))))

@@ -9,7 +9,7 @@ ghost use Rattle.guest_log.specs.Writes.{shown};
 use crate::error::{ImageError, ReplayError};
 use crate::image::Image;
 use std::alloc::{AllocError, Global};
-use trace_codec::{Shape, Trace, TraceReader, TraceView, WriteView};
+use trace_codec::{Shape, Trace, TraceReader, TraceView, WriteLog, WriteView};
 
 /// Returns memory of this shape before any write: zeros.
 fn blank(alloc: Global, shape: Shape) -> Result<Vec<u8>, AllocError>
@@ -43,15 +43,15 @@ pub fn replay(alloc: Global, trace: &Trace) -> Result<Image, ImageError>
 }
 
 /// Returns the memory after the writes before a tick. The only error is that memory runs out.
-pub fn replay_before(alloc: Global, trace: &Trace, tick: u64) -> Result<Image, ImageError>
-    ensures { MatchResult result (λ image. image ≡ image_before trace.now tick) (λ e. e ≡ ImageError.Memory) }
+pub fn replay_before<W: WriteLog>(alloc: Global, trace: &W, tick: u64) -> Result<Image, ImageError>
+    ensures { MatchResult result (λ image. image ≡ image_before (W.trace trace.now) tick)
+        (λ e. e ≡ ImageError.Memory) }
 {
     let shape = trace.shape();
     let mut memory = blank(alloc, shape)?;
-    for write in &trace.writes {
-        if write.tick < tick {
-            write_over(&mut memory, shape, &write.view());
-        }
+    let end = trace.before(tick);
+    for index in 0..end {
+        write_over(&mut memory, shape, &trace.write(index));
     }
     Ok(Image::of(shape.shift, shape.pages, memory))
 }

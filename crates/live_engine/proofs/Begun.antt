@@ -16,7 +16,7 @@ use Rattle.migration_model.proofs.Parts.{IsHonest-join, get_or-later_each, later
 use Rattle.migration_model.proofs.Warm.{first_copy, first_had, first_shape, is_first_part}
 use Rattle.dirty_words.specs.Seats.{ClosedView}
 use Rattle.live_engine.specs.Runs.{AllArrived, AllCame}
-use Rattle.live_engine.specs.Warm.{parts_with}
+use Rattle.stream_receivers.specs.First.{parts_with}
 use Rattle.live_engine.proofs.Each.{any_at, any_there}
 
 if_some : {P : PageCopy → Type 0} (o : Option PageCopy) → ((copy : PageCopy) → o ≡ Some copy → P copy) → IfSome o P
@@ -171,9 +171,3 @@ pub shapes_begun : (trace : GuestTrace) (base : Option ℕ) (parts : List GuestP
     → IfSome (option_map (λ tick. first_part trace (Some tick)) base) (λ one. All (λ (p : GuestPart). one.shape ≡ p.shape) parts)
 shapes_begun trace None parts shapes = tt
 shapes_begun trace (Some tick) parts shapes = λ i d low. sym (shapes i d low)
-
--- the first of some parts, replaced
-pub first_set : (first empty d : GuestPart) (parts : List GuestPart) → 1 ≤ length parts
-    → set (set parts 0 empty) 0 (join first (get_or parts 0 d)) ≡ parts_with (Some first) parts
-first_set first empty d [] some = absurd (omega (arith, some))
-first_set first empty d (part ∷ rest) some = refl

@@ -74,15 +74,6 @@ pub record AreDone (trace : GuestTrace) (s : MigrationSettings) (plan : Migratio
   pub law : (lane : ℕ) → HaveCapacity lane (lanes_of (rows_of before))
       → LiveRounds trace s.base s.skip team.copiers lane plan.rounds rounds
 
--- what a run begins with: an index of the trace, a team, the plan, and a state for each copier
-pub record MayBegin (trace : GuestTrace) (index : GuestIndex) (s : MigrationSettings)
-    (plan : MigrationPlan) (team : Team)
-    (states : List CopierStateView) : Type 0 where
-  pub is_index : IsIndexOf index trace
-  pub is_team : IsTeam team
-  pub is_plan : IsPlan trace.pages (touches_of trace) s plan
-  pub states_are : AreNewStates trace team states
-
 -- the rounds are done, and each receiver has the lanes and the guest that it had
 pub record HaveEnded (trace : GuestTrace) (s : MigrationSettings) (plan : MigrationPlan) (team : Team)
     (before : List CopierStateView)

@@ -1,6 +1,6 @@
 //! Why a live run gives no image.
 
-ghost use Rattle.std.specs.Prelude.{◌≡◌};
+ghost use Rattle.std.specs.Prelude.{◌≡◌, ◌⊎◌};
 ghost use Rattle.live_engine.specs.declared.error.LiveError.TheVariants.{Memory, Thread};
 
 use collector::PartError;
@@ -119,6 +119,9 @@ impl<F: Drop> From<SpawnError<F>> for LiveError {
 }
 
 impl From<CopyError> for LiveError {
+    ghost from_gives = { λ error e. ((error ≡ CopyError.Memory) × (e ≡ Memory))
+        ⊎ ((error ≡ CopyError.Thread) × (e ≡ Thread)) };
+
     fn from(error: CopyError) -> LiveError {
         match error {
             CopyError::Memory => LiveError::Memory,

@@ -20,6 +20,7 @@ mod error;
 mod laws;
 mod migration;
 mod opening;
+mod preparation;
 mod receivers;
 mod rounds;
 mod stopped;

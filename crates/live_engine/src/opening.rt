@@ -79,19 +79,17 @@ pub(crate) fn versions_before<W: WriteLog>(
 /// Returns a state for each copier, before the first round, with its lanes.
 fn new_states(
     alloc: Global,
-    shape: &Shape,
     rows: Vec<Vec<LaneOut>>,
 ) -> Result<VecDeque<CopierState>, LiveError>
     requires some { All (λ row. 1 ≤ length row.items) rows.items }
     requires few { All (λ row. length row.items ≤ 16) rows.items }
     ensures rows { IfOk result (λ v. rows_of v.items ≡ map (λ row. row.items) rows.items) }
-    ensures each { (trace : GuestTrace) (streams : ℕ) → trace.shift ≡ shape.now.shift → trace.pages ≡ shape.now.pages
-        → All (λ row. length row.items ≡ streams) rows.items
+    ensures each { (trace : GuestTrace) (streams : ℕ) → All (λ row. length row.items ≡ streams) rows.items
         → IfOk result (λ v. All (IsCopierState trace streams) v.items) }
 {
     let mut states = VecDeque::with_capacity(alloc, rows.len())?;
     for row in rows {
-        states.push_back(CopierState::new(alloc, shape, row)?)?;
+        states.push_back(CopierState::new(alloc, row)?)?;
     }
     Ok(states)
 }
@@ -125,7 +123,7 @@ pub(crate) fn open_lanes<W: WriteLog>(
 {
     let shape = trace.shape();
     let Lanes { outs, ins } = lanes(alloc, team.copiers, team.streams, team.lane)?;
-    let states = new_states(alloc, &shape, outs)?;
+    let states = new_states(alloc, outs)?;
     let receivers = new_receivers(alloc, shape, ins)?;
     Ok((states, receivers))
 }

@@ -42,10 +42,14 @@ pub(crate) struct Migration<'a, W: WriteLog, G> {
     pub(crate) trace: &'a W,
     pub(crate) index: &'a PageIndex,
     pub(crate) gate: &'a G,
+    pub(crate) settings: &'a Settings,
+    pub(crate) plan: &'a Plan,
     pub(crate) signals: &'a Signals,
     pub(crate) team: Team,
     pub(crate) ghost is_index: { IsIndexOf index.now (W.trace trace.now) },
     pub(crate) ghost is_team: { IsTeam team },
+    pub(crate) ghost is_plan: { IsPlan (W.trace trace.now).pages (touches_of (W.trace trace.now))
+        settings.now plan.now },
 }
 
 /// What a migration has come to between two rounds.
@@ -192,21 +196,18 @@ impl<'a, W: WriteLog + Sync, G: Gate> Migration<'a, W, G> {
         &self,
         rt: &R,
         alloc: Global,
-        settings: &Settings,
-        plan: &Plan,
         states: VecDeque<CopierState>,
     ) -> Result<Progress, LiveError>
-        requires plan { IsPlan (W.trace self.now.trace.now).pages (touches_of (W.trace self.now.trace.now))
-            settings.now plan.now }
         requires states { AreNewStates (W.trace self.now.trace.now) self.now.team states.items }
-        ensures { IfOk result (λ p. AreDone (W.trace self.now.trace.now) settings.now plan.now
+        ensures { IfOk result (λ p. AreDone (W.trace self.now.trace.now) self.now.settings.now self.now.plan.now
             self.now.team states.items
             p.closed p.rounds.items p.states.items) }
     {
-        let asked = settings.asked();
+        let asked = self.settings.asked();
+        let rounds = &self.plan.rounds;
         let mut progress = self.begin(alloc, asked.base, asked.start, states)?;
-        for number in 0..plan.rounds.len() {
-            progress = self.run_round(rt, alloc, asked.skip, &plan.rounds[number], progress)?;
+        for number in 0..rounds.len() {
+            progress = self.run_round(rt, alloc, asked.skip, &rounds[number], progress)?;
         }
         Ok(progress)
     }

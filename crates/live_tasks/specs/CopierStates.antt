@@ -1,15 +1,14 @@
 -- What a copier keeps from round to round.
-use Rattle.std.specs.Prelude.{◌≡◌, ℕ, ◌/◌, ◌^◌, List, length, max, min}
+use Rattle.std.specs.Prelude.{◌≡◌, ℕ, List, length}
 use Rattle.migration_model.specs.Trace.{GuestTrace}
 use Rattle.page_cache.specs.Cache.{AreKept, GuestCache, GuestPages}
 use Rattle.stream_split.specs.Deals.{Turn}
 use Rattle.stream_lanes.specs.Ends.{OutView}
 use Rattle.live_tasks.specs.RoundLogs.{RoundLogView}
 
--- How many pages of 2 to the power of this shift a copier keeps at most: as many as 4 MiB hold, but at least 64 and at
--- most 4,096.
-abbrev pub cache_capacity : ℕ → ℕ
-cache_capacity shift = min 4_096 (max 64 (4_194_304 / 2 ^ shift))
+-- how many pages a copier keeps at most, over the whole run
+abbrev pub cache_capacity : ℕ
+cache_capacity = 64
 
 -- whose turn it is, the pages that are kept, what was listed, and the ends of the copier's lanes, one of each stream
 pub record CopierStateView : Type 0 where
@@ -24,6 +23,7 @@ state_with turn pages log outs = record { turn = turn; pages = pages; log = log;
 -- a state for a migration of this trace over so many streams
 pub record IsCopierState (trace : GuestTrace) (streams : ℕ) (state : CopierStateView) : Type 0 where
   pub kept : AreKept trace state.pages.entries
+  pub capacity_is : state.pages.capacity ≡ cache_capacity
   pub turns : state.turn.streams ≡ streams
   pub lanes_are : length state.outs ≡ streams
 

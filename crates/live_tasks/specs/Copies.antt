@@ -9,7 +9,7 @@ use Rattle.dirty_words.specs.Seats.{TableView, CopyView, copy_table}
 use Rattle.stream_lanes.specs.Ends.{OutView, HasRoom, IsSentOn}
 use Rattle.live_tasks.specs.RoundLogs.{IsCrowded, IsPosted, SpellsPage, frames_sent, with_deferred, with_sent}
 use Rattle.live_tasks.specs.RoundLogs.{with_skipped}
-use Rattle.live_tasks.specs.CopierStates.{CopierStateView, IsCopierState, RoundStateView}
+use Rattle.live_tasks.specs.CopierStates.{CopierStateView, IsCopierState, RoundStateView, cache_capacity}
 use Rattle.live_tasks.specs.Scans.{IsScanned}
 
 -- the copier looked at the page's word, and the answer says whether it showed the page
@@ -81,10 +81,11 @@ abbrev pub HasOfferedPage : GuestTrace → ℕ → CopyFacts → RoundStateView 
 HasOfferedPage trace page old before new state = HasSentPage trace page old before new state
     ⊎ HasDeferredPage page old before new state
 
--- the seat is of the table, and the state of the trace, with a lane for each turn
+-- the seat is of the table, and the state of the trace, with the cache's capacity and a lane for each turn
 pub record IsReady (trace : GuestTrace) (table : TableView) (seat : CopyView) (state : RoundStateView) : Type 0 where
   pub table_is : copy_table seat ≡ table
   pub trace_is : state.cache.trace ≡ trace
+  pub capacity_is : state.cache.capacity ≡ cache_capacity
   pub lanes : length state.outs ≡ state.turn.streams
 
 -- the copier went on, and what was scanned and posted stays so

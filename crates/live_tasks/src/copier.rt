@@ -23,10 +23,6 @@ use page_message::append_frame;
 use page_versions::PageIndex;
 use std::alloc::Global;
 
-/// A page with fewer writes in the whole trace than this is made from zeros each time it is sent: that takes little, and
-/// leaves the cache to pages that take long.
-const WRITTEN_OFTEN: usize = 128;
-
 /// What all copiers of a round share: a trace with its index, and a table of the trace's pages.
 #[derive(Drop)]
 pub struct Round<'a, W: WriteLog, G> {
@@ -99,9 +95,9 @@ impl<'a, W: WriteLog, G: Gate> Round<'a, W, G> {
         place
     }
 
-    /// Encodes the frame of a page, at the place that was read, into an empty buffer. The page comes from the cache,
-    /// which keeps it.
-    fn spell_kept(
+    /// Encodes the frame of a page, at the place that was read, into a buffer in place of what that holds. The page
+    /// comes from the cache, which keeps it.
+    fn spell(
         &self,
         cache: &mut PageCache<'_, W>,
         page: u32,
@@ -110,62 +106,19 @@ impl<'a, W: WriteLog, G: Gate> Round<'a, W, G> {
     ) -> Result<(), SeatError>
         requires trace { cache.old.trace ≡ (W.trace self.now.trace.now) }
         requires page { page < (W.trace self.now.trace.now).pages }
-        requires empty { text.old.items ≡ [] }
         ensures spells { OnOk result (SpellsPage (W.trace self.now.trace.now) page place text.new.items) }
         ensures trace { cache.new.trace ≡ cache.old.trace }
+        ensures capacity { cache.new.capacity ≡ cache.old.capacity }
     {
         let shape = self.trace.shape();
         let stamp = place.min(shape.writes);
+        text.clear();
         cache.keep(page, stamp)?;
         let Some(bytes) = cache.bytes(page) else {
             unreachable!()
         };
         append_frame(text, &shape, page, stamp, bytes)?;
         Ok(())
-    }
-
-    /// Encodes the frame of a page, at the place that was read, into an empty buffer. The page is made from zeros, in a
-    /// buffer of its own.
-    fn spell_made(
-        &self,
-        bytes: &mut Vec<u8>,
-        page: u32,
-        place: u32,
-        text: &mut Vec<u8>,
-    ) -> Result<(), SeatError>
-        requires page { page < (W.trace self.now.trace.now).pages }
-        requires empty { text.old.items ≡ [] }
-        ensures spells { OnOk result (SpellsPage (W.trace self.now.trace.now) page place text.new.items) }
-    {
-        let shape = self.trace.shape();
-        let stamp = place.min(shape.writes);
-        self.index.bytes_into(self.trace, page, stamp, bytes)?;
-        append_frame(text, &shape, page, stamp, bytes)?;
-        Ok(())
-    }
-
-    /// Encodes the frame of a page, at the place that was read, into a buffer in place of what that holds. A page that
-    /// is written often comes from the cache; any other is made from zeros, and pushes no page out of the cache.
-    fn spell(
-        &self,
-        state: &mut RoundState<'_, W>,
-        page: u32,
-        place: u32,
-        text: &mut Vec<u8>,
-    ) -> Result<(), SeatError>
-        requires trace { state.old.cache.trace ≡ (W.trace self.now.trace.now) }
-        requires page { page < (W.trace self.now.trace.now).pages }
-        ensures spells { OnOk result (SpellsPage (W.trace self.now.trace.now) page place text.new.items) }
-        ensures trace { state.new.cache.trace ≡ state.old.cache.trace }
-        ensures turn { state.new.turn ≡ state.old.turn }
-        ensures log { state.new.log ≡ state.old.log }
-        ensures outs { state.new.outs ≡ state.old.outs }
-    {
-        text.clear();
-        if self.index.places(page).len() < WRITTEN_OFTEN {
-            return self.spell_made(&mut state.page, page, place, text);
-        }
-        self.spell_kept(&mut state.cache, page, place, text)
     }
 
     /// Returns whether the page is marked now, without a harvest.
@@ -199,7 +152,7 @@ impl<'a, W: WriteLog, G: Gate> Round<'a, W, G> {
         ensures table { copy_table copier.new.seat ≡ copy_table copier.old.seat }
         ensures skipped { OnOk result (HasSkippedPage page copier.old.seat.facts copier.old.state
             copier.new.seat.facts copier.new.state) }
-        ensures trace { copier.new.state.cache.trace ≡ copier.old.state.cache.trace }
+        ensures cache { copier.new.state.cache ≡ copier.old.state.cache }
         ensures turn { copier.new.state.turn ≡ copier.old.state.turn }
     {
         self.restore(&mut copier.seat, page);
@@ -216,7 +169,7 @@ impl<'a, W: WriteLog, G: Gate> Round<'a, W, G> {
         ensures table { copy_table copier.new.seat ≡ copy_table copier.old.seat }
         ensures deferred { OnOk result (HasDeferredPage page copier.old.seat.facts copier.old.state
             copier.new.seat.facts copier.new.state) }
-        ensures trace { copier.new.state.cache.trace ≡ copier.old.state.cache.trace }
+        ensures cache { copier.new.state.cache ≡ copier.old.state.cache }
         ensures turn { copier.new.state.turn ≡ copier.old.state.turn }
     {
         self.restore(&mut copier.seat, page);
@@ -246,7 +199,7 @@ impl<'a, W: WriteLog, G: Gate> Round<'a, W, G> {
         };
         let place = self.read(&mut copier.seat, page);
         let mut text = copier.state.text(alloc, stream);
-        self.spell(&mut copier.state, page, place, &mut text)?;
+        self.spell(&mut copier.state.cache, page, place, &mut text)?;
         copier.state.send(stream, text);
         copier.state.log.list_sent(page, place)?;
         Ok(())

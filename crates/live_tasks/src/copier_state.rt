@@ -11,7 +11,7 @@ ghost use Rattle.stream_split.specs.Deals.{turn_with};
 
 use crate::error::SeatError;
 use crate::round_log::RoundLog;
-use guest_log::{Shape, WriteLog};
+use guest_log::WriteLog;
 use page_cache::{KeptPages, PageCache};
 use page_versions::PageIndex;
 use std::alloc::Global;
@@ -19,21 +19,8 @@ use std::marker::Model;
 use stream_lanes::LaneOut;
 use stream_split::Dealer;
 
-/// A copier's cache holds as many pages as have so many bytes together, within the two bounds below.
-const CACHE_BYTES: usize = 1 << 22;
-
-/// How many pages a copier's cache holds at least, once it is full.
-const LEAST_CAPACITY: usize = 64;
-
-/// How many pages a copier's cache holds at most.
-const MOST_CAPACITY: usize = 4_096;
-
-/// Returns how many pages a copier's cache holds at most, for a guest of this shape.
-fn capacity_for(shape: &Shape) -> usize
-    ensures { result ≡ cache_capacity shape.now.shift }
-{
-    MOST_CAPACITY.min(LEAST_CAPACITY.max(CACHE_BYTES / shape.page_size()))
-}
+/// How many pages a copier's cache keeps at most.
+const CACHE_CAPACITY: usize = 64;
 
 /// What a copier keeps from round to round: which stream's turn it is, its cache of the pages that it sent, the log of
 /// the last round, whose buffers the next round uses again, and the sending ends of its lanes.
@@ -41,8 +28,6 @@ fn capacity_for(shape: &Shape) -> usize
 pub struct CopierState {
     pub dealer: Dealer,
     pub pages: KeptPages,
-    /// A buffer in which it makes the pages that its cache does not keep.
-    pub page: Vec<u8>,
     pub log: RoundLog,
     /// The sending ends: one for each stream, in the order of the streams.
     pub outs: Vec<LaneOut>,
@@ -61,7 +46,6 @@ impl Model for CopierState {
 pub(crate) struct RoundState<'a, W: WriteLog> {
     pub(crate) dealer: Dealer,
     pub(crate) cache: PageCache<'a, W>,
-    pub(crate) page: Vec<u8>,
     pub(crate) log: RoundLog,
     pub(crate) outs: Vec<LaneOut>,
 }
@@ -75,22 +59,20 @@ impl<'a, W: WriteLog> Model for RoundState<'a, W> {
 }
 
 impl CopierState {
-    /// Returns the state before the first round over a guest of this shape, with the sending ends of a copier's lanes,
-    /// one for each of 1 to 16 streams. The error is `Memory`.
-    pub fn new(alloc: Global, shape: &Shape, outs: Vec<LaneOut>) -> Result<CopierState, SeatError>
+    /// Returns the state before the first round, with the sending ends of a copier's lanes, one for each of 1 to 16
+    /// streams, and a cache that keeps nothing yet. The error is `Memory`.
+    pub fn new(alloc: Global, outs: Vec<LaneOut>) -> Result<CopierState, SeatError>
         requires some { 1 ≤ length outs.items }
         requires few { length outs.items ≤ 16 }
-        ensures state { (trace : GuestTrace) → trace.shift ≡ shape.now.shift → trace.pages ≡ shape.now.pages
-            → IfOk result (IsCopierState trace (length outs.items)) }
-        ensures capacity { IfOk result (λ state. state.pages ≡ pages_with [] (cache_capacity shape.now.shift)) }
+        ensures state { (trace : GuestTrace) → IfOk result (IsCopierState trace (length outs.items)) }
+        ensures pages { IfOk result (λ state. state.pages ≡ pages_with [] cache_capacity) }
         ensures turn { IfOk result (λ state. state.turn ≡ turn_with (length outs.items) 0) }
         ensures outs { IfOk result (λ state. state.outs ≡ outs.items) }
     {
-        let pages = KeptPages::new(alloc, capacity_for(shape))?;
+        let pages = KeptPages::new(alloc, CACHE_CAPACITY)?;
         Ok(CopierState {
             dealer: Dealer::new(outs.len()),
             pages,
-            page: Vec::new(alloc),
             log: RoundLog::new(alloc),
             outs,
         })
@@ -111,7 +93,6 @@ impl CopierState {
         let CopierState {
             dealer,
             pages,
-            page,
             log,
             outs,
         } = self;
@@ -120,7 +101,6 @@ impl CopierState {
         RoundState {
             dealer,
             cache: PageCache::with_pages(trace, index, pages),
-            page,
             log,
             outs,
         }
@@ -181,14 +161,12 @@ impl<'a, W: WriteLog> RoundState<'a, W> {
         let RoundState {
             dealer,
             cache,
-            page,
             log,
             outs,
         } = self;
         CopierState {
             dealer,
             pages: cache.into_pages(),
-            page,
             log,
             outs,
         }

@@ -3,13 +3,14 @@
 //! A law is a function with an empty body: its contract is the law, and a call brings it into the caller's proof.
 #![tactic(auto)]
 
-ghost use Rattle.std.specs.Prelude.{◌≡◌, ℕ, Bool, List, map};
+ghost use Rattle.std.specs.Prelude.{◌≡◌, ◌∷◌, ℕ, Bool, List, Some, map};
 ghost use Rattle.std.specs.List.{All, Contains, fold};
 ghost use Rattle.migration_model.specs.Final.{IsFinalCopy};
 ghost use Rattle.migration_model.specs.Frames.{GuestShape, IsGuestShape, IsFrame, PageFrame, frame_text};
 ghost use Rattle.migration_model.specs.Parts.{Agree, FramesAgree, GuestPart, IsPart, join, join_all, part_of};
 ghost use Rattle.migration_model.specs.Trace.{GuestTrace};
 ghost use Rattle.stream_lanes.specs.Ends.{IsSentOn, OutView};
+ghost use Rattle.stream_receivers.specs.First.{parts_with};
 ghost use Rattle.stream_receivers.specs.Receivers.{HasFrames};
 ghost use Rattle.part_laws.specs.Current.{current_part};
 
@@ -33,15 +34,16 @@ pub fn received_part_is_a_join()
         → HasFrames shape (IsSentOn outs) part → part ≡ join_all shape (map (part_of shape) frames) }
 {}
 
-/// A part that was there before any frame, joined to the part that a receiver returns, is the join of itself and of the
-/// frames whose encodings were sent on the receiver's lanes, where these agree. So is the first stream's part in a warm
-/// start.
+/// What the first stream of a warm start is left with: of the parts that `join_first` returns, the first is the join of
+/// the part that the destination began with and of the frames whose encodings were sent on the first receiver's lanes,
+/// where these agree. The other parts are those that came.
 pub fn first_part_is_joined()
     ensures { (shape : GuestShape) (outs : List OutView) (first : GuestPart) (frames : List PageFrame)
-        (part : GuestPart)
+        (part : GuestPart) (rest : List GuestPart)
         → IsGuestShape shape → IsPart first → first.shape ≡ shape → All (IsFrame shape) frames
         → FramesAgree shape frames
         → ((text : List ℕ) → IsSentOn outs text → Contains (map frame_text frames) text)
         → ((text : List ℕ) → Contains (map frame_text frames) text → IsSentOn outs text)
-        → HasFrames shape (IsSentOn outs) part → join first part ≡ fold join first (map (part_of shape) frames) }
+        → HasFrames shape (IsSentOn outs) part
+        → parts_with (Some first) (part ∷ rest) ≡ fold join first (map (part_of shape) frames) ∷ rest }
 {}

@@ -1,11 +1,12 @@
 //! Why a final copy could not be made.
 
 ghost use Rattle.std.specs.Prelude.{◌≡◌};
-ghost use Rattle.stop_copy.specs.declared.error.CopyError.TheVariants.{Memory as OutOfMemory};
+ghost use Rattle.stop_copy.specs.declared.error.CopyError.TheVariants.{Memory as OutOfMemory, Thread as NoThread};
 
 use collector::PartError;
 use page_versions::IndexError;
 use std::alloc::{AllocError, AllocFailed};
+use std::thread::SpawnError;
 use thiserror::Error;
 
 /// Why a final copy could not be made.
@@ -48,5 +49,13 @@ impl From<PartError> for CopyError {
 
     fn from(_error: PartError) -> CopyError {
         CopyError::Memory
+    }
+}
+
+impl<F: Drop> From<SpawnError<F>> for CopyError {
+    ghost from_gives = { λ _ e. e ≡ NoThread };
+
+    fn from(_refused: SpawnError<F>) -> CopyError {
+        CopyError::Thread
     }
 }

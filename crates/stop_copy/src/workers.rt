@@ -1,6 +1,6 @@
 //! Frames made on several threads.
 
-ghost use Rattle.std.specs.Prelude.{◌≡◌, ◌<◌, ◌≤◌, ℕ, List, IfOk, OnOk, [], length};
+ghost use Rattle.std.specs.Prelude.{◌≡◌, ◌<◌, ◌≤◌, ℕ, List, IfErr, IfOk, OnOk, [], length};
 ghost use Rattle.std.specs.List.{All, flat_map};
 ghost use Rattle.migration_model.specs.Trace.{GuestTrace};
 ghost use Rattle.page_versions.specs.Index.{IsIndexOf};
@@ -50,6 +50,7 @@ fn start_piece<'s, E, W: WriteLog + Sync>(
     requires pages { All (λ page. page < (W.trace trace.now).pages) pages.now }
     requires versions { length versions.now ≡ (W.trace trace.now).pages }
     requires low { All (λ version. version ≤ length (W.trace trace.now).writes) versions.now }
+    ensures refused { IfErr result (λ e. e ≡ CopyError.Thread) }
     ensures trace { IfOk result (λ h. W.trace h.promise.trace.now ≡ W.trace trace.now) }
     ensures versions { IfOk result (λ h. h.promise.versions.now ≡ versions.now) }
     ensures pages { IfOk result (λ h. h.promise.pages.now ≡ pages.now) }
@@ -67,7 +68,7 @@ fn start_piece<'s, E, W: WriteLog + Sync>(
         ensures { IfOk result (λ frames. AreCurrentFrames (W.trace trace.entry.now) versions.entry.now
             pages.entry.now frames.items) }
     { frames_of(alloc, trace, index, versions, pages) };
-    scope.spawn_with(promise, run).or(Err(CopyError::Thread))
+    Ok(scope.spawn_with(promise, run)?)
 }
 
 /// Starts a thread for each piece of `size` pages.

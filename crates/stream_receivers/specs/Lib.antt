@@ -1,3 +1,4 @@
 pub mod Receivers
 pub mod Texts
 pub mod Held
+pub mod First

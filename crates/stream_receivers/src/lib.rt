@@ -2,9 +2,11 @@
 #![tactic(auto)]
 
 mod error;
+mod first_part;
 mod owning;
 mod receiver;
 mod taking;
 
 pub use error::ReceiverError;
+pub use first_part::join_first;
 pub use receiver::Receiver;

@@ -59,7 +59,7 @@ write_refusal version shift pages before i bytes =
     else (if nat_lt (2 ^ shift) (offset_in bytes + length_in bytes) then Some (OutOfPage i)
     else None))))))
 
--- The bytes begin as a trace: with a header, and then some writes that may follow one another.
+-- The bytes begin as a trace: with a header that is not refused, and then some writes that may follow one another.
 pub record Begins (bytes : List ℕ) : Type 0 where
   pub version : ℕ
   pub shift : ℕ
@@ -68,6 +68,8 @@ pub record Begins (bytes : List ℕ) : Type 0 where
   pub writes : List GuestWrite
   pub rest : List ℕ
   pub short : length bytes ≤ 2 ^ 28
+  pub version_low : 1 ≤ version
+  pub version_high : version ≤ 2
   pub size : IsGuestSize shift pages
   pub few : count ≤ 2 ^ 20
   pub fit : AreGuestWrites version shift pages writes

@@ -1,6 +1,6 @@
 //! A trace that is read in place.
 
-ghost use Rattle.std.specs.Prelude.{◌≡◌, IfErr, IfOk, Ok, OnOk, length};
+ghost use Rattle.std.specs.Prelude.{◌≡◌, Err, IfErr, IfOk, Ok, OnOk, length};
 ghost use Rattle.migration_model.specs.Trace.{GuestTrace, IsTrace, Spells, trace_with};
 ghost use Rattle.migration_model.specs.TraceReading.{writes_in};
 ghost use Rattle.trace_codec.specs.Reading.{IsBody, IsView, RefusesBody};
@@ -67,6 +67,7 @@ impl<'a> TraceView<'a> {
         ensures found { IfOk result (λ trace. Spells bytes.now trace) }
         ensures refused { IfErr result (Refuses bytes.now) }
         ensures only { (trace : GuestTrace) → Spells bytes.now trace → result ≡ Ok trace }
+        ensures first { (e : TraceError) → Refuses bytes.now e → result ≡ Err e }
     {
         TraceView::whole(bytes)
     }

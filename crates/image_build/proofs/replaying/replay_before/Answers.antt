@@ -1,44 +1,52 @@
-use Rattle.std.proofs.Common.{◌<◌, ◌≡◌, Bool, false, ltb, true, length, refl, sym, ap, ◌∙◌, arith}
-use Rattle.std.proofs.lemmas.Bool.{le-ltb, lt-ltb}
-use Rattle.migration_model.specs.Memory.{image_before}
+use Rattle.std.proofs.Common.{◌<◌, ◌≤◌, ◌≡◌, ◌*◌, ◌^◌, ℕ, List, [], fold, length, ap, subst, ◌∙◌, arith}
+use Rattle.std.proofs.lemmas.List.{length-map}
+use Rattle.migration_model.specs.Memory.{apply, image_before, memory_with}
+use Rattle.migration_model.specs.Touches.{GuestTouch, touch_of}
 use Rattle.migration_model.specs.Trace.{GuestWrite}
 use Rattle.guest_log.specs.Writes.{shown}
-use Rattle.image_build.proofs.Replays.{Becomes-left, Becomes-passed, item_fits, write_fits}
-use Rattle.image_build.proofs.replaying.replay_before.Goals.{then-write-tick, else-write-tick}
+use Rattle.image_build.proofs.Replays.{Becomes, Becomes-before, left_before, none_before, write_fits, write_there}
 use Rattle.image_build.proofs.replaying.replay_before.Goals as goal
 
-pub write_over-requires : goal.write_over-requires
-write_over-requires c =
-    let shape = c.shape-shape.result in
-    let trace = c.args.trace.now in
-    let items = c.deref-write-items.result.now in
-    let same : items ≡ trace.writes = c.deref-write-items.ensures.value ∙ ap (λ t. t.writes) c.trace.view_is in
-    let low : c.loop-write.write-index < length items = omega (arith, c.loop-write-test.true) in
-    let fits = item_fits trace shape.shift shape.pages items c.loop-write.write-index c.write-item.result (shown c.view.result) c.shape-shape.ensures.is_trace
-    c.shape-shape.ensures.shift c.shape-shape.ensures.pages same low c.write-item.is c.view.ensures in
-    omega (arith, write_fits trace.version shape.shift shape.pages c.loop-write.memory.items (shown c.view.result) c.loop-write.invariant.len fits, c.loop-write.memory.ok.0)
+pub write-requires : goal.write-requires
+write-requires g c =
+    let same = ap (λ (ts : List GuestTouch). length ts) (g.met.W.WriteLog.same_touches c.args.trace.now) in
+    omega (arith, c.loop-index-test.true, c.before-end.ensures.bound, same, length-map (g.W.WriteLog.trace c.args.trace.now).writes touch_of)
 
-pub loop-write-preserved : goal.loop-write-preserved
-loop-write-preserved c =
-    let shape = c.shape-shape.result in
-    let trace = c.args.trace.now in
-    let items = c.deref-write-items.result.now in
-    let index = c.loop-write.write-index in
-    let write = c.write-item.result in
-    let keeps : GuestWrite → Bool = λ w. ltb w.tick c.args.tick in
-    let same : items ≡ trace.writes = c.deref-write-items.ensures.value ∙ ap (λ t. t.writes) c.trace.view_is in
-    let low : index < length items = omega (arith, c.loop-write-test.true) in
-    let tick = ap (λ (w : GuestWrite). w.tick) c.write.view_is in
-    elim c.if-write-tick.branch [
-      | then-write-tick w ↦
-          let seen : GuestWrite = shown w.view.result in
-          let passes : keeps seen ≡ true = lt-ltb _ _ (omega (arith, w.if-write-tick.true, tick, ap (λ (w : GuestWrite). w.tick) w.view.ensures)) in
-          let fits = item_fits trace shape.shift shape.pages items index write seen c.shape-shape.ensures.is_trace c.shape-shape.ensures.shift
-          c.shape-shape.ensures.pages same low c.write-item.is w.view.ensures in
-          Becomes-passed keeps trace.version shape.shift shape.pages c.loop-write.memory.items c.if-write-tick.memory.items items index write seen (image_before trace c.args.tick)
-          c.loop-write.invariant low c.write-item.is w.view.ensures passes fits (ap (λ m. m.items) w.memory-is ∙ w.write_over.ensures)
-      | else-write-tick w ↦
-          let fails : keeps write ≡ false = le-ltb _ _ (omega (arith, w.if-write-tick.false, tick)) in
-          rw w.memory-is (Becomes-left keeps shape.shift shape.pages c.loop-write.memory.items items index write write (image_before trace c.args.tick) c.loop-write.invariant low
-          c.write-item.is refl fails)
-    ]
+pub write_over-requires : goal.write_over-requires
+write_over-requires g c =
+    let trace = g.W.WriteLog.trace c.args.trace.now in
+    let shape = c.shape-shape in
+    let seen = shown c.write.result in
+    let index = c.loop-index.index in
+    let same = ap (λ (ts : List GuestTouch). length ts) (g.met.W.WriteLog.same_touches c.args.trace.now) in
+    let low : index < length trace.writes = omega (arith, c.loop-index-test.true, c.before-end.ensures.bound, same, length-map trace.writes touch_of) in
+    let fits = write_there trace index seen shape.ensures.is_trace low c.write.ensures in
+    let len = rw (shape.ensures.shift, shape.ensures.pages) at c.loop-index.invariant.len in
+    rw shape.ensures.shift (omega (arith, write_fits trace.version trace.shift trace.pages c.loop-index.memory.items seen len fits, c.loop-index.memory.ok.0))
+
+pub loop-index-preserved : goal.loop-index-preserved
+loop-index-preserved g c =
+    let trace = g.W.WriteLog.trace c.args.trace.now in
+    let shape = c.shape-shape in
+    let seen = shown c.write.result in
+    let index = c.loop-index.index in
+    let touches = g.met.W.WriteLog.same_touches c.args.trace.now in
+    let same = ap (λ (ts : List GuestTouch). length ts) touches in
+    let low : index < length trace.writes = omega (arith, c.loop-index-test.true, c.before-end.ensures.bound, same, length-map trace.writes touch_of) in
+    let point = rw touches at c.before-end.ensures.point in
+    let fits = write_there trace index seen shape.ensures.is_trace low c.write.ensures in
+    let before = rw (shape.ensures.shift, shape.ensures.pages) at c.loop-index.invariant in
+    let puts = rw shape.ensures.shift at c.write_over.ensures in
+    rw (shape.ensures.shift, shape.ensures.pages)
+    (Becomes-before trace c.args.tick c.before-end.result index trace.shift trace.pages c.loop-index.memory.items c.write_over.new.memory.items seen (image_before trace c.args.tick)
+    point c.loop-index-test.true low c.write.ensures before fits puts)
+
+pub returns : goal.returns
+returns g c =
+    let trace = g.W.WriteLog.trace c.args.trace.now in
+    let point = rw (g.met.W.WriteLog.same_touches c.args.trace.now) at c.before-end.ensures.point in
+    let memory = c.loop-index.memory.items in
+    let at_end : c.loop-index.index ≡ c.before-end.result = omega (arith, c.loop-index-test.false, c.loop-index.auto.index-end) in
+    let whole = (subst (λ (l : List GuestWrite). Becomes c.shape-shape.result.shift c.shape-shape.result.pages memory l (image_before trace c.args.tick))
+    (ap (left_before trace c.args.tick) at_end ∙ none_before trace c.args.tick c.before-end.result point) c.loop-index.invariant).rest in
+    c.of.ensures ∙ whole

@@ -5,7 +5,7 @@ use Rattle.migration_model.specs.Final.{shape_of_trace}
 use Rattle.migration_model.specs.Parts.{GuestPart}
 use Rattle.migration_model.specs.Rounds.{MigrationPlan}
 use Rattle.live_engine.specs.Runs.{AllArrived, AllCame}
-use Rattle.live_engine.specs.Warm.{parts_with}
+use Rattle.stream_receivers.specs.First.{parts_with}
 use Rattle.live_engine.proofs.Arrived.{all_came, keeps_settings, still_crossed}
 use Rattle.live_engine.proofs.Begun.{all_begun, shapes_begun}
 use Rattle.live_engine.proofs.migration.migrate.Goals as goal
@@ -17,8 +17,8 @@ drain_all-requires g c =
     still_crossed trace c.args.settings.now c.in_ok-plan.plan c.of-team.result c.in_ok-states.states.items p.states.items c.in_ok-states.receivers.items c.in_ok-first.receivers.items
     p.closed p.rounds.items c.in_ok-states.ensures c.in_ok-first.ensures.ended
 
-pub with_first-requires-clause-some : goal.with_first-requires-clause-some
-with_first-requires-clause-some g c =
+pub join_first-requires-clause-some : goal.join_first-requires-clause-some
+join_first-requires-clause-some g c =
     let trace = g.W.WriteLog.trace c.args.trace.now in
     let p = c.in_ok-first.progress in
     let came : AllCame trace c.args.settings.now.base c.of-team.result.streams p.closed c.in_ok-arrived.arrived.items =
@@ -26,8 +26,8 @@ with_first-requires-clause-some g c =
     p.closed p.rounds.items c.in_ok-arrived.arrived.items c.in_ok-states.ensures c.in_ok-first.ensures.ended (c.in_ok-arrived.ensures (shape_of_trace trace)) in
     omega (arith, came.count, c.of-team.ensures.is_team.streams.0)
 
-pub with_first-requires-clause-shapes : goal.with_first-requires-clause-shapes
-with_first-requires-clause-shapes g c =
+pub join_first-requires-clause-shapes : goal.join_first-requires-clause-shapes
+join_first-requires-clause-shapes g c =
     let trace = g.W.WriteLog.trace c.args.trace.now in
     let p = c.in_ok-first.progress in
     let came : AllCame trace c.args.settings.now.base c.of-team.result.streams p.closed c.in_ok-arrived.arrived.items =

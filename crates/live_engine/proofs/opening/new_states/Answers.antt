@@ -35,8 +35,8 @@ loop-row-preserved c =
       rows = ap rows_of items ∙ map-append (λ (d : CopierStateView). d.outs) states (state ∷ []) ∙ ap (λ (rows : List (List OutView)). rows ++ state.outs ∷ []) c.loop-row.invariant.rows
           ∙ ap (λ (outs : List OutView). map (λ (r : Vec OutView Global). r.items) front ++ outs ∷ []) c.in_ok-new.ensures.outs
           ∙ sym (map-append (λ (r : Vec OutView Global). r.items) front (row ∷ []));
-      each = λ trace streams shifts counts same.
+      each = λ trace streams same.
           let one : IsCopierState trace streams state = subst (λ (n : ℕ). IsCopierState trace n state) (next_holds (λ (r : Vec OutView Global). length r.items ≡ streams) front old rest c.args.rows.items row
-          c.in-Some.ensures.steps.0 c.loop-row.invariant.all same) (c.in_ok-new.ensures.state trace shifts counts) in
-          subst (All (IsCopierState trace streams)) (sym items) (All-push (IsCopierState trace streams) states state (c.loop-row.invariant.each trace streams shifts counts same) one);
+          c.in-Some.ensures.steps.0 c.loop-row.invariant.all same) (c.in_ok-new.ensures.state trace) in
+          subst (All (IsCopierState trace streams)) (sym items) (All-push (IsCopierState trace streams) states state (c.loop-row.invariant.each trace streams same) one);
     }

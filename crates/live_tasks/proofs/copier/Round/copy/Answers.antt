@@ -23,7 +23,12 @@ loop-word-init g c =
     let turns = ap (λ (d : RoundStateView). d.turn.streams) c.open.ensures ∙ c.requires.state.turns in
     let trace = ap (λ (d : RoundStateView). d.cache.trace) c.open.ensures in
     record {
-      ready = record { table_is = c.requires.table; trace_is = trace; lanes = lanes ∙ sym turns };
+      ready = record {
+        table_is = c.requires.table;
+        trace_is = trace;
+        capacity_is = ap (λ (d : RoundStateView). d.cache.capacity) c.open.ensures ∙ c.requires.state.capacity_is;
+        lanes = lanes ∙ sym turns;
+      };
       number = refl;
       held = begins.1;
       scanned = begins.0;
@@ -56,6 +61,7 @@ returns g c =
       is_state = record {
         kept = subst (λ (d : CopierStateView). AreKept trace d.pages.entries) (sym c.close.ensures.state)
             (subst (λ (t : GuestTrace). AreKept t copier.state.cache.entries) rest.ready.trace_is c.close.ensures.kept);
+        capacity_is = ap (λ (d : CopierStateView). d.pages.capacity) c.close.ensures.state ∙ rest.ready.capacity_is;
         turns = ap (λ (d : CopierStateView). d.turn.streams) c.close.ensures.state ∙ sym rest.ready.lanes ∙ lanes;
         lanes_are = ap (λ (l : List OutView). length l) outs ∙ lanes;
       };

@@ -4,8 +4,8 @@ use Rattle.std.proofs.lemmas.List.{get_or-map, length-map}
 use Rattle.live_engine.specs.Receiving.{identity_of}
 use Rattle.live_engine.specs.Runs.{AreDone}
 use Rattle.live_engine.proofs.Each.{pick, same_at}
-use Rattle.live_engine.proofs.migration.in_run.Goals.{in-Ok, in-Err}
-use Rattle.live_engine.proofs.migration.in_run.Goals as goal
+use Rattle.live_engine.proofs.migration.run_beside_receivers.Goals.{in-Ok, in-Err}
+use Rattle.live_engine.proofs.migration.run_beside_receivers.Goals as goal
 
 pub returns : goal.returns
 returns g c =
@@ -22,7 +22,7 @@ returns g c =
     ∙ sym (get_or-map (λ h. identity_of h.promise.receiver.value) handles i kept.handle d (omega (arith, inside, count)))) in
     elim c.match-start_receivers.branch [
       | in-Ok w ↦ record {
-        done = subst (λ r. IfOk r (λ p. AreDone (g.W.WriteLog.trace c.args.migration.now.trace.now) c.args.settings.now c.args.plan.now c.args.migration.now.team c.args.states.items
+        done = subst (λ r. IfOk r (λ p. AreDone (g.W.WriteLog.trace c.args.migration.now.trace.now) c.args.migration.now.settings.now c.args.migration.now.plan.now c.args.migration.now.team c.args.states.items
             p.closed p.rounds.items p.states.items)) (sym w.done-is ∙ c.in_ok-progress.was) w.run_rounds-done.ensures;
         same = kept ∙ w.in-Ok.ensures;
       }

@@ -1,0 +1,179 @@
+//! What a migration makes before its first round: its plan, the index of pages, and what the destination begins with.
+
+ghost use Rattle.std.specs.Prelude.{◌≡◌, IfErr, IfOk, Some, option_map};
+ghost use Rattle.migration_model.specs.Memory.{image_before};
+ghost use Rattle.migration_model.specs.Rounds.{IsPlan};
+ghost use Rattle.migration_model.specs.Touches.{touches_of};
+ghost use Rattle.migration_model.specs.Warm.{first_part};
+ghost use Rattle.page_versions.specs.Index.{IsIndexOf};
+
+use crate::error::LiveError;
+use crate::warm::part_of_memory;
+use collector::Part;
+use guest_log::WriteLog;
+use image_build::{Image, ImageError, replay_before};
+use page_versions::PageIndex;
+use rate_limit::Settings;
+use round_planner::{Plan, PlanError, plan};
+use std::alloc::Global;
+use std::sync::Wait;
+use std::thread;
+use std::thread::{Promise, PromisedHandle, Scope, Threads, scope_env};
+
+/// What a migration begins with: the plan, the index of pages, and with a base the part that has each page as it was
+/// before that tick.
+#[derive(Drop)]
+pub(crate) struct Preparation {
+    pub(crate) plan: Plan,
+    pub(crate) index: PageIndex,
+    pub(crate) first: Option<Part>,
+}
+
+/// The planner's thread owes the plan, unless memory runs out.
+#[derive(Drop)]
+struct Plans<'a, W: WriteLog> {
+    trace: &'a W,
+    settings: &'a Settings,
+}
+
+impl<'a, W: WriteLog> Promise<Result<Plan, PlanError>> for Plans<'a, W> {
+    ghost kept_by = { λ p result. IfOk result (λ plan. IsPlan (W.trace p.trace.now).pages
+        (touches_of (W.trace p.trace.now)) p.settings.now plan) };
+}
+
+/// The thread that makes a warm start's memory owes the memory before the base, unless memory runs out.
+#[derive(Drop)]
+struct Remembers<'a, W: WriteLog> {
+    trace: &'a W,
+    base: u64,
+}
+
+impl<'a, W: WriteLog> Promise<Result<Image, ImageError>> for Remembers<'a, W> {
+    ghost kept_by = { λ p result. IfOk result (λ image. image ≡ image_before (W.trace p.trace.now) p.base) };
+}
+
+/// Returns the plan over what a log tells.
+fn plan_of<W: WriteLog>(alloc: Global, trace: &W, settings: &Settings) -> Result<Plan, PlanError>
+    ensures { IfOk result (λ plan. IsPlan (W.trace trace.now).pages (touches_of (W.trace trace.now))
+        settings.now plan) }
+{
+    plan(alloc, trace, settings)
+}
+
+/// Starts the planner.
+fn start_planner<'s, E, W: WriteLog + Sync>(
+    scope: &'s Scope<'s, E>,
+    alloc: Global,
+    trace: &'s W,
+    settings: &'s Settings,
+) -> Result<PromisedHandle<Result<Plan, PlanError>, Plans<'s, W>>, LiveError>
+    ensures refused { IfErr result (λ e. e ≡ LiveError.Thread) }
+    ensures trace { IfOk result (λ h. h.promise.trace.now ≡ trace.now) }
+    ensures settings { IfOk result (λ h. h.promise.settings.now ≡ settings.now) }
+{
+    let promise = Plans { trace, settings };
+    let run = move || -> Result<Plan, PlanError>
+        ensures { IfOk result (λ plan. IsPlan (W.trace trace.entry.now).pages (touches_of (W.trace trace.entry.now))
+            settings.entry.now plan) }
+    { plan_of(alloc, trace, settings) };
+    Ok(scope.spawn_with(promise, run)?)
+}
+
+/// Starts a thread that makes the memory before a warm start's base.
+fn start_memory<'s, E, W: WriteLog + Sync>(
+    scope: &'s Scope<'s, E>,
+    alloc: Global,
+    trace: &'s W,
+    base: u64,
+) -> Result<PromisedHandle<Result<Image, ImageError>, Remembers<'s, W>>, LiveError>
+    ensures refused { IfErr result (λ e. e ≡ LiveError.Thread) }
+    ensures trace { IfOk result (λ h. h.promise.trace.now ≡ trace.now) }
+    ensures base { IfOk result (λ h. h.promise.base ≡ base) }
+{
+    let promise = Remembers { trace, base };
+    let run = move || -> Result<Image, ImageError>
+        ensures { IfOk result (λ image. image ≡ image_before (W.trace trace.entry.now) base) }
+    { replay_before(alloc, trace, base) };
+    Ok(scope.spawn_with(promise, run)?)
+}
+
+/// Returns the plan and the index of the trace, which are made side by side.
+fn plan_and_index<'s, E, W: WriteLog + Sync, R: Threads + Sync>(
+    rt: &R,
+    scope: &'s Scope<'s, E>,
+    alloc: Global,
+    trace: &'s W,
+    settings: &'s Settings,
+) -> Result<(Plan, PageIndex), LiveError>
+    ensures plan { IfOk result (λ made. IsPlan (W.trace trace.now).pages (touches_of (W.trace trace.now))
+        settings.now made.0) }
+    ensures index { IfOk result (λ made. IsIndexOf made.1 (W.trace trace.now)) }
+{
+    let planner = start_planner(scope, alloc, trace, settings)?;
+    let index = PageIndex::build(rt, alloc, trace);
+    let plan = planner.join(rt)?;
+    Ok((plan, index?))
+}
+
+/// Prepares a warm start: the memory before its base is made beside the plan and the index, and becomes a part then.
+fn prepare_warm<'s, E, W: WriteLog + Sync, R: Threads + Sync>(
+    rt: &R,
+    scope: &'s Scope<'s, E>,
+    alloc: Global,
+    trace: &'s W,
+    settings: &'s Settings,
+    base: u64,
+) -> Result<(Plan, PageIndex, Part), LiveError>
+    ensures plan { IfOk result (λ made. IsPlan (W.trace trace.now).pages (touches_of (W.trace trace.now))
+        settings.now made.0) }
+    ensures index { IfOk result (λ made. IsIndexOf made.1 (W.trace trace.now)) }
+    ensures first { IfOk result (λ made. made.2 ≡ first_part (W.trace trace.now) (Some base)) }
+{
+    let memory = start_memory(scope, alloc, trace, base)?;
+    let made = plan_and_index(rt, scope, alloc, trace, settings);
+    let image = memory.join(rt);
+    let (plan, index) = made?;
+    let part = part_of_memory(alloc, trace, &index, base, image?)?;
+    Ok((plan, index, part))
+}
+
+/// Prepares a migration. Threads that it starts have ended when it returns. The error is `L2` where one was not
+/// started, and else `L1`.
+pub(crate) fn prepare<W: WriteLog + Sync, R: Threads + Wait + Sync>(
+    rt: &R,
+    alloc: Global,
+    trace: &W,
+    settings: &Settings,
+) -> Result<Preparation, LiveError>
+    ensures plan { IfOk result (λ p. IsPlan (W.trace trace.now).pages (touches_of (W.trace trace.now))
+        settings.now p.plan) }
+    ensures index { IfOk result (λ p. IsIndexOf p.index (W.trace trace.now)) }
+    ensures first { IfOk result (λ p. p.first ≡ option_map (λ tick. first_part (W.trace trace.now) (Some tick))
+        settings.now.base) }
+{
+    thread::scope(
+        scope_env(),
+        rt,
+        move |scope| -> Result<Preparation, LiveError>
+            ensures plan { IfOk result (λ p. IsPlan (W.trace trace.entry.now).pages
+                (touches_of (W.trace trace.entry.now)) settings.entry.now p.plan) }
+            ensures index { IfOk result (λ p. IsIndexOf p.index (W.trace trace.entry.now)) }
+            ensures first { IfOk result (λ p. p.first
+                ≡ option_map (λ tick. first_part (W.trace trace.entry.now) (Some tick)) settings.entry.now.base) }
+        {
+            match settings.asked().base {
+                None => {
+                    let (plan, index) = plan_and_index(rt, scope, alloc, trace, settings)?;
+                    let first = None;
+                    Ok(Preparation { plan, index, first })
+                }
+                Some(base) => {
+                    let (plan, index, part) =
+                        prepare_warm(rt, scope, alloc, trace, settings, base)?;
+                    let first = Some(part);
+                    Ok(Preparation { plan, index, first })
+                }
+            }
+        },
+    )
+}
