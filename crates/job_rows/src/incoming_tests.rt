@@ -46,7 +46,7 @@ impl WriteVisitor for Writes {
 }
 
 /// Returns the writes of a trace that comes at most so many bytes in one read. The first `held` bytes are held first.
-fn visited(
+pub(crate) fn visited(
     alloc: Global,
     bytes: Vec<u8>,
     greatest: usize,
@@ -64,7 +64,12 @@ fn visited(
 }
 
 /// Returns the trace that comes at most so many bytes in one read, held after so many came.
-fn held(alloc: Global, bytes: Vec<u8>, greatest: usize, held: u8) -> Result<HeldTrace, TraceError> {
+pub(crate) fn held(
+    alloc: Global,
+    bytes: Vec<u8>,
+    greatest: usize,
+    held: u8,
+) -> Result<HeldTrace, TraceError> {
     let mut source = TestSource::new(bytes, greatest.max(1), None);
     let mut incoming = IncomingTrace::open(alloc, &mut source)?;
     incoming.read_to(&mut source, held as usize)?;

@@ -16,4 +16,6 @@ mod sweep_tests;
 #[cfg(test)]
 mod tests;
 #[cfg(test)]
+mod version_tests;
+#[cfg(test)]
 mod warm_tests;

@@ -14,7 +14,7 @@ use trace_codec::{TestSource, Trace, TraceError, TraceView, decode, encode, read
 use trace_readers::{HeldTrace, TouchLog};
 
 /// The tests' trace in version 2, but that its last write releases page 1.
-static RELEASED: [u8; 101] = [
+pub(crate) static RELEASED: [u8; 101] = [
     0x50, 0x43, 0x57, 0x54, 2, 4, 0, 0, 4, 0, 0, 0, 5, 0, 0, 0, //
     0, 0, 0, 0, 0, 0, 0, 0, 0, 0, 0, 0, 0, 0, 1, 0, 1, //
     5, 0, 0, 0, 0, 0, 0, 0, 1, 0, 0, 0, 15, 0, 1, 0, 2, //
@@ -89,7 +89,7 @@ fn readers_tell_the_version(rt: HostRuntime) -> Result<(), Fail> {
 }
 
 /// Returns what all readers refuse the bytes for.
-fn refusals(alloc: Global, bytes: &[u8]) -> Result<[Option<TraceError>; 7], AllocError> {
+pub(crate) fn refusals(alloc: Global, bytes: &[u8]) -> Result<[Option<TraceError>; 7], AllocError> {
     Ok([
         decode(alloc, bytes).err(),
         read_trace(alloc, &mut source(alloc, bytes, 20)?).err(),

@@ -2,6 +2,7 @@
 
 ghost use Rattle.std.specs.Prelude.{◌≡◌, ◌⊎◌};
 ghost use Rattle.live_engine.specs.declared.error.LiveError.TheVariants.{Memory, Thread};
+ghost use Rattle.stop_copy.specs.declared.error.CopyError.TheVariants.{Memory as CopyMemory, Thread as CopyThread};
 
 use collector::PartError;
 use dirty_words::TableError;
@@ -119,8 +120,8 @@ impl<F: Drop> From<SpawnError<F>> for LiveError {
 }
 
 impl From<CopyError> for LiveError {
-    ghost from_gives = { λ error e. ((error ≡ CopyError.Memory) × (e ≡ Memory))
-        ⊎ ((error ≡ CopyError.Thread) × (e ≡ Thread)) };
+    ghost from_gives = { λ error e. ((error ≡ CopyMemory) × (e ≡ Memory))
+        ⊎ ((error ≡ CopyThread) × (e ≡ Thread)) };
 
     fn from(error: CopyError) -> LiveError {
         match error {

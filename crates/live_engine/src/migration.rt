@@ -3,6 +3,8 @@
 ghost use Rattle.std.specs.Prelude.{◌≡◌, IfOk};
 ghost use Rattle.image_build.specs.Joins.{memory_by};
 ghost use Rattle.live_engine.specs.Runs.{AreNewStates, HaveEnded, IsLiveRun, IsStopped};
+ghost use Rattle.migration_model.specs.Rounds.{IsPlan};
+ghost use Rattle.migration_model.specs.Touches.{touches_of};
 
 use crate::error::LiveError;
 use crate::opening::{Team, open_lanes};
@@ -34,7 +36,9 @@ fn run_beside_receivers<'s, E, W: WriteLog + Sync, G: Gate, R: Threads + Wait + 
     states: VecDeque<CopierState>,
     receivers: Vec<Receiver>,
 ) -> Result<(Progress, Vec<Receiver>), LiveError>
-    requires { AreNewStates (W.trace migration.now.trace.now) migration.now.team states.items }
+    requires plan { IsPlan (W.trace migration.now.trace.now).pages (touches_of (W.trace migration.now.trace.now))
+        migration.now.settings.now migration.now.plan.now }
+    requires states { AreNewStates (W.trace migration.now.trace.now) migration.now.team states.items }
     ensures { IfOk result (λ ended. HaveEnded (W.trace migration.now.trace.now) migration.now.settings.now
         migration.now.plan.now migration.now.team states.items receivers.items
         ended.0.closed ended.0.rounds.items ended.0.states.items ended.1.items) }
@@ -60,7 +64,9 @@ fn run_all<W: WriteLog + Sync, G: Gate, R: Threads + Wait + Sync>(
     states: VecDeque<CopierState>,
     receivers: Vec<Receiver>,
 ) -> Result<(Progress, Vec<Receiver>), LiveError>
-    requires { AreNewStates (W.trace migration.now.trace.now) migration.now.team states.items }
+    requires plan { IsPlan (W.trace migration.now.trace.now).pages (touches_of (W.trace migration.now.trace.now))
+        migration.now.settings.now migration.now.plan.now }
+    requires states { AreNewStates (W.trace migration.now.trace.now) migration.now.team states.items }
     ensures { IfOk result (λ ended. HaveEnded (W.trace migration.now.trace.now) migration.now.settings.now
         migration.now.plan.now migration.now.team states.items receivers.items
         ended.0.closed ended.0.rounds.items ended.0.states.items ended.1.items) }
@@ -69,7 +75,9 @@ fn run_all<W: WriteLog + Sync, G: Gate, R: Threads + Wait + Sync>(
         scope_env(),
         rt,
         move |scope| -> Result<(Progress, Vec<Receiver>), LiveError>
-            requires { AreNewStates (W.trace migration.now.trace.now) migration.now.team states.items }
+            requires plan { IsPlan (W.trace migration.now.trace.now).pages
+                (touches_of (W.trace migration.now.trace.now)) migration.now.settings.now migration.now.plan.now }
+            requires states { AreNewStates (W.trace migration.now.trace.now) migration.now.team states.items }
             ensures { IfOk result (λ ended. HaveEnded (W.trace migration.entry.now.trace.now)
                 migration.entry.now.settings.now migration.entry.now.plan.now migration.entry.now.team
                 states.items receivers.items

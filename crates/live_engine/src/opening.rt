@@ -77,10 +77,7 @@ pub(crate) fn versions_before<W: WriteLog>(
 }
 
 /// Returns a state for each copier, before the first round, with its lanes.
-fn new_states(
-    alloc: Global,
-    rows: Vec<Vec<LaneOut>>,
-) -> Result<VecDeque<CopierState>, LiveError>
+fn new_states(alloc: Global, rows: Vec<Vec<LaneOut>>) -> Result<VecDeque<CopierState>, LiveError>
     requires some { All (λ row. 1 ≤ length row.items) rows.items }
     requires few { All (λ row. length row.items ≤ 16) rows.items }
     ensures rows { IfOk result (λ v. rows_of v.items ≡ map (λ row. row.items) rows.items) }

@@ -168,8 +168,9 @@ pub(crate) fn prepare<W: WriteLog + Sync, R: Threads + Wait + Sync>(
                     Ok(Preparation { plan, index, first })
                 }
                 Some(base) => {
-                    let (plan, index, part) =
-                        prepare_warm(rt, scope, alloc, trace, settings, base)?;
+                    let (plan, index, part) = prepare_warm(
+                        rt, scope, alloc, trace, settings, base,
+                    )?;
                     let first = Some(part);
                     Ok(Preparation { plan, index, first })
                 }

@@ -48,8 +48,6 @@ pub(crate) struct Migration<'a, W: WriteLog, G> {
     pub(crate) team: Team,
     pub(crate) ghost is_index: { IsIndexOf index.now (W.trace trace.now) },
     pub(crate) ghost is_team: { IsTeam team },
-    pub(crate) ghost is_plan: { IsPlan (W.trace trace.now).pages (touches_of (W.trace trace.now))
-        settings.now plan.now },
 }
 
 /// What a migration has come to between two rounds.
@@ -198,16 +196,18 @@ impl<'a, W: WriteLog + Sync, G: Gate> Migration<'a, W, G> {
         alloc: Global,
         states: VecDeque<CopierState>,
     ) -> Result<Progress, LiveError>
+        requires plan { IsPlan (W.trace self.now.trace.now).pages (touches_of (W.trace self.now.trace.now))
+            self.now.settings.now self.now.plan.now }
         requires states { AreNewStates (W.trace self.now.trace.now) self.now.team states.items }
         ensures { IfOk result (λ p. AreDone (W.trace self.now.trace.now) self.now.settings.now self.now.plan.now
             self.now.team states.items
             p.closed p.rounds.items p.states.items) }
     {
-        let asked = self.settings.asked();
-        let rounds = &self.plan.rounds;
+        let (settings, plan) = (self.settings, self.plan);
+        let asked = settings.asked();
         let mut progress = self.begin(alloc, asked.base, asked.start, states)?;
-        for number in 0..rounds.len() {
-            progress = self.run_round(rt, alloc, asked.skip, &rounds[number], progress)?;
+        for number in 0..plan.rounds.len() {
+            progress = self.run_round(rt, alloc, asked.skip, &plan.rounds[number], progress)?;
         }
         Ok(progress)
     }

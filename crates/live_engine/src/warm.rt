@@ -84,7 +84,8 @@ pub(crate) fn part_of_memory<W: WriteLog>(
     requires memory { memory ≡ image_before (W.trace trace.now) base }
     ensures { IfOk result (λ part. part ≡ first_part (W.trace trace.now) (Some base)) }
 {
+    let shape = trace.shape();
     let stamps = versions_before(alloc, trace, index, base)?;
     let bytes = memory.into_bytes();
-    Ok(Part::of_image(alloc, trace.shape(), &bytes, &stamps)?)
+    Ok(Part::of_image(alloc, shape, &bytes, &stamps)?)
 }

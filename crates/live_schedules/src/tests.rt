@@ -319,15 +319,16 @@ fn busy_guest(alloc: Global, pages: u32) -> Result<Trace, Fail>
     Ok(Trace::new(1, 6, pages, writes)?)
 }
 
-/// Runs over so many pages with sixteen workers, streams and replayers, and lanes of so many frames: both memories come
-/// out right.
-pub(crate) fn run_sixteen(
+/// Runs over so many pages with a team of so many workers, streams and replayers, and lanes of so many frames: both
+/// memories come out right.
+fn run_busy(
     rt: &(impl Threads + Wait + Sync),
     alloc: Global,
     pages: u32,
+    team: u64,
     lane: u64,
     skip: bool,
-) -> Result<(), Fail>
+) -> Result<Live, Fail>
     requires { 1 ≤ pages }
 {
     let trace = busy_guest(alloc, pages)?;
@@ -337,9 +338,9 @@ pub(crate) fn run_sixteen(
         increment: 50,
         threshold: 10,
         rounds: 5,
-        workers: 16,
-        streams: 16,
-        replayers: 16,
+        workers: team,
+        streams: team,
+        replayers: team,
         lane,
         skip,
         ..asked()
@@ -350,6 +351,20 @@ pub(crate) fn run_sixteen(
     if !has_images(&live, at_stop.bytes(), at_end.bytes()) {
         return Err(Fail::from("another memory"));
     }
+    Ok(live)
+}
+
+/// Runs over so many pages with sixteen workers, streams and replayers.
+pub(crate) fn run_sixteen(
+    rt: &(impl Threads + Wait + Sync),
+    alloc: Global,
+    pages: u32,
+    lane: u64,
+    skip: bool,
+) -> Result<(), Fail>
+    requires { 1 ≤ pages }
+{
+    run_busy(rt, alloc, pages, 16, lane, skip)?;
     Ok(())
 }
 
@@ -365,6 +380,20 @@ fn sixteen_of_each_make_the_same_memory(rt: HostRuntime) -> Result<(), Fail> {
 fn pages_written_often_make_the_same_memory(rt: HostRuntime) -> Result<(), Fail> {
     for skip in [false, true] {
         run_sixteen(&rt, rt.alloc(), 12, 1024, skip)?;
+    }
+    Ok(())
+}
+
+/// Each round sends more pages than a copier's cache keeps, so that pages go from it and are made anew.
+#[test]
+fn pages_that_went_from_a_cache_are_made_anew(rt: HostRuntime) -> Result<(), Fail> {
+    for skip in [false, true] {
+        let live = run_busy(&rt, rt.alloc(), 150, 1, 1024, skip)?;
+        let mut full = 0u32;
+        for round in &live.rounds {
+            full = full.saturating_add(u32::from(round.sent.len() > 64));
+        }
+        assert!(rt; full >= 2);
     }
     Ok(())
 }

@@ -1,0 +1,64 @@
+//! Traces of no version, with other causes behind the header: every reader names the version.
+
+use crate::incoming_tests::{held, visited};
+use crate::released_tests::{RELEASED, refusals};
+use crate::tests::TRACE;
+use std::alloc::{AllocError, Global};
+use std::test::Fail;
+use trace_codec::TraceError;
+
+/// A cause behind the header of a trace.
+#[derive(Clone, Copy, Debug)]
+enum Cause {
+    ByteMore,
+    ShortRecord,
+    TickOrder,
+}
+
+/// Returns the trace in a version that there is not, and with a cause behind its header.
+fn of_no_version(alloc: Global, trace: &[u8], cause: Cause) -> Result<Vec<u8>, AllocError> {
+    let mut bytes = Vec::from_slice(alloc, trace)?;
+    for (place, byte) in bytes.iter_mut().enumerate() {
+        match cause {
+            // The high byte of the fourth write's tick, so that it comes before the third's.
+            Cause::TickOrder if place == 68 => *byte = 3,
+            _ if place == 4 => *byte = 3,
+            _ => {}
+        }
+    }
+    match cause {
+        Cause::ByteMore => bytes.push(0)?,
+        Cause::ShortRecord => bytes.truncate(trace.len().saturating_sub(1)),
+        Cause::TickOrder => {}
+    }
+    Ok(bytes)
+}
+
+#[test]
+fn readers_name_the_version_first(rt: HostRuntime) -> Result<(), Fail> {
+    let alloc = rt.alloc();
+    for cause in [Cause::ByteMore, Cause::ShortRecord, Cause::TickOrder] {
+        for trace in [TRACE.as_slice(), RELEASED.as_slice()] {
+            let bytes = of_no_version(alloc, trace, cause)?;
+            let error = Some(TraceError::BadVersion);
+            assert_eq!(rt; refusals(alloc, &bytes)?, [error; 7], "{cause:?}");
+        }
+    }
+    Ok(())
+}
+
+#[test]
+fn a_trace_on_its_way_names_the_version_first(rt: HostRuntime) -> Result<(), Fail> {
+    let alloc = rt.alloc();
+    for cause in [Cause::ByteMore, Cause::ShortRecord, Cause::TickOrder] {
+        for trace in [TRACE.as_slice(), RELEASED.as_slice()] {
+            for least in [0u8, 70] {
+                let visit = visited(alloc, of_no_version(alloc, trace, cause)?, 20, least).err();
+                let hold = held(alloc, of_no_version(alloc, trace, cause)?, 20, least).err();
+                let error = Some(TraceError::BadVersion);
+                assert_eq!(rt; [visit, hold], [error; 2], "{cause:?}");
+            }
+        }
+    }
+    Ok(())
+}
