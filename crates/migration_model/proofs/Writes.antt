@@ -151,18 +151,18 @@ rest_of_again (write ∷ writes) rest fits =
 
 -- ---- the writes of some bytes in others
 
--- Writes in front of bytes that are all writes are the first of those, and behind them stands the encoding of the
--- others.
-pub front_writes : (writes all : List GuestWrite) (rest : List ℕ) → AllByRecursion HasPlaces writes → AllByRecursion HasPlaces all
-    → length writes ≤ length all → flat_map write_text writes ++ rest ≡ flat_map write_text all
-    → (others : List GuestWrite) × (all ≡ writes ++ others) × (rest ≡ flat_map write_text others)
-front_writes [] all rest fits fits_all few same = (all, refl, same)
-front_writes (write ∷ writes) [] rest fits fits_all few same = absurd (omega arith)
-front_writes (write ∷ writes) (first ∷ all) rest fits fits_all few same =
-    let grouped : write_text write ++ (flat_map write_text writes ++ rest) ≡ write_text first ++ flat_map write_text all =
-    sym (append_assoc (write_text write) (flat_map write_text writes) rest) ∙ same in
+-- Writes in front of some bytes are the first of more writes in front of them. Behind them stands the encoding of the
+-- others, and what stands behind those.
+pub front_writes : (writes all : List GuestWrite) (rest last : List ℕ) → AllByRecursion HasPlaces writes → AllByRecursion HasPlaces all
+    → length writes ≤ length all → flat_map write_text writes ++ rest ≡ flat_map write_text all ++ last
+    → (others : List GuestWrite) × (all ≡ writes ++ others) × (rest ≡ flat_map write_text others ++ last)
+front_writes [] all rest last fits fits_all few same = (all, refl, same)
+front_writes (write ∷ writes) [] rest last fits fits_all few same = absurd (omega arith)
+front_writes (write ∷ writes) (first ∷ all) rest last fits fits_all few same =
+    let grouped : write_text write ++ (flat_map write_text writes ++ rest) ≡ write_text first ++ (flat_map write_text all ++ last) =
+    sym (append_assoc (write_text write) (flat_map write_text writes) rest) ∙ same ∙ append_assoc (write_text first) (flat_map write_text all) last in
     let first_is : write ≡ first = sym (write_again write _ fits.0) ∙ ap write_in grouped ∙ write_again first _ fits_all.0 in
-    let behind : flat_map write_text writes ++ rest ≡ flat_map write_text all =
+    let behind : flat_map write_text writes ++ rest ≡ flat_map write_text all ++ last =
     sym (rest_again write _ fits.0) ∙ ap rest_after grouped ∙ rest_again first _ fits_all.0 in
-    let found = front_writes writes all rest fits.1 fits_all.1 (omega arith) behind in
+    let found = front_writes writes all rest last fits.1 fits_all.1 (omega arith) behind in
     (found.0, (λ i. sym first_is i ∷ found.1 i), found.2)

@@ -2,7 +2,7 @@
 use Rattle.std.proofs.Common.{◌≡◌, ℕ, ◌+◌, ◌^◌, ◌<◌, ◌≤◌, Bool, false, cond, not, ◌&&◌, leb, eqb, List, [], ◌∷◌, ◌++◌, length, get_or, drop, Option, Some, None, Result, Ok, Err, refl, sym, ap, subst, ◌∙◌, append_assoc, inl, inr, arith}
 use Rattle.std.specs.Prelude.{IfOk, IfErr, MatchResult}
 use Rattle.std.specs.Int.{w32}
-use Rattle.std.specs.List.{AllByRecursion, flat_map}
+use Rattle.std.specs.List.{flat_map}
 use Rattle.std.proofs.lemmas.Bool.{cases_lt, le-ltb, le-leb, lt-leb}
 use Rattle.std.proofs.lemmas.List.{append-nil, get_or_at, length-append, nil_from_length}
 use Rattle.std.proofs.lemmas.Option.{none-some, same_Some}
@@ -11,8 +11,8 @@ use Rattle.std.specs.List.Sorted.{IsNonDecreasingBy}
 use Rattle.migration_model.proofs.Order.{last_by-le, in_order-front}
 use Rattle.migration_model.specs.Numbers.{text_of, number_in}
 use Rattle.migration_model.specs.Trace.{GuestWrite, GuestTrace, IsGuestSize, IsGuestWrite, write_text, header_text, trace_text, last_tick, Spells}
-use Rattle.migration_model.specs.TraceReading.{tick_in, page_in, offset_in, length_in, write_in, rest_after}
-use Rattle.migration_model.proofs.Writes.{HasPlaces, HasPlaces-from_guest, write_again, rest_again, len_again, length-write_text}
+use Rattle.migration_model.specs.TraceReading.{tick_in, page_in, offset_in, length_in, write_in}
+use Rattle.migration_model.proofs.Writes.{HasPlaces, HasPlaces-from_guest, write_again, len_again, length-write_text, front_writes}
 use Rattle.migration_model.proofs.Traces.{version_again, shift_again, pages_again, count_again, body_again, AllHavePlaces, one_trace_lem}
 use Rattle.trace_codec.specs.Refusals.{is_magic, header_refusal, write_refusal, Begins, Refuses, RefusesUnlessMemory, in_header, in_write, behind}
 use Rattle.trace_codec.proofs.Steps.{passes_empty}
@@ -67,22 +67,6 @@ write_passes version shift pages before i write rest places fits order =
     (passes _ _ _ (lt-leb pages (page_in bytes) (omega (arith, fits.page)))
     (passes _ _ _ (rw (offset, len) (passes_empty version write.offset (length write.bytes) fits.some))
     (passes _ _ _ (le-ltb (2 ^ shift) (offset_in bytes + length_in bytes) (rw (offset, len) fits.within)) refl))))))
-
--- Writes in front of some bytes are the first of more writes in front of them. Behind them stands the encoding of the
--- others, and what stands behind those.
-front_writes : (writes all : List GuestWrite) (rest last : List ℕ) → AllByRecursion HasPlaces writes → AllByRecursion HasPlaces all
-    → length writes ≤ length all → flat_map write_text writes ++ rest ≡ flat_map write_text all ++ last
-    → (others : List GuestWrite) × (all ≡ writes ++ others) × (rest ≡ flat_map write_text others ++ last)
-front_writes [] all rest last fits fits_all few same = (all, refl, same)
-front_writes (write ∷ writes) [] rest last fits fits_all few same = absurd (omega arith)
-front_writes (write ∷ writes) (first ∷ all) rest last fits fits_all few same =
-    let grouped : write_text write ++ (flat_map write_text writes ++ rest) ≡ write_text first ++ (flat_map write_text all ++ last) =
-    sym (append_assoc (write_text write) (flat_map write_text writes) rest) ∙ same ∙ append_assoc (write_text first) (flat_map write_text all) last in
-    let first_is : write ≡ first = sym (write_again write _ fits.0) ∙ ap write_in grouped ∙ write_again first _ fits_all.0 in
-    let behind : flat_map write_text writes ++ rest ≡ flat_map write_text all ++ last =
-    sym (rest_again write _ fits.0) ∙ ap rest_after grouped ∙ rest_again first _ fits_all.0 in
-    let found = front_writes writes all rest last fits.1 fits_all.1 (omega arith) behind in
-    (found.0, (λ i. sym first_is i ∷ found.1 i), found.2)
 
 -- the same header, and the writes of the longer one behind those of the shorter one
 record Meets (bytes : List ℕ) (b c : Begins bytes) : Type 0 where

@@ -32,7 +32,7 @@ returns g c =
     record {
       states_are = record {
         count = sym (length-map states (λ (d : CopierStateView). d.outs)) ∙ ap length rows ∙ length-map outs (λ r. r.items) ∙ grid.workers_are;
-        each = c.in_ok-states.ensures.each trace team.streams (sym c.shape-shape.ensures.shift) (sym c.shape-shape.ensures.pages) grid.out_rows;
+        each = c.in_ok-states.ensures.each trace team.streams grid.out_rows;
         new = subst HaveSentNothing (sym rows) (nothing_sent team.copiers team.streams team.lane outs ins grid);
       };
       crossed = subst (λ (sends : List (List OutView)). AreCrossed team.copiers team.streams (lanes_of sends) (map lanes_in receivers)) (sym rows)
