@@ -2,9 +2,10 @@
 
 ghost use Rattle.std.specs.Prelude.{◌≡◌, IfOk};
 ghost use Rattle.image_build.specs.Joins.{memory_by};
-ghost use Rattle.live_engine.specs.Runs.{AreNewStates, HaveEnded, IsLiveRun, IsStopped};
+ghost use Rattle.live_engine.specs.Runs.{AreNewStates, HaveEnded, IsLiveRun, IsStopped, IsTeam};
 ghost use Rattle.migration_model.specs.Rounds.{IsPlan};
 ghost use Rattle.migration_model.specs.Touches.{touches_of};
+ghost use Rattle.page_versions.specs.Index.{IsIndexOf};
 
 use crate::error::LiveError;
 use crate::opening::{Team, open_lanes};
@@ -32,7 +33,7 @@ fn run_beside_receivers<'s, E, W: WriteLog + Sync, G: Gate, R: Threads + Wait + 
     rt: &'s R,
     scope: &'s Scope<'s, E>,
     alloc: Global,
-    migration: &'s Migration<'s, W, G>,
+    migration: &Migration<'s, W, G>,
     states: VecDeque<CopierState>,
     receivers: Vec<Receiver>,
 ) -> Result<(Progress, Vec<Receiver>), LiveError>
@@ -71,18 +72,38 @@ fn run_all<W: WriteLog + Sync, G: Gate, R: Threads + Wait + Sync>(
         migration.now.plan.now migration.now.team states.items receivers.items
         ended.0.closed ended.0.rounds.items ended.0.states.items ended.1.items) }
 {
+    let Migration {
+        trace,
+        index,
+        gate,
+        settings,
+        plan,
+        signals,
+        team,
+    } = *migration;
     thread::scope(
         scope_env(),
         rt,
         move |scope| -> Result<(Progress, Vec<Receiver>), LiveError>
-            requires plan { IsPlan (W.trace migration.now.trace.now).pages
-                (touches_of (W.trace migration.now.trace.now)) migration.now.settings.now migration.now.plan.now }
-            requires states { AreNewStates (W.trace migration.now.trace.now) migration.now.team states.items }
-            ensures { IfOk result (λ ended. HaveEnded (W.trace migration.entry.now.trace.now)
-                migration.entry.now.settings.now migration.entry.now.plan.now migration.entry.now.team
+            requires index { IsIndexOf index.now (W.trace trace.now) }
+            requires team { IsTeam team }
+            requires plan { IsPlan (W.trace trace.now).pages (touches_of (W.trace trace.now)) settings.now plan.now }
+            requires states { AreNewStates (W.trace trace.now) team states.items }
+            ensures { IfOk result (λ ended. HaveEnded (W.trace trace.entry.now) settings.entry.now plan.entry.now team
                 states.items receivers.items
                 ended.0.closed ended.0.rounds.items ended.0.states.items ended.1.items) }
-        { run_beside_receivers(rt, scope, alloc, migration, states, receivers) },
+        {
+            let migration = Migration {
+                trace,
+                index,
+                gate,
+                settings,
+                plan,
+                signals,
+                team,
+            };
+            run_beside_receivers(rt, scope, alloc, &migration, states, receivers)
+        },
     )
 }
 

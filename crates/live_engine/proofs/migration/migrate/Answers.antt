@@ -14,7 +14,7 @@ pub drain_all-requires : goal.drain_all-requires
 drain_all-requires g c =
     let trace = g.W.WriteLog.trace c.args.trace.now in
     let p = c.in_ok-progress.progress in
-    still_crossed trace c.args.settings.now c.in_ok-plan.plan c.of-team.result c.in_ok-states.states.items p.states.items c.in_ok-states.receivers.items c.in_ok-progress.receivers.items
+    still_crossed trace c.args.settings.now c.in_ok-plan.field-0.plan c.of-team.result c.in_ok-states.states.items p.states.items c.in_ok-states.receivers.items c.in_ok-progress.receivers.items
     p.closed p.rounds.items c.in_ok-states.ensures c.in_ok-progress.ensures
 
 pub join_first-requires-clause-some : goal.join_first-requires-clause-some
@@ -22,7 +22,7 @@ join_first-requires-clause-some g c =
     let trace = g.W.WriteLog.trace c.args.trace.now in
     let p = c.in_ok-progress.progress in
     let came : AllCame trace c.args.settings.now.base c.of-team.result.streams p.closed c.in_ok-arrived.arrived.items =
-    all_came trace c.args.settings.now c.in_ok-plan.plan c.of-team.result c.in_ok-states.states.items p.states.items c.in_ok-states.receivers.items c.in_ok-progress.receivers.items
+    all_came trace c.args.settings.now c.in_ok-plan.field-0.plan c.of-team.result c.in_ok-states.states.items p.states.items c.in_ok-states.receivers.items c.in_ok-progress.receivers.items
     p.closed p.rounds.items c.in_ok-arrived.arrived.items c.in_ok-states.ensures c.in_ok-progress.ensures (c.in_ok-arrived.ensures (shape_of_trace trace)) in
     omega (arith, came.count, c.of-team.ensures.is_team.streams.0)
 
@@ -31,7 +31,7 @@ join_first-requires-clause-shapes g c =
     let trace = g.W.WriteLog.trace c.args.trace.now in
     let p = c.in_ok-progress.progress in
     let came : AllCame trace c.args.settings.now.base c.of-team.result.streams p.closed c.in_ok-arrived.arrived.items =
-    all_came trace c.args.settings.now c.in_ok-plan.plan c.of-team.result c.in_ok-states.states.items p.states.items c.in_ok-states.receivers.items c.in_ok-progress.receivers.items
+    all_came trace c.args.settings.now c.in_ok-plan.field-0.plan c.of-team.result c.in_ok-states.states.items p.states.items c.in_ok-states.receivers.items c.in_ok-progress.receivers.items
     p.closed p.rounds.items c.in_ok-arrived.arrived.items c.in_ok-states.ensures c.in_ok-progress.ensures (c.in_ok-arrived.ensures (shape_of_trace trace)) in
     subst (λ (o : Option GuestPart). IfSome o (λ one. All (λ part. one.shape ≡ part.shape) c.in_ok-arrived.arrived.items)) (sym c.in_ok-plan.ensures.first)
     (shapes_begun trace c.args.settings.now.base c.in_ok-arrived.arrived.items came.not_beyond.shapes)
@@ -41,7 +41,7 @@ finish-requires-clause-arrived g c κs within =
     let trace = g.W.WriteLog.trace c.args.trace.now in
     let p = c.in_ok-progress.progress in
     let came : AllCame trace c.args.settings.now.base c.of-team.result.streams p.closed c.in_ok-arrived.arrived.items =
-    all_came trace c.args.settings.now c.in_ok-plan.plan c.of-team.result c.in_ok-states.states.items p.states.items c.in_ok-states.receivers.items c.in_ok-progress.receivers.items
+    all_came trace c.args.settings.now c.in_ok-plan.field-0.plan c.of-team.result c.in_ok-states.states.items p.states.items c.in_ok-states.receivers.items c.in_ok-progress.receivers.items
     p.closed p.rounds.items c.in_ok-arrived.arrived.items c.in_ok-states.ensures c.in_ok-progress.ensures (c.in_ok-arrived.ensures (shape_of_trace trace)) in
     subst (λ (parts : List GuestPart). AllArrived trace c.of-team.result.streams p.closed parts) (sym c.in_ok-parts.ensures)
     (subst (λ (o : Option GuestPart). AllArrived trace c.of-team.result.streams p.closed (parts_with o c.in_ok-arrived.arrived.items)) (sym c.in_ok-plan.ensures.first)
@@ -52,13 +52,13 @@ returns g c =
     let trace = g.W.WriteLog.trace c.args.trace.now in
     let p = c.in_ok-progress.progress in
     let done = c.in_ok-progress.ensures.done in
-    let law = keeps_settings trace c.args.settings.now c.in_ok-plan.plan c.of-team.result c.in_ok-states.states.items p.states.items c.in_ok-states.receivers.items p.closed p.rounds.items
+    let law = keeps_settings trace c.args.settings.now c.in_ok-plan.field-0.plan c.of-team.result c.in_ok-states.states.items p.states.items c.in_ok-states.receivers.items p.closed p.rounds.items
     c.of-team.ensures c.in_ok-states.ensures done in
     record {
-      plan = c.in_ok-plan.plan;
+      plan = c.in_ok-plan.field-0.plan;
       is_plan = c.in_ok-plan.ensures.plan;
       stop_is = ap (λ (plan : MigrationPlan). plan.stop) c.plan.view_is;
-      at_stop_is = c.in_ok-memory.ensures.at_stop c.in_ok-plan.plan.stop done.joined.versions;
+      at_stop_is = c.in_ok-memory.ensures.at_stop c.in_ok-plan.field-0.plan.stop done.joined.versions;
       stopped = search rules;
       law = law;
     }
