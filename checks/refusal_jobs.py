@@ -96,7 +96,7 @@ WRITE_FAILED = b"precopy: write\n"
 
 
 class Job:
-    """A command over a trace, what it has to write, and how many of its threads only save time: of a live run, two."""
+    """A command over a trace, what it has to write, and how many of its threads only save time: of a live run, one."""
 
     status, faults = 0, b""
 
@@ -106,7 +106,7 @@ class Job:
         self.output = output
         self.trace = trace
         self.is_live = is_live
-        self.savers = savers or (2 if is_live else 0)
+        self.savers = savers or (1 if is_live else 0)
 
 
 class Misuse(Job):
@@ -139,7 +139,6 @@ WARM = Job(
     ["live", *PLAN, *THREADS, "--base", "1200", "--start", "1201", "--at-stop"],
     A_AT_2000,
     is_live=True,
-    savers=3,
 )
 WIDE = "2 workers, 2^18 writes"
 WIDE_WORDS = ["--workers", "2", *MANY_CASES.split()]
