@@ -10,7 +10,8 @@ use std::alloc::{AllocError, Global};
 use std::sync::Wait;
 use std::test::Fail;
 use std::thread::Threads;
-use trace_codec::{TestSource, TraceError};
+use trace_codec::{TestSource, TraceError, read_trace};
+use trace_readers::{HeldTrace, IncomingTrace, TouchLog};
 
 /// How many jobs there are.
 const JOBS: usize = 5;
@@ -107,6 +108,60 @@ fn each_read_that_fails_is_told(rt: HostRuntime) -> Result<(), Fail> {
             assert_eq!(rt; answer, fault, "job {number}, read {call}");
             assert!(rt; sink.bytes().is_empty(), "job {number}, read {call}");
         }
+    }
+    Ok(())
+}
+
+/// Returns a source that gives one byte a call of a trace whose first byte is wrong, and fails at a call.
+fn damaged(alloc: Global, failing_call: Option<u64>) -> Result<TestSource, AllocError>
+    ensures { IfOk result (λ s. s.has_failed ≡ false) }
+{
+    let mut bytes = trace_of(alloc, 5, &[0, 1, 2, 3, 4])?;
+    if let Some(first) = bytes.first_mut() {
+        *first = 0x51;
+    }
+    Ok(TestSource::new(bytes, 1, failing_call))
+}
+
+/// Opens a trace on its way, tests its header, and holds it whatever the header is. Returns what the header is refused
+/// for, and then what the trace is.
+fn held_after_header(
+    alloc: Global,
+    mut source: TestSource,
+) -> Result<(Option<TraceError>, Option<TraceError>), TraceError>
+    requires { source.has_failed ≡ false }
+{
+    let incoming = IncomingTrace::open(alloc, &mut source)?;
+    let cause = incoming.header().err();
+    Ok((cause, incoming.hold(alloc, &mut source).err()))
+}
+
+/// Returns what each reader that reads to the end refuses a damaged trace for, of which a read fails.
+fn refusals(alloc: Global, failing_call: Option<u64>) -> Result<[Option<TraceError>; 3], AllocError> {
+    Ok([
+        read_trace(alloc, &mut damaged(alloc, failing_call)?).err(),
+        HeldTrace::read(alloc, &mut damaged(alloc, failing_call)?).err(),
+        TouchLog::read(alloc, &mut damaged(alloc, failing_call)?).err(),
+    ])
+}
+
+#[test]
+fn a_read_that_fails_behind_a_cause_is_told(rt: HostRuntime) -> Result<(), Fail> {
+    let alloc = rt.alloc();
+    let cause = Some(TraceError::BadMagic);
+    let fault = Some(TraceError::ReadFault);
+    assert_eq!(rt; refusals(alloc, None)?, [cause; 3]);
+    assert_eq!(rt; held_after_header(alloc, damaged(alloc, None)?), Ok((cause, cause)));
+    for call in 1..=103u64 {
+        let held = held_after_header(alloc, damaged(alloc, Some(call))?);
+        // The first 16 calls give the header.
+        let expected = if call <= 16 {
+            Err(TraceError::ReadFault)
+        } else {
+            Ok((cause, fault))
+        };
+        assert_eq!(rt; refusals(alloc, Some(call))?, [fault; 3], "read {call}");
+        assert_eq!(rt; held, expected, "read {call}");
     }
     Ok(())
 }

@@ -276,3 +276,33 @@ fn first_part_stays_where_stamps_are_equal(rt: HostRuntime) -> Result<(), Fail> 
     );
     Ok(())
 }
+
+/// Returns the join of two parts as a final copy leaves them: the first had pages 1, 2 and 3, and pages 0 and 1 were
+/// marked.
+fn merged_after_a_final_copy(alloc: Global) -> Option<Part> {
+    let shape = shape();
+    let mut first = Part::new(alloc, shape);
+    let mut second = Part::new(alloc, shape);
+    let fates = [
+        give(alloc, &mut first, &shape, 1, 2, 7),
+        give(alloc, &mut first, &shape, 2, 0, 0),
+        give(alloc, &mut first, &shape, 3, 0, 0),
+        give(alloc, &mut first, &shape, 0, 1, 8),
+        give(alloc, &mut second, &shape, 1, 3, 9),
+    ];
+    if fates != [Some(Fate::New); 5] {
+        return None;
+    }
+    merge(first, second).ok()
+}
+
+#[test]
+fn join_has_the_greatest_stamps(rt: HostRuntime) -> Result<(), Fail> {
+    let both = merged_after_a_final_copy(rt.alloc()).ok_or("a part")?;
+    let stamps = [both.stamp(0), both.stamp(1), both.stamp(2), both.stamp(3)];
+    assert_eq!(rt;
+        (stamps, filling(&both)),
+        ([Some(1), Some(3), Some(0), Some(0)], Some(9))
+    );
+    Ok(())
+}

@@ -5,7 +5,7 @@ ghost use Rattle.std.specs.Prelude.{◌≡◌, ◌≤◌, IfOk, false};
 use crate::live_tests::{shown, slow};
 use crate::tests::{MEMORY, MEMORY_AT_2000, TRACE, ran, sink};
 use image_build::{replay, replay_before, replay_bytes, replay_view};
-use live_engine::OpenGate;
+use live_engine::{OpenGate, migrate};
 use migration_jobs::{Job, Show};
 use rate_limit::{Asked, Settings};
 use std::alloc::{AllocError, Global};
@@ -212,5 +212,15 @@ fn live_runs_leave_a_released_page_zeros(rt: HostRuntime) -> Result<(), Fail> {
         let output = shown(&rt, alloc, bytes, asked, show, &OpenGate)?;
         assert!(rt; output.bytes() == memory);
     }
+    Ok(())
+}
+
+#[test]
+fn a_live_run_with_a_release_stops_where_its_plan_does(rt: HostRuntime) -> Result<(), Fail> {
+    let alloc = rt.alloc();
+    let trace = HeldTrace::parse(alloc, Vec::from_slice(alloc, &RELEASED)?)?;
+    let settings = Settings::new(slow())?;
+    let stopped = migrate(&rt, alloc, &trace, &settings, &OpenGate)?;
+    assert_eq!(rt; (stopped.stop, stopped.versions.as_slice()), (3667, [1, 5, 0, 4].as_slice()));
     Ok(())
 }

@@ -213,16 +213,16 @@ one_more_case options words place cases word asked are here is fits =
     })
 
 -- the refusal of a word behind cases is the refusal of all words
-pub refused_here : (options : MigrationSettings) (words : List (List ℕ)) (place : ℕ) (word : List ℕ) (before : List MigrationSettings) (refusal : WordsRefusal) → AreCases options (take place words) before
-    → slice_get words place ≡ Some word → RefusesCase options place word refusal → RefusesCases options words refusal
-refused_here options words place word before (Case k) are here refused =
+pub refused_here : (options : MigrationSettings) (words : List (List ℕ)) (place : ℕ) (word : List ℕ) (before : List MigrationSettings) (refusal : WordsRefusal) → length words ≤ 256
+    → AreCases options (take place words) before → slice_get words place ≡ Some word → RefusesCase options place word refusal → RefusesCases options words refusal
+refused_here options words place word before (Case k) few are here refused =
     let P : ℕ → Type 0 = λ p. IsFirst (IsNoCase options) options words p in
-    subst P (sym refused.0) (record { before = before; accepted = are; word = word; is_word = here; holds = refused.1 })
-refused_here options words place word before (CaseSettings k e) are here refused =
+    (few, subst P (sym refused.0) (record { before = before; accepted = are; word = word; is_word = here; holds = refused.1 }))
+refused_here options words place word before (CaseSettings k e) few are here refused =
     let P : ℕ → Type 0 = λ p. IsFirst (IsRefusedCase options e) options words p in
-    subst P (sym refused.0) (record { before = before; accepted = are; word = word; is_word = here; holds = refused.1 })
-refused_here options words place word before (Settings e) are here refused = absurd refused
-refused_here options words place word before TooManyCases are here refused = absurd refused
+    (few, subst P (sym refused.0) (record { before = before; accepted = are; word = word; is_word = here; holds = refused.1 }))
+refused_here options words place word before (Settings e) few are here refused = absurd refused
+refused_here options words place word before TooManyCases few are here refused = absurd refused
 
 pub if_err : {A E : Type 0} (r : Result A E) (P : E → Type 0) → ((e : E) → P e) → IfErr r P
 if_err (Ok x) P all = tt

@@ -12,7 +12,7 @@ use Rattle.clap.specs.declared.error.Error.{Error}
 use Rattle.clap.specs.declared.parser.matches.ArgMatches.{ArgMatches}
 use Rattle.clap.specs.declared.parser.matches.ArgMatches.TheViews.{out-ArgMatches}
 use Rattle.job_kinds.specs.declared.job.Job.{Job}
-use Rattle.job_words.specs.Commands.{TellsError, WordsAsk, WordsFail, command_in, precopy_line}
+use Rattle.job_words.specs.Commands.{FailsByKind, TellsError, WordsAsk, WordsFail, command_in, precopy_line}
 use Rattle.job_words.specs.Jobs.{AsksForJob, RefusesJob}
 use Rattle.job_words.specs.declared.command.WordsError.{WordsError}
 use Rattle.job_words.specs.declared.command.WordsError.TheVariants.{Help, Memory, Refused, Usage}
@@ -30,13 +30,13 @@ unfolding precopy_line clap_on_literals
 line_requires = refl
 
 -- an error of clap's is told as what it is
-pub words_fail : (words : List Text) (e : Error) (r : WordsError) → HasKind (fault_of precopy_line words) e → TellsError (kind_of e) r → WordsFail words r
-words_fail words e Memory kinds tells = tt
-words_fail words e (Help text) (inl memory) tells = absurd (tells.0 memory)
-words_fail words e (Help text) (inr among) tells = (kind_of e, among, tells.1)
-words_fail words e (Usage text) (inl memory) tells = absurd (tells.0 memory)
-words_fail words e (Usage text) (inr among) tells = (kind_of e, among, tells.1)
-words_fail words e (Refused refusal) kinds tells = absurd tells
+pub fails_by_kind : (words : List Text) (e : Error) (r : WordsError) → HasKind (fault_of precopy_line words) e → TellsError (kind_of e) r → FailsByKind words r
+fails_by_kind words e Memory kinds tells = tt
+fails_by_kind words e (Help text) (inl memory) tells = absurd (tells.0 memory)
+fails_by_kind words e (Help text) (inr among) tells = (kind_of e, among, tells.1)
+fails_by_kind words e (Usage text) (inl memory) tells = absurd (tells.0 memory)
+fails_by_kind words e (Usage text) (inr among) tells = (kind_of e, among, tells.1)
+fails_by_kind words e (Refused refusal) kinds tells = absurd tells
 
 named_rows : {B : Type 0} (f : B → Text) (g : B → List Row) (x : Option B) (name : Text) (rows : List Row) → Some name ≡ option_map f x
     → Some rows ≡ option_map {T = Text × List Row} {U = List Row} (λ p. p.1) (option_map {T = B} {U = Text × List Row} (λ b. (f b, g b)) x) → option_map {T = B} {U = Text × List Row} (λ b. (f b, g b)) x ≡ Some (name, rows)

@@ -68,11 +68,13 @@ RefusesCase options place word (refusals.CaseSettings k e) = (k ≡ place) × Is
 RefusesCase options place word (refusals.Settings e) = ⊥
 RefusesCase options place word refusals.TooManyCases = ⊥
 
--- Why the words are refused: there are more than 256, or this one is the first that is refused.
+-- Why the words are refused: there are more than 256; or there are no more, and this one is the first that is refused.
 abbrev pub RefusesCases : MigrationSettings → List (List ℕ) → WordsRefusal → Type 0
 RefusesCases options words refusals.TooManyCases = 256 < length words
-RefusesCases options words (refusals.Case place) = IsFirst (IsNoCase options) options words place
-RefusesCases options words (refusals.CaseSettings place e) = IsFirst (IsRefusedCase options e) options words place
+RefusesCases options words (refusals.Case place) =
+    (length words ≤ 256) × IsFirst (IsNoCase options) options words place
+RefusesCases options words (refusals.CaseSettings place e) =
+    (length words ≤ 256) × IsFirst (IsRefusedCase options e) options words place
 RefusesCases options words (refusals.Settings e) = ⊥
 
 -- the words are refused for a cause in them, or memory ran out

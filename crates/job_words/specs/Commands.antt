@@ -1,5 +1,7 @@
 -- The command line of `precopy`: its commands, the options of each, and what words behind the program's name ask for.
-use Rattle.std.specs.Prelude.{◌≡◌, ◌≢◌, ◌⊎◌, List, [], ◌∷◌, ◌++◌, Option, Some, true, false, ⊤, codes}
+use Rattle.std.specs.Prelude.{◌≡◌, ◌≢◌, ◌⊎◌, List, [], ◌∷◌, ◌++◌, Option, Some, None, MatchOption, if◌then◌else◌}
+use Rattle.std.specs.Prelude.{true, false, ⊤, codes}
+use Rattle.std.specs.Str.{bytes_eq}
 use Rattle.clap.specs.Lexer.{usize_max}
 use Rattle.clap.specs.Simple.{App, Shape, app_of, new_rule, new_shape, on_top, subcommand_of}
 use Rattle.clap.specs.Faults.{fault_of}
@@ -15,7 +17,7 @@ use Rattle.job_kinds.specs.declared.job.Job.{Job}
 use Rattle.job_words.specs.declared.command.WordsError.{WordsError}
 use Rattle.job_words.specs.declared.command.WordsError.TheVariants as errors
 use Rattle.job_words.specs.declared.command.WordsRefusal.{WordsRefusal}
-use Rattle.job_words.specs.Jobs.{AsksForJob, RefusesCommand}
+use Rattle.job_words.specs.Jobs.{AsksForJob, IsCommand, RefusesCommand}
 
 -- an option that takes a whole number below 2^64
 abbrev pub number_rule : Text → Rule
@@ -110,13 +112,37 @@ pub record WordsRefused (words : List Text) (refusal : WordsRefusal) : Type 0 wh
 abbrev pub IsRequest : ErrorKind → Type 0
 IsRequest kind = (kind ≡ kinds.DisplayHelp) ⊎ (kind ≡ kinds.DisplayVersion)
 
--- the words ask for help
+-- the words behind `help`, where that stands behind the program's name
+abbrev pub help_names : List Text → Option (List Text)
+help_names [] = None
+help_names (program ∷ []) = None
+help_names (program ∷ word ∷ names) = if bytes_eq word (codes "help") then Some names else None
+
+-- what `help` has a text for: all of `precopy`, one of its commands, or `help`
+abbrev pub AreHelpNames : List Text → Type 0
+AreHelpNames [] = ⊤
+AreHelpNames (name ∷ []) = IsCommand name ⊎ (name ≡ codes "help")
+AreHelpNames (name ∷ other ∷ more) = ⊥
+
+-- The words ask for help: `help`, with a name of which it has a text or with none, or words that clap takes for a
+-- request. Of `help` itself clap says only that it is a request or is not taken.
 abbrev pub AskForHelp : List Text → Type 0
-AskForHelp words = (kind : ErrorKind) × IsAmong kind (fault_of precopy_line words) × IsRequest kind
+AskForHelp words = MatchOption (help_names words)
+    ((kind : ErrorKind) × IsAmong kind (fault_of precopy_line words) × IsRequest kind) AreHelpNames
 
 -- `precopy` does not take the words
 abbrev pub AreNotTaken : List Text → Type 0
-AreNotTaken words = (kind : ErrorKind) × IsAmong kind (fault_of precopy_line words) × ¬ IsRequest kind
+AreNotTaken words = MatchOption (help_names words)
+    ((kind : ErrorKind) × IsAmong kind (fault_of precopy_line words) × ¬ IsRequest kind) (λ names. ¬ AreHelpNames names)
+
+-- what a refusal by clap says of the words: it has one of the kinds that clap finds in them
+abbrev pub FailsByKind : List Text → WordsError → Type 0
+FailsByKind words errors.Memory = ⊤
+FailsByKind words (errors.Help text) =
+    (kind : ErrorKind) × IsAmong kind (fault_of precopy_line words) × IsRequest kind
+FailsByKind words (errors.Usage text) =
+    (kind : ErrorKind) × IsAmong kind (fault_of precopy_line words) × ¬ IsRequest kind
+FailsByKind words (errors.Refused refusal) = ⊥
 
 -- Why words make no job: memory ran out, they ask for help, `precopy` does not take them, or their command is refused.
 abbrev pub WordsFail : List Text → WordsError → Type 0
@@ -128,13 +154,6 @@ WordsFail words (errors.Refused refusal) = WordsRefused words refusal
 -- the words are refused: `precopy` does not take them, or refuses their command
 abbrev pub AreRefusedWords : List Text → Type 0
 AreRefusedWords words = AreNotTaken words ⊎ ((refusal : WordsRefusal) × WordsRefused words refusal)
-
--- the error is a request for help
-abbrev pub IsHelp : WordsError → Type 0
-IsHelp (errors.Help text) = ⊤
-IsHelp errors.Memory = ⊥
-IsHelp (errors.Usage text) = ⊥
-IsHelp (errors.Refused refusal) = ⊥
 
 -- the error refuses words
 abbrev pub IsWordsRefusal : WordsError → Type 0

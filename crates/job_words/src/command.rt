@@ -1,9 +1,10 @@
 //! The command line: words in, a job or a refusal out.
 
-ghost use Rattle.std.specs.Prelude.{[], ◌≡◌, IfErr, IfOk, codes, map, string_bytes};
+ghost use Rattle.std.specs.Prelude.{[], ◌≡◌, ◌↔◌, IfErr, IfOk, IsTrue, codes, map, option_map, string_bytes};
 ghost use Rattle.clap.specs.Values.{kind_of};
 ghost use Rattle.clap.specs.Words.{app_of, found_of, rows_of};
-ghost use Rattle.job_words.specs.Commands.{IsLeaf, TellsError, WordsAsk, WordsFail, precopy_line};
+ghost use Rattle.job_words.specs.Commands.{AreHelpNames, FailsByKind, IsLeaf, TellsError, WordsAsk, WordsFail};
+ghost use Rattle.job_words.specs.Commands.{help_names, precopy_line};
 ghost use Rattle.job_words.specs.Jobs.{AsksForJob, IsCommand, RefusesJob};
 ghost use Rattle.job_words.specs.declared.command.WordsError.TheVariants.{Memory};
 
@@ -144,6 +145,47 @@ pub fn refusal_of(alloc: Global, error: &clap::Error) -> WordsError
     }
 }
 
+/// Returns the words behind `help`, where that stands behind the program's name.
+fn help_names(words: &[String]) -> Option<&[String]>
+    ensures { option_map (λ names. map string_bytes names.now) result ≡ help_names (map string_bytes words.now) }
+{
+    match words {
+        [_, word, names @ ..] if word.as_str() == "help" => Some(names),
+        _ => None,
+    }
+}
+
+/// Returns whether `help` has a text for what stands behind it: nothing, the name of a command, or `help`.
+fn are_help_names(names: &[String]) -> bool
+    ensures { IsTrue result ↔ AreHelpNames (map string_bytes names.now) }
+{
+    match names {
+        [] => true,
+        [name] => matches!(
+            name.as_str(),
+            "image" | "report" | "live" | "sweep" | "help"
+        ),
+        _ => false,
+    }
+}
+
+/// Returns a refusal by `clap` as what the words are told. Of `help` the contract of `clap` says only that it is a
+/// request or a wrong word, so what stands behind it decides.
+fn told(words: &[String], refusal: WordsError) -> WordsError
+    requires { FailsByKind (map string_bytes words.now) refusal }
+    ensures { WordsFail (map string_bytes words.now) result }
+{
+    let Some(names) = help_names(words) else {
+        return refusal;
+    };
+    let has_text = are_help_names(names);
+    match refusal {
+        WordsError::Help(text) | WordsError::Usage(text) if has_text => WordsError::Help(text),
+        WordsError::Help(text) => WordsError::Usage(text),
+        other => other,
+    }
+}
+
 /// Returns the report that its options ask for.
 fn report_of(options: &ArgMatches) -> Result<Job, WordsError>
     ensures made { IfOk result (λ job. AsksForJob (codes "report") (rows_of (found_of options.now)) job) }
@@ -206,7 +248,7 @@ pub fn job_of(alloc: Global, words: &[String]) -> Result<Job, WordsError>
 {
     let matches = match commands(alloc)?.try_get_matches_from(words) {
         Ok(matches) => matches,
-        Err(error) => return Err(refusal_of(alloc, &error)),
+        Err(error) => return Err(told(words, refusal_of(alloc, &error))),
     };
     match matches.subcommand() {
         Some((name, options)) => command_job(alloc, name, options),

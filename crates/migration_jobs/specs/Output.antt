@@ -83,17 +83,10 @@ IsLiveJob jobs.Image = ⊥
 IsLiveJob (jobs.Report settings) = ⊥
 IsLiveJob (jobs.Sweep cases workers) = ⊥
 
--- a job that plans on several threads
-abbrev pub IsPlanningJob : Job → Type 0
-IsPlanningJob (jobs.Report settings) = ⊤
-IsPlanningJob (jobs.Sweep cases workers) = ⊤
-IsPlanningJob jobs.Image = ⊥
-IsPlanningJob (jobs.Live settings show) = ⊥
-
--- A job's errors: that of a live run comes from a live run alone, and a missing thread from what plans.
+-- A job's errors: that of a live run comes from a live run alone. No job is refused for a missing thread of its own.
 abbrev pub IsRefusalOf : Job → RunError → Type 0
 IsRefusalOf job (errors.Trace e) = ⊤
 IsRefusalOf job errors.Memory = ⊤
 IsRefusalOf job errors.Write = ⊤
 IsRefusalOf job (errors.Live e) = IsLiveJob job
-IsRefusalOf job errors.Thread = IsPlanningJob job
+IsRefusalOf job errors.Thread = ⊥

@@ -1,5 +1,8 @@
 //! Why a run ended without its output.
 
+ghost use Rattle.std.specs.Prelude.{◌≡◌};
+ghost use Rattle.migration_jobs.specs.declared.error.RunError.TheVariants.{Live};
+
 use live_engine::LiveError;
 use thiserror::Error;
 use trace_codec::TraceError;
@@ -13,8 +16,8 @@ pub enum RunError {
     /// Memory ran out.
     #[error("memory")]
     Memory,
-    /// A thread could not be started. No job returns it yet: a live run has an error of its own. Where a thread cannot
-    /// be started for a report or a sweep, the caller's thread does the work.
+    /// A thread could not be started. No job returns it: a live run has an error of its own. Where a thread cannot be
+    /// started for a report or a sweep, the caller's thread does the work.
     #[error("thread")]
     Thread,
     /// The live run gave no memory: memory ran out, or a thread could not be started.
@@ -23,4 +26,12 @@ pub enum RunError {
     /// The writer failed, took none of some bytes, or failed to flush.
     #[error("write")]
     Write,
+}
+
+impl From<LiveError> for RunError {
+    ghost from_gives = { λ error e. e ≡ Live error };
+
+    fn from(error: LiveError) -> RunError {
+        RunError::Live(error)
+    }
 }

@@ -29,10 +29,8 @@ fn live_of_trace<R: Threads + Wait + Sync, G: Gate>(
     ensures made { IfOk result (λ m. IsTrace trace × IsShown show trace settings.now m.bytes) }
     ensures refused { IfErr result (λ e. (error : LiveError) × (e ≡ RunError.Live error)) }
 {
-    match migrate(rt, alloc, &trace, settings, gate) {
-        Ok(stopped) => Ok(Shown::new(stopped, trace, show)),
-        Err(error) => Err(RunError::Live(error)),
-    }
+    let stopped = migrate(rt, alloc, &trace, settings, gate)?;
+    Ok(Shown::new(stopped, trace, show))
 }
 
 /// Returns the memory of a live run of the trace that a source holds.

@@ -1,9 +1,11 @@
 //! The program over words, a source and two sinks.
 
-ghost use Rattle.std.specs.Prelude.{◌≡◌, ◌≤◌, ◌⊎◌, List, ℕ, false, map, string_bytes, true};
+ghost use Rattle.std.specs.Prelude.{◌≡◌, ◌≤◌, ◌⊎◌, ◌↔◌, List, ℕ, false, map, string_bytes, true};
 ghost use Rattle.std.specs.Io.KnownBytes.{Appends};
-ghost use Rattle.job_words.specs.Commands.{AreRefusedWords, AskForHelp, IsHelp, IsWordsRefusal, WordsAsk};
+ghost use Rattle.job_words.specs.Commands.{AreRefusedWords, AskForHelp, IsWordsRefusal, WordsAsk};
 ghost use Rattle.migration_jobs.specs.Output.{IsOutput};
+ghost use Rattle.migration_jobs.specs.Sink.{AppendsPart};
+ghost use Rattle.precopy.specs.Ends.{HasFailed, IsHelpText, memory_line};
 
 use arrayvec::ArrayString;
 use job_words::{WordsError, WordsRefusal, job_of};
@@ -18,6 +20,7 @@ use trace_codec::Source;
 /// Writes a text of faults. Where that fails nobody can be told.
 fn show<E: Sink>(faults: &mut E, text: &str)
     requires { E.has_failed faults.old ≡ false }
+    ensures { AppendsPart (E.contents faults.old) (E.contents faults.new) text.now }
 {
     let _ = write_out(faults, text.as_bytes());
 }
@@ -30,6 +33,16 @@ fn fault<E: Sink>(faults: &mut E, error: &RunError) -> u8
     let mut line = ArrayString::<64>::new();
     let _ = write!(line, "precopy: {error}\n");
     show(faults, line.as_str());
+    1
+}
+
+/// Writes the fault line of a want of memory while the words are read, and returns its status, 1.
+fn short_of_memory<E: Sink>(faults: &mut E) -> u8
+    requires { E.has_failed faults.old ≡ false }
+    ensures status { result ≡ 1 }
+    ensures told { AppendsPart (E.contents faults.old) (E.contents faults.new) memory_line }
+{
+    show(faults, "precopy: memory\n");
     1
 }
 
@@ -49,6 +62,8 @@ fn run_job<R: Threads + Wait + Sync, S: Source, K: Sink, E: Sink>(
     ensures flushed { result ≡ 0 → K.is_flushed sink.new ≡ true }
     ensures written { result ≡ 0 → (output : List ℕ) × IsOutput (S.remaining source.old) job.now output
         × Appends (K.contents sink.old) (K.contents sink.new) output }
+    ensures failed { result ≡ 1 → HasFailed (S.remaining source.old) job.now (S.has_failed source.new) (K.has_failed sink.new)
+        (K.contents sink.old) (K.contents sink.new) }
 {
     match run(rt, alloc, job, source, sink, &OpenGate) {
         Ok(()) => 0,
@@ -62,6 +77,9 @@ fn run_help<K: Sink, E: Sink>(text: &str, sink: &mut K, faults: &mut E) -> u8
     requires untold { E.has_failed faults.old ≡ false }
     ensures status { result ≤ 1 }
     ensures flushed { result ≡ 0 → K.is_flushed sink.new ≡ true }
+    ensures written { result ≡ 0 → Appends (K.contents sink.old) (K.contents sink.new) text.now }
+    ensures part { result ≡ 1 → AppendsPart (K.contents sink.old) (K.contents sink.new) text.now }
+    ensures failed { result ≡ 1 → K.has_failed sink.new ≡ true }
 {
     match write_out(sink, text.as_bytes()) {
         Ok(()) => 0,
@@ -86,12 +104,18 @@ pub fn refuse<K: Sink, E: Sink>(error: WordsError, sink: &mut K, faults: &mut E)
     requires untold { E.has_failed faults.old ≡ false }
     ensures status { result ≤ 2 }
     ensures flushed { result ≡ 0 → K.is_flushed sink.new ≡ true }
-    ensures help { result ≡ 0 → IsHelp error }
-    ensures refused { result ≡ 2 → IsWordsRefusal error × (sink.new ≡ sink.old) }
+    ensures help { result ≡ 0 → (text : List ℕ) × IsHelpText error text
+        × Appends (K.contents sink.old) (K.contents sink.new) text }
+    ensures refused { (result ≡ 2) ↔ IsWordsRefusal error }
+    ensures kept { ((text : List ℕ) → ¬ IsHelpText error text) → sink.new ≡ sink.old }
+    // Help that could not be written, or memory that ran out.
+    ensures failed { result ≡ 1 → ((K.has_failed sink.new ≡ true) × (text : List ℕ) × IsHelpText error text
+        × AppendsPart (K.contents sink.old) (K.contents sink.new) text)
+        ⊎ ((error ≡ WordsError.Memory) × AppendsPart (E.contents faults.old) (E.contents faults.new) memory_line) }
 {
     match error {
         WordsError::Help(text) => run_help(text.as_str(), sink, faults),
-        WordsError::Memory => fault(faults, &RunError::Memory),
+        WordsError::Memory => short_of_memory(faults),
         WordsError::Usage(text) => {
             show(faults, text.as_str());
             2
@@ -123,7 +147,16 @@ pub fn start<R: Threads + Wait + Sync, S: Source, K: Sink, E: Sink>(
     // and nothing was read.
     ensures written { result ≡ 0 → ((job : Job) × (output : List ℕ) × WordsAsk (map string_bytes words.items) job
         × IsOutput (S.remaining source.old) job output × Appends (K.contents sink.old) (K.contents sink.new) output)
-        ⊎ (AskForHelp (map string_bytes words.items) × (source.new ≡ source.old)) }
+        ⊎ (AskForHelp (map string_bytes words.items) × (source.new ≡ source.old)
+        × (text : List ℕ) × Appends (K.contents sink.old) (K.contents sink.new) text) }
+    // The job that the words ask for failed; or else nothing was read: a write of help failed, or memory ran out while
+    // the words were read, which is told, and nothing is written.
+    ensures failed { result ≡ 1 → ((job : Job) × WordsAsk (map string_bytes words.items) job
+        × HasFailed (S.remaining source.old) job (S.has_failed source.new) (K.has_failed sink.new)
+        (K.contents sink.old) (K.contents sink.new))
+        ⊎ ((source.new ≡ source.old) × ((AskForHelp (map string_bytes words.items) × (K.has_failed sink.new ≡ true)
+        × (text : List ℕ) × AppendsPart (K.contents sink.old) (K.contents sink.new) text)
+        ⊎ ((sink.new ≡ sink.old) × AppendsPart (E.contents faults.old) (E.contents faults.new) memory_line))) }
     // Words are refused before any byte of the trace is read, and nothing is written then.
     ensures refused { result ≡ 2 → AreRefusedWords (map string_bytes words.items) × (source.new ≡ source.old)
         × (sink.new ≡ sink.old) }

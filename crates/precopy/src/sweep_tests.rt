@@ -11,8 +11,15 @@ case 2 min 2 max 4 inc 1 threshold 3 limit 8 skip 0 rounds 1 stop few at 2000 do
 best 0
 ";
 
-/// One case twice, later.
+/// One case twice.
 static TWICE: &str =
+    "case 0 min 2 max 4 inc 1 threshold 1 limit 8 skip 0 rounds 3 stop few at 3667 down 0 total 8
+case 1 min 2 max 4 inc 1 threshold 1 limit 8 skip 0 rounds 3 stop few at 3667 down 0 total 8
+best 0
+";
+
+/// One case twice, later.
+static TWICE_LATER: &str =
     "case 0 min 2 max 4 inc 1 threshold 1 limit 8 skip 0 rounds 1 stop few at 5000 down 0 total 4
 case 1 min 2 max 4 inc 1 threshold 1 limit 8 skip 0 rounds 1 stop few at 5000 down 0 total 4
 best 0
@@ -21,8 +28,9 @@ best 0
 #[test]
 fn sweeps_cases(rt: HostRuntime) -> Result<(), Fail> {
     let alloc = rt.alloc();
-    let sweeps: [(&[&str], &str); 2] = [
+    let sweeps: [(&[&str], &str); 3] = [
         (&["02,4,1,1,8,0", "2,2,1,1,8,0", "2,4,1,3,8,000"], THREE),
+        (&["2,4,1,1,8,0", "2,4,1,1,8,0"], TWICE),
         (
             &[
                 "2,4,1,1,8,0",
@@ -31,7 +39,7 @@ fn sweeps_cases(rt: HostRuntime) -> Result<(), Fail> {
                 "--start",
                 "3000",
             ],
-            TWICE,
+            TWICE_LATER,
         ),
     ];
     for (words, expected) in sweeps {

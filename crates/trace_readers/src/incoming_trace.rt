@@ -1,7 +1,7 @@
 //! A trace on its way from a source, before it is known what becomes of it.
 
 ghost use Rattle.std.specs.Io.KnownBytes.{Consumes, IsAtEnd};
-ghost use Rattle.std.specs.Prelude.{◌≡◌, ◌↔◌, ◌-◌, ◌^◌, ◌≤◌, [], ℕ, List, Option, Err, IfErr, IfOk, OnOk, false};
+ghost use Rattle.std.specs.Prelude.{◌≡◌, ◌↔◌, ◌-◌, ◌^◌, ◌<◌, ◌≤◌, [], ℕ, List, Option, Err, IfErr, IfOk, OnOk, false};
 ghost use Rattle.std.specs.Prelude.{length, true};
 ghost use Rattle.migration_model.specs.Numbers.{IsBytes};
 ghost use Rattle.trace_codec.specs.Refusals.{header_refusal};
@@ -37,6 +37,7 @@ impl IncomingTrace {
     pub fn open<S: Source>(alloc: Global, source: &mut S) -> Result<IncomingTrace, TraceError>
         requires { S.has_failed source.old ≡ false }
         ensures came { IfOk result (Consumes (S.remaining source.old) (S.remaining source.new)) }
+        ensures ended { IfOk result (λ text. length text < 16 → IsAtEnd (S.remaining source.new)) }
         ensures outside { IfErr result IsOutside }
         ensures failed { (result ≡ Err TraceError.ReadFault) ↔ (S.has_failed source.new ≡ true) }
     {
@@ -75,7 +76,6 @@ impl IncomingTrace {
 
     /// Hands all writes of the trace to a visitor, in order: those that came, and then those that come, piece by piece.
     /// It reads the source to its end, or past the longest trace and no further, also where it found a refusal before.
-    /// After an error the visitor is made of the writes before the first that is refused.
     pub fn visit<S: Source, V: WriteVisitor>(
         self,
         source: &mut S,

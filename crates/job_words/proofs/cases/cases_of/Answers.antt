@@ -1,4 +1,6 @@
-use Rattle.std.proofs.Common.{List, ap, length, map, subst, sym, take, ◌+◌, arith, length-append}
+use Rattle.std.proofs.Common.{List, ap, length, map, subst, sym, take, ◌+◌, ◌≤◌, arith, length-append, ℕ}
+use Rattle.std.proofs.lemmas.List.{length-map}
+use Rattle.std.specs.Borrow.{Bor}
 use Rattle.migration_model.specs.Rates.{MigrationSettings}
 use Rattle.job_words.specs.Cases.{AreCases}
 use Rattle.job_words.proofs.CaseLemmas.{one_more_case, refused_here, word_at}
@@ -6,7 +8,8 @@ use Rattle.job_words.proofs.cases.cases_of.Goals as goal
 
 pub returns-in-Err-clause-refused : goal.returns-in-Err-clause-refused
 returns-in-Err-clause-refused c =
-    refused_here c.args.options.now _ c.loop-number.number _ _ c.in-Err.refusal c.loop-number.invariant.cases
+    let few : length (map {A = Bor (List ℕ)} {B = List ℕ} (λ w. w.now) c.args.words.now) ≤ 256 = omega (arith, length-map c.args.words.now (λ (w : Bor (List ℕ)). w.now)) in
+    refused_here c.args.options.now _ c.loop-number.number _ _ c.in-Err.refusal few c.loop-number.invariant.cases
     (word_at c.args.words.now c.loop-number.number _ (omega arith)) c.in-Err.ensures.refused
 
 pub loop-number-preserved : goal.loop-number-preserved

@@ -6,15 +6,15 @@ use Rattle.clap.specs.Walk.{Text}
 use Rattle.clap.specs.Words.{found_of, rows_of}
 use Rattle.job_words.specs.Commands.{precopy_line}
 use Rattle.job_words.proofs.HelpLemmas.{command_is_known}
-use Rattle.job_words.proofs.LineLemmas.{asks, command_met, line_is_free, not_taken, refuses, words_fail}
+use Rattle.job_words.proofs.LineLemmas.{asks, command_met, fails_by_kind, line_is_free, not_taken, refuses}
 use Rattle.job_words.proofs.command.job_of.Goals as goal
 
-pub returns-in-Err-clause-failed : goal.returns-in-Err-clause-failed
-returns-in-Err-clause-failed c =
+pub told-requires : goal.told-requires
+told-requires c =
     let words : List Text = map string_bytes c.args.words.now in
     let P : App → Type 0 = λ line. HasKind (fault_of line words) c.in-Err.error in
     let is = c.in_ok-commands.ensures in
-    words_fail words c.in-Err.error c.refusal_of.result (subst P is (c.in-Err.ensures.kinds (ap is_simple_and_free is ∙ line_is_free))) c.refusal_of.ensures
+    fails_by_kind words c.in-Err.error c.refusal_of.result (subst P is (c.in-Err.ensures.kinds (ap is_simple_and_free is ∙ line_is_free))) c.refusal_of.ensures
 
 pub command_job-requires : goal.command_job-requires
 command_job-requires c =

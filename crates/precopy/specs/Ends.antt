@@ -1,0 +1,34 @@
+-- How the program ends where it has not done what the words ask for.
+use Rattle.std.specs.Prelude.{◌≡◌, ◌≢◌, ◌↔◌, ◌++◌, ◌∷◌, [], ℕ, Bool, List, Option, true, codes, string_bytes, ⊤}
+use Rattle.std.specs.Io.KnownBytes.{Keeps}
+use Rattle.job_kinds.specs.declared.job.Job.{Job}
+use Rattle.job_words.specs.declared.command.WordsError.{WordsError}
+use Rattle.job_words.specs.declared.command.WordsError.TheVariants as words_errors
+use Rattle.migration_jobs.specs.Output.{IsOutput, IsRefusalOf, RefusesRun}
+use Rattle.migration_jobs.specs.Sink.{AppendsPart}
+use Rattle.migration_jobs.specs.declared.error.RunError.{RunError}
+use Rattle.migration_jobs.specs.declared.error.RunError.TheVariants as errors
+use Rattle.trace_codec.specs.declared.error.TraceError.TheVariants.{ReadFault}
+
+-- A job over what a source held failed: the sink holds a beginning of the output where a write failed, and else what it
+-- held before. `unread` and `unwritten` tell whether the source and the sink failed.
+pub record HasFailed (known : Option (List ℕ)) (job : Job) (unread unwritten : Bool) (old new : Option (List ℕ))
+    : Type 0 where
+  pub error : RunError
+  pub own : IsRefusalOf job error
+  pub cause : RefusesRun known error
+  pub read_failed : (error ≡ errors.Trace ReadFault) ↔ (unread ≡ true)
+  pub write_failed : (error ≡ errors.Write) ↔ (unwritten ≡ true)
+  pub part : error ≡ errors.Write → (output : List ℕ) × IsOutput known job output × AppendsPart old new output
+  pub kept : error ≢ errors.Write → Keeps old new
+
+-- the text of a request for help
+abbrev pub IsHelpText : WordsError → List ℕ → Type 0
+IsHelpText (words_errors.Help text) shown = shown ≡ string_bytes text
+IsHelpText words_errors.Memory shown = ⊥
+IsHelpText (words_errors.Usage text) shown = ⊥
+IsHelpText (words_errors.Refused refusal) shown = ⊥
+
+-- the line of a want of memory while the words are read
+abbrev pub memory_line : List ℕ
+memory_line = codes "precopy: memory" ++ 10 ∷ []
