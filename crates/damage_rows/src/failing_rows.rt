@@ -137,7 +137,10 @@ fn held_after_header(
 }
 
 /// Returns what each reader that reads to the end refuses a damaged trace for, of which a read fails.
-fn refusals(alloc: Global, failing_call: Option<u64>) -> Result<[Option<TraceError>; 3], AllocError> {
+fn refusals(
+    alloc: Global,
+    failing_call: Option<u64>,
+) -> Result<[Option<TraceError>; 3], AllocError> {
     Ok([
         read_trace(alloc, &mut damaged(alloc, failing_call)?).err(),
         HeldTrace::read(alloc, &mut damaged(alloc, failing_call)?).err(),
@@ -151,7 +154,10 @@ fn a_read_that_fails_behind_a_cause_is_told(rt: HostRuntime) -> Result<(), Fail>
     let cause = Some(TraceError::BadMagic);
     let fault = Some(TraceError::ReadFault);
     assert_eq!(rt; refusals(alloc, None)?, [cause; 3]);
-    assert_eq!(rt; held_after_header(alloc, damaged(alloc, None)?), Ok((cause, cause)));
+    assert_eq!(rt;
+        held_after_header(alloc, damaged(alloc, None)?),
+        Ok((cause, cause))
+    );
     for call in 1..=103u64 {
         let held = held_after_header(alloc, damaged(alloc, Some(call))?);
         // The first 16 calls give the header.

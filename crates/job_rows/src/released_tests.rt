@@ -221,6 +221,9 @@ fn a_live_run_with_a_release_stops_where_its_plan_does(rt: HostRuntime) -> Resul
     let trace = HeldTrace::parse(alloc, Vec::from_slice(alloc, &RELEASED)?)?;
     let settings = Settings::new(slow())?;
     let stopped = migrate(&rt, alloc, &trace, &settings, &OpenGate)?;
-    assert_eq!(rt; (stopped.stop, stopped.versions.as_slice()), (3667, [1, 5, 0, 4].as_slice()));
+    assert_eq!(rt;
+        (stopped.stop, stopped.versions.as_slice()),
+        (3667, [1, 5, 0, 4].as_slice())
+    );
     Ok(())
 }
