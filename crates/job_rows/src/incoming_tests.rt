@@ -9,7 +9,7 @@ use trace_codec::{TestSource, Timeline, TraceError, WriteLog, WriteView};
 use trace_readers::{HeldTrace, IncomingTrace, WriteVisitor};
 
 /// A write: its tick, page, offset and length, and the sum of its bytes.
-type Seen = (u64, u32, u16, usize, u32);
+pub(crate) type Seen = (u64, u32, u16, usize, u32);
 
 /// The writes of the worked trace.
 const WRITES: [Seen; 5] = [
@@ -30,8 +30,8 @@ fn seen(write: &WriteView<'_>) -> Seen {
 
 /// The writes that came.
 #[derive(Drop)]
-struct Writes {
-    all: Vec<Seen>,
+pub(crate) struct Writes {
+    pub(crate) all: Vec<Seen>,
 }
 
 impl WriteVisitor for Writes {
