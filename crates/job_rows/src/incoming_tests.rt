@@ -30,7 +30,7 @@ fn seen(write: &WriteView<'_>) -> Seen {
 
 /// The writes that came.
 #[derive(Drop)]
-struct Writes {
+pub(crate) struct Writes {
     all: Vec<Seen>,
 }
 
