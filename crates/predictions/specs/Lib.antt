@@ -1,0 +1,3 @@
+pub mod Quantities
+pub mod Predictions
+pub mod Texts
