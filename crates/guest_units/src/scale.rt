@@ -1,6 +1,6 @@
 //! What ticks and pages of a trace stand for.
 
-ghost use Rattle.std.specs.Prelude.{◌≡◌, ◌*◌, IfErr, IfOk, Some, true};
+ghost use Rattle.std.specs.Prelude.{◌≡◌, ◌*◌, ◌<◌, ◌^◌, IfErr, IfOk, Some, true};
 ghost use Rattle.guest_units.specs.Scales.{bytes_of, micros_of, rate_of, scale_refusal, scale_with, ticks_in};
 
 use crate::error::UnitsError;
@@ -116,14 +116,16 @@ impl Scale {
 
     /// Returns how long some ticks are, in microseconds.
     pub fn micros(&self, ticks: u64) -> u128
-        ensures { result ≡ micros_of self.now ticks }
+        ensures time { result ≡ micros_of self.now ticks }
+        ensures small { result < 2 ^ 84 }
     {
         product(ticks, self.tick)
     }
 
     /// Returns how many bytes of the guest some pages of the trace stand for, rounded down.
     pub fn bytes(&self, pages: u64) -> u128
-        ensures { result ≡ bytes_of self.now pages }
+        ensures size { result ≡ bytes_of self.now pages }
+        ensures small { result < 2 ^ 110 }
     {
         let sampled = self.sampled as u128;
         pages as u128 * self.page as u128 * self.guest as u128 / sampled

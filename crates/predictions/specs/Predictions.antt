@@ -2,7 +2,7 @@
 use Rattle.std.specs.Prelude.{ℕ, ◌+◌, ◌-◌, nat_le, nat_lt, Bool, List, length}
 use Rattle.guest_units.specs.Scales.{TraceScale, bytes_of, micros_of}
 use Rattle.guest_units.specs.declared.limits.Limits.{Limits}
-use Rattle.migration_model.specs.Rates.{MigrationSettings, StopReason}
+use Rattle.migration_model.specs.Rates.{StopReason}
 use Rattle.migration_model.specs.Rounds.{MigrationPlan, total_of}
 use Rattle.migration_model.specs.Touches.{GuestTouch}
 use Rattle.migration_model.specs.Trace.{last_by}

@@ -4,10 +4,10 @@ use Rattle.std.specs.Fmt.{decimal}
 
 -- the last two and three decimal digits of a number; 48 is `0`
 unfoldable pub two_digits : ℕ → List ℕ
-two_digits n = 48 + n / 10 ∷ 48 + n % 10 ∷ []
+two_digits n = (48 + n / 10) ∷ (48 + n % 10) ∷ []
 
 unfoldable pub three_digits : ℕ → List ℕ
-three_digits n = 48 + n / 100 ∷ 48 + n / 10 % 10 ∷ 48 + n % 10 ∷ []
+three_digits n = (48 + n / 100) ∷ (48 + n / 10 % 10) ∷ (48 + n % 10) ∷ []
 
 -- microseconds, as seconds with three digits behind a point
 unfoldable pub seconds_text : ℕ → List ℕ

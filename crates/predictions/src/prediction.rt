@@ -6,7 +6,7 @@ use round_planner::Plan;
 use std::marker::Model;
 
 /// What a migration will be: how it ends, how long it takes, how much it sends, and how long the guest does not run.
-#[derive(Clone, Copy, Debug)]
+#[derive(Debug, Drop)]
 pub struct Prediction {
     /// Why no further round comes.
     pub reason: Reason,
@@ -28,9 +28,12 @@ pub struct Prediction {
 
 impl Model for Prediction {
     ghost use Rattle.predictions.specs.Predictions.{GuestPrediction};
+    ghost use Rattle.std.specs.Prelude.{◌<◌, ◌^◌};
     ghost use Rattle.rate_limit.specs.Pacing.{reason_of};
 
     ghost Value = { GuestPrediction };
+
+    ghost invariant = { λ p. p.bytes < 2 ^ 110 };
 
     ghost view = { λ p. record {
       reason = reason_of p.reason;

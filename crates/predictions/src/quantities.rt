@@ -1,6 +1,6 @@
 //! Times and sizes as texts.
 
-ghost use Rattle.std.specs.Prelude.{◌≡◌, ◌++◌, ◌<◌, OnOk};
+ghost use Rattle.std.specs.Prelude.{◌≡◌, ◌+◌, ◌++◌, ◌<◌, ◌^◌, OnOk};
 ghost use Rattle.std.specs.Fmt.{decimal};
 ghost use Rattle.predictions.specs.Quantities.{bytes_text, hundredths_text, seconds_text, three_digits, two_digits};
 
