@@ -8,11 +8,12 @@ use crate::advice_writing::push_live;
 use crate::error::ViewError;
 use crate::view::Shown;
 use guest_units::{Limits, Scale};
+use guest_log::Timeline;
 use predictions::{Prediction, push_hosts, push_prediction};
 use rate_limit::Settings;
 use round_planner::plan;
 use std::alloc::{AllocError, Global};
-use trace_readers::{Timeline, TouchLog};
+use trace_readers::TouchLog;
 
 /// Returns the tick of the last touch, or 0 where there is none.
 fn last_tick(log: &TouchLog) -> u64

@@ -87,6 +87,7 @@ RefusesWord rows refusals.Link = IsNo IsRate rows (codes "link")
 RefusesWord rows refusals.First = IsNo IsRate rows (codes "first")
 RefusesWord rows refusals.Sampled = IsNoSample rows
 RefusesWord rows refusals.Incomplete = ⊥
+RefusesWord rows refusals.Missing = ⊥
 RefusesWord rows refusals.Mixed = ⊥
 RefusesWord rows (refusals.Settings e) = ⊥
 RefusesWord rows (refusals.Units e) = ⊥

@@ -43,6 +43,9 @@ pub enum LimitsRefusal {
     /// A link stands there without a downtime, or what belongs to them without both.
     #[error("--link and --downtime stand together, and --first and --reserve beside them")]
     Incomplete,
+    /// No limits stand there, where they are needed.
+    #[error("--link and --downtime are needed, as --link 10Gbit --downtime 300ms")]
+    Missing,
     /// Rates or a threshold stand there in both kinds of words.
     #[error("--min, --max and --threshold do not stand beside --link and --downtime")]
     Mixed,
