@@ -95,10 +95,17 @@ RefusesView name rows (errors.Refused (refusals.Case place)) =
 RefusesView name rows (errors.Refused (refusals.CaseSettings place e)) =
     (name ≡ codes "sweep") × RefusesSweep rows (refusals.CaseSettings place e)
 
--- No limits are said, though a prediction needs them.
+-- the options make settings without a scale or without limits
+pub record LacksLimits (rows : List Row) : Type 0 where
+  pub settings : MigrationSettings
+  pub scale : Option TraceScale
+  pub limits : Option Limits
+  pub asks : AsksForMeasure rows settings scale limits
+  pub lacks : (scale ≡ None) ⊎ (limits ≡ None)
+
+-- no limits are said, though a prediction needs them
 abbrev pub AreMissing : Text → List Row → LimitsRefusal → Type 0
-AreMissing name rows e = (name ≡ codes "predict") × (e ≡ refused.Missing)
-    × ((settings : MigrationSettings) × (scale : Option TraceScale) × AsksForMeasure rows settings scale None)
+AreMissing name rows e = (name ≡ codes "predict") × (e ≡ refused.Missing) × LacksLimits rows
 
 -- a command of this name is refused for this: as words of `precopy` are, or for limits
 abbrev pub RefusesAsked : Text → List Row → ViewWordsError → Type 0

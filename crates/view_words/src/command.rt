@@ -1,6 +1,6 @@
 //! The command line: words in, a view or a refusal out.
 
-ghost use Rattle.std.specs.Prelude.{◌≡◌, IfErr, IfOk, IsErrAnd, None, Ok, codes};
+ghost use Rattle.std.specs.Prelude.{◌≡◌, ◌⊎◌, IfErr, IfNone, IfOk, IfSome, IsErrAnd, None, Ok, Some, codes};
 ghost use Rattle.clap.specs.Words.{found_of, rows_of};
 ghost use Rattle.job_words.specs.declared.command.WordsError.TheVariants.{Memory};
 ghost use Rattle.view_words.specs.Views.{AsksForView, IsFairView, IsUsage, RefusesAsked, RefusesView};
@@ -8,13 +8,13 @@ ghost use Rattle.view_words.specs.declared.command.ViewWordsError.TheVariants.{W
 
 use crate::options::{budget_of, settings_for, style_of, with_budget, with_style};
 use clap::{ArgMatches, Command};
-use guest_units::Scale;
+use guest_units::{Limits, Scale};
 use job_words::{
     WordsError, WordsRefusal, cases_of, refusal_of, sweep_options, with_cases, with_report,
 };
 use std::alloc::{AllocError, Global};
 use trace_views::View;
-use unit_words::{LimitsRefusal, measure_of, with_units};
+use unit_words::{LimitsRefusal, Measure, measure_of, with_units};
 
 /// Why words make no view.
 #[derive(Debug, Drop)]
@@ -203,6 +203,16 @@ fn chart_of(options: &ArgMatches) -> Result<AskedView, ViewWordsError>
     }
 }
 
+/// Returns the scale and the limits of what options ask for, where there are both.
+fn limited(measure: &Measure) -> Option<(Scale, Limits)>
+    ensures some { IfSome result (λ both. (measure.now.scale ≡ Some both.0) × (measure.now.limits ≡ Some both.1)) }
+    ensures none { IfNone result ((measure.now.scale ≡ None) ⊎ (measure.now.limits ≡ None)) }
+{
+    let scale = measure.scale?;
+    let limits = measure.limits?;
+    Some((scale, limits))
+}
+
 /// Returns the prediction that its options ask for. It needs limits.
 fn prediction_of(options: &ArgMatches) -> Result<AskedView, ViewWordsError>
     ensures made { IfOk result (λ asked. AsksForView (codes "predict") (rows_of (found_of options.now)) asked.view
@@ -213,17 +223,16 @@ fn prediction_of(options: &ArgMatches) -> Result<AskedView, ViewWordsError>
         Ok(measure) => measure,
         Err(refusal) => return Err(ViewWordsError::Limits(refusal)),
     };
-    let settings = measure.settings;
-    match (measure.scale, measure.limits) {
-        (Some(scale), Some(limits)) => Ok(AskedView {
+    match limited(&measure) {
+        Some((scale, limits)) => Ok(AskedView {
             view: View::Predict {
-                settings,
+                settings: measure.settings,
                 scale,
                 limits,
             },
             scale: Some(scale),
         }),
-        _ => Err(ViewWordsError::Limits(LimitsRefusal::Missing)),
+        None => Err(ViewWordsError::Limits(LimitsRefusal::Missing)),
     }
 }
 
