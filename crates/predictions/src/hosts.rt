@@ -54,8 +54,16 @@ fn push_libvirt(text: &mut Vec<u8>, limits: &Limits) -> Result<(), AllocError>
     ensures { OnOk result (text.new.items ≡ text.old.items ++ libvirt_text limits.now) }
 {
     let millis = millis_of(limits);
-    push_number(text, "libvirt: virsh migrate-setspeed DOMAIN ", mib_of(limits))?;
-    push_number(text, "libvirt: virsh migrate-setmaxdowntime DOMAIN ", millis)?;
+    push_number(
+        text,
+        "libvirt: virsh migrate-setspeed DOMAIN ",
+        mib_of(limits),
+    )?;
+    push_number(
+        text,
+        "libvirt: virsh migrate-setmaxdowntime DOMAIN ",
+        millis,
+    )?;
     Ok(())
 }
 

@@ -8,9 +8,9 @@ mod choosing;
 mod document;
 mod error;
 mod grid;
+mod predicting;
 mod report_document;
 mod sweep_document;
-mod predicting;
 mod view;
 mod viewing;
 

@@ -7,8 +7,8 @@ ghost use Rattle.trace_views.specs.PredictionViews.{IsPredictionView, predicted_
 use crate::advice_writing::push_live;
 use crate::error::ViewError;
 use crate::view::Shown;
-use guest_units::{Limits, Scale};
 use guest_log::Timeline;
+use guest_units::{Limits, Scale};
 use predictions::{Prediction, push_hosts, push_prediction};
 use rate_limit::Settings;
 use round_planner::plan;

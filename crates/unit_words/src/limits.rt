@@ -18,7 +18,6 @@ use rate_limit::SettingsError;
 use std::alloc::{AllocError, Global};
 use thiserror::Error;
 
-
 /// Why words make no limits. It is written behind `precopy-view: ` in a fault line.
 #[derive(Clone, Copy, Debug, PartialEq, Eq, Error)]
 pub enum LimitsRefusal {
@@ -118,10 +117,7 @@ fn with_quantities<'a>(
 }
 
 /// Returns the command with the options of limits in time and bytes.
-pub fn with_units<'a>(
-    alloc: Global,
-    command: Command<'a>,
-) -> Result<Command<'a>, AllocError>
+pub fn with_units<'a>(alloc: Global, command: Command<'a>) -> Result<Command<'a>, AllocError>
     ensures { IfOk result (λ new. AddsRules command.entry unit_rules new) }
 {
     let command = with_quantities(alloc, command, &QUANTITIES)?;
