@@ -1,12 +1,44 @@
--- What the program writes.
-use Rattle.std.specs.Prelude.{ℕ, List, Option}
+-- What the program writes, and why it does not.
+use Rattle.std.specs.Prelude.{◌≡◌, ℕ, Bool, List, Option}
+use Rattle.std.specs.Io.KnownBytes.{Appends}
+use Rattle.migration_jobs.specs.Output.{RefusesRun}
+use Rattle.migration_jobs.specs.Sink.{AppendsPart}
 use Rattle.migration_model.specs.Touches.{GuestTouches}
+use Rattle.precopy_view.specs.Fitting.{FitsScale, IsMisfit}
+use Rattle.precopy_view.specs.declared.faults.ShowError.{ShowError}
+use Rattle.precopy_view.specs.declared.faults.ShowError.TheVariants as errors
 use Rattle.trace_readers.specs.Pieces.{IsLogOf}
 use Rattle.trace_views.specs.Views.{IsView}
-use Rattle.trace_views.specs.declared.view.View.{View}
+use Rattle.view_words.specs.declared.command.AskedView.{AskedView}
 
--- a view of the trace that a source held
-pub record IsShown (known : Option (List ℕ)) (view : View) (output : List ℕ) : Type 0 where
+-- a view of the trace that a source held, and whether its limit is kept
+pub record IsShown (known : Option (List ℕ)) (asked : AskedView) (output : List ℕ) (is_kept : Bool) : Type 0 where
   pub log : GuestTouches
   pub is_log : IsLogOf known log
-  pub is_view : IsView log view output
+  pub fits : FitsScale asked.scale log.shift log.pages
+  pub is_view : IsView log asked.view output is_kept
+
+-- the view was added to what a sink held, or a beginning of it
+pub record ShowsBy (known : Option (List ℕ)) (asked : AskedView) (is_kept : Bool)
+    (old new : Option (List ℕ)) : Type 0 where
+  pub output : List ℕ
+  pub is_shown : IsShown known asked output is_kept
+  pub added : Appends old new output
+
+pub record ShowsPartBy (known : Option (List ℕ)) (asked : AskedView) (old new : Option (List ℕ)) : Type 0 where
+  pub output : List ℕ
+  pub is_kept : Bool
+  pub is_shown : IsShown known asked output is_kept
+  pub added : AppendsPart old new output
+
+-- the trace does not have the scale that is asked for
+pub record RefusesScale (known : Option (List ℕ)) (asked : AskedView) (e : ShowError) : Type 0 where
+  pub log : GuestTouches
+  pub is_log : IsLogOf known log
+  pub misfit : IsMisfit asked.scale log.shift log.pages e
+
+-- A trace is refused only for a cause in what the source held, or for one outside of it, or for its scale.
+abbrev pub RefusesShow : Option (List ℕ) → AskedView → ShowError → Type 0
+RefusesShow known asked (errors.Run e) = RefusesRun known e
+RefusesShow known asked (errors.PageSize size) = RefusesScale known asked (errors.PageSize size)
+RefusesShow known asked (errors.TooManyPages pages) = RefusesScale known asked (errors.TooManyPages pages)

@@ -3,15 +3,17 @@
 
 #[cfg(test)]
 mod advice_tests;
+mod faults;
 mod starting;
 #[cfg(test)]
 mod tests;
 
-use crate::starting::{refuse, start};
+use crate::faults::refuse;
+use crate::starting::start;
 use migration_jobs::FromWrite;
 use std::process::ExitCode;
 use trace_codec::FromRead;
-use view_words::words;
+use view_words::{ViewWordsError, words};
 
 fn main(rt: HostRuntime) -> ExitCode {
     let mut source = FromRead::new(rt.stdin());
@@ -19,7 +21,7 @@ fn main(rt: HostRuntime) -> ExitCode {
     let mut faults = FromWrite::new(rt.stderr());
     let status = match words(&rt) {
         Ok(words) => start(&rt, rt.alloc(), words, &mut source, &mut sink, &mut faults),
-        Err(error) => refuse(error, &mut sink, &mut faults),
+        Err(error) => refuse(ViewWordsError::Words(error), &mut sink, &mut faults),
     };
     ExitCode::from(status)
 }

@@ -172,13 +172,13 @@ fn says_why_it_ends(rt: HostRuntime) -> Result<(), Fail> {
             &["json", "report"],
             101,
             1,
-            "precopy-view: trace E8 record 4\n",
+            "precopy-view: trace E8 record 4: it ends within this record\n",
         ),
         (
             &["advise", "--down", "1"],
             15,
             1,
-            "precopy-view: trace E1\n",
+            "precopy-view: trace E1: it has fewer than the 16 bytes of a header\n",
         ),
         (
             &["json", "report", "--min=0"],
@@ -217,6 +217,109 @@ fn unknown_words_are_told(rt: HostRuntime) -> Result<(), Fail> {
     for words in cases {
         let (status, output, faults) = told(&rt, alloc, 102, words)?;
         assert!(rt; status == 2 && output.bytes().is_empty() && !faults.bytes().is_empty());
+    }
+    Ok(())
+}
+
+/// A prediction for a guest of which one page in four was recorded, over a link of 64 pages of the guest in 1,000
+/// ticks: 16 of the trace. The first round sends 4 pages in 250 ticks. The 2 that are left take 125 ticks.
+static PREDICTION: &str = "converges: yes, rounds: 1
+total time: 0.385 s
+sent: 0.00 MiB
+downtime: 0.135 s, limit: 0.200 s, kept
+warning: fewer than 100 pages decided the stop; chance moves it
+precopy live --min 16 --max 16 --inc 0 --threshold 4 --rounds 30 --start 0
+QEMU: migrate_set_parameter max-bandwidth 1024B
+QEMU: migrate_set_parameter downtime-limit 190
+libvirt: virsh migrate-setspeed DOMAIN 1
+libvirt: virsh migrate-setmaxdowntime DOMAIN 190
+";
+
+#[test]
+fn predicts_a_migration(rt: HostRuntime) -> Result<(), Fail> {
+    let words = [
+        "predict",
+        "--link=1KiB",
+        "--downtime=200ms",
+        "--reserve=10ms",
+        "--page=16",
+        "--sampled=4/16",
+    ];
+    let (status, output, _) = told(&rt, rt.alloc(), 102, &words)?;
+    assert!(rt; status == 0 && output.bytes() == PREDICTION.as_bytes());
+    Ok(())
+}
+
+#[test]
+fn a_missed_limit_has_a_status(rt: HostRuntime) -> Result<(), Fail> {
+    let words = [
+        "predict",
+        "--link=1KiB",
+        "--downtime=200ms",
+        "--reserve=150ms",
+        "--page=16",
+        "--sampled=4/16",
+        "--rounds=1",
+    ];
+    let (status, output, _) = told(&rt, rt.alloc(), 102, &words)?;
+    assert!(rt; status == 3 && output.bytes().starts_with(b"converges: no"));
+    Ok(())
+}
+
+#[test]
+fn refuses_limits(rt: HostRuntime) -> Result<(), Fail> {
+    let alloc = rt.alloc();
+    let cases: [(&[&str], &str); 5] = [
+        (
+            &["predict", "--link=1KiB"],
+            "precopy-view: --link and --downtime stand together, and --first and --reserve beside them\n",
+        ),
+        (
+            &["predict"],
+            "precopy-view: --link and --downtime are needed, as --link 10Gbit --downtime 300ms\n",
+        ),
+        (
+            &["show", "--link=1GB", "--downtime=1s", "--max=5"],
+            "precopy-view: --min, --max and --threshold do not stand beside --link and --downtime\n",
+        ),
+        (
+            &["chart", "--tick=1"],
+            "precopy-view: --tick: a whole number with us, ms or s behind it, as 1ms\n",
+        ),
+        (
+            &["json", "report", "--link=10Gbit", "--downtime=1s"],
+            "precopy-view: --downtime: more than 65,535 pages go over the link in it\n",
+        ),
+    ];
+    for (words, line) in cases {
+        let (status, output, faults) = told(&rt, alloc, 102, words)?;
+        assert!(rt;
+            status == 2 && output.bytes().is_empty() && faults.bytes() == line.as_bytes(),
+            "{line}"
+        );
+    }
+    Ok(())
+}
+
+#[test]
+fn refuses_a_trace_of_another_scale(rt: HostRuntime) -> Result<(), Fail> {
+    let alloc = rt.alloc();
+    let cases: [(&[&str], &str); 2] = [
+        (
+            &["show", "--tick=1ms"],
+            "precopy-view: a page of the trace has 16 bytes; say so by --page\n",
+        ),
+        (
+            &["show", "--page=16", "--sampled=3/9"],
+            "precopy-view: the trace has 4 pages, more than --sampled says\n",
+        ),
+    ];
+    for (words, line) in cases {
+        let (status, output, faults) = told(&rt, alloc, 102, words)?;
+        assert!(rt;
+            status == 1 && output.bytes().is_empty() && faults.bytes() == line.as_bytes(),
+            "{line}"
+        );
     }
     Ok(())
 }

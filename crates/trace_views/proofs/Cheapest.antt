@@ -1,11 +1,11 @@
 -- The cheapest case that keeps a budget, one case more at a time.
-use Rattle.std.proofs.Common.{◌≡◌, ℕ, ◌+◌, ◌<◌, ◌≤◌, Bool, true, false, List, length, get_or, ap, ◌∙◌, sym, subst, refl, inl, inr, arith}
-use Rattle.std.specs.Prelude.{◌⊎◌, Option, Some, None}
-use Rattle.std.proofs.lemmas.Bool.{cases_lt, cases_eq, both_ways, false_from_ne_true}
+use Rattle.std.proofs.Common.{◌≡◌, ℕ, ◌+◌, ◌<◌, true, false, List, length, get_or, ap, ◌∙◌, sym, subst, inl, inr, arith}
+use Rattle.std.specs.Prelude.{◌⊎◌}
+use Rattle.std.proofs.lemmas.Bool.{cases_eq, both_ways}
 use Rattle.std.proofs.lemmas.List.{get_or_default}
-use Rattle.migration_model.specs.Sweeps.{SweepLine, PlanOutcome, outcome_with, line_with, is_better}
+use Rattle.migration_model.specs.Sweeps.{SweepLine, outcome_with, line_with}
 use Rattle.sweep_report.proofs.Best.{better_through, worse_not, not_self}
-use Rattle.trace_views.specs.Advice.{keeps, is_cheaper, NoneKeeps, IsCheapest, IsFound}
+use Rattle.trace_views.specs.Advice.{keeps, is_cheaper, NoneKeeps, IsCheapest}
 use Rattle.trace_views.specs.declared.budget.Budget.{Budget}
 
 -- a line with its downtime and its pages exchanged: what is better of such lines is cheaper of the lines themselves

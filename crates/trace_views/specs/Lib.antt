@@ -2,3 +2,4 @@ pub mod Json
 pub mod Advice
 pub mod AdviceText
 pub mod Views
+pub mod PredictionViews

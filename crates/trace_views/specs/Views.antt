@@ -1,5 +1,5 @@
 -- What a view of a trace shows.
-use Rattle.std.specs.Prelude.{◌≡◌, ℕ, ◌≤◌, List, length, ⊤}
+use Rattle.std.specs.Prelude.{◌≡◌, ℕ, ◌≤◌, Bool, true, List, length}
 use Rattle.migration_model.specs.Rates.{MigrationSettings}
 use Rattle.migration_model.specs.Rounds.{IsPlan, MigrationPlan}
 use Rattle.migration_model.specs.Sweeps.{SweepLine, AreLines}
@@ -8,6 +8,7 @@ use Rattle.migration_model.specs.Windows.{working_sets_of}
 use Rattle.trace_views.specs.Advice.{IsAdvice}
 use Rattle.trace_views.specs.AdviceText.{EndsWithCase, case_of}
 use Rattle.trace_views.specs.Json.{line_of, report_object, sweep_object}
+use Rattle.trace_views.specs.PredictionViews.{IsPredictionView}
 use Rattle.trace_views.specs.declared.budget.Advice.{Advice}
 use Rattle.trace_views.specs.declared.budget.Budget.{Budget}
 use Rattle.trace_views.specs.declared.view.View.{View}
@@ -37,10 +38,13 @@ pub record IsAdviceView (log : GuestTouches) (budget : Budget) (text : List ℕ)
   pub is_advice : IsAdvice budget lines advice
   pub text_ends : EndsWithCase lines (case_of advice) text
 
--- what a view shows of a trace; nothing is said of a picture, or of a report for a terminal
-abbrev pub IsView : GuestTouches → View → List ℕ → Type 0
-IsView log (views.JsonReport settings) text = IsReportView log settings text
-IsView log (views.JsonSweep cases workers) text = IsSweepView log cases.items text
-IsView log (views.Advise budget settings) text = IsAdviceView log budget text
-IsView log (views.Show settings style) text = ⊤
-IsView log (views.Chart settings) text = ⊤
+-- What a view shows of a trace, and whether a limit is kept. Nothing is said of a picture, or of a report for a
+-- terminal.
+abbrev pub IsView : GuestTouches → View → List ℕ → Bool → Type 0
+IsView log (views.JsonReport settings) text is_kept = IsReportView log settings text × (is_kept ≡ true)
+IsView log (views.JsonSweep cases workers) text is_kept = IsSweepView log cases.items text × (is_kept ≡ true)
+IsView log (views.Advise budget settings) text is_kept = IsAdviceView log budget text × (is_kept ≡ true)
+IsView log (views.Show settings style) text is_kept = is_kept ≡ true
+IsView log (views.Chart settings) text is_kept = is_kept ≡ true
+IsView log (views.Predict settings scale limits) text is_kept =
+    IsPredictionView log settings scale limits text is_kept

@@ -70,7 +70,7 @@ fn push_reason(
 }
 
 /// Appends the words that run a live migration with some settings.
-fn push_live(text: &mut Vec<u8>, settings: &Settings) -> Result<(), AllocError>
+pub(crate) fn push_live(text: &mut Vec<u8>, settings: &Settings) -> Result<(), AllocError>
     ensures { OnOk result (text.new.items ≡ text.old.items ++ live_line settings.now) }
 {
     let asked = settings.asked();

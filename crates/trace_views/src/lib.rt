@@ -1,4 +1,4 @@
-//! Answers about a trace for people and for programs: reports and sweeps as JSON, advice for a budget.
+//! Answers about a trace for people and for programs: reports and sweeps as JSON, advice for a budget, predictions.
 //! A view is one of these, or a report as tables or as a picture.
 #![tactic(auto)]
 
@@ -8,6 +8,7 @@ mod choosing;
 mod document;
 mod error;
 mod grid;
+mod predicting;
 mod report_document;
 mod sweep_document;
 mod view;
@@ -20,5 +21,5 @@ pub use error::ViewError;
 pub use grid::Grid;
 pub use report_document::json_report;
 pub use sweep_document::json_sweep;
-pub use view::View;
+pub use view::{Shown, View};
 pub use viewing::view_text;

@@ -1,6 +1,7 @@
 //! What can be shown of a trace.
 
 use crate::budget::Budget;
+use guest_units::{Limits, Scale};
 use rate_limit::Settings;
 use report_pictures::Style;
 
@@ -26,4 +27,19 @@ pub enum View {
     },
     /// The report as a picture.
     Chart(Settings),
+    /// What a migration will be, in time and bytes, and whether it keeps its limit.
+    Predict {
+        settings: Settings,
+        scale: Scale,
+        limits: Limits,
+    },
+}
+
+/// A view as a text.
+#[derive(Drop)]
+pub struct Shown {
+    /// The text.
+    pub text: Vec<u8>,
+    /// Whether the limit of a prediction is kept. Of any other view it is true.
+    pub is_kept: bool,
 }

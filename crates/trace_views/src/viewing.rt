@@ -1,6 +1,6 @@
 //! Views of a log of touches.
 
-ghost use Rattle.std.specs.Prelude.{IfOk};
+ghost use Rattle.std.specs.Prelude.{◌≡◌, IfOk, Ok, true};
 ghost use Rattle.migration_model.specs.Sweeps.{AreLines};
 ghost use Rattle.trace_views.specs.Views.{IsAdviceView, IsReportView, IsSweepView, IsView};
 
@@ -9,9 +9,10 @@ use crate::budget::Budget;
 use crate::choosing::advise;
 use crate::error::ViewError;
 use crate::grid::Grid;
+use crate::predicting::prediction_view;
 use crate::report_document::json_report;
 use crate::sweep_document::json_sweep;
-use crate::view::View;
+use crate::view::{Shown, View};
 use rate_limit::Settings;
 use report_pictures::{Style, report_chart, report_screen};
 use round_planner::plan;
@@ -94,20 +95,35 @@ fn advice_view<R: Threads + Sync>(
     advice_text(alloc, budget, settings, &grid, &lines, &advice)
 }
 
+/// Returns the view with this text, which has no limit to keep.
+fn shown(text: Result<Vec<u8>, ViewError>) -> Result<Shown, ViewError>
+    ensures made { IfOk result (λ shown. (shown.is_kept ≡ true) × (text ≡ Ok shown.text)) }
+{
+    Ok(Shown {
+        text: text?,
+        is_kept: true,
+    })
+}
+
 /// Returns a view of a trace. The error is `Memory`, where memory runs out.
 pub fn view_text<R: Threads + Sync>(
     rt: &R,
     alloc: Global,
     view: &View,
     log: &TouchLog,
-) -> Result<Vec<u8>, ViewError>
-    ensures { IfOk result (λ v. IsView log.now view.now v.items) }
+) -> Result<Shown, ViewError>
+    ensures { IfOk result (λ shown. IsView log.now view.now shown.text.items shown.is_kept) }
 {
     match view {
-        View::JsonReport(settings) => report_view(alloc, settings, log),
-        View::JsonSweep { cases, workers } => sweep_view(rt, alloc, cases, *workers, log),
-        View::Advise { budget, settings } => advice_view(rt, alloc, budget, settings, log),
-        View::Chart(settings) => chart_view(alloc, settings, log),
-        View::Show { settings, style } => screen_view(alloc, settings, style, log),
+        View::JsonReport(settings) => shown(report_view(alloc, settings, log)),
+        View::JsonSweep { cases, workers } => shown(sweep_view(rt, alloc, cases, *workers, log)),
+        View::Advise { budget, settings } => shown(advice_view(rt, alloc, budget, settings, log)),
+        View::Chart(settings) => shown(chart_view(alloc, settings, log)),
+        View::Show { settings, style } => shown(screen_view(alloc, settings, style, log)),
+        View::Predict {
+            settings,
+            scale,
+            limits,
+        } => prediction_view(alloc, settings, scale, limits, log),
     }
 }

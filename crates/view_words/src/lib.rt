@@ -4,5 +4,6 @@
 mod command;
 mod options;
 
-pub use command::view_of;
+pub use command::{AskedView, ViewWordsError, view_of};
 pub use job_words::{WordsError, WordsRefusal, words};
+pub use unit_words::LimitsRefusal;

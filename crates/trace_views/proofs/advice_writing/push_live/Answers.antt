@@ -1,5 +1,4 @@
 use Rattle.std.proofs.Common.{◌≡◌, ◌++◌, ◌∙◌, subst, append_assoc}
-use Rattle.std.proofs.lemmas.List.{append-nil}
 use Rattle.migration_model.specs.Rates.{MigrationSettings}
 use Rattle.trace_views.specs.AdviceText.{live_line}
 use Rattle.trace_views.proofs.advice_writing.push_live.Goals as goal

@@ -1,7 +1,6 @@
 use Rattle.std.proofs.Common.{length, ap, arith}
 use Rattle.std.proofs.lemmas.Slice.Zip.{AllZip-long}
-use Rattle.migration_model.specs.Sweeps.{IsLineOf, SweepLine}
-use Rattle.migration_model.specs.Rates.{MigrationSettings}
+use Rattle.migration_model.specs.Sweeps.{IsLineOf}
 use Rattle.trace_views.proofs.viewing.advice_view.Goals as goal
 
 pub advise-advice-requires : goal.advise-advice-requires

@@ -21,6 +21,7 @@ returns-clause-made c =
         few = c.in_ok-cases.ensures.few;
         workers_are = ap (λ (s : MigrationSettings). s.workers) c.asked.view_is;
       },
+      refl,
     )
 
 pub returns-in_err-cases-clause-refused : goal.returns-in_err-cases-clause-refused

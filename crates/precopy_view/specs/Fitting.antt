@@ -1,0 +1,22 @@
+-- Whether a trace may have the scale that words give it.
+use Rattle.std.specs.Prelude.{◌≡◌, ◌≢◌, ℕ, ◌<◌, ◌≤◌, ◌^◌, Option, Some, None, ⊤}
+use Rattle.guest_units.specs.Scales.{TraceScale}
+use Rattle.precopy_view.specs.declared.faults.ShowError.{ShowError}
+use Rattle.precopy_view.specs.declared.faults.ShowError.TheVariants as errors
+
+-- the pages of the trace have the scale's size, and there are no more of them than were sampled
+abbrev pub FitsScale : Option TraceScale → ℕ → ℕ → Type 0
+FitsScale None shift pages = ⊤
+FitsScale (Some scale) shift pages =
+    (2 ^ shift ≡ scale.page) × (scale.sampled < scale.guest → pages ≤ scale.sampled)
+
+-- the error says in which way the trace does not have the scale
+abbrev pub IsMisfitOf : TraceScale → ℕ → ℕ → ShowError → Type 0
+IsMisfitOf scale shift pages (errors.PageSize size) = (size ≡ 2 ^ shift) × (size ≢ scale.page)
+IsMisfitOf scale shift pages (errors.TooManyPages count) =
+    (count ≡ pages) × (scale.sampled < scale.guest) × (scale.sampled < pages)
+IsMisfitOf scale shift pages (errors.Run e) = ⊥
+
+abbrev pub IsMisfit : Option TraceScale → ℕ → ℕ → ShowError → Type 0
+IsMisfit None shift pages e = ⊥
+IsMisfit (Some scale) shift pages e = IsMisfitOf scale shift pages e

@@ -1,0 +1,4 @@
+pub mod Quantities
+pub mod Predictions
+pub mod Texts
+pub mod Hosts

@@ -1,0 +1,53 @@
+-- A prediction as lines. This project's own.
+use Rattle.std.specs.Prelude.{ℕ, nat_lt, Bool, true, false, if◌then◌else◌, List, [], ◌∷◌, ◌++◌, codes}
+use Rattle.migration_model.specs.Rates.{StopReason, few_remain, rounds_done, too_fast}
+use Rattle.predictions.specs.Predictions.{GuestPrediction}
+use Rattle.predictions.specs.Quantities.{bytes_text, seconds_text}
+use Rattle.sweep_report.specs.Lines.{field, line}
+
+-- whether pre-copy comes down to what the limit allows
+abbrev pub ending : StopReason → List ℕ
+ending few_remain = codes "converges: yes, rounds: "
+ending too_fast = codes "converges: no, the guest writes faster than the link sends; rounds: "
+ending rounds_done = codes "converges: no, all rounds that are allowed are done; rounds: "
+
+abbrev pub verdict : Bool → List ℕ
+verdict is_kept = if is_kept then codes ", kept" else codes ", not kept"
+
+-- the line on the downtime, beside its limit
+abbrev pub downtime_line : ℕ → GuestPrediction → List ℕ
+downtime_line limit p = line (codes "downtime: " ∷ seconds_text p.downtime ∷ codes ", limit: " ∷ seconds_text limit
+    ∷ verdict p.is_kept ∷ [])
+
+-- the line on the time of all
+abbrev pub time_line : ℕ → List ℕ
+time_line time = codes "total time: " ++ (seconds_text time ++ 10 ∷ [])
+
+-- what a migration will be
+abbrev pub facts_text : ℕ → GuestPrediction → List ℕ
+facts_text limit p = line (field (ending p.reason) p.rounds ∷ []) ++ (time_line p.time
+    ++ (line (codes "sent: " ∷ bytes_text p.bytes ∷ []) ++ downtime_line limit p))
+
+-- a line where something holds
+abbrev pub line_if : Bool → List ℕ → List ℕ
+line_if holds words = if holds then words ++ 10 ∷ [] else []
+
+-- what an end other than `few` says of the downtime
+abbrev pub ends_early : StopReason → Bool
+ends_early few_remain = false
+ends_early too_fast = true
+ends_early rounds_done = true
+
+abbrev pub reason_words : StopReason → List ℕ
+reason_words few_remain = []
+reason_words too_fast = codes "warning: the plan ends with `fast`, so nothing bounds the downtime; give more of the link"
+reason_words rounds_done = codes "warning: the plan ends with `rounds`, so nothing bounds the downtime; allow more rounds"
+
+-- what speaks against the prediction
+abbrev pub warnings : GuestPrediction → List ℕ
+warnings p = line_if p.is_late (codes "warning: the stop lies behind the end of the trace; record longer")
+    ++ (line_if (nat_lt p.left 100) (codes "warning: fewer than 100 pages decided the stop; chance moves it")
+    ++ line_if (ends_early p.reason) (reason_words p.reason))
+
+abbrev pub prediction_text : ℕ → GuestPrediction → List ℕ
+prediction_text limit p = facts_text limit p ++ warnings p

@@ -1,0 +1,158 @@
+//! A prediction as lines.
+
+ghost use Rattle.std.specs.Prelude.{◌≡◌, ◌++◌, ◌∷◌, ◌<◌, ◌^◌, [], OnOk, codes};
+ghost use Rattle.migration_model.specs.Rates.{StopReason};
+ghost use Rattle.predictions.specs.Quantities.{bytes_text, seconds_text};
+ghost use Rattle.predictions.specs.Texts.{downtime_line, ending, facts_text, ends_early, line_if, prediction_text};
+ghost use Rattle.predictions.specs.Texts.{reason_words, time_line, verdict, warnings};
+ghost use Rattle.rate_limit.specs.Pacing.{reason_of};
+ghost use Rattle.sweep_report.specs.Lines.{field, line};
+
+use crate::prediction::Prediction;
+use crate::quantities::{push_bytes, push_seconds};
+use rate_limit::Reason;
+use std::alloc::AllocError;
+use sweep_report::{end_line, push_field};
+
+/// How many pages have to be left for chance to move the downtime by less than a tenth.
+const MANY_PAGES: u64 = 100;
+
+/// Returns what a reason says of convergence.
+fn ending_of(reason: &Reason) -> &'static str
+    ensures { result.now ≡ ending (reason_of reason.now) }
+{
+    match reason {
+        Reason::Few => "converges: yes, rounds: ",
+        Reason::Fast => "converges: no, the guest writes faster than the link sends; rounds: ",
+        Reason::Rounds => "converges: no, all rounds that are allowed are done; rounds: ",
+    }
+}
+
+/// Appends the line on convergence.
+fn push_ending(text: &mut Vec<u8>, reason: &Reason, rounds: u64) -> Result<(), AllocError>
+    ensures { OnOk result (text.new.items ≡ text.old.items ++ line (field (ending (reason_of reason.now)) rounds ∷ [])) }
+{
+    push_field(text, ending_of(reason), rounds)?;
+    end_line(text)
+}
+
+/// Appends the line on the time of all.
+fn push_time(text: &mut Vec<u8>, time: u128) -> Result<(), AllocError>
+    ensures { OnOk result (text.new.items ≡ text.old.items ++ time_line time) }
+{
+    text.extend_from_slice("total time: ".as_bytes())?;
+    push_seconds(text, time)?;
+    end_line(text)?;
+    Ok(())
+}
+
+/// Appends the line on what is sent.
+fn push_sent(text: &mut Vec<u8>, bytes: u128) -> Result<(), AllocError>
+    requires { bytes < 2 ^ 120 }
+    ensures { OnOk result (text.new.items ≡ text.old.items ++ line (codes "sent: " ∷ bytes_text bytes ∷ [])) }
+{
+    text.extend_from_slice("sent: ".as_bytes())?;
+    push_bytes(text, bytes)?;
+    end_line(text)
+}
+
+/// Returns whether a limit is kept, in words.
+fn verdict_of(is_kept: bool) -> &'static str
+    ensures { result.now ≡ verdict is_kept }
+{
+    if is_kept { ", kept" } else { ", not kept" }
+}
+
+/// Appends the line on the downtime.
+fn push_downtime(
+    text: &mut Vec<u8>,
+    downtime: u128,
+    limit: u64,
+    is_kept: bool,
+) -> Result<(), AllocError>
+    ensures { OnOk result (text.new.items ≡ text.old.items ++ line (codes "downtime: " ∷ seconds_text downtime
+        ∷ codes ", limit: " ∷ seconds_text limit ∷ verdict is_kept ∷ [])) }
+{
+    text.extend_from_slice("downtime: ".as_bytes())?;
+    push_seconds(text, downtime)?;
+    text.extend_from_slice(", limit: ".as_bytes())?;
+    push_seconds(text, limit as u128)?;
+    text.extend_from_slice(verdict_of(is_kept).as_bytes())?;
+    end_line(text)
+}
+
+/// Appends what a migration will be.
+fn push_facts(text: &mut Vec<u8>, limit: u64, prediction: &Prediction) -> Result<(), AllocError>
+    ensures { OnOk result (text.new.items ≡ text.old.items ++ facts_text limit prediction.now) }
+{
+    push_ending(text, &prediction.reason, prediction.rounds)?;
+    push_time(text, prediction.time)?;
+    push_sent(text, prediction.bytes)?;
+    push_downtime(text, prediction.downtime, limit, prediction.is_kept)?;
+    Ok(())
+}
+
+/// Appends a line, where something holds.
+fn push_if(text: &mut Vec<u8>, holds: bool, words: &str) -> Result<(), AllocError>
+    ensures { OnOk result (text.new.items ≡ text.old.items ++ line_if holds words.now) }
+{
+    if !holds {
+        return Ok(());
+    }
+    text.extend_from_slice(words.as_bytes())?;
+    end_line(text)
+}
+
+/// Returns whether a plan ends with another reason than `few`.
+fn is_early(reason: &Reason) -> bool
+    ensures { result ≡ ends_early (reason_of reason.now) }
+{
+    !matches!(reason, Reason::Few)
+}
+
+/// Returns what an end other than `few` says of the downtime.
+fn warning_of(reason: &Reason) -> &'static str
+    ensures { result.now ≡ reason_words (reason_of reason.now) }
+{
+    match reason {
+        Reason::Few => "",
+        Reason::Fast => {
+            "warning: the plan ends with `fast`, so nothing bounds the downtime; give more of the link"
+        }
+        Reason::Rounds => {
+            "warning: the plan ends with `rounds`, so nothing bounds the downtime; allow more rounds"
+        }
+    }
+}
+
+/// Appends what speaks against a prediction, a line each.
+fn push_warnings(text: &mut Vec<u8>, prediction: &Prediction) -> Result<(), AllocError>
+    ensures { OnOk result (text.new.items ≡ text.old.items ++ warnings prediction.now) }
+{
+    push_if(
+        text,
+        prediction.is_late,
+        "warning: the stop lies behind the end of the trace; record longer",
+    )?;
+    push_if(
+        text,
+        prediction.left < MANY_PAGES,
+        "warning: fewer than 100 pages decided the stop; chance moves it",
+    )?;
+    let reason = &prediction.reason;
+    push_if(text, is_early(reason), warning_of(reason))?;
+    Ok(())
+}
+
+/// Appends a prediction as lines, in ASCII: how the migration ends, its time, what it sends, its downtime beside the
+/// limit, in microseconds, and what speaks against the prediction.
+pub fn push_prediction(
+    text: &mut Vec<u8>,
+    limit: u64,
+    prediction: &Prediction,
+) -> Result<(), AllocError>
+    ensures { OnOk result (text.new.items ≡ text.old.items ++ prediction_text limit prediction.now) }
+{
+    push_facts(text, limit, prediction)?;
+    push_warnings(text, prediction)
+}

@@ -1,0 +1,3 @@
+pub mod Quantities
+pub mod Units
+pub mod Measures

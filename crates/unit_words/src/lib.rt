@@ -1,0 +1,10 @@
+//! Limits of a migration as words: times, rates and samples, and the options that take them.
+#![tactic(auto)]
+
+mod limits;
+mod measures;
+mod quantities;
+
+pub use limits::{LimitsRefusal, with_units};
+pub use measures::{Measure, measure_of};
+pub use quantities::{link_rate_of, sample_of, time_of};

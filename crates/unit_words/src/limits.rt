@@ -1,0 +1,260 @@
+//! Limits in time and bytes, in place of rates and thresholds in ticks and pages.
+
+ghost use Rattle.std.specs.Prelude.{◌≡◌, IfErr, IfNone, IfOk, IfSome, None, Some, false, map, true};
+ghost use Rattle.clap.specs.Simple.{new_rule};
+ghost use Rattle.clap.specs.Walk.{first_of};
+ghost use Rattle.clap.specs.Words.{found_of, rows_of, rule_of};
+ghost use Rattle.job_words.specs.Commands.{AddsRules};
+ghost use Rattle.guest_units.specs.Scales.{scale_refusal};
+ghost use Rattle.unit_words.specs.Quantities.{IsRate, IsTime};
+ghost use Rattle.unit_words.specs.Units.{AreLimitsSaid, IsNo, IsNoSample, IsSaid, RefusesWord, SaysBy};
+ghost use Rattle.unit_words.specs.Units.{SaysSample, has_units, is_incomplete, quantity_rule, scale_in, unit_rules};
+
+use crate::quantities::{link_rate_of, sample_of, time_of};
+use clap::{Arg, ArgAction, ArgMatches, Command};
+use guest_units::{Limits, Scale, UnitsError};
+use job_words::{number, said};
+use rate_limit::SettingsError;
+use std::alloc::{AllocError, Global};
+use thiserror::Error;
+
+/// Why words make no limits. It is written behind `precopy-view: ` in a fault line.
+#[derive(Clone, Copy, Debug, PartialEq, Eq, Error)]
+pub enum LimitsRefusal {
+    /// The length of a tick is no time.
+    #[error("--tick: a whole number with us, ms or s behind it, as 1ms")]
+    Tick,
+    /// The downtime is no time.
+    #[error("--downtime: a whole number with us, ms or s behind it, as 300ms")]
+    Downtime,
+    /// What is reserved of the downtime is no time.
+    #[error("--reserve: a whole number with us, ms or s behind it, as 50ms")]
+    Reserve,
+    /// The rate of the link is no rate.
+    #[error("--link: a whole number with a unit a second behind it, as 10Gbit, 1250MB or 128MiB")]
+    Link,
+    /// The rate of the first round is no rate.
+    #[error("--first: a whole number with a unit a second behind it, as 1Gbit, 125MB or 64MiB")]
+    First,
+    /// The sample is not two numbers.
+    #[error("--sampled: two whole numbers with a slash between, as 16384/16777216")]
+    Sampled,
+    /// A link stands there without a downtime, or what belongs to them without both.
+    #[error("--link and --downtime stand together, and --first and --reserve beside them")]
+    Incomplete,
+    /// No limits stand there, where they are needed.
+    #[error("--link and --downtime are needed, as --link 10Gbit --downtime 300ms")]
+    Missing,
+    /// Rates or a threshold stand there in both kinds of words.
+    #[error("--min, --max and --threshold do not stand beside --link and --downtime")]
+    Mixed,
+    /// A limit is out of its range.
+    #[error("{0}")]
+    Units(UnitsError),
+    /// Another setting is out of its range.
+    #[error("settings {0}")]
+    Settings(SettingsError),
+}
+
+/// An option of a quantity: its name, what its value is called, and its help.
+type Quantity<'a> = (&'a str, &'a str, &'a str);
+
+/// What a migration may take, and what ticks and pages stand for.
+const QUANTITIES: [Quantity<'static>; 6] = [
+    (
+        "link",
+        "RATE",
+        "What the migration may use of the link, as 10Gbit, 1250MB or 128MiB a second",
+    ),
+    (
+        "first",
+        "RATE",
+        "What the first round may use [default: the whole link]",
+    ),
+    ("downtime", "TIME", "Longest downtime, as 300ms"),
+    (
+        "reserve",
+        "TIME",
+        "What of it goes to switching over and to devices [default: 0s]",
+    ),
+    (
+        "tick",
+        "TIME",
+        "How long a tick of the trace is [default: 1ms]",
+    ),
+    (
+        "sampled",
+        "M/P",
+        "The trace has M of the guest's P pages [default: all]",
+    ),
+];
+
+/// Returns an option that takes a quantity.
+fn quantity<'a>(alloc: Global, name: &'a str, value: &'a str, help: &'a str) -> Arg<'a>
+    ensures rule { rule_of result ≡ quantity_rule name.entry.now }
+    ensures local { result.global ≡ false }
+{
+    Arg::new(alloc, name)
+        .long(name)
+        .help(help)
+        .value_name(value)
+        .action(ArgAction::Set)
+}
+
+/// Returns the command with options that take quantities.
+fn with_quantities<'a>(
+    alloc: Global,
+    command: Command<'a>,
+    quantities: &[Quantity<'a>],
+) -> Result<Command<'a>, AllocError>
+    ensures { IfOk result (λ new. AddsRules command.entry (map (λ q. quantity_rule q.0.now) quantities.now) new) }
+{
+    let mut command = command;
+    for (name, value, help) in quantities {
+        command = command.arg(quantity(alloc, name, value, help))?;
+    }
+    Ok(command)
+}
+
+/// Returns the command with the options of limits in time and bytes.
+pub fn with_units<'a>(alloc: Global, command: Command<'a>) -> Result<Command<'a>, AllocError>
+    ensures { IfOk result (λ new. AddsRules command.entry unit_rules new) }
+{
+    let command = with_quantities(alloc, command, &QUANTITIES)?;
+    command.arg(number(
+        alloc,
+        "page",
+        "How many bytes a page of the trace has [default: 4096]",
+    ))
+}
+
+/// What the options of limits say.
+#[derive(Clone, Copy)]
+pub(crate) struct Said {
+    tick: Option<u64>,
+    page: Option<u64>,
+    sampled: Option<(u64, u64)>,
+    link: Option<u64>,
+    first: Option<u64>,
+    downtime: Option<u64>,
+    reserve: Option<u64>,
+}
+
+/// Returns the word that an option has, where it is given.
+fn word_of<'a>(options: &ArgMatches<'a>, name: &str) -> Option<&'a str>
+    ensures given { IfSome result (λ word. first_of name.now (rows_of (found_of options.now)) ≡ Some word.now) }
+    ensures missing { IfNone result (first_of name.now (rows_of (found_of options.now)) ≡ None) }
+{
+    options.get_str(name)
+}
+
+/// Returns the time that an option has, where it is given, or a refusal where its word is no time.
+fn time_said(
+    options: &ArgMatches,
+    name: &str,
+    refusal: LimitsRefusal,
+) -> Result<Option<u64>, LimitsRefusal>
+    ensures said { IfOk result (SaysBy IsTime (rows_of (found_of options.now)) name.now) }
+    ensures refused { IfErr result (λ e. (e ≡ refusal) × IsNo IsTime (rows_of (found_of options.now)) name.now) }
+{
+    match word_of(options, name) {
+        None => Ok(None),
+        Some(word) => match time_of(word) {
+            Some(time) => Ok(Some(time)),
+            None => Err(refusal),
+        },
+    }
+}
+
+/// Returns the rate that an option has, where it is given, or a refusal where its word is no rate.
+fn rate_said(
+    options: &ArgMatches,
+    name: &str,
+    refusal: LimitsRefusal,
+) -> Result<Option<u64>, LimitsRefusal>
+    ensures said { IfOk result (SaysBy IsRate (rows_of (found_of options.now)) name.now) }
+    ensures refused { IfErr result (λ e. (e ≡ refusal) × IsNo IsRate (rows_of (found_of options.now)) name.now) }
+{
+    match word_of(options, name) {
+        None => Ok(None),
+        Some(word) => match link_rate_of(word) {
+            Some(rate) => Ok(Some(rate)),
+            None => Err(refusal),
+        },
+    }
+}
+
+/// Returns the sample that its option has, where it is given, or a refusal where its word is none.
+fn sample_said(options: &ArgMatches) -> Result<Option<(u64, u64)>, LimitsRefusal>
+    ensures said { IfOk result (SaysSample (rows_of (found_of options.now))) }
+    ensures refused { IfErr result (λ e. (e ≡ LimitsRefusal.Sampled) × IsNoSample (rows_of (found_of options.now))) }
+{
+    match word_of(options, "sampled") {
+        None => Ok(None),
+        Some(word) => match sample_of(word) {
+            Some(sample) => Ok(Some(sample)),
+            None => Err(LimitsRefusal::Sampled),
+        },
+    }
+}
+
+/// Returns what the options of limits say.
+pub(crate) fn said_of(options: &ArgMatches) -> Result<Said, LimitsRefusal>
+    ensures said { IfOk result (IsSaid (rows_of (found_of options.now))) }
+    ensures refused { IfErr result (RefusesWord (rows_of (found_of options.now))) }
+{
+    let tick = time_said(options, "tick", LimitsRefusal::Tick)?;
+    let sampled = sample_said(options)?;
+    let link = rate_said(options, "link", LimitsRefusal::Link)?;
+    let first = rate_said(options, "first", LimitsRefusal::First)?;
+    let downtime = time_said(options, "downtime", LimitsRefusal::Downtime)?;
+    let reserve = time_said(options, "reserve", LimitsRefusal::Reserve)?;
+    Ok(Said {
+        tick,
+        page: said(options, "page"),
+        sampled,
+        link,
+        first,
+        downtime,
+        reserve,
+    })
+}
+
+/// Returns whether some option of limits is given, where they are complete.
+pub(crate) fn is_measured(said: &Said) -> bool
+    ensures { result ≡ has_units said.now }
+{
+    said.tick.is_some() || said.page.is_some() || said.sampled.is_some() || said.link.is_some()
+}
+
+/// Returns what ticks and pages stand for: a tick of 1 ms, a page of 4,096 bytes and all pages where nothing else is
+/// said.
+pub(crate) fn scale_of(said: &Said) -> Result<Scale, UnitsError>
+    ensures made { IfOk result (λ scale. scale ≡ scale_in said.now) }
+    ensures refused { IfErr result (λ e. scale_refusal (scale_in said.now) ≡ Some e) }
+{
+    let (sampled, guest) = said.sampled.unwrap_or((1, 1));
+    Scale::new(
+        said.tick.unwrap_or(1000),
+        said.page.unwrap_or(4096),
+        sampled,
+        guest,
+    )
+}
+
+/// Returns the limits that are said, where some are.
+pub(crate) fn limits_of(said: &Said) -> Result<Option<Limits>, LimitsRefusal>
+    ensures made { IfOk result (AreLimitsSaid said.now) }
+    ensures refused { IfErr result (λ e. (e ≡ LimitsRefusal.Incomplete) × (is_incomplete said.now ≡ true)) }
+{
+    match (said.link, said.downtime) {
+        (Some(link), Some(downtime)) => Ok(Some(Limits {
+            link,
+            first: said.first,
+            downtime,
+            reserve: said.reserve.unwrap_or(0),
+        })),
+        (None, None) if said.first.is_none() && said.reserve.is_none() => Ok(None),
+        _ => Err(LimitsRefusal::Incomplete),
+    }
+}

@@ -1,0 +1,78 @@
+//! Numbers with a unit behind them.
+
+ghost use Rattle.std.specs.Prelude.{ℕ, IfNone, IfSome, map};
+ghost use Rattle.unit_words.specs.Quantities.{IsCounted, IsQuantity, IsRate, IsSample, IsTime, IsWhole, unit_with};
+
+/// A unit: its name, and how many it stands for.
+type Unit<'a> = (&'a str, u64);
+
+/// Units of time, in microseconds.
+const TIMES: [Unit<'static>; 3] = [("us", 1), ("ms", 1_000), ("s", 1_000_000)];
+
+/// Units of a rate, in bytes a second.
+const RATES: [Unit<'static>; 9] = [
+    ("Kbit", 125),
+    ("Mbit", 125_000),
+    ("Gbit", 125_000_000),
+    ("KB", 1_000),
+    ("MB", 1_000_000),
+    ("GB", 1_000_000_000),
+    ("KiB", 1 << 10),
+    ("MiB", 1 << 20),
+    ("GiB", 1 << 30),
+];
+
+/// Returns a whole number.
+fn whole_of(text: &str) -> Option<u64>
+    ensures some { IfSome result (IsWhole text.now) }
+    ensures none { IfNone result ((n : ℕ) → ¬ IsWhole text.now n) }
+{
+    text.parse::<u64>().ok()
+}
+
+/// Returns what a number with this unit behind it stands for.
+fn counted(word: &str, name: &str, factor: u64) -> Option<u64>
+    ensures some { IfSome result (IsCounted word.now name.now factor) }
+    ensures none { IfNone result ((n : ℕ) → ¬ IsCounted word.now name.now factor n) }
+{
+    let text = word.strip_suffix(name)?;
+    whole_of(text)?.checked_mul(factor)
+}
+
+/// Returns what a number stands for that has one of these units behind it.
+fn quantity_of(word: &str, units: &[Unit<'_>]) -> Option<u64>
+    ensures some { IfSome result (IsQuantity (map (λ u. unit_with u.0.now u.1) units.now) word.now) }
+    ensures none { IfNone result ((n : ℕ) → ¬ IsQuantity (map (λ u. unit_with u.0.now u.1) units.now) word.now n) }
+{
+    for (name, factor) in units {
+        if let Some(n) = counted(word, name, *factor) {
+            return Some(n);
+        }
+    }
+    None
+}
+
+/// Returns how many microseconds the word stands for: a whole number with `us`, `ms` or `s` behind it.
+pub fn time_of(word: &str) -> Option<u64>
+    ensures some { IfSome result (IsTime word.now) }
+    ensures none { IfNone result ((n : ℕ) → ¬ IsTime word.now n) }
+{
+    quantity_of(word, &TIMES)
+}
+
+/// Returns how many bytes a second the word stands for: a whole number with a unit of bits or bytes behind it.
+pub fn link_rate_of(word: &str) -> Option<u64>
+    ensures some { IfSome result (IsRate word.now) }
+    ensures none { IfNone result ((n : ℕ) → ¬ IsRate word.now n) }
+{
+    quantity_of(word, &RATES)
+}
+
+/// Returns of how many pages the word says that they were sampled, and of how many.
+pub fn sample_of(word: &str) -> Option<(u64, u64)>
+    ensures some { IfSome result (λ sample. IsSample word.now sample.0 sample.1) }
+    ensures none { IfNone result ((sampled guest : ℕ) → ¬ IsSample word.now sampled guest) }
+{
+    let (before, behind) = word.split_once('/')?;
+    Some((whole_of(before)?, whole_of(behind)?))
+}
