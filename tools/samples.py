@@ -118,30 +118,29 @@ FIELDS = {
 }
 
 
-def rules_of(sample: Sample, trace: traces.Trace, written: list[tuple[int, int]]) -> list[tuple[str, str, bool]]:
-    """What fields have to be beside one another and beside the trace: the field, the rule, whether it holds."""
+def rules_of(sample: Sample, trace: traces.Trace, written: list[tuple[int, int]]) -> list[tuple[str, bool]]:
+    """What fields have to be beside one another and beside the trace; the names of fields stand in each rule."""
     found = {page for tick, page in written if tick < sample.first_tick}
-    ticks = [tick for tick, _ in written]
-    between = [tick for tick in ticks if 0 < tick < sample.first_tick]
+    last = written[-1][0] if written else 0
     is_recorded = sample.method != "trace"
+    early = is_recorded and any(0 < tick < sample.first_tick for tick, _ in written)
+    nonzero = len(found) if is_recorded else trace.pages
+    digest_fits = sample.trace_sha256 == digest(trace.text)
+    sampled, guest = sample.sampled_pages, sample.guest_pages
     return [
-        ("trace_pages", "is that of the trace", sample.trace_pages == trace.pages),
-        ("trace_writes", "is that of the trace", sample.trace_writes == trace.writes),
-        ("trace_sha256", "is that of the trace", sample.trace_sha256 == digest(trace.text)),
-        ("first_tick", "has no write before it but at tick 0", not is_recorded or not between),
-        ("last_tick", "is not before the last write or the first tick",
-         sample.last_tick >= max([sample.first_tick, *ticks[-1:]])),
-        ("interval_seconds", "is not below a tick", sample.interval_seconds >= sample.tick_seconds),
-        ("sampled_pages", "is from the trace's pages up to the guest's",
-         trace.pages <= sample.sampled_pages <= min(sample.guest_pages, MOST_PAGES)),
-        ("counted_pages", "is from the sampled pages up to the guest's",
-         sample.sampled_pages <= sample.counted_pages <= sample.guest_pages),
-        ("sampled_nonzero", "is how many pages the trace finds",
-         sample.sampled_nonzero == (len(found) if is_recorded else trace.pages)),
-        ("guest_nonzero", "is from the sample's up to the guest's pages",
-         sample.sampled_nonzero <= sample.guest_nonzero <= sample.guest_pages),
-        ("late", "is at most the samples", sample.late <= sample.samples),
-        ("samples", "is at most one a tick", sample.samples <= sample.last_tick + 1),
+        ("trace_pages is the number of the trace", sample.trace_pages == trace.pages),
+        ("trace_writes is the number of the trace", sample.trace_writes == trace.writes),
+        ("trace_sha256 is the SHA-256 of the trace", digest_fits),
+        ("first_tick is at most last_tick, and no write but those of tick 0 is before it",
+         sample.first_tick <= sample.last_tick and not early),
+        ("last_tick is not before the last write", last <= sample.last_tick),
+        ("interval_seconds is tick_seconds or more", sample.interval_seconds >= sample.tick_seconds),
+        ("sampled_pages is from trace_pages up to guest_pages", trace.pages <= sampled <= min(guest, MOST_PAGES)),
+        ("counted_pages is from sampled_pages up to guest_pages", sampled <= sample.counted_pages <= guest),
+        ("sampled_nonzero is the number of pages that the trace finds", sample.sampled_nonzero == nonzero),
+        ("guest_nonzero is from sampled_nonzero up to guest_pages", nonzero <= sample.guest_nonzero <= guest),
+        ("late is at most samples", sample.late <= sample.samples),
+        ("samples is at most last_tick and one", sample.samples <= sample.last_tick + 1),
     ]
 
 
@@ -172,9 +171,10 @@ def read(trace_path: str, trace: traces.Trace, written: list[tuple[int, int]]) -
     except FileNotFoundError as fault:
         raise Refused(f"there is no {path} beside the trace: tools/record writes one for a sample") from fault
     sample = parsed(path, text)
-    for name, rule, holds in rules_of(sample, trace, written):
+    for rule, holds in rules_of(sample, trace, written):
         if not holds:
-            raise Refused(f"{path} does not fit the trace: {name} = {getattr(sample, name)!r} breaks: it {rule}")
+            named = [f"{name} = {getattr(sample, name)!r}" for name in FIELDS if name in rule.split(" ")]
+            raise Refused(f"{path} does not fit: {', '.join(named)}, where {rule}")
     return sample
 
 
