@@ -11,6 +11,7 @@ from concurrent.futures import ThreadPoolExecutor
 
 from recorder_runs import SECONDS, TOP, expect
 
+import forecast
 import plans
 import samples
 import traces
@@ -33,9 +34,9 @@ def read_trace(path):
         return traces.read(file.read())
 
 
-def made_trace(path, pages=4096, ticks=8000, rate=2, seed=1):
+def made_trace(path, pages=4096, ticks=8000, rate=2):
     """A trace as tools/record makes them: two thirds of the pages at tick 0, then writes, mostly to a hot set."""
-    draws = random.Random(seed)
+    draws = random.Random("a trace, not a draw of its pages")
     with traces.Writer(path) as writer:
         writer.append([(0, page, 0, b"\x01") for page in range(pages)])
         hot = draws.sample(range(pages), pages // 16)
@@ -183,15 +184,18 @@ def predicted(program, folder):
     expect("converges: yes; 20 of 20" in printed and "at half the link: " in printed, printed)
     again, _ = run(PREDICT, path, *LINK, "--program", program)
     expect(again == printed, "the same words print other lines")
-    for words, status, said in (
-        (["--link", "8MiB", "--downtime", "100ms"], 3, "converges: no"),
-        (["--link", "32MiB", "--downtime", "2ms"], 3, "decide the stop"),
-        (["--link", "100Mbit", "--downtime", "1s"], 3, "no prediction"),
-        (["--link", "1bit"], 1, "no rate"),
-        (["--link", "x"], 2, "no link such as"),
-        (["--link", "1Gbit", "--plans", "1"], 2, "2 or more"),
+    busy, part = os.path.join(folder, "busy.pcwt"), os.path.join(folder, "part.pcwt")
+    made_trace(busy, rate=12)
+    run(THIN, busy, part, "--one-in", "2", "--start", "1000")
+    for name, words, status, said in (
+        (part, ["--link", "16MiB", "--downtime", "10ms"], 3, "converges: no"),
+        (part, ["--link", "64MiB", "--downtime", "3ms"], 0, "decide the stop"),
+        (path, ["--link", "100Mbit", "--downtime", "2s"], 3, "no prediction"),
+        (path, ["--link", "1bit"], 1, "no rate"),
+        (path, ["--link", "x"], 2, "no link such as"),
+        (path, ["--link", "1Gbit", "--plans", "1"], 2, "2 or more"),
     ):
-        printed, refused = run(PREDICT, path, *words, "--program", program, status=status)
+        printed, refused = run(PREDICT, name, *words, "--program", program, status=status)
         expect(said in printed + refused, printed + refused)
 
 
@@ -209,20 +213,20 @@ def whole_sample(program, folder):
 
 def bias_over_seeds(program, folder):
     """The mean of the plans of 200 samples is that of the whole trace, within two of its standard errors."""
-    whole = os.path.join(folder, "whole.pcwt")
-    made_trace(whole, pages=1 << 15, ticks=12_000, rate=12)
-    settings = plans.settings_of(64 << 20, 0.2, 0.001)
-    with open(whole, "rb") as file:
-        plan = plans.report(program, file.read(), settings, 1000)
+    path = os.path.join(folder, "whole.pcwt")
+    made_trace(path, pages=1 << 15, ticks=12_000, rate=6)
+    run(THIN, path, os.path.join(folder, "all.pcwt"), "--one-in", "1", "--start", "1000")
+    trace = read_trace(os.path.join(folder, "all.pcwt"))
+    records = [record[:2] for record in trace.records()]
+    whole = samples.read(os.path.join(folder, "all.pcwt"), trace, records)
+    plan = plans.report(program, trace.text, plans.settings_of(64 << 20, 0.05, 0.001), 1000)
     expect(plan.why == "few" and plan.rounds > 2, f"{plan}")
+    settings = plans.settings_of(64 << 20, 0.05, 0.001, ONE_IN)
 
     def sent(seed):
-        path = os.path.join(folder, f"{seed}.pcwt")
-        run(THIN, whole, path, "--one-in", str(ONE_IN), "--seed", str(seed), "--start", "1000")
-        with open(path, "rb") as file:
-            part = plans.report(program, file.read(), plans.settings_of(64 << 20, 0.2, 0.001, ONE_IN), 1000)
-        os.unlink(path)
-        return part.sent * ONE_IN
+        sample, kept = samples.thinned(whole, records, ONE_IN, seed)
+        text = forecast.encoded(forecast.Pages(sample.trace_pages, sample.weight, kept))
+        return plans.report(program, text, settings, 1000).sent * sample.weight
 
     with ThreadPoolExecutor(AT_ONCE) as pool:
         found = list(pool.map(sent, range(SEEDS)))

@@ -27,8 +27,9 @@ WRITTEN = 2
 REQUEST = struct.Struct("=12Q")
 REGION = struct.Struct("=3Q")
 REGIONS = 1 << 14
-# A whole scan takes some nanoseconds a page, and a scan of one page about a microsecond.
-WHOLE_PAGES = 64
+# A whole scan takes some nanoseconds a page, and a scan of one page about a microsecond. But a whole scan protects all
+# pages, and each costs the process a microsecond when it is written: so only where it is much faster.
+WHOLE_PAGES = 16
 
 ioctl = fcntl.ioctl
 
@@ -40,8 +41,9 @@ def address_of(buffer: bytearray) -> int:
 class WrittenPages:
     """Follows the writes to some pages of a process, named by their addresses. The first look shows all of them."""
 
-    def __init__(self, process: int, ranges: Iterable[tuple[int, int]], places: list[int]):
+    def __init__(self, process: int, ranges: Iterable[tuple[int, int]], places: list[int], scan: str | None = None):
         self.process, self.ranges, self.places = process, list(ranges), places
+        self.scan = scan
         self.userfaultfd = self.pagemap = self.memory = None
         try:
             self.userfaultfd = remote.open_userfaultfd(process)
@@ -84,9 +86,9 @@ class WrittenPages:
         return f"the kernel does not watch {begin:#x}-{end:#x}: {fault.strerror}"
 
     def _prepare(self) -> None:
-        """Makes the requests once: of the whole where that is faster, else of one page each."""
+        """Makes the requests once: of the whole where that is much faster or asked for, else of one page each."""
         pages = sum(end - begin for begin, end in self.ranges) // PAGE
-        self.is_whole = pages <= WHOLE_PAGES * len(self.places)
+        self.is_whole = self.scan == "whole" if self.scan else pages <= WHOLE_PAGES * len(self.places)
         self.regions = bytearray(REGION.size * REGIONS)
         if self.is_whole:
             self.requests = [(begin, end) for begin, end in self.ranges]

@@ -60,7 +60,8 @@ class SampledGuest:
         if self.options.by == "values" or self.options.file:
             return page_values.ChangedPages(self.pages, self.places), "values", None
         try:
-            return pagemap.WrittenPages(self.options.pid, self.ranges, self.places), "writes", None
+            tracker = pagemap.WrittenPages(self.options.pid, self.ranges, self.places, self.options.scan)
+            return tracker, "writes", None
         except pagemap.Unavailable as cause:
             if self.options.by == "writes":
                 raise

@@ -178,6 +178,20 @@ def read(trace_path: str, trace: traces.Trace, written: list[tuple[int, int]]) -
     return sample
 
 
+def thinned(base: Sample, records: list, one_in: int, seed: int) -> tuple[Sample, list]:
+    """The sample of a sample, and its records. The digest is that of the old trace still."""
+    drawn = draw(base.sampled_pages, max(1, base.sampled_pages // one_in), seed)
+    number_of = {page: number for number, page in enumerate(page for page in drawn if page < base.trace_pages)}
+    kept = [(tick, number_of[page], *rest) for tick, page, *rest in records if page in number_of]
+    pages = max(1, len(number_of))
+    found = {page for tick, page, *_ in kept if tick < base.first_tick}
+    thin = dataclasses.replace(
+        base, trace_pages=pages, trace_writes=len(kept), sampled_pages=len(drawn), seed=seed,
+        sampled_nonzero=pages if base.method == "trace" else len(found),
+    )
+    return thin, kept
+
+
 def pending(trace_path: str, sample: Sample) -> traces.Pending:
     """The whole text of NAME.json under another name; finish() gives it its own."""
     file = traces.Pending(path_beside(trace_path))
