@@ -6,6 +6,7 @@ lost, and nobody waits. The kernel takes all of it back when the descriptor is c
 """
 
 import bisect
+import contextlib
 import ctypes
 import errno
 import fcntl
@@ -101,35 +102,31 @@ class WrittenPages:
 
     def look(self) -> list[int]:
         """The numbers of the places that were written since the last look, in order."""
-        look = self._look_whole if self.is_whole else self._look_one_by_one
         try:
-            written = look()
-        except PermissionError:
-            written = self._look_anew(look)
+            written = self._look_whole() if self.is_whole else self._look_one_by_one()
         except OSError as fault:
             raise Gone(f"the writes of the process cannot be read: {fault.strerror}") from fault
+        except Unavailable as fault:
+            raise Gone(f"memory was mapped anew, and cannot be watched: {fault}") from fault
         self._is_there()
         return written
 
-    def _look_anew(self, look) -> list[int]:
-        """Looks again where a range was mapped anew: it is watched from now on, and all of it shows as written."""
-        try:
-            self.register()
-            return look()
-        except (OSError, Unavailable) as fault:
-            raise Gone(f"the mappings of the process changed, and cannot be watched any more: {fault}") from fault
-
     def _is_there(self) -> None:
         """A process that ended, or runs another program, has no memory to read any more."""
-        try:
+        with contextlib.suppress(OSError):
             if not os.pread(self.memory, 1, self.places[0]):
                 raise Gone("the process ended, or runs another program")
-        except OSError:
-            pass
 
     def _look_one_by_one(self) -> list[int]:
-        call, pagemap = ioctl, self.pagemap
-        return [number for number, request in self.requests if call(pagemap, SCAN, request)]
+        call, pagemap, written = ioctl, self.pagemap, []
+        for number, request in self.requests:
+            try:
+                if call(pagemap, SCAN, request):
+                    written.append(number)
+            except PermissionError:
+                self._watch_anew(request)
+                written.append(number)
+        return written
 
     def _look_whole(self) -> list[int]:
         written, places = [], self.places
@@ -137,15 +134,25 @@ class WrittenPages:
             low = bisect.bisect_left(places, begin)
             if low < len(places) and places[low] < end:
                 written.extend(range(low, bisect.bisect_left(places, end, low)))
-        return written
+        return sorted(set(written))
 
     def _written_ranges(self):
         for begin, end in self.requests:
             while begin < end:
                 request = self._request(begin, end, REGIONS)
-                count = ioctl(self.pagemap, SCAN, request)
+                try:
+                    count = ioctl(self.pagemap, SCAN, request)
+                except PermissionError:
+                    self._watch_anew(request)
+                    yield begin, end
+                    break
                 begin = REQUEST.unpack(request)[4]
                 yield from (region[:2] for region in REGION.iter_unpack(self.regions[: count * REGION.size]))
+
+    def _watch_anew(self, request: bytearray) -> None:
+        """Memory that was mapped anew is watched from now on, and all that was asked for counts as written."""
+        self.register()
+        ioctl(self.pagemap, SCAN, request)
 
     def close(self) -> None:
         """Ends it; the kernel gives the process back the memory as it was."""
