@@ -35,11 +35,11 @@ def read_trace(path):
 
 
 def made_trace(path, pages=4096, ticks=8000, rate=2):
-    """A trace as tools/record makes them: two thirds of the pages at tick 0, then writes, mostly to a hot set."""
+    """A trace as tools/record makes them: all pages at tick 0, then writes, mostly to hot pages that lie together."""
     draws = random.Random("a trace, not a draw of its pages")
     with traces.Writer(path) as writer:
         writer.append([(0, page, 0, b"\x01") for page in range(pages)])
-        hot = draws.sample(range(pages), pages // 16)
+        hot = range(pages // 2, pages // 2 + pages // 16)
         chosen = (draws.choice(hot) if draws.random() < 0.8 else draws.randrange(pages) for _ in range(ticks * rate))
         writer.append([(1000 + number // rate, page, 0, b"\x01") for number, page in enumerate(chosen)])
         writer.finish(12, pages)

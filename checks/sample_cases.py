@@ -6,6 +6,7 @@ import resource
 import signal
 import subprocess
 import sys
+import tempfile
 import time
 
 from recorder_runs import RECORD, SECONDS, TOP, expect
@@ -360,13 +361,14 @@ def larger_than_a_trace(_, folder):
 
 def a_sparse_file(_, folder):
     """By values: what changes is seen, and what has no memory gets none."""
-    path, count = os.path.join(folder, "memory"), 1 << 18
-    with open(path, "w+b") as file:
+    where = "/dev/shm" if os.path.isdir("/dev/shm") else folder
+    count = 1 << 18
+    with tempfile.NamedTemporaryFile(dir=where) as file:
         file.truncate(count * PAGE)
         for page in range(0, count, 64):
             os.pwrite(file.fileno(), b"\x07", page * PAGE)
         blocks = os.fstat(file.fileno()).st_blocks
-        drawn = Drawn(folder, ["--file", path], ["--pages", "8192", "--seed", "3"])
+        drawn = Drawn(folder, ["--file", file.name], ["--pages", "8192", "--seed", "3"])
         numbers = samples.draw(count, 8192, 3)
         there = [page for page in numbers if page % 64 == 0]
         absent = [page for page in numbers if page % 64 == 1]
