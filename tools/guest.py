@@ -14,6 +14,7 @@ MEMORY = 128 << 20
 UNSAFE, LESS = 256 << 10, 128 << 10
 SECONDS_TO_BOOT = 300
 SECONDS_TO_END = 10
+SECONDS_TO_ANSWER = 60
 INIT = """\
 #!/bin/busybox sh
 /bin/busybox mount -t proc proc /proc
@@ -106,7 +107,8 @@ class Guest:
         command += ["-accel", accelerator, "-m", f"{size >> 10}K", "-object", backend]
         command += ["-machine", "pc,memory-backend=mem", "-serial", f"file:{self.console}"]
         command += ["-qmp", f"unix:{self.socket},server=on,wait=off", "-kernel", kernel(), "-initrd", file_system_path]
-        command += ["-append", "console=ttyS0 quiet panic=-1"]
+        # Where the host is busy, the kernel takes its timer for broken, and panics.
+        command += ["-append", "console=ttyS0 quiet panic=-1 no_timer_check"]
         if incoming:
             command += ["-S", "-incoming", incoming]
         self.process = subprocess.Popen(command, stdin=subprocess.DEVNULL, stdout=self.errors, stderr=self.errors)
@@ -115,11 +117,19 @@ class Guest:
         end = time.monotonic() + seconds
         while not holds():
             if self.process.poll() is not None:
-                self.errors.seek(0)
-                raise Failed(f"{self.name}: QEMU ended: {self.errors.read().decode(errors='replace').strip()}")
+                raise Failed(f"{self.name}: QEMU ended: {self._last_words()}")
             if time.monotonic() > end:
                 raise Failed(f"{self.name}: {what} after {seconds} s")
             time.sleep(0.05)
+
+    def _last_words(self):
+        """What QEMU said, else the end of what the guest did: a guest that panics ends QEMU."""
+        self.errors.seek(0)
+        said = self.errors.read().decode(errors="replace").strip()
+        if not said and os.path.exists(self.console):
+            with open(self.console, encoding="utf-8", errors="replace") as file:
+                said = " ".join(file.read().split("\n")[-4:]).strip()
+        return said
 
     def wait_for_socket(self, *others):
         for path in (self.socket, *others):
@@ -136,7 +146,7 @@ class Guest:
             return b"READY" in file.read()
 
     def client(self):
-        return qmp.Client(self.socket)
+        return qmp.Client(self.socket, SECONDS_TO_ANSWER)
 
     def end(self):
         if self.process.poll() is None:
