@@ -431,6 +431,33 @@ def bad_words(_, folder):
     drawn.expect_nothing(1, "--mapping /no/file")
 
 
+def cause_of_no_writes():
+    """Why this machine tells no writes, or None where it does."""
+    with tempfile.TemporaryDirectory() as folder, Pages("private") as pages:
+        drawn = Drawn(folder, pages.source, ["--for", "50ms"])
+        drawn.end()
+        causes = [line for line in drawn.output.split("\n") if line.startswith("by values, since")]
+    return causes[0].partition(": ")[2] if causes else None
+
+
+NEED_WRITES = {
+    exact_private,
+    exact_shared,
+    exact_huge,
+    exact_one_by_one,
+    killed_recorder,
+    killed_recorder_while_opening,
+    killed_process,
+    signals,
+    memory_runs_out,
+    causes_stood_in,
+    other_userfaultfd,
+    traced_already,
+    stopped_process,
+    filtered_process,
+    larger_than_a_trace,
+    most_writes_drawn,
+}
 CASES = [
     exact_private,
     exact_shared,
