@@ -18,7 +18,6 @@ import traces
 PAGE = 4096
 PAGES = 2048
 STEPS, WRITES = 5, 60
-SETTLED = 1.2
 
 
 class Pages:
@@ -88,6 +87,19 @@ class Drawn:
         rest, self.faults = self.process.communicate(timeout=2 * SECONDS)
         self.output, self.status = self.began + rest, self.process.returncode
 
+    def bytes(self):
+        """How much of the trace is written so far."""
+        names = [name for name in os.listdir(self.folder) if name.endswith(".part")]
+        return sum(os.path.getsize(os.path.join(self.folder, name)) for name in names)
+
+    def wait_for_more_than(self, size):
+        """Until a look has seen something. It has seen all of a step then, or the rest comes with the next one."""
+        end = time.monotonic() + 2 * SECONDS
+        while self.bytes() <= size:
+            expect(time.monotonic() < end, "the recorder does not look")
+            time.sleep(0.01)
+        time.sleep(0.1)
+
     def read(self):
         """The trace, its writes as (tick, page), and its sample."""
         with open(self.trace_path, "rb") as file:
@@ -114,19 +126,18 @@ class Drawn:
         expect(not left, f"left: {left}")
 
 
-def written_again(pages, places, draws):
+def written_again(drawn, pages, places, draws):
     """Writes pages in steps, most of them drawn: each page once, and those of the first step once more at the end."""
     inside = [page for page in range(pages.pages) if pages.address + page * PAGE in places]
     apart = draws.sample(inside, min(len(inside), STEPS * WRITES) // 2)
     apart = list(dict.fromkeys(apart + draws.sample(range(pages.pages), STEPS * WRITES - len(apart))))
     draws.shuffle(apart)
     steps = [apart[at : at + WRITES] for at in range(0, len(apart), WRITES)]
-    for step in steps:
+    for step in [*steps, steps[0]]:
+        before = drawn.bytes()
         expect(pages.write(step) == 0, "a system call of the process was disturbed")
-        time.sleep(0.12)
-    time.sleep(SETTLED)
-    pages.write(steps[0])
-    time.sleep(0.2)
+        if any(pages.address + page * PAGE in places for page in step):
+            drawn.wait_for_more_than(before)
     return steps
 
 
@@ -160,7 +171,7 @@ def exact(folder, kind, pages_of_it, wanted):
         expect(kind != "huge" or pages.huge_bytes(), "the process has no huge pages")
         places = drawn_places(pages, wanted, 5)
         drawn = Drawn(folder, pages.source, ["--pages", str(wanted), "--seed", "5", "--by", "writes"])
-        steps = written_again(pages, places, random.Random(kind))
+        steps = written_again(drawn, pages, places, random.Random(kind))
         drawn.end(signal.SIGINT)
         pages.expect_as_before()
     _, _, sample = drawn.expect_whole()
