@@ -24,7 +24,7 @@ AT_ONCE = 2
 
 
 def run(tool, *words, status=0):
-    done = subprocess.run([sys.executable, tool, *words], capture_output=True, text=True, timeout=4 * SECONDS)
+    done = subprocess.run([sys.executable, tool, *words], capture_output=True, text=True, timeout=12 * SECONDS)
     expect(done.returncode == status, f"{words}: status {done.returncode}, {done.stdout!r}, {done.stderr!r}")
     return done.stdout, done.stderr
 
