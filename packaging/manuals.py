@@ -5,7 +5,7 @@ import re
 import textwrap
 
 # What a line has at most, before its hyphens are escaped.
-COLUMNS = 72
+COLUMNS = 66
 TOKEN = re.compile(r"\[[^]]*\]|\([^)]*\)|\S+")
 # A paragraph of the help that has a section of its own.
 STATUS = re.compile(r"^(The )?status is ", re.I)
