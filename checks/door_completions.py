@@ -54,7 +54,7 @@ def files_of(folder):
 def wanted_after(program, command):
     """What may follow the words of a command, but for files."""
     words = {each.words[-1] for each in command.commands} | {option.name for option in command.options}
-    words |= {word for operand in command.operands for word in completions.choices_of(operand)}
+    words |= {word for operand in command.operands for word in operand.choices}
     return words | ({"help"} if command is program and program.commands else set())
 
 
@@ -67,7 +67,8 @@ def in_bash(file, words, cwd):
     return set(done.stdout.split("\n")) - {""} if not done.stderr else done.stderr
 
 
-def try_bash(tally, folder, program, empty):
+def try_bash(tally, folder, program, empty, with_file):
+    """Completes in a folder without files and, behind options with a value, in one with a file."""
     file = os.path.join(folder, program.words[0])
     for command in program.each():
         wanted = wanted_after(program, command)
@@ -77,17 +78,17 @@ def try_bash(tally, folder, program, empty):
             found = in_bash(file, [*command.words, option.name[:-1]], empty)
             tally.add(option.name in found, f"bash after {' '.join(command.words)} {option.name[:-1]}: {found}")
             if option.value:
-                check_value(tally, file, command, option, empty)
+                check_value(tally, file, command, option, with_file)
     found = in_bash(file, [program.words[0], "--no-such"], empty)
     tally.add(found == set(), f"bash after {program.words[0]} --no-such: {found}")
 
 
-def check_value(tally, file, command, option, empty):
+def check_value(tally, file, command, option, with_file):
     """Behind an option with a value: numbers, or files where the value is one, or nothing."""
-    wanted = set(completions.NUMBERS.get(option.name, "").split())
+    wanted = set(completions.values_of(option).split())
     if option.value in completions.FILES and not wanted:
         wanted = {"file of a trace"}
-    found = in_bash(file, [*command.words, option.name, ""], os.path.join(empty, "files"))
+    found = in_bash(file, [*command.words, option.name, ""], with_file)
     tally.add(found == wanted, f"bash after {' '.join(command.words)} {option.name}: {found}, and not {wanted}")
 
 
@@ -153,15 +154,14 @@ def try_zsh(tally, shell, program):
 
 def check(tally, folder):
     bash, zsh, programs = files_of(folder)
-    empty = os.path.join(folder, "empty")
-    os.makedirs(os.path.join(empty, "files"))
-    with open(os.path.join(empty, "files", "file of a trace"), "w", encoding="utf-8"):
+    empty, with_file = os.path.join(folder, "empty"), os.path.join(folder, "one")
+    os.makedirs(empty)
+    os.makedirs(with_file)
+    with open(os.path.join(with_file, "file of a trace"), "w", encoding="utf-8"):
         pass
     if has("bash", "bash", "completions in bash"):
-        # A folder in which no file is offered besides words.
-        os.makedirs(os.path.join(folder, "none"))
         for program in programs:
-            try_bash(tally, bash, program, empty)
+            try_bash(tally, bash, program, empty, with_file)
     if has("zsh", "zsh", "completions in zsh"):
         shell = Shell(zsh, empty)
         for program in programs:

@@ -5,8 +5,6 @@ import re
 # What stands for the value of an option or for a word: files and processes by the word, some numbers by the option.
 FILES = {"PATH", "FILE", "SOCKET", "TRACE", "TEXT", "OUTPUT", "INPUT", "FOLDER", "IMAGE", "MAP"}
 PROCESSES = {"PID"}
-# Help of a word that lists the words to choose from.
-CHOICE = re.compile(r"[\w-]+(?:, [\w-]+)+")
 NUMBERS = {
     "--workers": "1 2 4 8 16",
     "--streams": "1 2 4 8 16",
@@ -15,8 +13,9 @@ NUMBERS = {
 }
 
 
-def choices_of(operand):
-    return operand.help.split(", ") if CHOICE.fullmatch(operand.help) else []
+def values_of(option):
+    """Values to offer for an option: those that its help lists, or some numbers."""
+    return " ".join(option.choices) or NUMBERS.get(option.name, "")
 
 
 def function_of(words):
@@ -35,8 +34,8 @@ def bash_values(program):
     """Lines of a case over the word in front: what completes the value of an option."""
     kinds = {}
     for option in sorted({option for command in program.each() for option in command.options if option.value}):
-        if option.name in NUMBERS:
-            kinds.setdefault(f"-W '{NUMBERS[option.name]}'", []).append(option.name)
+        if words := values_of(option):
+            kinds.setdefault(f"-W '{words}'", []).append(option.name)
         elif option.value in FILES:
             kinds.setdefault("-f", []).append(option.name)
         else:
@@ -57,7 +56,7 @@ def bash_commands(program):
         words = [each.words[-1] for each in command.commands] + [option.name for option in command.options]
         if command is program and program.commands:
             words.append("help")
-        words += [word for operand in command.operands for word in choices_of(operand)]
+        words += [word for operand in command.operands for word in operand.choices]
         files = any(operand.name in FILES for operand in command.operands)
         yield f"        '{path}') words='{' '.join(dict.fromkeys(words))}' files={'yes' if files else ''} ;;"
     if program.commands:
@@ -110,9 +109,9 @@ def zsh_text(text):
     return re.sub(r"([\[\]:\\])", r"\\\1", text.replace("'", "’").strip())
 
 
-def zsh_action(name, value):
-    if name in NUMBERS:
-        return f"({NUMBERS[name]})"
+def zsh_action(words, value):
+    if words:
+        return f"({words})"
     if value in FILES:
         return "_files"
     return "_pids" if value in PROCESSES else ""
@@ -121,13 +120,12 @@ def zsh_action(name, value):
 def zsh_option(option):
     told = zsh_text(option.help)
     if option.value:
-        return f"'{option.name}=[{told}]:{option.value}:{zsh_action(option.name, option.value)}'"
+        return f"'{option.name}=[{told}]:{zsh_text(option.value)}:{zsh_action(values_of(option), option.value)}'"
     return f"'{option.name}[{told}]'"
 
 
 def zsh_operand(operand, many):
-    choices = " ".join(choices_of(operand))
-    action = f"({choices})" if choices else zsh_action("", operand.name)
+    action = zsh_action(" ".join(operand.choices), operand.name)
     return f"'{'*' if many else ''}:{zsh_text(operand.name)}:{action}'"
 
 

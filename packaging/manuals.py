@@ -24,7 +24,7 @@ def word(token):
     if not name.startswith("-"):
         return f"Ar {token}"
     flag = f"Fl {escaped(name[1:])}"
-    return f"{flag} Ar {value}" if value else flag
+    return f"{flag} Ar {value.strip('{}').replace(',', ' | ')}" if value else flag
 
 
 def synopsis(usage):

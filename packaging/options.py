@@ -23,7 +23,8 @@ HEADINGS = {
 }
 ENTRY = re.compile(r" {2,6}(\S(?:.*?\S)?)(?: {2,}(\S.*))?")
 MORE = re.compile(r" {8,}(\S.*)")
-OPTION = re.compile(r"(--[\w-]+)(?:[ =]<?([\w.-]+)>?)?")
+OPTION = re.compile(r"(--[\w-]+)(?:[ =]<?(\{[^}]*\}|[\w.-]+)>?)?")
+CHOICE = re.compile(r"[\w-]+(?:, [\w-]+)+")
 
 
 class Option(NamedTuple):
@@ -33,10 +34,20 @@ class Option(NamedTuple):
     value: Optional[str]
     help: str
 
+    @property
+    def choices(self) -> List[str]:
+        """The values to choose from, of an option that lists them, as {one,other}."""
+        return self.value.strip("{}").split(",") if self.value and self.value.startswith("{") else []
+
 
 class Operand(NamedTuple):
     name: str
     help: str
+
+    @property
+    def choices(self) -> List[str]:
+        """The words to choose from, where the help lists them and says nothing else."""
+        return self.help.split(", ") if CHOICE.fullmatch(self.help) else []
 
 
 @dataclass
