@@ -111,6 +111,10 @@ def in_tree(tree, line):
 
 def try_fresh_tree(tally, tree, package):
     shutil.copy(package, f"{tree}/tmp/precopy.deb")
+    ran = in_tree(tree, "apt-get update 2>&1")
+    if ran.returncode:
+        left_out("the package in a fresh Debian tree", f"apt-get update fails there: {ran.stdout[-200:]}")
+        return
     before = files_of(tree)
     ran = in_tree(tree, "apt-get install -y --no-install-recommends /tmp/precopy.deb 2>&1")
     if not tally.add(ran.returncode == 0, f"apt-get install of the package in a fresh tree: {ran.stdout[-600:]}"):
