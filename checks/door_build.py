@@ -91,7 +91,8 @@ class Tree:
         if "GLIBC_TUNABLES" not in more:
             environment.pop("GLIBC_TUNABLES", None)
         how = {"stdin": subprocess.DEVNULL, "stdout": subprocess.PIPE, "stderr": subprocess.PIPE, "user": user}
-        return subprocess.Popen(command or ["./precopy"], cwd=cwd or self.top, env=environment, start_new_session=True, **how)
+        how |= {"cwd": cwd or self.top, "env": environment, "start_new_session": True}
+        return subprocess.Popen(command or ["./precopy"], **how)
 
     def run(self, *command, **how):
         started = self.start(*command, **how)
@@ -237,7 +238,7 @@ def stop(tally, tree, number):
 
 def go_on(tally, tree):
     ran = tree.run()
-    tally.add(ran.status == 0 and ran.output == "number 10\n", f"a run after builds that failed and were stopped: {ran}")
+    tally.add(ran.status == 0 and ran.output == "number 10\n", f"a run after failed and stopped builds: {ran}")
 
 
 def differ(tally, tree, folder):

@@ -54,11 +54,16 @@ def run_from_there(tally, prefix):
     tally.add(told.startswith(b'{"trace":{"pages":4,"size":16,"writes":5}'), f"the installed precopy-view: {told[:80]}")
     back = shell(f"precopy-export '{trace}' - | precopy-import - - | cmp - '{trace}' && echo same")
     tally.add(back == b"same\n", f"installed precopy-export and precopy-import: {back}")
+    where = "import places; print(places.program())"
+    found = output_of(sys.executable, "-Bc", where, cwd=os.path.join(prefix, "lib", "precopy"), env={}).decode()
+    good = os.path.realpath(found.strip()) == os.path.realpath(os.path.join(bin_folder, "precopy"))
+    tally.add(good, f"the installed tools run the program {found}")
     for name in contents.TOOLS:
         told = shell(f"precopy-{name} --version").decode()
         tally.add(told == f"precopy-{name} (precopy) {version.VERSION}\n", f"precopy-{name} --version tells {told!r}")
         told = shell(f"precopy-{name} --help").decode()
-        tally.add(f"usage: precopy-{name} " in told and "tools/" not in told, f"precopy-{name} --help tells {told[:300]!r}")
+        good = f"usage: precopy-{name} " in told and "tools/" not in told
+        tally.add(good, f"precopy-{name} --help tells {told[:300]!r}")
 
 
 def read_manuals(tally, folder, prefix):
@@ -84,7 +89,7 @@ def check(tally, folder):
     tally.add(files_below(destination) == first, "the installed programs leave files where they are installed")
     read_manuals(tally, folder, os.path.join(destination, "usr"))
     ran = make("install", f"DESTDIR={destination}", "PREFIX=/usr")
-    tally.add(ran.returncode == 0 and files_below(destination) == first, f"make install over an installation: {ran.stdout}")
+    tally.add(ran.returncode == 0 and files_below(destination) == first, f"make install once more: {ran.stdout}")
     ran = make("uninstall", f"DESTDIR={destination}", "PREFIX=/usr")
     left = files_below(destination)
     tally.add(ran.returncode == 0 and not left, f"make uninstall leaves {left[:5]}: {ran.stdout}")
@@ -99,10 +104,10 @@ def check(tally, folder):
     open(other, "w").close()
     ran = make("install", f"PREFIX={prefix}", "ZSHDIR=" + os.path.join(prefix, "zsh"), DESTDIR="")
     completion = os.path.join(prefix, "zsh", "_precopy-view")
-    tally.add(ran.returncode == 0 and os.path.isfile(completion), f"make install with a folder of its own: {ran.stdout}")
+    tally.add(ran.returncode == 0 and os.path.isfile(completion), f"make install with ZSHDIR: {ran.stdout}")
     ran = make("uninstall", f"PREFIX={prefix}", "ZSHDIR=" + os.path.join(prefix, "zsh"), DESTDIR="")
     left = files_below(prefix)
-    tally.add(ran.returncode == 0 and left == [other], f"make uninstall beside files of others leaves {left}: {ran.stdout}")
+    tally.add(ran.returncode == 0 and left == [other], f"make uninstall leaves {left}: {ran.stdout}")
 
 
 # ---- ./edits.
@@ -133,7 +138,7 @@ def words_of_manual(text):
 
 
 def check_program(tally, program):
-    """The manual of a program names just the options and the commands that its help tells; the documents name them too."""
+    """The manual names just the options and the commands that the help tells, and docs/COMMANDS.md all options."""
     name = program.words[0]
     with open(os.path.join(TOP, "man", f"{name}.1"), encoding="utf-8") as file:
         named, commands = words_of_manual(file.read())
@@ -173,7 +178,8 @@ def check_words(tally, folder):
     for tool in tools:
         told = {option.name for option in tool.options}
         tally.add({"--help", "--version"} <= told, f"{tool.words[0]} --help tells {sorted(told)}")
-        tally.add(tool.about and all(option.help for option in tool.options), f"{tool.words[0]} has options without help")
+        good = tool.about and all(option.help for option in tool.options)
+        tally.add(good, f"{tool.words[0]} has options without help")
     check_tools(tally)
     check_version(tally)
     unread = os.path.join(folder, "unread")

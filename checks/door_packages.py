@@ -22,8 +22,8 @@ OF_THE_SYSTEM = ("var/lib/dpkg", "var/lib/apt", "var/cache", "var/log", "proc", 
 
 
 def run(*command, **how):
-    how = {"stdin": subprocess.DEVNULL, "stdout": subprocess.PIPE, "stderr": subprocess.STDOUT, "timeout": SECONDS} | how
-    return subprocess.run(command, text=True, errors="replace", **how)
+    usual = {"stdin": subprocess.DEVNULL, "stdout": subprocess.PIPE, "stderr": subprocess.STDOUT, "timeout": SECONDS}
+    return subprocess.run(command, text=True, errors="replace", **{**usual, **how})
 
 
 def make(what, folder):
@@ -119,8 +119,9 @@ def try_fresh_tree(tally, tree, package):
     ran = in_tree(tree, "apt-get install -y --no-install-recommends /tmp/precopy.deb 2>&1")
     if not tally.add(ran.returncode == 0, f"apt-get install of the package in a fresh tree: {ran.stdout[-600:]}"):
         return
+    go_there = "mkdir -p /tmp/here && cd /tmp/here && ln -sfn /usr/share/doc/precopy/examples ."
     for words, wanted in commands_of_readme():
-        ran = in_tree(tree, f"mkdir -p /tmp/here && cd /tmp/here && ln -sfn /usr/share/doc/precopy/examples . && {words}")
+        ran = in_tree(tree, f"{go_there} && {words}")
         tally.add(pages.agrees(wanted, ran.stdout), f"in a fresh tree: {words}\n{ran.stdout}")
     for name in contents.TOOLS:
         ran = in_tree(tree, f"precopy-{name} --help > /dev/null && precopy-{name} --version")
@@ -142,7 +143,8 @@ def fresh_debian(folder):
     tree = os.path.join(folder, "debian")
     ran = run("debootstrap", "--variant=minbase", SUITE, tree, MIRROR) if os.geteuid() == 0 else None
     if ran is None or ran.returncode:
-        left_out("the package in a fresh Debian tree", "debootstrap cannot run: " + (ran.stdout[-200:] if ran else "not root"))
+        why = f"debootstrap cannot run: {ran.stdout[-200:] if ran else 'not root'}"
+        left_out("the package in a fresh Debian tree", why)
         yield None
         return
     try:

@@ -59,7 +59,7 @@ def contract_row(cell):
 
 def is_defined(path, word):
     text = read(f"crates/{path}") if os.path.isfile(os.path.join(CRATES, path)) else ""
-    return re.search(rf"^(?:abbrev |unfoldable )?pub (?:record |data )?{re.escape(word)}(?: .*)? ?(?::|$|\()", text, re.M)
+    return re.search(rf"^(?:abbrev |unfoldable )?pub (?:record |data )?{word}(?: .*)? ?(?::|$|\()", text, re.M)
 
 
 def definition_row(cell):

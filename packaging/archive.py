@@ -11,7 +11,8 @@ import contents
 import debian
 
 INSTALL = """\
-precopy {version}, for Linux on {machine} with the C library glibc {libc} or later. The tools need Python {python} or later.
+precopy {version}, for Linux on {machine} with the C library glibc {libc} or later.
+The tools need Python {python} or later.
 
 It runs where it lies: bin/precopy, bin/precopy-view and bin/precopy-record, .. To install it for all users:
 

@@ -33,9 +33,10 @@ class Package:
 
 def needed_by_programs(entries):
     """What the programs and tools need: the C library of the symbols that the programs name, and Python."""
-    symbols = [it for entry in entries for it in re.findall(rb"GLIBC_(\d+)\.(\d+)", entry.data[:4] == b"\x7fELF" and entry.data or b"")]
-    least = max((int(major), int(minor)) for major, minor in symbols)
-    return f"libc6 (>= {least[0]}.{least[1]}), python3 (>= {LEAST_PYTHON})"
+    programs = [entry.data for entry in entries if entry.data.startswith(b"\x7fELF")]
+    versions = [version for data in programs for version in re.findall(rb"\0GLIBC_(\d+)\.(\d+)", data)]
+    major, minor = max((int(major), int(minor)) for major, minor in versions)
+    return f"libc6 (>= {major}.{minor}), python3 (>= {LEAST_PYTHON})"
 
 
 PACKAGES = [
