@@ -200,6 +200,21 @@ def build_twice_at_once(tally, tree):
     tally.add(any(waits), f"two builds at once, of which none waits: {both[0]}; {both[1]}")
 
 
+def edit_meanwhile(tally, tree):
+    """A source that is edited during a build is newer than what the build makes."""
+    tree.set_program(10)
+    started, end = tree.start(), time.monotonic() + SECONDS
+    while not processes_in(f"{tree.top}/crates/precopy") and started.poll() is None and time.monotonic() < end:
+        time.sleep(0.1)
+    time.sleep(2)
+    tree.set_program(11)
+    ran = ended(started)
+    tally.add(ran.status == 0, f"a build during which a source is edited: {ran}")
+    ran = tree.run()
+    tally.add(ran.output == "number 12\n", f"after a build during which a source was edited: {ran}")
+    tree.set_program(8)
+
+
 def fail(tally, tree):
     tree.set_library(1, 2)
     ran = tree.run()
@@ -274,6 +289,7 @@ def check(tally, folder):
     call_the_other_name(tally, tree)
     run_without_rights(tally, tree)
     build_twice_at_once(tally, tree)
+    edit_meanwhile(tally, tree)
     fail(tally, tree)
     for number in (signal.SIGINT, signal.SIGTERM, signal.SIGHUP):
         stop(tally, tree, number)

@@ -9,6 +9,7 @@ import re
 import shutil
 import subprocess
 import tempfile
+import textwrap
 from dataclasses import dataclass
 from typing import Callable, List
 
@@ -79,7 +80,9 @@ def changelog(text, maintainer):
         items = re.findall(r"^- (.*(?:\n  .*)*)", changes, re.M)
         yield f"precopy ({version}) unstable; urgency=medium\n\n"
         for item in items:
-            yield "  * " + item.replace("\n  ", "\n    ").replace("`", "") + "\n"
+            plain = " ".join(item.replace("`", "").split())
+            yield textwrap.fill(plain, 76, initial_indent="  * ", subsequent_indent="    ", break_on_hyphens=False)
+            yield "\n"
         yield f"\n -- {maintainer}  {email.utils.formatdate(moment(date), localtime=False)}\n\n"
 
 
@@ -90,7 +93,7 @@ Upstream-Name: precopy
 Upstream-Contact: {maintainer}
 
 Files: *
-Copyright: the authors of precopy
+Copyright: 2026 the authors of precopy
 License: Apache-2.0
  On Debian systems the full text of this license is in
  /usr/share/common-licenses/Apache-2.0.
