@@ -15,7 +15,7 @@ sys.path.insert(0, os.path.join(TOP, "packaging"))
 import completions  # noqa: E402
 import contents  # noqa: E402
 
-SECONDS = 20
+SECONDS = 120
 # Completes the words of "$@" from the second on in a new shell, and prints each answer in a line.
 BASH = """\
 set -u
@@ -105,34 +105,27 @@ class Shell:
             environment = {"PATH": os.environ["PATH"], "HOME": home, "TERM": "dumb", "LC_ALL": "C.UTF-8"}
             os.execvpe("zsh", ["zsh", "-f", "-i"], {**environment, "COLUMNS": "300", "LINES": "200"})
         self.send("stty rows 200 cols 300 2> /dev/null\n" + ZSH.format(folder=folder))
-        self.read("READY> ", at_least=1)
-        self.send("echo all of it is read\n")
-        self.read("all of it is read\r\n", at_least=1)
+        self.offers("")
 
     def send(self, text):
         os.write(self.terminal, text.encode())
 
-    def read(self, until, at_least):
-        """Reads until a text has come so many times and nothing more comes for a moment, or the time is over."""
+    def read_to(self, mark):
+        """Reads until a text has come, or the time is over."""
         text, end = "", time.monotonic() + SECONDS
-        while time.monotonic() < end:
-            ready, _, _ = select.select([self.terminal], [], [], 0.4)
-            if ready:
+        while mark not in text and time.monotonic() < end:
+            if select.select([self.terminal], [], [], 1)[0]:
                 text += os.read(self.terminal, 1 << 16).decode(errors="replace")
-            elif text.count(until) >= at_least:
-                break
         return text
 
     def offers(self, line):
-        """Words that are offered behind a line, as they are listed."""
-        self.send(line + "\t\t")
-        listed = self.read("", at_least=0)
-        self.send("\x03")
-        self.read("READY> ", at_least=1)
+        """What is listed behind a line. The shell takes key by key, so it has listed all when it comes to the mark."""
+        self.send(f"{line}\t\t\x15echo mark-$((1 + 1))\n" if line else "echo mark-$((1 + 1))\n")
+        listed = self.read_to("mark-2")
         return re.sub(r"\x1b\[[0-9;?]*[A-Za-z]", "", listed)
 
     def end(self):
-        self.send("\x03exit\n")
+        self.send("exit\n")
         os.close(self.terminal)
         os.waitpid(self.child, 0)
 

@@ -17,7 +17,7 @@ import contents
 
 PLACES = contents.places_below("usr")._replace(zsh="usr/share/zsh/vendor-completions")
 PYTHON = "/usr/bin/python3"
-LEAST_PYTHON = "3.9"
+LEAST_PYTHON = "3.10"
 
 
 @dataclass(frozen=True)
