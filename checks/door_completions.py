@@ -141,7 +141,8 @@ def try_zsh(tally, shell, program):
         names = {each.words[-1] for each in command.commands}
         if names:
             listed = shell.offers(f"{line} ")
-            missing = {name for name in names if not re.search(rf"(?m)^{re.escape(name)}\s+--", listed)}
+            lines = "\n".join(line for line in listed.split("\n") if " -- " in line)
+            missing = {name for name in names if not re.search(rf"(?<![\w-]){re.escape(name)}(?![\w-])", lines)}
             tally.add(not missing, f"zsh after {line} does not offer {sorted(missing)}: {listed[-300:]!r}")
 
 

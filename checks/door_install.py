@@ -14,8 +14,6 @@ import contents  # noqa: E402
 import options  # noqa: E402
 import version  # noqa: E402
 
-# Scripts of tools/ that serve those who change precopy, and are not installed.
-OF_BUILDERS = {"build", "library", "measured", "start"}
 SECONDS = 120
 
 
@@ -155,10 +153,7 @@ def check_program(tally, program):
 
 
 def check_tools(tally):
-    """Each script of tools/ is installed or is a builder's, and each that is installed has --version."""
-    scripts = {name for name in os.listdir(os.path.join(TOP, "tools")) if "." not in name}
-    unknown = scripts - set(contents.TOOLS) - OF_BUILDERS
-    tally.add(not unknown, f"scripts of tools/ that nothing installs: {sorted(unknown)} (packaging/contents.py)")
+    """Each tool that is installed can be run, and has --version."""
     for name in contents.TOOLS:
         told = output_of(os.path.join(TOP, "tools", name), "--version").decode()
         tally.add(told == f"{name} (precopy) {version.VERSION}\n", f"tools/{name} --version tells {told!r}")

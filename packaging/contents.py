@@ -20,10 +20,9 @@ sys.path.append(os.path.join(TOP, "tools"))
 import version  # noqa: E402
 
 PROGRAMS = {"precopy": "precopy", "precopy-view": "precopy_view"}
-# The tools for users, by their names below tools/; the others there serve those who change precopy.
-TOOLS = ("compare-qemu", "export", "import", "record", "release")
-# What tools read that is neither Python nor run by a user.
-DATA = ("guest-writer.c",)
+# Scripts of tools/ that serve those who change precopy. All others there are tools for users, and are installed.
+OF_BUILDERS = {"build", "library", "measured", "start"}
+TOOLS = tuple(sorted(name for name in os.listdir(f"{TOP}/tools") if "." not in name and name not in OF_BUILDERS))
 
 
 class Places(NamedTuple):
@@ -110,7 +109,7 @@ def commands(places, python) -> Iterator[Entry]:
         link = os.path.relpath(os.path.join(places.lib, name), places.bin)
         yield Entry(os.path.join(places.bin, f"precopy-{name}"), link=link)
     for name in sorted(os.listdir(os.path.join(TOP, "tools"))):
-        if name.endswith(".py") or name in DATA:
+        if name.endswith((".py", ".c")):
             yield Entry(os.path.join(places.lib, name), read(f"tools/{name}"))
 
 
