@@ -1,30 +1,30 @@
-# Builds precopy by the script ./precopy, and installs the program, its manual page and its completions.
+# Builds the programs, installs them, and packs them.
 #
-#     make                            builds the program, where it is not built yet or a source has changed
-#     make install PREFIX=/usr        installs it below PREFIX, which is /usr/local by default
+#     make                            builds the programs if they are not built yet or a source has changed
+#     make install PREFIX=/usr        installs below PREFIX: programs, tools, manuals, completions, documents, examples
 #     make uninstall PREFIX=/usr      takes the same files away
+#     make deb                        makes a package for Debian in out/
+#     make dist                       makes a tarball for other systems in out/, and its checksum
 #
-# DESTDIR stands in front of each path, for packages.
+# DESTDIR stands in front of each path of an installation. BINDIR, LIBDIR, MANDIR, DOCDIR, BASHDIR and ZSHDIR name
+# single folders, and MAINTAINER who answers for a package.
 
 PREFIX ?= /usr/local
-BINDIR ?= $(PREFIX)/bin
-MANDIR ?= $(PREFIX)/share/man
-BASHDIR ?= $(PREFIX)/share/bash-completion/completions
-ZSHDIR ?= $(PREFIX)/share/zsh/site-functions
-INSTALL ?= install
+PACK = packaging/make
+WHERE = --prefix "$(PREFIX)" --destdir "$(DESTDIR)" --bindir "$(BINDIR)" --libdir "$(LIBDIR)" --mandir "$(MANDIR)" \
+	--docdir "$(DOCDIR)" --bashdir "$(BASHDIR)" --zshdir "$(ZSHDIR)"
 
 all:
 	./precopy --help > /dev/null
+	./precopy-view --help > /dev/null
 
 install: all
-	$(INSTALL) -d "$(DESTDIR)$(BINDIR)" "$(DESTDIR)$(MANDIR)/man1" "$(DESTDIR)$(BASHDIR)" "$(DESTDIR)$(ZSHDIR)"
-	$(INSTALL) -m 755 crates/precopy/out/precopy "$(DESTDIR)$(BINDIR)/precopy"
-	$(INSTALL) -m 644 man/precopy.1 "$(DESTDIR)$(MANDIR)/man1/precopy.1"
-	$(INSTALL) -m 644 completions/precopy.bash "$(DESTDIR)$(BASHDIR)/precopy"
-	$(INSTALL) -m 644 completions/_precopy "$(DESTDIR)$(ZSHDIR)/_precopy"
+	$(PACK) install $(WHERE)
 
 uninstall:
-	rm -f "$(DESTDIR)$(BINDIR)/precopy" "$(DESTDIR)$(MANDIR)/man1/precopy.1"
-	rm -f "$(DESTDIR)$(BASHDIR)/precopy" "$(DESTDIR)$(ZSHDIR)/_precopy"
+	$(PACK) uninstall $(WHERE)
 
-.PHONY: all install uninstall
+deb dist: all
+	$(PACK) $@ $(if $(MAINTAINER),--maintainer "$(MAINTAINER)")
+
+.PHONY: all install uninstall deb dist

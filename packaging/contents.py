@@ -1,0 +1,146 @@
+"""What is installed of precopy: each file by its place, its rights and its bytes.
+
+`make install`, packages and tarballs take all of it from here. A package of its own, as for a library, has a name in
+PACKAGES and gives that name to its files.
+"""
+
+import contextlib
+import os
+import sys
+import tempfile
+from dataclasses import dataclass
+from typing import Iterator, NamedTuple, Optional
+
+import completions
+import manuals
+import options
+
+TOP = os.path.dirname(os.path.dirname(os.path.abspath(__file__)))
+sys.path.append(os.path.join(TOP, "tools"))
+import version  # noqa: E402
+
+PROGRAMS = {"precopy": "precopy", "precopy-view": "precopy_view"}
+# Scripts of tools/ that serve those who change precopy. All others there are tools for users, and are installed.
+OF_BUILDERS = {"build", "library", "measured", "start"}
+SCRIPTS = {entry.name for entry in os.scandir(f"{TOP}/tools") if entry.is_file() and "." not in entry.name}
+TOOLS = tuple(sorted(SCRIPTS - OF_BUILDERS))
+
+
+class Places(NamedTuple):
+    """The folders of an installation, from the root of the file system on."""
+
+    bin: str
+    lib: str
+    man: str
+    doc: str
+    bash: str
+    zsh: str
+
+
+def places_below(prefix) -> Places:
+    share = os.path.join(prefix, "share")
+    return Places(
+        os.path.join(prefix, "bin"),
+        os.path.join(prefix, "lib", "precopy"),
+        os.path.join(share, "man"),
+        os.path.join(share, "doc", "precopy"),
+        os.path.join(share, "bash-completion", "completions"),
+        os.path.join(share, "zsh", "site-functions"),
+    )
+
+
+@dataclass(frozen=True)
+class Entry:
+    """A file by its place, or a link to the text of `link`."""
+
+    place: str
+    data: bytes = b""
+    mode: int = 0o644
+    link: Optional[str] = None
+    package: str = "precopy"
+
+
+class NotBuilt(Exception):
+    """A program is not built; the text says which, and what builds it."""
+
+
+def read(path):
+    with open(os.path.join(TOP, path), "rb") as file:
+        return file.read()
+
+
+def program_file(name):
+    path = os.path.join(TOP, "crates", PROGRAMS[name], "out", PROGRAMS[name])
+    if not os.access(path, os.X_OK):
+        raise NotBuilt(f"{name} is not built: ./{name} --help builds it")
+    return path
+
+
+@contextlib.contextmanager
+def named_commands():
+    """A folder in which each program and each tool has the name that it is installed under."""
+    with tempfile.TemporaryDirectory() as folder:
+        for name in PROGRAMS:
+            os.symlink(program_file(name), os.path.join(folder, name))
+        for name in TOOLS:
+            os.symlink(os.path.join(TOP, "tools", name), os.path.join(folder, f"precopy-{name}"))
+        yield folder
+
+
+def told_by_help():
+    """Returns what each program's help tells, and then what each tool's does."""
+    with named_commands() as folder:
+        programs = [options.read(os.path.join(folder, name)) for name in PROGRAMS]
+        tools = [options.read(os.path.join(folder, f"precopy-{name}")) for name in TOOLS]
+    return programs, tools
+
+
+def with_python(data, python):
+    """A script with this interpreter in its first line."""
+    first, line, rest = data.partition(b"\n")
+    return f"#!{python}".encode() + line + rest if first.endswith(b"python3") else data
+
+
+def commands(places, python) -> Iterator[Entry]:
+    for name in PROGRAMS:
+        with open(program_file(name), "rb") as file:
+            yield Entry(os.path.join(places.bin, name), file.read(), 0o755)
+    for name in TOOLS:
+        yield Entry(os.path.join(places.lib, name), with_python(read(f"tools/{name}"), python), 0o755)
+        link = os.path.relpath(os.path.join(places.lib, name), places.bin)
+        yield Entry(os.path.join(places.bin, f"precopy-{name}"), link=link)
+    for name in sorted(os.listdir(os.path.join(TOP, "tools"))):
+        if name.endswith((".py", ".c")):
+            yield Entry(os.path.join(places.lib, name), read(f"tools/{name}"))
+
+
+def pages(places) -> Iterator[Entry]:
+    """Manuals and completions."""
+    programs, tools = told_by_help()
+    for name in sorted(os.listdir(os.path.join(TOP, "man"))):
+        yield Entry(os.path.join(places.man, "man1", name), read(f"man/{name}"))
+    for tool in tools:
+        page = manuals.manual(tool, version.DATE)
+        yield Entry(os.path.join(places.man, "man1", f"{tool.words[0]}.1"), page.encode())
+    for command in (*programs, *tools):
+        name = command.words[0]
+        path = name if name in PROGRAMS else name.replace("precopy-", "tools/", 1)
+        yield Entry(os.path.join(places.bash, name), completions.bash(command, path).encode())
+        yield Entry(os.path.join(places.zsh, f"_{name}"), completions.zsh(command, path).encode())
+
+
+def documents(places) -> Iterator[Entry]:
+    """The documents and the examples, in folders as in the sources, so that the names in them lead to them."""
+    for path in ("README.md", "CHANGELOG.md", "CONTRIBUTING.md", "LICENSE"):
+        yield Entry(os.path.join(places.doc, path), read(path))
+    for folder in ("docs", "examples", "examples/guests"):
+        for name in sorted(os.listdir(os.path.join(TOP, folder))):
+            path = os.path.join(folder, name)
+            if os.path.isfile(os.path.join(TOP, path)):
+                yield Entry(os.path.join(places.doc, path), read(path))
+
+
+def contents(places, python="/usr/bin/env python3") -> Iterator[Entry]:
+    yield from commands(places, python)
+    yield from pages(places)
+    yield from documents(places)

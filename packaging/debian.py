@@ -1,0 +1,173 @@
+"""Packages for Debian, made by dpkg-deb. Two packages of the same contents are equal, byte for byte."""
+
+import datetime
+import email.utils
+import gzip
+import hashlib
+import os
+import re
+import shutil
+import subprocess
+import tempfile
+import textwrap
+from dataclasses import dataclass
+from typing import Callable, List
+
+import contents
+
+PLACES = contents.places_below("usr")._replace(zsh="usr/share/zsh/vendor-completions")
+PYTHON = "/usr/bin/python3"
+LEAST_PYTHON = "3.10"
+
+
+@dataclass(frozen=True)
+class Package:
+    """A package by its name, and what its control file says beyond what all say."""
+
+    name: str
+    section: str
+    depends: Callable[[List[contents.Entry]], str]
+    suggests: str
+    summary: str
+    text: str
+
+
+def needed_by_programs(entries):
+    """What the programs and tools need: the C library of the symbols that the programs name, and Python."""
+    programs = [entry.data for entry in entries if entry.data.startswith(b"\x7fELF")]
+    versions = [version for data in programs for version in re.findall(rb"\0GLIBC_(\d+)\.(\d+)", data)]
+    major, minor = max((int(major), int(minor)) for major, minor in versions)
+    return f"libc6 (>= {major}.{minor}), python3 (>= {LEAST_PYTHON})"
+
+
+PACKAGES = [
+    Package(
+        name="precopy",
+        section="utils",
+        depends=needed_by_programs,
+        suggests="busybox-static, gcc, libc6-dev, linux-image-amd64, parallel, qemu-system-x86, valgrind",
+        summary="plan and perform pre-copy live migrations of recorded guests",
+        text="""\
+ precopy reads a trace of the writes of a guest. It tells the writable
+ working set, plans a pre-copy live migration under limits for downtime
+ and bandwidth, and performs one over the trace, in threads.
+ .
+ precopy-view shows the same as JSON, tables and pictures, and advises on
+ limits. The tools record running guests and processes, make traces of
+ text, and compare a plan with what QEMU does.
+ .
+ The programs are written in Rattle, and what they write is proved to be
+ what one plain definition says.
+""",
+    ),
+]
+
+
+def moment(date):
+    """Midnight of a day, in seconds."""
+    day = datetime.date.fromisoformat(date)
+    return int(datetime.datetime(day.year, day.month, day.day, tzinfo=datetime.timezone.utc).timestamp())
+
+
+def squeezed(text):
+    return gzip.compress(text, 9, mtime=0)
+
+
+def changelog(text, maintainer):
+    """The changes in Debian's form, from a text whose sections are '## VERSION, DATE' with a list."""
+    parts = re.split(r"^## (\S+), (\S+)$", text, flags=re.M)[1:]
+    for version, date, changes in zip(parts[::3], parts[1::3], parts[2::3]):
+        items = re.findall(r"^- (.*(?:\n  .*)*)", changes, re.M)
+        yield f"precopy ({version}) unstable; urgency=medium\n\n"
+        for item in items:
+            plain = " ".join(item.replace("`", "").split())
+            yield textwrap.fill(plain, 76, initial_indent="  * ", subsequent_indent="    ", break_on_hyphens=False)
+            yield "\n"
+        yield f"\n -- {maintainer}  {email.utils.formatdate(moment(date), localtime=False)}\n\n"
+
+
+def copyright_of(maintainer):
+    return f"""\
+Format: https://www.debian.org/doc/packaging-manuals/copyright-format/1.0/
+Upstream-Name: precopy
+Upstream-Contact: {maintainer}
+
+Files: *
+Copyright: 2026 the authors of precopy
+License: Apache-2.0
+ On Debian systems the full text of this license is in
+ /usr/share/common-licenses/Apache-2.0.
+"""
+
+
+def of_debian(entries, package, maintainer):
+    """The contents as Debian wants them: squeezed manuals, its own files for the license and the changes."""
+    documents = f"usr/share/doc/{package.name}"
+    for entry in entries:
+        if "/man/" in entry.place:
+            yield contents.Entry(f"{entry.place}.gz", squeezed(entry.data))
+        elif os.path.basename(entry.place) not in ("LICENSE", "CHANGELOG.md"):
+            yield entry
+    text = "".join(changelog(contents.read("CHANGELOG.md").decode(), maintainer))
+    yield contents.Entry(f"{documents}/changelog.gz", squeezed(text.encode()))
+    yield contents.Entry(f"{documents}/copyright", copyright_of(maintainer).encode())
+    overrides = f"packaging/{package.name}.lintian-overrides"
+    if os.path.exists(os.path.join(contents.TOP, overrides)):
+        yield contents.Entry(f"usr/share/lintian/overrides/{package.name}", contents.read(overrides))
+
+
+def control(package, entries, maintainer):
+    size = sum(-(-len(entry.data) // 1024) for entry in entries) + len({os.path.dirname(it.place) for it in entries})
+    architecture = subprocess.run(["dpkg", "--print-architecture"], capture_output=True, text=True, check=True).stdout
+    return f"""\
+Package: {package.name}
+Version: {contents.version.VERSION}
+Architecture: {architecture.strip()}
+Maintainer: {maintainer}
+Installed-Size: {size}
+Depends: {package.depends(entries)}
+Suggests: {package.suggests}
+Section: {package.section}
+Priority: optional
+Description: {package.summary}
+{package.text}"""
+
+
+def put(folder, entries):
+    """Writes entries below a folder, with their rights."""
+    for entry in entries:
+        path = os.path.join(folder, entry.place)
+        os.makedirs(os.path.dirname(path), exist_ok=True)
+        if entry.link is not None:
+            os.symlink(entry.link, path)
+            continue
+        with open(path, "wb") as file:
+            file.write(entry.data)
+        os.chmod(path, entry.mode)
+
+
+def build(package, entries, maintainer, folder):
+    """Makes a package in a folder, and returns its path."""
+    entries = sorted(of_debian(entries, package, maintainer), key=lambda entry: entry.place)
+    sums = "".join(f"{hashlib.md5(it.data).hexdigest()}  {it.place}\n" for it in entries if it.link is None)
+    with tempfile.TemporaryDirectory() as tree:
+        os.chmod(tree, 0o755)
+        old = os.umask(0o022)
+        put(tree, entries)
+        put(f"{tree}/DEBIAN", [contents.Entry("control", control(package, entries, maintainer).encode())])
+        put(f"{tree}/DEBIAN", [contents.Entry("md5sums", sums.encode())])
+        os.umask(old)
+        command = ["dpkg-deb", "--root-owner-group", "-Zgzip", "-z9", "--build", tree, folder]
+        environment = {**os.environ, "SOURCE_DATE_EPOCH": str(moment(contents.version.DATE))}
+        done = subprocess.run(command, env=environment, capture_output=True, text=True)
+    if done.returncode:
+        raise OSError(0, done.stderr.strip(), "dpkg-deb")
+    return re.search(r"in '(.*)'", done.stdout)[1]
+
+
+def build_all(folder, maintainer):
+    if not shutil.which("dpkg-deb"):
+        raise OSError(0, "it is not on the path, and makes the package", "dpkg-deb")
+    all_of_it = list(contents.contents(PLACES, PYTHON))
+    for package in PACKAGES:
+        yield build(package, [entry for entry in all_of_it if entry.package == package.name], maintainer, folder)

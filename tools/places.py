@@ -1,0 +1,15 @@
+"""Where the programs are: built in these sources, or installed with the tools."""
+
+import os
+import shutil
+
+HERE = os.path.dirname(os.path.realpath(__file__))
+
+
+def program(name: str = "precopy") -> str:
+    """The path of a program. Of sources in which it is not built yet, it is the path that it will have."""
+    top, crate = os.path.dirname(HERE), name.replace("-", "_")
+    if os.path.isdir(os.path.join(top, "crates")):
+        return os.path.join(top, "crates", crate, "out", crate)
+    installed = os.path.join(os.path.dirname(top), "bin", name)
+    return installed if os.access(installed, os.X_OK) else shutil.which(name) or name
