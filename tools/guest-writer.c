@@ -39,8 +39,8 @@ static size_t number(const char *word)
     char *end;
     errno = 0;
     unsigned long value = strtoul(word, &end, 10);
-    if (errno || *end || end == word || value > 1000000) {
-        fprintf(stderr, "guest-writer: %s is no number up to 1000000\n", word);
+    if (errno || *end || end == word || value > 100000000) {
+        fprintf(stderr, "guest-writer: %s is no number up to 100000000\n", word);
         exit(2);
     }
     return value;

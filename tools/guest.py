@@ -1,22 +1,25 @@
-"""A small guest in QEMU: its initial file system, made here, and its processes."""
+"""A guest in QEMU: its initial file system, made here, and its processes."""
 
 import glob
 import os
+import re
 import shutil
 import subprocess
 import time
 
 import qmp
 
-# 128 KiB less than 128 MiB: where memory is a multiple of 256 KiB, QEMU 7.2 loses pages in migrations under TCG.
-MEMORY = 130_944 << 10
-SECONDS_TO_BOOT = 120
+MEMORY = 128 << 20
+# Where memory is a multiple of so many bytes, QEMU 7.2 loses pages in migrations under TCG.
+UNSAFE, LESS = 256 << 10, 128 << 10
+SECONDS_TO_BOOT = 300
 SECONDS_TO_END = 10
+SECONDS_TO_ANSWER = 60
 INIT = """\
 #!/bin/busybox sh
 /bin/busybox mount -t proc proc /proc
 /bin/busybox mount -t devtmpfs dev /dev
-/bin/busybox mount -t tmpfs -o size=16m tmp /tmp
+/bin/busybox mount -t tmpfs -o size=SIZE tmp /tmp
 /bin/busybox --install -s /bin
 exec /bin/busybox sh /workload
 """
@@ -45,6 +48,20 @@ def qemu():
     return found(shutil.which("qemu-system-x86_64"), "qemu-system-x86_64", "qemu-system-x86")
 
 
+def safe_size(memory):
+    """The bytes of memory that a guest gets, in whole pages."""
+    memory -= memory % 4096
+    return memory if memory % UNSAFE else memory - LESS
+
+
+def program_files(name, package):
+    """A program and the libraries that it needs, as (name in the guest, path here)."""
+    path = found(shutil.which(name), name, package)
+    listed = subprocess.run(["ldd", path], capture_output=True, text=True, check=True).stdout
+    libraries = re.findall(r"(/\S+) \(0x", listed)
+    return [(f"bin/{name}", path)] + [(library.lstrip("/"), library) for library in libraries]
+
+
 def entry(name, mode, data=b"", device=(0, 0)):
     """One entry of a cpio archive, in the form that kernels read."""
     name = name.encode() + b"\0"
@@ -53,20 +70,25 @@ def entry(name, mode, data=b"", device=(0, 0)):
     return head + bytes(-len(head) % 4) + data + bytes(-len(data) % 4)
 
 
-def file_system(path, workload, folder):
-    """Writes an initial file system with busybox, the program that writes, and a shell script of the workload."""
+def file_system(path, workload, folder, files=(), temporary="16m"):
+    """Writes an initial file system with busybox, the program that writes, and a shell script of the workload.
+
+    `files` are more files, by their names there and paths here; `temporary` is the size of /tmp, in memory.
+    """
     busybox = found(shutil.which("busybox"), "busybox", "busybox-static")
     program = os.path.join(folder, "guest-writer")
     source = os.path.join(os.path.dirname(os.path.abspath(__file__)), "guest-writer.c")
     subprocess.run(["cc", "-O2", "-Wall", "-static", "-o", program, source], check=True)
+    files = [("bin/busybox", busybox), ("bin/guest-writer", program), *files]
+    names = {name.rsplit("/", depth)[0] for name, _ in files for depth in range(1, name.count("/") + 1)}
     with open(path, "wb") as archive:
-        for name in ("bin", "dev", "proc", "tmp"):
+        for name in sorted(names | {"bin", "dev", "proc", "tmp"}):
             archive.write(entry(name, 0o040755))
         archive.write(entry("dev/console", 0o020600, device=(5, 1)))
-        for name, source in (("bin/busybox", busybox), ("bin/guest-writer", program)):
+        for name, source in files:
             with open(source, "rb") as file:
                 archive.write(entry(name, 0o100755, file.read()))
-        archive.write(entry("init", 0o100755, INIT.encode()))
+        archive.write(entry("init", 0o100755, INIT.replace("SIZE", temporary).encode()))
         archive.write(entry("workload", 0o100644, workload.encode()))
         archive.write(entry("TRAILER!!!", 0))
 
@@ -74,18 +96,19 @@ def file_system(path, workload, folder):
 class Guest:
     """One process of QEMU. Its memory is a file, and its console another one."""
 
-    def __init__(self, name, folder, memory_folder, accelerator, file_system_path, incoming=None):
+    def __init__(self, name, folder, memory_folder, accelerator, file_system_path, size, incoming=None):
         self.name = name
         self.memory = os.path.join(memory_folder, f"{name}.memory")
         self.console = os.path.join(folder, f"{name}.console")
         self.socket = os.path.join(folder, f"{name}.qmp")
         self.errors = open(os.path.join(folder, f"{name}.errors"), "w+b")
-        backend = f"memory-backend-file,id=mem,size={MEMORY},mem-path={self.memory},share=on"
+        backend = f"memory-backend-file,id=mem,size={size},mem-path={self.memory},share=on"
         command = [qemu(), "-nodefaults", "-no-user-config", "-no-reboot", "-display", "none", "-smp", "1"]
-        command += ["-accel", accelerator, "-m", f"{MEMORY >> 10}K", "-object", backend]
+        command += ["-accel", accelerator, "-m", f"{size >> 10}K", "-object", backend]
         command += ["-machine", "pc,memory-backend=mem", "-serial", f"file:{self.console}"]
         command += ["-qmp", f"unix:{self.socket},server=on,wait=off", "-kernel", kernel(), "-initrd", file_system_path]
-        command += ["-append", "console=ttyS0 quiet panic=-1"]
+        # Where the host is busy, the kernel takes its timer for broken, and panics.
+        command += ["-append", "console=ttyS0 quiet panic=-1 no_timer_check"]
         if incoming:
             command += ["-S", "-incoming", incoming]
         self.process = subprocess.Popen(command, stdin=subprocess.DEVNULL, stdout=self.errors, stderr=self.errors)
@@ -94,14 +117,23 @@ class Guest:
         end = time.monotonic() + seconds
         while not holds():
             if self.process.poll() is not None:
-                self.errors.seek(0)
-                raise Failed(f"{self.name}: QEMU ended: {self.errors.read().decode(errors='replace').strip()}")
+                raise Failed(f"{self.name}: QEMU ended: {self._last_words()}")
             if time.monotonic() > end:
                 raise Failed(f"{self.name}: {what} after {seconds} s")
             time.sleep(0.05)
 
-    def wait_for_socket(self):
-        self._wait(SECONDS_TO_BOOT, lambda: os.path.exists(self.socket), "there is no socket")
+    def _last_words(self):
+        """What QEMU said, else the end of what the guest did: a guest that panics ends QEMU."""
+        self.errors.seek(0)
+        said = self.errors.read().decode(errors="replace").strip()
+        if not said and os.path.exists(self.console):
+            with open(self.console, encoding="utf-8", errors="replace") as file:
+                said = " ".join(file.read().split("\n")[-4:]).strip()
+        return said
+
+    def wait_for_socket(self, *others):
+        for path in (self.socket, *others):
+            self._wait(SECONDS_TO_BOOT, lambda: os.path.exists(path), f"there is no socket {path}")
 
     def wait_until_ready(self):
         self.wait_for_socket()
@@ -114,7 +146,7 @@ class Guest:
             return b"READY" in file.read()
 
     def client(self):
-        return qmp.Client(self.socket)
+        return qmp.Client(self.socket, SECONDS_TO_ANSWER)
 
     def end(self):
         if self.process.poll() is None:

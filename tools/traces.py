@@ -205,7 +205,12 @@ class Writer(Pending):
         self.writes += len(parts) // 2
         self.size += len(text)
 
-    def finish(self, shift, pages, version=None):
+    def seal(self, shift, pages, version=None):
+        """Writes the header. The trace is whole then, and has its hidden name still; returns its bytes."""
         header = MAGIC + bytes([version or self.version, shift, 0, 0]) + struct.pack("<II", pages, self.writes)
         os.pwrite(self.descriptor, header, 0)
+        return os.pread(self.descriptor, self.size, 0)
+
+    def finish(self, shift, pages, version=None):
+        self.seal(shift, pages, version)
         super().finish()

@@ -1,4 +1,4 @@
-"""Times and bandwidths on the command line."""
+"""Times, bandwidths and numbers on the command line."""
 
 import argparse
 import re
@@ -18,3 +18,28 @@ def bytes_a_second(word):
     if not match:
         raise argparse.ArgumentTypeError(f"{word!r} is no bandwidth such as 4000000, 512K, 32M or 1G")
     return int(match[1]) << {"": 0, "K": 10, "M": 20, "G": 30}[match[2]]
+
+
+def link(word):
+    """Bytes a second of a link, as 10Gbit, 1250MB, 128MiB or, as QEMU takes it, 128M."""
+    match = re.fullmatch(r"(\d+(?:\.\d+)?)([KMGT]?)(bit|B|iB|)", word)
+    if not match or not float(match[1]):
+        raise argparse.ArgumentTypeError(f"{word!r} is no link such as 10Gbit, 1250MB or 128MiB")
+    power = " KMGT".index(match[2] or " ")
+    if match[3] in ("bit", "B") and match[2]:
+        return float(match[1]) * 1000**power / (8 if match[3] == "bit" else 1)
+    return float(match[1]) * 1024**power / (8 if match[3] == "bit" else 1)
+
+
+def count(word):
+    """A whole number from 1."""
+    if not re.fullmatch(r"\d{1,12}", word) or not int(word):
+        raise argparse.ArgumentTypeError(f"{word!r} is no whole number from 1")
+    return int(word)
+
+
+def seed(word):
+    """A whole number from 0 that a JSON file holds exactly."""
+    if not re.fullmatch(r"\d{1,15}", word):
+        raise argparse.ArgumentTypeError(f"{word!r} is no whole number from 0 of at most 15 digits")
+    return int(word)

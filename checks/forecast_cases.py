@@ -1,0 +1,247 @@
+"""Cases of checks/recording: NAME.json beside a trace, tools/thin and tools/predict."""
+
+import json
+import os
+import random
+import re
+import statistics
+import subprocess
+import sys
+from concurrent.futures import ThreadPoolExecutor
+
+from recorder_runs import SECONDS, TOP, expect
+
+import forecast
+import plans
+import samples
+import traces
+
+THIN, PREDICT = (os.path.join(TOP, "tools", name) for name in ("thin", "predict"))
+RECORDED = os.path.join(TOP, "examples", "guests", "mid.light.pcwt")
+LINK = ["--link", "32MiB", "--downtime", "100ms"]
+SEEDS, ONE_IN = 200, 16
+AT_ONCE = 2
+
+
+def run(tool, *words, status=0):
+    done = subprocess.run([sys.executable, tool, *words], capture_output=True, text=True, timeout=4 * SECONDS)
+    expect(done.returncode == status, f"{words}: status {done.returncode}, {done.stdout!r}, {done.stderr!r}")
+    return done.stdout, done.stderr
+
+
+def read_trace(path):
+    with open(path, "rb") as file:
+        return traces.read(file.read())
+
+
+def made_trace(path, pages=4096, ticks=8000, rate=2):
+    """A trace as tools/record makes them: all pages at tick 0, then writes, mostly to hot pages that lie together."""
+    draws = random.Random("a trace, not a draw of its pages")
+    with traces.Writer(path) as writer:
+        writer.append([(0, page, 0, b"\x01") for page in range(pages)])
+        hot = range(pages // 2, pages // 2 + pages // 16)
+        chosen = (draws.choice(hot) if draws.random() < 0.8 else draws.randrange(pages) for _ in range(ticks * rate))
+        writer.append([(1000 + number // rate, page, 0, b"\x01") for number, page in enumerate(chosen)])
+        writer.finish(12, pages)
+
+
+def damaged(fields, trace_pages):
+    """Values that a field must not have: of another kind, out of its range, or not those of this trace."""
+    wrong = [None, [], {}, True, "", "x", -1, 1.5, 1 << 60, float("nan")]
+    at = {
+        "format": ["precopy sample 2"],
+        "trace_sha256": ["0" * 64, fields["trace_sha256"].upper()],
+        "trace_pages": [0, trace_pages + 1],
+        "trace_writes": [fields["trace_writes"] + 1],
+        "first_tick": [fields["last_tick"] + 1],
+        "last_tick": [0, fields["first_tick"]],
+        "tick_seconds": [0, 2e9],
+        "interval_seconds": [0, fields["tick_seconds"] / 2],
+        "guest_pages": [0, fields["sampled_pages"] - 1],
+        "guest_nonzero": [fields["sampled_nonzero"] - 1, fields["guest_pages"] + 1],
+        "counted_pages": [0, fields["sampled_pages"] - 1, fields["guest_pages"] + 1],
+        "sampled_pages": [0, trace_pages - 1, fields["guest_pages"] + 1],
+        "sampled_nonzero": [fields["sampled_nonzero"] - 1, fields["sampled_nonzero"] + 1],
+        "method": ["magic"],
+        "samples": [0, fields["last_tick"] + 2],
+        "late": [fields["samples"] + 1],
+        "taken_at": ["2026-11-26", "yesterday"],
+    }
+    kept = {"tick_seconds": (1.5,), "interval_seconds": (1.5,), "taken_of": ("x",)}
+    for name in fields:
+        for value in [*wrong, *at.get(name, [])]:
+            if value not in kept.get(name, ()) or isinstance(value, bool):
+                yield name, value
+
+
+def damaged_fields(_, folder):
+    """Each field that is missing, of another kind, out of its range or not of this trace is refused by its name."""
+    path = os.path.join(folder, "guest.pcwt")
+    beside = samples.path_beside(path)
+    made_trace(os.path.join(folder, "whole.pcwt"))
+    run(THIN, os.path.join(folder, "whole.pcwt"), path, "--one-in", "4", "--start", "1000")
+    with open(beside, encoding="utf-8") as file:
+        fields = json.load(file)
+    fields.update(method="values", counted_pages=4000, samples=80)
+    trace = read_trace(path)
+    written = [record[:2] for record in trace.records()]
+
+    def refusal(text):
+        with open(beside, "w", encoding="utf-8") as file:
+            file.write(text)
+        try:
+            samples.read(path, trace, written)
+        except samples.Refused as refused:
+            return str(refused)
+        return ""
+
+    expect(refusal(json.dumps(fields)) == "", "the file as it should be is refused")
+    count = 0
+    for name, value in damaged(fields, trace.pages):
+        count += 1
+        expect(name in refusal(json.dumps({**fields, name: value})), f"{name} = {value!r} is not refused by its name")
+    for name in fields:
+        said = refusal(json.dumps({other: fields[other] for other in fields if other != name}))
+        expect(f"{name} is missing" in said, f"without {name}: {said!r}")
+    for text, said in (("", "no JSON"), ("[1]", "no JSON object"), ('{"a": 1}', "no field a"), ("{", "no JSON")):
+        expect(said in refusal(text), f"{text!r} is not refused")
+    expect(count > 180, f"{count} damages")
+
+
+def damaged_beside_tools(program, folder):
+    """All readers refuse it, and write nothing."""
+    whole, path, other = (os.path.join(folder, name) for name in ("whole.pcwt", "guest.pcwt", "other.pcwt"))
+    made_trace(whole)
+    run(THIN, whole, path, "--one-in", "4", "--start", "1000")
+    beside = samples.path_beside(path)
+    with open(beside, encoding="utf-8") as file:
+        text = file.read()
+    with open(beside, "w", encoding="utf-8") as file:
+        file.write(text.replace('"seed": 0', '"seed": -1'))
+    for tool, words in ((PREDICT, [path, *LINK, "--program", program]), (THIN, [path, other, "--one-in", "2"])):
+        printed, refused = run(tool, *words, status=1)
+        expect(not printed and "seed is not a number" in refused, refused)
+    os.unlink(beside)
+    printed, refused = run(PREDICT, path, *LINK, "--program", program, status=1)
+    expect(not printed and "there is no" in refused and "guest.json" in refused, refused)
+    expect(not os.path.exists(other), "a trace was written")
+
+
+def thinned_pages(_, folder):
+    """A thinned trace has the writes of the drawn pages, with their bytes, and can be thinned again."""
+    whole, path, again = (os.path.join(folder, f"{name}.pcwt") for name in ("whole", "part", "less"))
+    text = os.path.join(folder, "text")
+    with open(text, "w", encoding="ascii") as file:
+        file.write("pages 64 size 4096 version 2\n")
+        for tick in range(400):
+            page = tick * 7 % 64
+            file.write(f"{tick} {page} release\n" if tick % 9 == 8 else f"{tick} {page} {tick} {tick % 250 + 1:02x}\n")
+    run(os.path.join(TOP, "tools", "import"), text, whole)
+    run(THIN, whole, path, "--one-in", "4", "--seed", "3", "--tick", "2ms")
+    numbers = {page: number for number, page in enumerate(samples.draw(64, 16, 3))}
+    wanted = [(t, numbers[p], o, d) for t, p, o, d in read_trace(whole).records() if p in numbers]
+    trace = read_trace(path)
+    records = list(trace.records())
+    expect(records == wanted and trace.version == 2 and trace.pages == 16, "other writes than those of the pages drawn")
+    sample = samples.read(path, trace, [record[:2] for record in records])
+    expect((sample.weight, sample.tick_seconds, sample.seed, sample.method) == (4, 0.002, 3, "trace"), f"{sample}")
+    run(THIN, path, again, "--one-in", "4", "--seed", "1")
+    less = read_trace(again)
+    sample = samples.read(again, less, [record[:2] for record in less.records()])
+    expect((sample.weight, less.pages, sample.guest_pages) == (16, 4, 64), f"{sample}")
+    for words, status, said in (
+        ([whole, os.path.join(folder, "a.light.pcwt"), "--one-in", "2"], 2, ".light.pcwt"),
+        ([whole, os.path.join(folder, "a.pcwt")], 2, "--one-in"),
+        ([whole, os.path.join(folder, "none", "a.pcwt"), "--one-in", "2"], 1, "No such file"),
+        ([text, os.path.join(folder, "a.pcwt"), "--one-in", "2"], 1, "E2"),
+    ):
+        _, refused = run(THIN, *words, status=status)
+        expect(said in refused, refused)
+    left = sorted(os.listdir(folder))
+    expect(left == ["less.json", "less.pcwt", "part.json", "part.pcwt", "text", "whole.pcwt"], f"left: {left}")
+
+
+def numbers_of(printed):
+    """What tools/predict prints: MiB or GiB sent, seconds and milliseconds of downtime."""
+    sent, unit = re.search(r"^bytes sent: ([0-9.]+) (\w+)", printed, re.M).groups()
+    seconds = re.search(r"^time: ([0-9.]+) s", printed, re.M)[1]
+    downtime = re.search(r"^downtime: ([0-9]+) ms", printed, re.M)[1]
+    return float(sent) * {"KiB": 1 << 10, "MiB": 1 << 20, "GiB": 1 << 30}[unit], float(seconds), float(downtime)
+
+
+def predicted(program, folder):
+    """The answers are those of `precopy report` times the weight; the status says whether the limit is kept."""
+    path = os.path.join(folder, "guest.light.pcwt")
+    run(THIN, RECORDED, path, "--one-in", "4", "--start", "1000")
+    trace = read_trace(path)
+    weight = 26_715 / trace.pages
+    plan = plans.report(program, trace.text, plans.settings_of(32 << 20, 0.1, 0.001, weight), 1000)
+    printed, _ = run(PREDICT, path, *LINK, "--program", program)
+    sent, seconds, downtime = numbers_of(printed)
+    expect(abs(sent / (plan.sent * weight * 4096) - 1) < 1e-3, printed)
+    expect(abs(downtime - 1000 * plan.last * weight / 8192) <= 1, printed)
+    expect(abs(seconds - (plan.tick - 1000 + downtime) / 1000) < 0.06, printed)
+    expect("converges: yes; 20 of 20" in printed and "at half the link: " in printed, printed)
+    again, _ = run(PREDICT, path, *LINK, "--program", program)
+    expect(again == printed, "the same words print other lines")
+    busy, part = os.path.join(folder, "busy.pcwt"), os.path.join(folder, "part.pcwt")
+    made_trace(busy, rate=12)
+    run(THIN, busy, part, "--one-in", "2", "--start", "1000")
+    for name, words, status, said in (
+        (part, ["--link", "16MiB", "--downtime", "10ms"], 3, "converges: no"),
+        (part, ["--link", "64MiB", "--downtime", "3ms"], 0, "decide the stop"),
+        (path, ["--link", "100Mbit", "--downtime", "2s"], 3, "no prediction"),
+        (path, ["--link", "1bit"], 1, "no rate"),
+        (path, ["--link", "x"], 2, "no link such as"),
+        (path, ["--link", "1Gbit", "--plans", "1"], 2, "2 or more"),
+    ):
+        printed, refused = run(PREDICT, name, *words, "--program", program, status=status)
+        expect(said in printed + refused, printed + refused)
+
+
+def whole_sample(program, folder):
+    """A sample of all pages has no error, and the plan of the trace itself, in ticks that a factor made longer."""
+    path = os.path.join(folder, "guest.light.pcwt")
+    run(THIN, RECORDED, path, "--one-in", "1", "--start", "1000")
+    printed, _ = run(PREDICT, path, "--link", "64MiB", "--downtime", "50ms", "--program", program)
+    with open(RECORDED, "rb") as file:
+        plan = plans.report(program, file.read(), plans.settings_of(64 << 20, 0.05, 0.001), 1000)
+    sent, _, downtime = numbers_of(printed)
+    expect(abs(sent / (plan.sent * 4096) - 1) < 1e-3 and "+- 0.0 %" in printed, printed)
+    expect(abs(downtime - plan.last / 16.384) <= 1, printed)
+
+
+def bias_over_seeds(program, folder):
+    """The mean of the plans of 200 samples is that of the whole trace, within two of its standard errors."""
+    path = os.path.join(folder, "whole.pcwt")
+    made_trace(path, pages=1 << 15, ticks=12_000, rate=6)
+    run(THIN, path, os.path.join(folder, "all.pcwt"), "--one-in", "1", "--start", "1000")
+    trace = read_trace(os.path.join(folder, "all.pcwt"))
+    records = [record[:2] for record in trace.records()]
+    whole = samples.read(os.path.join(folder, "all.pcwt"), trace, records)
+    plan = plans.report(program, trace.text, plans.settings_of(64 << 20, 0.05, 0.001), 1000)
+    expect(plan.why == "few" and plan.rounds > 2, f"{plan}")
+    settings = plans.settings_of(64 << 20, 0.05, 0.001, ONE_IN)
+
+    def sent(seed):
+        sample, kept = samples.thinned(whole, records, ONE_IN, seed)
+        text = forecast.encoded(forecast.Pages(sample.trace_pages, sample.weight, kept))
+        return plans.report(program, text, settings, 1000).sent * sample.weight
+
+    with ThreadPoolExecutor(AT_ONCE) as pool:
+        found = list(pool.map(sent, range(SEEDS)))
+    apart, error = statistics.mean(found) - plan.sent, statistics.stdev(found) / SEEDS**0.5
+    told = f"mean {statistics.mean(found):.0f}, whole {plan.sent}, standard error {error:.1f}"
+    expect(abs(apart) <= 2 * error, told)
+    expect(statistics.stdev(found) < 0.05 * plan.sent, told)
+    print(f"  bias of {SEEDS} samples, one page in {ONE_IN}: {told}", flush=True)
+
+
+CASES = [
+    damaged_fields,
+    damaged_beside_tools,
+    thinned_pages,
+    predicted,
+    whole_sample,
+    bias_over_seeds,
+]

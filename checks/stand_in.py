@@ -1,0 +1,65 @@
+"""Runs a tool where something of the system is not as it is here, for checks/recording.
+
+    python3 checks/stand_in.py CAUSE TOOL WORD..
+"""
+
+import errno
+import os
+import platform
+import runpy
+import struct
+import sys
+
+sys.dont_write_bytecode = True
+TOOLS = os.path.join(os.path.dirname(os.path.dirname(os.path.abspath(__file__))), "tools")
+sys.path.insert(0, TOOLS)
+import pagemap  # noqa: E402
+import remote  # noqa: E402
+
+IOCTL, PTRACE, CALL = pagemap.ioctl, remote.ptrace, remote.StoppedThread.call
+
+
+def fails(number):
+    raise OSError(number, os.strerror(number))
+
+
+def old_kernel():
+    """The features that are asked for are unknown."""
+    pagemap.ioctl = lambda *words: fails(errno.EINVAL) if words[1] == pagemap.API else IOCTL(*words)
+
+
+def no_userfaultfd():
+    def call(thread, number, argument):
+        return -errno.ENOSYS if number == remote.CALL_USERFAULTFD else CALL(thread, number, argument)
+
+    remote.StoppedThread.call = call
+
+
+def huge_pages():
+    """The kernel watches the memory, and says that it is of huge pages: it cannot be filled with zeros."""
+
+    def ioctl(descriptor, request, argument):
+        answer = IOCTL(descriptor, request, argument)
+        if request == pagemap.REGISTER:
+            *asked, offered = struct.unpack("=4Q", argument)
+            argument[:] = struct.pack("=4Q", *asked, offered & ~pagemap.ZEROPAGE)
+        return answer
+
+    pagemap.ioctl = ioctl
+
+
+def no_permission():
+    remote.ptrace = lambda *words: fails(errno.EPERM) if words[0] == remote.SEIZE else PTRACE(*words)
+
+
+def other_machine():
+    platform.machine = lambda: "aarch64"
+
+
+CAUSES = {cause.__name__: cause for cause in (old_kernel, no_userfaultfd, huge_pages, no_permission, other_machine)}
+
+
+if __name__ == "__main__":
+    CAUSES[sys.argv[1]]()
+    sys.argv = sys.argv[2:]
+    runpy.run_path(sys.argv[0], run_name="__main__")

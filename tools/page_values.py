@@ -1,0 +1,157 @@
+"""The bytes of single pages of a guest, of a file or a process, and which of some pages have changed.
+
+Many pages come by one call of process_vm_readv: of a file through a mapping of this process. It says so where a page
+is gone, while a look through the mapping itself would end this process. A page that has no memory yet is not read: that
+would give it some.
+"""
+
+import ctypes
+import errno
+import mmap
+import os
+
+from memory import PAGE, ZEROS, Gone
+
+# So few pages at once that most blocks of a sample have not changed.
+BLOCK = 32
+ZERO_PAGE = ZEROS[:PAGE]
+PRESENT_OR_SWAPPED = 0xC0
+
+
+class Part(ctypes.Structure):
+    _fields_ = [("base", ctypes.c_void_p), ("length", ctypes.c_size_t)]
+
+
+LIBRARY = ctypes.CDLL(None, use_errno=True)
+LIBRARY.process_vm_readv.restype = ctypes.c_ssize_t
+LIBRARY.process_vm_readv.argtypes = [ctypes.c_int, ctypes.c_void_p, ctypes.c_ulong, ctypes.c_void_p] + [
+    ctypes.c_ulong
+] * 2
+
+
+class FilePages:
+    """The pages of a file that is the memory of a guest. A place is an offset."""
+
+    def __init__(self, descriptor: int, size: int):
+        self.descriptor = descriptor
+        self.process = os.getpid()
+        self.mapping = mmap.mmap(descriptor, size, mmap.MAP_PRIVATE, mmap.PROT_READ | mmap.PROT_WRITE)
+        self.base = ctypes.addressof(ctypes.c_char.from_buffer(self.mapping))
+        self.blocks = -1
+
+    def page(self, place: int) -> bytes:
+        data = os.pread(self.descriptor, PAGE, place)
+        if len(data) < PAGE:
+            raise Gone("the file became shorter")
+        return data
+
+    def has_grown(self) -> bool:
+        """Whether pages may have got memory since this was asked last."""
+        before, self.blocks = self.blocks, os.fstat(self.descriptor).st_blocks
+        return before != self.blocks
+
+    def is_there(self, place: int) -> bool:
+        """Whether the page has memory. Else it is a hole of the file, and zeros."""
+        try:
+            return os.lseek(self.descriptor, place, os.SEEK_DATA) == place
+        except OSError:
+            return False
+
+
+class ProcessPages:
+    """The pages of a process. A place is an address. What cannot be read counts as zeros."""
+
+    base = 0
+
+    def __init__(self, process: int):
+        self.process = process
+        self.descriptor = os.open(f"/proc/{process}/mem", os.O_RDONLY | os.O_CLOEXEC)
+        self.pagemap = os.open(f"/proc/{process}/pagemap", os.O_RDONLY | os.O_CLOEXEC)
+
+    def page(self, place: int) -> bytes:
+        try:
+            data = os.pread(self.descriptor, PAGE, place)
+        except OSError:
+            return ZERO_PAGE
+        if not data:
+            raise Gone("the process ended, or runs another program")
+        return data
+
+    @staticmethod
+    def has_grown() -> bool:
+        return True
+
+    def is_there(self, place: int) -> bool:
+        """Whether the process has touched the page. Else it counts as zeros."""
+        entry = os.pread(self.pagemap, 8, place // PAGE * 8)
+        if not entry:
+            raise Gone("the process ended, or runs another program")
+        return bool(entry[7] & PRESENT_OR_SWAPPED)
+
+
+class Block:
+    """Some pages: those that have memory are read in one call, into a buffer that is used again."""
+
+    def __init__(self, numbers: range, places: list[int], pages):
+        self.pages, self.places = pages, places
+        self.absent = list(numbers)
+        self.live: list[int] = []
+        self.seen = bytearray()
+
+    def _grow(self, fresh: list[int]) -> None:
+        """Takes pages that have memory now."""
+        self.absent = [number for number in self.absent if number not in fresh]
+        self.live += fresh
+        count, base = len(self.live), self.pages.base
+        self.seen += bytes(count * PAGE - len(self.seen))
+        self.buffer = bytearray(count * PAGE)
+        self.into = Part(ctypes.addressof(ctypes.c_char.from_buffer(self.buffer)), len(self.buffer))
+        self.parts = (Part * count)(*((base + self.places[number], PAGE) for number in self.live))
+
+    def look(self, has_grown: bool) -> list[int]:
+        """The numbers of the pages that have changed since the last look."""
+        if has_grown:
+            is_there, places = self.pages.is_there, self.places
+            fresh = [number for number in self.absent if is_there(places[number])]
+            if fresh:
+                self._grow(fresh)
+        return self._changed() if self.live else []
+
+    def _changed(self) -> list[int]:
+        self._read()
+        new, old = self.buffer, self.seen
+        if new == old:
+            return []
+        changed = []
+        for number, at in zip(self.live, range(0, len(new), PAGE)):
+            page = new[at : at + PAGE]
+            if page != old[at : at + PAGE]:
+                old[at : at + PAGE] = page
+                changed.append(number)
+        return changed
+
+    def _read(self) -> None:
+        count = len(self.live)
+        done = LIBRARY.process_vm_readv(self.pages.process, ctypes.byref(self.into), 1, self.parts, count, 0)
+        if done < 0:
+            if ctypes.get_errno() == errno.ESRCH:
+                raise Gone("the process ended")
+            done = 0
+        for at in range(done // PAGE, count):
+            self.buffer[at * PAGE : (at + 1) * PAGE] = self.pages.page(self.places[self.live[at]])
+
+
+class ChangedPages:
+    """Compares some pages with what they were at the last look. The first look shows those that are not zero."""
+
+    def __init__(self, pages, places: list[int]):
+        numbers = range(len(places))
+        self.pages = pages
+        self.blocks = [Block(numbers[at : at + BLOCK], places, pages) for at in numbers[::BLOCK]]
+
+    def look(self) -> list[int]:
+        has_grown = self.pages.has_grown()
+        return sorted(number for block in self.blocks for number in block.look(has_grown))
+
+    def close(self) -> None:
+        self.blocks = []
