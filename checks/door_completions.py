@@ -26,8 +26,10 @@ function=$(complete -p "$1" | sed -E 's/.* -F ([^ ]+) .*/\\1/')
 "$function" "$1" "${COMP_WORDS[COMP_CWORD]}" "${COMP_WORDS[COMP_CWORD - 1]}"
 printf '%s\\n' "${COMPREPLY[@]}"
 """
+PROMPT = "READY> "
 ZSH = """\
 PROMPT='READY> '
+bindkey '^Xk' kill-buffer
 fpath=({folder} $fpath)
 autoload -Uz compinit
 compinit -u -D
@@ -111,16 +113,17 @@ class Shell:
         os.write(self.terminal, text.encode())
 
     def read_to(self, mark):
-        """Reads until a text has come, or the time is over."""
+        """Reads until a text has come and the next prompt behind it, or the time is over. Keys that come before the
+        prompt would be taken by the terminal, not by the shell's editor."""
         text, end = "", time.monotonic() + SECONDS
-        while mark not in text and time.monotonic() < end:
+        while PROMPT not in text.partition(mark)[2] and time.monotonic() < end:
             if select.select([self.terminal], [], [], 1)[0]:
                 text += os.read(self.terminal, 1 << 16).decode(errors="replace")
         return text
 
     def offers(self, line):
         """What is listed behind a line. The shell takes key by key, so it has listed all when it comes to the mark."""
-        self.send(f"{line}\t\t\x15echo mark-$((1 + 1))\n" if line else "echo mark-$((1 + 1))\n")
+        self.send(f"{line}\t\t\x18kecho mark-$((1 + 1))\n" if line else "echo mark-$((1 + 1))\n")
         listed = self.read_to("mark-2")
         return re.sub(r"\x1b\[[0-9;?]*[A-Za-z]", "", listed)
 
