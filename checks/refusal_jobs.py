@@ -96,7 +96,8 @@ WRITE_FAILED = b"precopy: write\n"
 
 
 class Job:
-    """A command over a trace, what it has to write, and how many of its threads only save time: of a live run, one."""
+    """A command over a trace, what it has to write, and how many of its threads only save time: of a live run, one.
+    Some that it needs start before: the planner, and in a warm start the thread that makes memory."""
 
     status, faults = 0, b""
 
@@ -107,6 +108,7 @@ class Job:
         self.trace = trace
         self.is_live = is_live
         self.savers = savers or (1 if is_live else 0)
+        self.needed_first = (2 if "--base" in words else 1) if is_live else 0
 
 
 class Misuse(Job):

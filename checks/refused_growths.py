@@ -55,10 +55,10 @@ def is_hint(run):
 
 def is_for_saver(job, run, whole):
     """Whether what was refused is room to start a thread that only saves time: one thread less was started than of a
-    run that is refused nothing. Such threads come before all others. Room to start a thread is asked of the C library
-    in place, and not through `rattle_alloc`."""
+    run that is refused nothing. Before such threads only those start that a job needs first. Room to start a thread is
+    asked of the C library in place, and not through `rattle_alloc`."""
     first = run.refused
-    if not first or first.moves or not first.callers or run.started >= job.savers:
+    if not first or first.moves or not first.callers or run.started >= job.needed_first + job.savers:
         return False
     return not first.callers[0].startswith("rattle_") and run.counts["threads"] == whole.counts["threads"] - 1
 
