@@ -6,6 +6,8 @@ PACKAGES and gives that name to its files.
 
 import contextlib
 import os
+import shutil
+import subprocess
 import sys
 import tempfile
 from dataclasses import dataclass
@@ -101,10 +103,19 @@ def with_python(data, python):
     return f"#!{python}".encode() + line + rest if first.endswith(b"python3") else data
 
 
+def stripped(path):
+    """A program without the names that only debuggers and checks read; as it is if there is no `strip`."""
+    with tempfile.TemporaryDirectory() as folder:
+        made = os.path.join(folder, "program")
+        if strip := shutil.which("strip"):
+            subprocess.run([strip, "--strip-unneeded", "-o", made, path], check=True)
+        with open(made if strip else path, "rb") as file:
+            return file.read()
+
+
 def commands(places, python) -> Iterator[Entry]:
     for name in PROGRAMS:
-        with open(program_file(name), "rb") as file:
-            yield Entry(os.path.join(places.bin, name), file.read(), 0o755)
+        yield Entry(os.path.join(places.bin, name), stripped(program_file(name)), 0o755)
     for name in TOOLS:
         yield Entry(os.path.join(places.lib, name), with_python(read(f"tools/{name}"), python), 0o755)
         link = os.path.relpath(os.path.join(places.lib, name), places.bin)
