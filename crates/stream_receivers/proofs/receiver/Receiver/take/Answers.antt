@@ -1,4 +1,4 @@
-use Rattle.std.proofs.Common.{◌<◌, inl, inr, List, [], ◌∷◌, length, map, set, is_some, refl, sym, ap, subst, ◌∙◌, arith}
+use Rattle.std.proofs.Common.{◌<◌, inl, inr, List, [], ◌∷◌, length, map, set, refl, sym, ap, subst, ◌∙◌, arith}
 use Rattle.std.specs.List.{slice_get}
 use Rattle.stream_lanes.specs.Ends.{InView, IsTakenFrom}
 use Rattle.stream_receivers.specs.Held.{IsHeld, Accepts}
@@ -26,7 +26,7 @@ pub returns-in_default-clause-none : goal.returns-in_default-clause-none
 returns-in_default-clause-none c e =
     let none = c.in_default.ensures.none in
     let same = unchanged c.self.inside.ends.items c.args.worker c.index_mut-end.result.now c.take.new.self c.index_mut-end.ensures.value c.in_default.ensures.lane none.0 none.1 none.2 in
-    ap (λ (ends : List InView). receiver_with ends c.self.inside.part (is_some c.self.inside.refusal)) same ∙ c.self.view_is
+    ap (λ (ends : List InView). receiver_with ends c.self.inside.part c.self.inside.refusal) same ∙ c.self.view_is
 
 pub returns-in_default-clause-seen : goal.returns-in_default-clause-seen
 returns-in_default-clause-seen c e end is =
