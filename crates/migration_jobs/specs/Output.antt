@@ -90,3 +90,11 @@ IsRefusalOf job errors.Memory = ⊤
 IsRefusalOf job errors.Write = ⊤
 IsRefusalOf job (errors.Live e) = IsLiveJob job
 IsRefusalOf job errors.Thread = ⊥
+
+-- A job's errors before anything is written: no write has failed, and that of a live run comes from a live run only.
+abbrev pub RefusesOutput : Job → RunError → Type 0
+RefusesOutput job (errors.Trace e) = ⊤
+RefusesOutput job errors.Memory = ⊤
+RefusesOutput job errors.Write = ⊥
+RefusesOutput job (errors.Live e) = IsLiveJob job
+RefusesOutput job errors.Thread = ⊥

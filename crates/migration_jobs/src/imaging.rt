@@ -1,13 +1,12 @@
 //! The memory after all writes of the trace that is read.
 
 ghost use Rattle.std.specs.Io.KnownBytes.{Consumes};
-ghost use Rattle.std.specs.Prelude.{◌≡◌, ◌≢◌, ◌↔◌, ℕ, List, Option, IfErr, IfOk, IfSome, OnOk, Err, Some, false, true};
-ghost use Rattle.migration_model.specs.Trace.{GuestTrace, Spells};
+ghost use Rattle.std.specs.Prelude.{◌≡◌, ◌↔◌, ℕ, List, Option, IfErr, IfOk, IfSome, OnOk, Err, false, true};
 ghost use Rattle.trace_codec.specs.declared.error.TraceError.TheVariants.{ReadFault};
 ghost use Rattle.trace_codec.specs.Source.{IsOutside};
 ghost use Rattle.trace_readers.specs.Visits.{IsHeaderOf};
 ghost use Rattle.migration_jobs.specs.Bytes.{bytes_in};
-ghost use Rattle.migration_jobs.specs.Output.{IsImageOf, IsOutsideRun, IsRefusalOf, RefusesRun};
+ghost use Rattle.migration_jobs.specs.Output.{IsImageOf, RefusesOutput, RefusesRun};
 
 use crate::error::RunError;
 use crate::output::Output;
@@ -82,8 +81,7 @@ fn whole_image<S: Source>(
         → IsImageOf old v.items) }
     ensures refused { IfErr result (λ e. (old : Option (List ℕ)) → Consumes old (S.remaining source.old) incoming
         → RefusesRun old e) }
-    ensures own { IfErr result (λ e. (job : Job) → IsRefusalOf job e) }
-    ensures unwritten { IfErr result (λ e. e ≢ RunError.Write) }
+    ensures own { IfErr result (λ e. (job : Job) → RefusesOutput job e) }
     ensures read_failed { (result ≡ Err (RunError.Trace ReadFault)) ↔ (S.has_failed source.new ≡ true) }
 {
     let Ok(mut memory) = WrittenMemory::blank(alloc, header.shape) else {
@@ -107,8 +105,7 @@ fn paged_image<R: Threads + Sync, S: Source>(
         → IsImageOf old m.bytes) }
     ensures refused { IfErr result (λ e. (old : Option (List ℕ)) → Consumes old (S.remaining source.old) incoming
         → RefusesRun old e) }
-    ensures own { IfErr result (λ e. (job : Job) → IsRefusalOf job e) }
-    ensures unwritten { IfErr result (λ e. e ≢ RunError.Write) }
+    ensures own { IfErr result (λ e. (job : Job) → RefusesOutput job e) }
     ensures read_failed { (result ≡ Err (RunError.Trace ReadFault)) ↔ (S.has_failed source.new ≡ true) }
 {
     match incoming.hold(alloc, source) {
@@ -126,10 +123,7 @@ pub(crate) fn image_output<R: Threads + Sync, S: Source>(
     requires { S.has_failed source.old ≡ false }
     ensures made { IfOk result (λ output. IsImageOf (S.remaining source.old) (bytes_in output)) }
     ensures refused { IfErr result (RefusesRun (S.remaining source.old)) }
-    ensures own { IfErr result (λ e. (job : Job) → IsRefusalOf job e) }
-    ensures unwritten { IfErr result (λ e. e ≢ RunError.Write) }
-    ensures only { (bytes : List ℕ) (trace : GuestTrace) → S.remaining source.old ≡ Some bytes → Spells bytes trace
-        → IfErr result IsOutsideRun }
+    ensures own { IfErr result (λ e. (job : Job) → RefusesOutput job e) }
     ensures read_failed { (result ≡ Err (RunError.Trace ReadFault)) ↔ (S.has_failed source.new ≡ true) }
 {
     let (incoming, header) = match opened(alloc, source) {

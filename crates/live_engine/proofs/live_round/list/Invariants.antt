@@ -1,7 +1,7 @@
 use Rattle.std.proofs.Common.{◌≡◌, ◌++◌}
 use Rattle.std.specs.Vec.Iter.{into_iter_items}
 use Rattle.live_engine.specs.Lists.{lists_of}
-use Rattle.live_engine.proofs.stopped.list.Given as goal
+use Rattle.live_engine.proofs.live_round.list.Given as goal
 
 abbrev pub invariant-loop-state : goal.invariant-loop-state
 invariant-loop-state l = record {
