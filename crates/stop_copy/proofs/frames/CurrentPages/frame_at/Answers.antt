@@ -9,7 +9,7 @@ use Rattle.stop_copy.proofs.frames.CurrentPages.frame_at.Goals as goal
 pub frame_of-requires-clause-whole : goal.frame_of-requires-clause-whole
 frame_of-requires-clause-whole g c =
     let len = ap length c.in_ok-bytes.ensures ∙ length-page_at (g.W.WriteLog.trace c.args.self.now.trace.now)
-        c.args.page _ c.shape-shape.ensures.is_trace c.requires.page in
+        c.args.page _ c.shape-shape.ensures.is_trace c.requires in
     rw c.shape-shape.ensures.shift (omega (arith, len, c.in_ok-bytes.bytes.ok.0))
 
 pub returns-clause-frame : goal.returns-clause-frame
