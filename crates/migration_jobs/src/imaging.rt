@@ -18,15 +18,14 @@ use std::thread::Threads;
 use trace_codec::{Header, Source, TraceError};
 use trace_readers::IncomingTrace;
 
-/// Memory of up to so many bytes, `2^20`, is made whole from the first write on.
+/// Up to this many bytes, `2^20`, memory is whole from the first write on.
 const SMALL_MEMORY: usize = 1_048_576;
 
-/// Memory of up to so many bytes, `2^25`, is made whole once a quarter as many bytes of the trace have come: that takes
-/// less time than pages one by one, and little memory.
+/// Up to this many bytes, `2^25`, memory is whole once the trace bytes read equal a quarter of it. That takes less time
+/// than making pages one by one, and little memory.
 const WHOLE_MEMORY: usize = 33_554_432;
 
-/// Reads on until the memory of the trace may be made whole. Returns the trace's header then, or None where the memory
-/// is to be made page by page.
+/// Reads on until memory may be whole. Returns the trace's header then, or None if memory is to be made page by page.
 fn header_for_whole<S: Source>(
     source: &mut S,
     incoming: &mut IncomingTrace,

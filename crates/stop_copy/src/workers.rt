@@ -18,7 +18,7 @@ use std::sync::Wait;
 use std::thread;
 use std::thread::{Promise, PromisedHandle, Scope, Threads};
 
-/// To make the frames of so many pages takes longer than a thread takes to start.
+/// Making the frames of this many pages takes longer than starting a thread.
 const WORTH_A_THREAD: usize = 512;
 
 /// The frames that a thread made of its piece of the pages, or why it could not.

@@ -42,8 +42,8 @@ join_first-requires-clause-shapes g c =
         c.in_ok-arrived.arrived.items)) (sym c.in_ok-plan.ensures.first)
     (shapes_begun trace c.args.settings.now.base c.in_ok-arrived.arrived.items came.not_beyond.shapes)
 
-pub finish-requires-clause-arrived : goal.finish-requires-clause-arrived
-finish-requires-clause-arrived g c κs within =
+pub stop_and_copy-requires-clause-arrived : goal.stop_and_copy-requires-clause-arrived
+stop_and_copy-requires-clause-arrived g c κs within =
     let trace = g.W.WriteLog.trace c.args.trace.now in
     let p = c.in_ok-progress.progress in
     let came : AllCame trace c.args.settings.now.base c.of-team.result.streams p.closed c.in_ok-arrived.arrived.items =
