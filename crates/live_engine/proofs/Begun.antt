@@ -68,10 +68,10 @@ is_joined a b is_a is_b same = record {
       ∙ is_a.places;
   copies = λ page. if_some (copy_at (join a b) page)
       (λ copy there. elim (later_one (copy_at a page) (copy_at b page) copy (sym (joined_at a b page) ∙ there)) [
-    | inl one ↦ from_if (IsCopy a.shape) (copy_at a page) copy (is_a.copies page) one
-    | inr two ↦ subst (λ (s : GuestShape). IsCopy s copy) (sym same)
-        (from_if (IsCopy b.shape) (copy_at b page) copy (is_b.copies page) two)
-  ]);
+        | inl one ↦ from_if (IsCopy a.shape) (copy_at a page) copy (is_a.copies page) one
+        | inr two ↦ subst (λ (s : GuestShape). IsCopy s copy) (sym same)
+            (from_if (IsCopy b.shape) (copy_at b page) copy (is_b.copies page) two)
+      ]);
 }
 
 -- ---- the parts of the streams
@@ -97,9 +97,9 @@ module _ (trace : GuestTrace) (versions : List ℕ) (first part : GuestPart) (re
   join_bound page = if_some (copy_at (join first part) page)
       (λ copy there. elim (later_one (copy_at first page) (copy_at part page) copy
       (sym (joined_at first part page) ∙ there)) [
-    | inl one ↦ from_if (IsBelow (get_or versions page 0)) (copy_at first page) copy (bound page) one
-    | inr two ↦ from_if (IsBelow (get_or versions page 0)) (copy_at part page) copy (part_bound page) two
-  ])
+        | inl one ↦ from_if (IsBelow (get_or versions page 0)) (copy_at first page) copy (bound page) one
+        | inr two ↦ from_if (IsBelow (get_or versions page 0)) (copy_at part page) copy (part_bound page) two
+      ])
 
   pub not_beyond_with : AreNotBeyond trace (shape_of_trace trace) versions (join first part ∷ rest)
   not_beyond_with = record {
@@ -109,11 +109,11 @@ module _ (trace : GuestTrace) (versions : List ℕ) (first part : GuestPart) (re
         (All-tail (λ (p : GuestPart). p.shape ≡ shape_of_trace trace) part rest before.shapes);
     honest = all_cons (IsHonest trace) (join first part) rest
         (IsHonest-join trace first part honest (All-head (IsHonest trace) part rest before.honest))
-            (All-tail (IsHonest trace) part rest before.honest);
+        (All-tail (IsHonest trace) part rest before.honest);
     bound = λ page. all_cons (λ (p : GuestPart). IfSome (copy_at p page) (IsBelow (get_or versions page 0)))
         (join first part) rest (join_bound page)
         (All-tail (λ (p : GuestPart). IfSome (copy_at p page) (IsBelow (get_or versions page 0))) part rest
-            (before.bound page));
+        (before.bound page));
   }
 
   -- the join has a page at its version where one of the two has
@@ -122,26 +122,26 @@ module _ (trace : GuestTrace) (versions : List ℕ) (first part : GuestPart) (re
       → HaveCurrent versions (join first part ∷ rest) page
   at_version page now there up =
       let down : now.stamp ≤ get_or versions page 0 = from_if (IsBelow (get_or versions page 0))
-          (copy_at (join first part) page) now (join_bound page) there in
+      (copy_at (join first part) page) now (join_bound page) there in
       any_at (λ (p : GuestPart). IsSomeAnd (copy_at p page) (λ copy. copy.stamp ≡ get_or versions page 0))
-          (join first part ∷ rest) 0 (join first part) refl
+      (join first part ∷ rest) 0 (join first part) refl
       (some_from (λ copy. copy.stamp ≡ get_or versions page 0) (copy_at (join first part) page) now there
-          (omega (arith, up, down)))
+      (omega (arith, up, down)))
 
   pub first_current : (page : ℕ) (copy : PageCopy) → copy_at first page ≡ Some copy → copy.stamp
       ≡ get_or versions page 0 → HaveCurrent versions (join first part ∷ rest) page
   first_current page copy there stamp =
       let kept = keeps_first copy (copy_at part page) in
       at_version page kept.0 (joined_at first part page
-          ∙ ap (λ (o : Option PageCopy). later o (copy_at part page)) there ∙ kept.1)
-          (let up = kept.2 in omega (arith, stamp, up))
+      ∙ ap (λ (o : Option PageCopy). later o (copy_at part page)) there ∙ kept.1)
+      (let up = kept.2 in omega (arith, stamp, up))
 
   part_current : (page : ℕ) (copy : PageCopy) → copy_at part page ≡ Some copy → copy.stamp ≡ get_or versions page 0
       → HaveCurrent versions (join first part ∷ rest) page
   part_current page copy there stamp =
       let kept = keeps_second (copy_at first page) copy in
       at_version page kept.0 (joined_at first part page ∙ ap (later (copy_at first page)) there ∙ kept.1)
-          (let up = kept.2 in omega (arith, stamp, up))
+      (let up = kept.2 in omega (arith, stamp, up))
 
   at_index : (page i : ℕ) (p : GuestPart) → slice_get (part ∷ rest) i ≡ Some p
       → IsSomeAnd (copy_at p page) (λ copy. copy.stamp ≡ get_or versions page 0)
@@ -151,27 +151,27 @@ module _ (trace : GuestTrace) (versions : List ℕ) (first part : GuestPart) (re
       part_current page found.0 (ap (λ (q : GuestPart). copy_at q page) (same_Some part p there) ∙ found.1) found.2
   at_index page (suc i) p there has =
       any_at (λ (p : GuestPart). IsSomeAnd (copy_at p page) (λ copy. copy.stamp ≡ get_or versions page 0))
-          (join first part ∷ rest) (suc i) p there has
+      (join first part ∷ rest) (suc i) p there has
 
   pub still_current : (page : ℕ) → HaveCurrent versions (part ∷ rest) page
       → HaveCurrent versions (join first part ∷ rest) page
   still_current page has =
       let found = any_there (λ (p : GuestPart). IsSomeAnd (copy_at p page)
-          (λ copy. copy.stamp ≡ get_or versions page 0)) (part ∷ rest) has in
+      (λ copy. copy.stamp ≡ get_or versions page 0)) (part ∷ rest) has in
       at_index page found.0 found.1 found.2 found.3
 
 -- what came, with what the destination began with
 base_begun : (trace : GuestTrace) (tick streams : ℕ) (closed : ClosedView) (part : GuestPart) (rest : List GuestPart)
     → IsTrace trace
     → AllCame trace (Some tick) streams closed (part ∷ rest)
-        → AllArrived trace streams closed (join (first_part trace (Some tick)) part ∷ rest)
+    → AllArrived trace streams closed (join (first_part trace (Some tick)) part ∷ rest)
 base_begun trace tick streams closed part rest is came =
     let first : GuestPart = first_part trace (Some tick) in
     let is_part = is_first_part trace (Some tick) is in
     let shape : first.shape ≡ shape_of_trace trace = first_shape trace (Some tick) in
     let honest : IsHonest trace first = λ page copy there. (first_had trace (Some tick) page copy is there).4 in
     let bound : (page : ℕ) → IfSome (copy_at first page) (IsBelow (get_or closed.versions page 0)) = λ page. if_some
-        (copy_at first page) (λ copy there.
+    (copy_at first page) (λ copy there.
     let had = first_had trace (Some tick) page copy is there in
     let same : tick ≡ had.0 = same_Some tick had.0 had.1 in
     let low = came.base_low page had.2 in
@@ -191,13 +191,15 @@ base_begun trace tick streams closed part rest is came =
 pub all_begun : (trace : GuestTrace) (base : Option ℕ) (streams : ℕ) (closed : ClosedView) (parts : List GuestPart)
     → IsTrace trace → 1 ≤ streams
     → AllCame trace base streams closed parts → AllArrived trace streams closed
-        (parts_with (option_map (λ tick. first_part trace (Some tick)) base) parts)
+    (parts_with (option_map (λ tick. first_part trace (Some tick)) base) parts)
 all_begun trace None streams closed parts is some came = record {
   fits = came.fits;
   count = came.count;
   not_beyond = came.not_beyond;
-  current = λ page real unmarked. elim (came.current page real unmarked) [ inl has ↦ has | inr as_base ↦ absurd as_base
-      ];
+  current = λ page real unmarked. elim (came.current page real unmarked) [
+    | inl has ↦ has
+    | inr as_base ↦ absurd as_base
+  ];
 }
 all_begun trace (Some tick) streams closed [] is some came = absurd (omega (arith, some, came.count))
 all_begun trace (Some tick) streams closed (part ∷ rest) is some came = base_begun trace tick streams closed part rest
@@ -207,6 +209,6 @@ all_begun trace (Some tick) streams closed (part ∷ rest) is some came = base_b
 pub shapes_begun : (trace : GuestTrace) (base : Option ℕ) (parts : List GuestPart)
     → All (λ (p : GuestPart). p.shape ≡ shape_of_trace trace) parts
     → IfSome (option_map (λ tick. first_part trace (Some tick)) base)
-        (λ one. All (λ (p : GuestPart). one.shape ≡ p.shape) parts)
+    (λ one. All (λ (p : GuestPart). one.shape ≡ p.shape) parts)
 shapes_begun trace None parts shapes = tt
 shapes_begun trace (Some tick) parts shapes = λ i d low. sym (shapes i d low)

@@ -28,31 +28,36 @@ module _ (workers streams capacity : ℕ) (outs : List (Vec OutView Global)) (in
   other_end : (worker stream : ℕ) (row : Vec OutView Global) (out : OutView) → slice_get outs worker ≡ Some row
       → slice_get row.items stream ≡ Some out
       → (column : Vec InView Global) × (end : InView) × (slice_get ins stream ≡ Some column)
-          × (slice_get column.items worker ≡ Some end) × IsNewLane capacity out end
+      × (slice_get column.items worker ≡ Some end) × IsNewLane capacity out end
   other_end worker stream row out row_there out_there =
       let size : length row.items ≡ streams = all_there (λ (r : Vec OutView Global). length r.items ≡ streams) outs
-          worker row is.out_rows row_there in
+      worker row is.out_rows row_there in
       let low = slice_get_within row.items stream out out_there in
       let column = within ins stream (omega (arith, low, size, is.streams_are)) in
       let long : length column.0.items ≡ workers = all_there (λ (c : Vec InView Global). length c.items ≡ workers) ins
-          stream column.0 is.in_rows column.1 in
+      stream column.0 is.in_rows column.1 in
       let row_low = slice_get_within outs worker row row_there in
-      let end = within column.0.items worker (omega (arith, row_low, long, is.workers_are)) in
-      (column.0, end.0, column.1, end.1, is.lanes worker stream row out column.0 end.0 row_there out_there column.1
-          end.1)
+      let end = within column.0.items worker (omega (arith, row_low, long, is.workers_are)) in (
+        column.0,
+        end.0,
+        column.1,
+        end.1,
+        is.lanes worker stream row out column.0 end.0 row_there out_there column.1
+            end.1,
+      )
 
   -- and of one that is taken from
   other_out : (worker stream : ℕ) (column : Vec InView Global) (end : InView) → slice_get ins stream ≡ Some column
       → slice_get column.items worker ≡ Some end
       → (row : Vec OutView Global) × (out : OutView) × (slice_get outs worker ≡ Some row)
-          × (slice_get row.items stream ≡ Some out) × IsNewLane capacity out end
+      × (slice_get row.items stream ≡ Some out) × IsNewLane capacity out end
   other_out worker stream column end column_there end_there =
       let long : length column.items ≡ workers = all_there (λ (c : Vec InView Global). length c.items ≡ workers) ins
-          stream column is.in_rows column_there in
+      stream column is.in_rows column_there in
       let low = slice_get_within column.items worker end end_there in
       let row = within outs worker (omega (arith, low, long, is.workers_are)) in
       let size : length row.0.items ≡ streams = all_there (λ (r : Vec OutView Global). length r.items ≡ streams) outs
-          worker row.0 is.out_rows row.1 in
+      worker row.0 is.out_rows row.1 in
       let column_low = slice_get_within ins stream column column_there in
       let out = within row.0.items stream (omega (arith, column_low, size, is.streams_are)) in
       (row.0, out.0, row.1, out.1, is.lanes worker stream row.0 out.0 column end row.1 out.1 column_there end_there)
@@ -61,14 +66,14 @@ module _ (workers streams capacity : ℕ) (outs : List (Vec OutView Global)) (in
   nothing_taken = all_at (λ (column : Vec InView Global). All (λ (end : InView). end.taken ≡ []) column.items) ins
       (λ stream column column_there.
       all_at (λ (end : InView). end.taken ≡ []) column.items
-          (λ worker end end_there. (other_out worker stream column end column_there end_there).4.taken))
+      (λ worker end end_there. (other_out worker stream column end column_there end_there).4.taken))
 
   pub nothing_sent : HaveSentNothing (map items_of outs)
   nothing_sent = all_at (All (λ (out : OutView). out.sent ≡ [])) (map items_of outs) (λ worker row_items there.
       let row = made_of items_of outs worker row_items there in
       subst (All (λ (out : OutView). out.sent ≡ [])) row.2
       (all_at (λ (out : OutView). out.sent ≡ []) row.0.items
-          (λ stream out out_there. (other_end worker stream row.0 out row.1 out_there).4.sent)))
+      (λ stream out out_there. (other_end worker stream row.0 out row.1 out_there).4.sent)))
 
   pub capacities : HaveCapacity capacity (lanes_of (map items_of outs))
   capacities = all_at (All (λ (id : LaneId). id.capacity ≡ capacity)) (lanes_of (map items_of outs))
@@ -103,17 +108,17 @@ module _ (workers streams capacity : ℕ) (outs : List (Vec OutView Global)) (in
         let row_is : out_lanes row.0.items ≡ ids_row = ap out_lanes row.2 ∙ row_items.2 in
         let column = made_of in_lanes ins stream ids_column column_there in
         let size : length row.0.items ≡ streams = all_there (λ (r : Vec OutView Global). length r.items ≡ streams) outs
-            worker row.0 is.out_rows row.1 in
+        worker row.0 is.out_rows row.1 in
         let column_low = slice_get_within ins stream column.0 column.1 in
         let out = within row.0.items stream (omega (arith, column_low, size, is.streams_are)) in
         let end = other_end worker stream row.0 out.0 row.1 out.1 in
         let end_there : slice_get column.0.items worker
-            ≡ Some end.1 = ap (λ (c : List InView). slice_get c worker)
-            (same_items stream column.0 end.0 column.1 end.2) ∙ end.3 in
+        ≡ Some end.1 = ap (λ (c : List InView). slice_get c worker)
+        (same_items stream column.0 end.0 column.1 end.2) ∙ end.3 in
         ap (λ (l : List LaneId). slice_get l stream) (sym row_is)
-            ∙ makes_at (λ (o : OutView). o.lane) row.0.items stream out.0 out.1 ∙ ap Some (sym end.4.lane)
+        ∙ makes_at (λ (o : OutView). o.lane) row.0.items stream out.0 out.1 ∙ ap Some (sym end.4.lane)
         ∙ sym (makes_at (λ (e : InView). e.lane) column.0.items worker end.1 end_there)
-            ∙ ap (λ (l : List LaneId). slice_get l worker) column.2;
+        ∙ ap (λ (l : List LaneId). slice_get l worker) column.2;
   }
 
 -- receivers with the lanes and the guest that others had
@@ -121,7 +126,7 @@ pub lanes_kept : (before after : List ReceiverView) → map identity_of after �
     → map lanes_in after ≡ map lanes_in before
 lanes_kept before after same =
     sym (map-map (λ (i : List LaneId × GuestShape). i.0) identity_of after)
-        ∙ ap (map (λ (i : List LaneId × GuestShape). i.0)) same
+    ∙ ap (map (λ (i : List LaneId × GuestShape). i.0)) same
     ∙ map-map (λ (i : List LaneId × GuestShape). i.0) identity_of before
 
 pub shapes_kept : (shape : GuestShape) (before after : List ReceiverView) → map identity_of after
@@ -131,4 +136,4 @@ shapes_kept shape before after same shapes = all_at (λ (r : ReceiverView). r.pa
     (λ stream receiver there.
     let was = same_image identity_of identity_of after before stream receiver same there in
     ap (λ (i : List LaneId × GuestShape). i.1) was.2
-        ∙ all_there (λ (r : ReceiverView). r.part.shape ≡ shape) before stream was.0 shapes was.1)
+    ∙ all_there (λ (r : ReceiverView). r.part.shape ≡ shape) before stream was.0 shapes was.1)

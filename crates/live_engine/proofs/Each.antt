@@ -29,9 +29,12 @@ each_push {X} Holds xs x all one i low =
     elim (cases_lt i (length xs)) [
       | inl inside ↦ let e = all i inside in (e.0, e.1 ∙ sym (get_or_append_left xs (x ∷ []) e.0 i inside), e.2)
       | inr last ↦
-          let end : i ≡ length xs + 0 = omega (arith, last, low, len) in
-          (x, sym (ap (λ (k : ℕ). get_or (xs ++ x ∷ []) k x) end ∙ get_or-append-add xs (x ∷ []) 0 x), subst
-              (λ (k : ℕ). Holds x k) (let e : length xs ≡ i = omega (arith, end) in e) one)
+          let end : i ≡ length xs + 0 = omega (arith, last, low, len) in (
+            x,
+            sym (ap (λ (k : ℕ). get_or (xs ++ x ∷ []) k x) end ∙ get_or-append-add xs (x ∷ []) 0 x),
+            subst
+                (λ (k : ℕ). Holds x k) (let e : length xs ≡ i = omega (arith, end) in e) one,
+          )
     ]
 
 -- the fact at an element that is there
@@ -46,7 +49,7 @@ pub made_at : {X : Type 0} (f : ℕ → X) (n : ℕ) (front : List X) (x : X) (r
     ≡ map f (range_with_len 0 n) → x ≡ f (length front)
 made_at f n front x rest is =
     let len : length front + suc (length rest) ≡ n = sym (length-append front (x ∷ rest)) ∙ ap length is
-        ∙ length-map-range_with_len f 0 n in
+    ∙ length-map-range_with_len f 0 n in
     let at : get_or (front ++ x ∷ rest) (length front + 0) x ≡ x = get_or-append-add front (x ∷ rest) 0 x in
     let place : length front + 0 ≡ length front = omega arith in
     sym at ∙ ap (λ (k : ℕ). get_or (front ++ x ∷ rest) k x) place ∙ ap (λ xs. get_or xs (length front) x) is
@@ -56,7 +59,7 @@ made_at f n front x rest is =
 pub each_kept : {H X : Type 0} (Told : H → ℕ → Type 0) (Kept : H → X → Type 0) (Holds : X → ℕ → Type 0) (hs : List H)
     (xs : List X) → length xs ≡ length hs
     → EachAt Told hs → EachAt (λ x i. (h : H) × (h ≡ get_or hs i h) × Kept h x) xs
-        → ((h : H) (x : X) (i : ℕ) → Told h i → Kept h x → Holds x i) → EachAt Holds xs
+    → ((h : H) (x : X) (i : ℕ) → Told h i → Kept h x → Holds x i) → EachAt Holds xs
 each_kept Told Kept Holds hs xs len told kept both i low =
     let k = kept i low in
     let t = told i (omega (arith, low, len)) in
@@ -72,7 +75,7 @@ each_ok {X} {E} Holds xs rs is all i low =
     let len : length rs ≡ length xs = sym (ap length is) ∙ length-map xs Ok in
     let e = all i (omega (arith, low, len)) in
     let there : e.0 ≡ Ok p.0 = e.1 ∙ ap (λ (l : List (Result X E)). get_or l i e.0) (sym is)
-        ∙ get_or-map Ok xs i p.0 e.0 low ∙ ap Ok (sym p.1) in
+    ∙ get_or-map Ok xs i p.0 e.0 low ∙ ap Ok (sym p.1) in
     (p.0, p.1, subst (λ r. IfOk r (λ x. Holds x i)) there e.2)
 
 -- some element, and its index
@@ -105,7 +108,7 @@ makes_at f xs i x there =
     let low = slice_get_within xs i x there in
     let len : length (map f xs) ≡ length xs = length-map xs f in
     slice_get-get_or (map f xs) i (f x) (omega (arith, low, len))
-        ∙ ap Some (get_or-map f xs i x (f x) low ∙ ap f (get_or_from_slice_get xs i x x there))
+    ∙ ap Some (get_or-map f xs i x (f x) low ∙ ap f (get_or_from_slice_get xs i x x there))
 
 -- a list of as many elements, each the same as that of another
 pub same_at : {X : Type 0} (xs ys : List X) → length xs ≡ length ys

@@ -20,9 +20,9 @@ place_above trace page from to place trace_is is = elim (version_is_place trace 
         let version : ℕ = version_before trace page from in
         let low = slice_get_within trace.writes (version - 1) before.write before.there in
         let one = ap (λ (w : GuestWrite). w.tick) (get_or_from_slice_get trace.writes (place - 1) is.write is.write
-            is.there) in
+        is.there) in
         let two = ap (λ (w : GuestWrite). w.tick) (get_or_from_slice_get trace.writes (version - 1) before.write
-            is.write before.there) in
+        is.write before.there) in
         let order = trace_is.writes.in_order (place - 1) (version - 1) is.write (omega (arith, above)) low in
         absurd (omega (arith, order, one, two, is.low, before.high))
   ]

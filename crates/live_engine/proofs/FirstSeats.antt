@@ -31,14 +31,14 @@ pub guest_at : (table : TableView) (items front old rest : List GuestView) (seat
     → seat ≡ guest_view table.id (first_guest table.start (length front))
 guest_at table items front old rest seat first steps all =
     made_at (λ (number : ℕ). guest_view table.id (first_guest table.start number)) table.start.guests front seat rest
-        (next_of front old rest items seat steps all ∙ first)
+    (next_of front old rest items seat steps all ∙ first)
 
 pub copier_at : (table : TableView) (items front old rest : List CopyView) (seat : CopyView) → items
     ≡ first_copiers table → old ≡ seat ∷ rest → front ++ old ≡ items
     → seat ≡ copy_view table.id (first_copier table.start (length front))
 copier_at table items front old rest seat first steps all =
     made_at (λ (number : ℕ). copy_view table.id (first_copier table.start number)) table.start.copiers front seat rest
-        (next_of front old rest items seat steps all ∙ first)
+    (next_of front old rest items seat steps all ∙ first)
 
 -- the lanes of the next state, when those in front of it were given out
 pub row_first : (front old rest all : List CopierStateView) (state : CopierStateView) (number : ℕ) → old ≡ state ∷ rest
@@ -47,13 +47,13 @@ pub row_first : (front old rest all : List CopierStateView) (state : CopierState
 row_first front old rest all state number steps is at =
     let whole : front ++ (state ∷ rest) ≡ all = next_of front old rest all state steps is in
     let len : length all ≡ length front + length (state ∷ rest) = sym (ap length whole)
-        ∙ length-append front (state ∷ rest) in
+    ∙ length-append front (state ∷ rest) in
     let here : get_or all (length front + 0) state ≡ state = ap (λ l. get_or l (length front + 0) state) (sym whole)
-        ∙ get_or-append-add front (state ∷ rest) 0 state in
+    ∙ get_or-append-add front (state ∷ rest) 0 state in
     let place : length front + 0 ≡ number = omega (arith, at) in
     sym (ap (λ (k : ℕ). get_or (rows_of all) k []) (sym place)
-        ∙ get_or-map (λ (d : CopierStateView). d.outs) all (length front + 0) state [] (omega (arith, len))
-        ∙ ap (λ (d : CopierStateView). d.outs) here)
+    ∙ get_or-map (λ (d : CopierStateView). d.outs) all (length front + 0) state [] (omega (arith, len))
+    ∙ ap (λ (d : CopierStateView). d.outs) here)
 
 pub lists_more : {X Y : Type 0} (f : X → List Y) (front : List X) (x : X) (before : List Y) → before ≡ flat_map f front
     → before ++ f x ≡ flat_map f (front ++ x ∷ [])
@@ -66,7 +66,7 @@ pub next_holds : {X : Type 0} (P : X → Type 0) (front old rest all : List X) (
 next_holds P front old rest all x steps is holds =
     let whole : front ++ (x ∷ rest) ≡ all = next_of front old rest all x steps is in
     let here : get_or all (length front + 0) x ≡ x = ap (λ l. get_or l (length front + 0) x) (sym whole)
-        ∙ get_or-append-add front (x ∷ rest) 0 x in
+    ∙ get_or-append-add front (x ∷ rest) 0 x in
     let len : length all ≡ length front + length (x ∷ rest) = sym (ap length whole) ∙ length-append front (x ∷ rest) in
     subst P here (holds (length front + 0) x (omega (arith, len)))
 
@@ -76,7 +76,7 @@ pub next_there : {X : Type 0} (front old rest all : List X) (x : X) (number : �
 next_there front old rest all x number steps is at =
     let whole : front ++ (x ∷ rest) ≡ all = next_of front old rest all x steps is in
     let here : get_or all (length front + 0) x ≡ x = ap (λ l. get_or l (length front + 0) x) (sym whole)
-        ∙ get_or-append-add front (x ∷ rest) 0 x in
+    ∙ get_or-append-add front (x ∷ rest) 0 x in
     let len : length all ≡ length front + length (x ∷ rest) = sym (ap length whole) ∙ length-append front (x ∷ rest) in
     let place : length front + 0 ≡ number = omega (arith, at) in
     ap (slice_get all) (sym place) ∙ slice_get-get_or all (length front + 0) x (omega (arith, len)) ∙ ap Some here

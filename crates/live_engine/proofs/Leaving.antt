@@ -84,31 +84,39 @@ module _ (trace : GuestTrace) (skip : Bool) (table : TableView) (from to streams
       let g : ℕ = page % start.guests in
       let c : ℕ = page / 64 % start.copiers in
       let g_low : g < length guests = (let low : g < start.guests = mod-lt page
-          (omega (arith, is.is_start.guests_low)) in omega (arith, low, is.replayed.count)) in
+      (omega (arith, is.is_start.guests_low)) in omega (arith, low, is.replayed.count)) in
       let c_low : c < length copiers = (let low : c < start.copiers = mod-lt (page / 64)
-          (omega (arith, is.is_start.copiers_low)) in omega (arith, low, is.copied.count)) in
+      (omega (arith, is.is_start.copiers_low)) in omega (arith, low, is.copied.count)) in
       let guest = is.replayed.each g g_low in
       let copier = is.copied.each c c_low in
       let guest_there : slice_get guests g ≡ Some guest.0 = slice_get-get_or guests g guest.0 g_low
-          ∙ ap Some (sym guest.1) in
+      ∙ ap Some (sym guest.1) in
       let copier_there : slice_get copiers c ≡ Some copier.0 = slice_get-get_or copiers c copier.0 c_low
-          ∙ ap Some (sym copier.1) in
+      ∙ ap Some (sym copier.1) in
       let seats : List CopyView = map (λ (k : Copier). k.seat) copiers in
       let seat_there : slice_get seats c ≡ Some copier.0.seat =
       slice_get-get_or seats c copier.0.seat (let len : length seats
-          ≡ length copiers = length-map copiers (λ (k : Copier). k.seat) in omega (arith, c_low, len))
+      ≡ length copiers = length-map copiers (λ (k : Copier). k.seat) in omega (arith, c_low, len))
       ∙ ap Some (get_or-map (λ (k : Copier). k.seat) copiers c copier.0 copier.0.seat c_low
-          ∙ ap (λ (k : Copier). k.seat) (sym copier.1)) in
+      ∙ ap (λ (k : Copier). k.seat) (sym copier.1)) in
       let real_start : page < length start.places = omega (arith, real, is.opens.pages) in
       let guest_start : guest.0.facts.start ≡ start = ap (λ (t : TableView). t.start) guest.2.table_is in
       let copier_start : copier.0.seat.facts.start ≡ start = ap (λ (t : TableView). t.start) copier.2.table_is in
       let guest_owns : GuestOwns (sizes_of start) g page =
-          record { page_real = real_start; guest_real = mod-lt page (omega (arith, is.is_start.guests_low)); owner =
-          refl } in
+      record {
+        page_real = real_start;
+        guest_real = mod-lt page (omega (arith, is.is_start.guests_low));
+        owner =
+            refl;
+      } in
       let copier_owns : CopierOwnsPage (sizes_of start) c page = record {
         page_real = real_start;
-        word = record { word_real = omega (arith, real_start); copier_real = mod-lt (page / 64)
-            (omega (arith, is.is_start.copiers_low)); owner = refl };
+        word = record {
+          word_real = omega (arith, real_start);
+          copier_real = mod-lt (page / 64)
+              (omega (arith, is.is_start.copiers_low));
+          owner = refl;
+        };
       } in
       record {
         guest = guest.0;
@@ -129,12 +137,12 @@ module _ (trace : GuestTrace) (skip : Bool) (table : TableView) (from to streams
       → (page < trace.pages) × (page / 64 % table.start.copiers ≡ i)
   listing i copier page there listed =
       let copied : IsCopied trace skip table streams rows copier i = each_got (IsCopied trace skip table streams rows)
-          copiers i copier is.copied.each there in
+      copiers i copier is.copied.each there in
       let own : IsOwn copier.seat.facts page = (copied.scanned.listed page listed).0 in
       let start_is : copier.seat.facts.start ≡ table.start = ap (λ (t : TableView). t.start) copied.table_is in
       let real : page < length copier.seat.facts.start.places = own.page_real in
       let same : length copier.seat.facts.start.places
-          ≡ length table.start.places = ap (λ (s : Start). length s.places) start_is in (
+      ≡ length table.start.places = ap (λ (s : Start). length s.places) start_is in (
         omega (arith, real, same, is.opens.pages),
         ap (λ (s : Start). page / 64 % s.copiers) (sym start_is) ∙ own.word.owner ∙ copied.number_is,
       )
@@ -146,7 +154,7 @@ module _ (trace : GuestTrace) (skip : Bool) (table : TableView) (from to streams
   by_own i copier page there listed real =
       let o = owned page real in
       same_Some copier o.copier (sym there ∙ ap (slice_get copiers) (sym (listing i copier page there listed).1)
-          ∙ o.there)
+      ∙ o.there)
 
   sent_listed : (copier : Copier) (page place : ℕ) → Contains (sent_by copier) (page, place)
       → boxes.IsListed copier.state.log page
@@ -163,7 +171,7 @@ module _ (trace : GuestTrace) (skip : Bool) (table : TableView) (from to streams
   written_stored page o written =
       let place = written_has_place trace page from to written in
       let last = visit_has_last o.guest.facts.stores page place.0
-          (o.replayed.replayed.all page place.0 o.owns place.1) in
+      (o.replayed.replayed.all page place.0 o.owns place.1) in
       ap is_some last.1
 
   version_left : (page : ℕ) → page < trace.pages → slice_index closed.versions page ≡ version_before trace page to
@@ -173,9 +181,9 @@ module _ (trace : GuestTrace) (skip : Bool) (table : TableView) (from to streams
       let start_is : o.guest.facts.start ≡ table.start = ap (λ (t : TableView). t.start) o.replayed.table_is in
       o.left.version ∙ ap (λ (s : Start). place_after (slice_index s.places page) o.guest.facts.stores page) start_is
       ∙ version_stored trace page from to (slice_index table.start.places page) o.guest.facts.stores is.span opening
-          o.left.rises
+      o.left.rises
       (λ place visit. (o.replayed.replayed.stored page place visit).1)
-          (λ place there. o.replayed.replayed.all page place o.owns there)
+      (λ place there. o.replayed.replayed.all page place o.owns there)
 
   -- a page that a copier listed: by its own copier
   sent_own : (page place : ℕ) → Contains (round_of copiers).sent (page, place)
@@ -183,25 +191,31 @@ module _ (trace : GuestTrace) (skip : Bool) (table : TableView) (from to streams
   sent_own page place sent =
       let found = in_piece sent_by copiers (page, place) sent in
       let listed = sent_listed found.1 page place found.3 in
-      let real = (listing found.0 found.1 page found.2 listed).0 in
-      (real, subst (λ (c : Copier). Contains (sent_by c) (page, place))
-          (by_own found.0 found.1 page found.2 listed real) found.3)
+      let real = (listing found.0 found.1 page found.2 listed).0 in (
+        real,
+        subst (λ (c : Copier). Contains (sent_by c) (page, place))
+            (by_own found.0 found.1 page found.2 listed real) found.3,
+      )
 
   skipped_own : (page : ℕ) → Contains (round_of copiers).skipped page → (real : page < trace.pages)
       × Contains (owned page real).copier.state.log.skipped page
   skipped_own page skipped =
       let found = in_piece skipped_by copiers page skipped in
-      let real = (listing found.0 found.1 page found.2 (inr (inl found.3))).0 in
-      (real, subst (λ (c : Copier). Contains (skipped_by c) page)
-          (by_own found.0 found.1 page found.2 (inr (inl found.3)) real) found.3)
+      let real = (listing found.0 found.1 page found.2 (inr (inl found.3))).0 in (
+        real,
+        subst (λ (c : Copier). Contains (skipped_by c) page)
+            (by_own found.0 found.1 page found.2 (inr (inl found.3)) real) found.3,
+      )
 
   deferred_own : (page : ℕ) → Contains (round_of copiers).deferred page → (real : page < trace.pages)
       × Contains (owned page real).copier.state.log.deferred page
   deferred_own page deferred =
       let found = in_piece deferred_by copiers page deferred in
-      let real = (listing found.0 found.1 page found.2 (inr (inr found.3))).0 in
-      (real, subst (λ (c : Copier). Contains (deferred_by c) page)
-          (by_own found.0 found.1 page found.2 (inr (inr found.3)) real) found.3)
+      let real = (listing found.0 found.1 page found.2 (inr (inr found.3))).0 in (
+        real,
+        subst (λ (c : Copier). Contains (deferred_by c) page)
+            (by_own found.0 found.1 page found.2 (inr (inr found.3)) real) found.3,
+      )
 
   listed_own : (page : ℕ) → IsListed (round_of copiers) page → (real : page < trace.pages)
       × boxes.IsListed (owned page real).copier.state.log page
@@ -217,7 +231,7 @@ module _ (trace : GuestTrace) (skip : Bool) (table : TableView) (from to streams
   own_listed page o (inl sent) =
       let stamp = place_of (sent_by o.copier) page sent in
       inl (fst_in (round_of copiers).sent page stamp.0
-          (in_all sent_by copiers (page / 64 % table.start.copiers) o.copier (page, stamp.0) o.there stamp.1))
+      (in_all sent_by copiers (page / 64 % table.start.copiers) o.copier (page, stamp.0) o.there stamp.1))
   own_listed page o (inr (inl skipped)) = inr (inl
       (in_all skipped_by copiers (page / 64 % table.start.copiers) o.copier page o.there skipped))
   own_listed page o (inr (inr deferred)) = inr (inr
@@ -300,26 +314,30 @@ module _ (trace : GuestTrace) (skip : Bool) (table : TableView) (from to streams
           | inr read ↦
               let version = slice_index closed.versions page in
               let sent : IsSentAt o.copier.state.log page version = o.copied.scanned.reads page version
-                  (last_is_visit o.copier.seat.facts.reads page version read) in
+              (last_is_visit o.copier.seat.facts.reads page version read) in
               inr (subst (λ (v : ℕ). Contains (round_of copiers).sent (page, v)) (version_left page real)
               (in_all sent_by copiers (page / 64 % table.start.copiers) o.copier (page, version) o.there sent))
         ];
     sent_order = subst (λ (pages : List ℕ). IsInScanOrder table.start.copiers pages) (sym (pages_by copiers))
         (in_scan_order table.start.copiers (λ (c : Copier). map (λ (s : ℕ × ℕ). s.0) (sent_by c)) 0 copiers
-            (λ i copier there.
+        (λ i copier there.
         let copied : IsCopied trace skip table streams rows copier i = each_got (IsCopied trace skip table streams rows)
-            copiers i copier is.copied.each there in
+        copiers i copier is.copied.each there in
         (copied.scanned.sent_rise, λ page sent. (listing i copier page there (inl sent)).1 ∙ zero_and i)));
     skipped_order = in_scan_order table.start.copiers skipped_by 0 copiers (λ i copier there.
         let copied : IsCopied trace skip table streams rows copier i = each_got (IsCopied trace skip table streams rows)
-            copiers i copier is.copied.each there in
-        (copied.scanned.skipped_rise, λ page skipped. (listing i copier page there (inr (inl skipped))).1
-            ∙ zero_and i));
+        copiers i copier is.copied.each there in (
+          copied.scanned.skipped_rise,
+          λ page skipped. (listing i copier page there (inr (inl skipped))).1
+              ∙ zero_and i,
+        ));
     deferred_order = in_scan_order table.start.copiers deferred_by 0 copiers (λ i copier there.
         let copied : IsCopied trace skip table streams rows copier i = each_got (IsCopied trace skip table streams rows)
-            copiers i copier is.copied.each there in
-        (copied.scanned.deferred_rise, λ page deferred. (listing i copier page there (inr (inr deferred))).1
-            ∙ zero_and i));
+        copiers i copier is.copied.each there in (
+          copied.scanned.deferred_rise,
+          λ page deferred. (listing i copier page there (inr (inr deferred))).1
+              ∙ zero_and i,
+        ));
     apart = λ page sent skipped.
         let stamp = place_of (round_of copiers).sent page sent in
         let own = sent_own page stamp.0 stamp.1 in
@@ -335,8 +353,8 @@ module _ (trace : GuestTrace) (skip : Bool) (table : TableView) (from to streams
               let stamp = place_of (round_of copiers).sent page sent in
               let other = sent_own page stamp.0 stamp.1 in
               apart.0 (fst_in (sent_by o.copier) page stamp.0
-                  (subst (λ (c : Copier). Contains (sent_by c) (page, stamp.0)) (same_owner page other.0 own.0)
-                  other.1))),
+              (subst (λ (c : Copier). Contains (sent_by c) (page, stamp.0)) (same_owner page other.0 own.0)
+              other.1))),
           (λ skipped.
               let other = skipped_own page skipped in
               apart.1 (subst (λ (c : Copier). Contains (skipped_by c) page) (same_owner page other.0 own.0) other.1)),

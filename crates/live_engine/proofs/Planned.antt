@@ -24,7 +24,7 @@ cons_nil round rounds e = (let len : length (round ∷ rounds) ≡ 0 = ap length
 behind : (trace : GuestTrace) (s : MigrationSettings) (plan : MigrationPlan) (now : NextRound) (round : PlannedRound)
     (rounds : List PlannedRound) (next : AfterRound)
     → InEither next (λ rate. AreRounds trace.pages (touches_of trace) s
-        (round_after trace.pages (touches_of trace) now round rate) rounds plan)
+    (round_after trace.pages (touches_of trace) now round rate) rounds plan)
     (λ reason. (rounds ≡ []) × (plan.reason ≡ reason) × IsEnd trace.pages (touches_of trace) s round plan)
     → Remaining trace s plan round.to rounds
 behind trace s plan now round rounds (goes_on rate) is = inr
@@ -35,7 +35,7 @@ behind trace s plan now round rounds (stops reason) is = inl (is.0, is.2.stop_is
 pub next_remains : (trace : GuestTrace) (s : MigrationSettings) (plan : MigrationPlan) (tick : ℕ) (round : PlannedRound)
     (rounds : List PlannedRound)
     → Remaining trace s plan tick (round ∷ rounds) → (round.from ≡ tick) × (round.from ≤ round.to)
-        × Remaining trace s plan round.to rounds
+    × Remaining trace s plan round.to rounds
 next_remains trace s plan tick round rounds (inl done) = absurd (cons_nil round rounds done.0)
 next_remains trace s plan tick round rounds (inr more) =
     let is : IsRound trace.pages (touches_of trace) s more.0 round = more.2.0 in (
@@ -54,7 +54,7 @@ round_next trace s plan tick number round low there remaining =
     next_remains trace s plan tick round (drop (number + 1) plan.rounds)
     (subst (λ (rounds : List PlannedRound). Remaining trace s plan tick rounds)
     (drop_more plan.rounds number round low ∙ ap (λ (r : PlannedRound). r ∷ drop (number + 1) plan.rounds) (sym there))
-        remaining)
+    remaining)
 
 pub taken_next : (rounds : List PlannedRound) (number : ℕ) (round : PlannedRound) → number < length rounds → round
     ≡ get_or rounds number round

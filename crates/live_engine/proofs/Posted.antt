@@ -54,7 +54,7 @@ module _ (trace : GuestTrace) (skip : Bool) (table : TableView) (streams : ℕ) 
     (copiers : List Copier)
     (is : AreCopied trace skip table streams rows copiers) (count : length rows ≡ length copiers)
     (own : (i : ℕ) (copier : Copier) (page : ℕ) → slice_get copiers i ≡ Some copier → Contains (pages_of copier) page
-        ⊎ Contains copier.state.log.deferred page
+    ⊎ Contains copier.state.log.deferred page
     → page_copier table.start.copiers page ≡ i) where
   -- what the copier at a place did
   posted_at : (i : ℕ) (copier : Copier) → slice_get copiers i ≡ Some copier
@@ -83,30 +83,38 @@ module _ (trace : GuestTrace) (skip : Bool) (table : TableView) (streams : ℕ) 
       let copier = copier_at found.0 found.1 found.2 in
       let row : get_or rows found.0 [] ≡ found.1 = get_or_from_slice_get rows found.0 found.1 [] found.2 in
       any_at (λ outs. IsSentOn outs text) after found.0 copier.0.state.outs
-          (makes_at outs_by copiers found.0 copier.0 copier.1)
+      (makes_at outs_by copiers found.0 copier.0 copier.1)
       ((posted_at found.0 copier.0 copier.1).kept text (subst (λ outs. IsSentOn outs text) (sym row) found.3))
 
   new : (text : List ℕ) → IsSentBy after text
       → IsSentBy rows text ⊎ ((page : ℕ) × (place : ℕ) × Contains (round_of copiers).sent (page, place)
-          × SpellsPage trace page place text)
+      × SpellsPage trace page place text)
   new text sent =
       let found = any_there (λ outs. IsSentOn outs text) after sent in
       let copier = made_of outs_by copiers found.0 found.1 found.2 in
       elim ((posted_at found.0 copier.0 copier.1).new text
-          (subst (λ outs. IsSentOn outs text) (sym copier.2) found.3)) [
+      (subst (λ outs. IsSentOn outs text) (sym copier.2) found.3)) [
         | inl earlier ↦ inl (any_at (λ outs. IsSentOn outs text) rows found.0 (get_or rows found.0 [])
             (row_at found.0 copier.0 copier.1) earlier)
-        | inr now ↦ inr (now.0, now.1, in_all (λ (c : Copier). c.state.log.sent) copiers found.0 copier.0 (now.0, now.1)
-            copier.1 now.2, now.3)
+        | inr now ↦ inr (
+          now.0,
+          now.1,
+          in_all (λ (c : Copier). c.state.log.sent) copiers found.0 copier.0 (now.0, now.1)
+              copier.1 now.2,
+          now.3,
+        )
       ]
 
   all : (page place : ℕ) → Contains (round_of copiers).sent (page, place) → (text : List ℕ) × IsSentBy after text
       × SpellsPage trace page place text
   all page place sent =
       let found = in_piece (λ (c : Copier). c.state.log.sent) copiers (page, place) sent in
-      let text = (posted_at found.0 found.1 found.2).all page place found.3 in
-      (text.0, any_at (λ outs. IsSentOn outs text.0) after found.0 found.1.state.outs
-          (makes_at outs_by copiers found.0 found.1 found.2) text.1, text.2)
+      let text = (posted_at found.0 found.1 found.2).all page place found.3 in (
+        text.0,
+        any_at (λ outs. IsSentOn outs text.0) after found.0 found.1.state.outs
+            (makes_at outs_by copiers found.0 found.1 found.2) text.1,
+        text.2,
+      )
 
   abbrev by : ℕ → ℕ → Bool
   by i page = eqb (page_copier table.start.copiers page) i
@@ -122,15 +130,15 @@ module _ (trace : GuestTrace) (skip : Bool) (table : TableView) (streams : ℕ) 
       let row : get_or rows i [] ≡ old = get_or_from_slice_get rows i old [] there in
       let sum : frames_sent outs ≡ frames_sent old + length copier.0.state.log.sent =
       sym (ap frames_sent copier.2) ∙ posted.count
-          ∙ ap (λ (o : List OutView). frames_sent o + length copier.0.state.log.sent) row in
+      ∙ ap (λ (o : List OutView). frames_sent o + length copier.0.state.log.sent) row in
       let size : length (pages_of copier.0) ≡ length copier.0.state.log.sent = length-map copier.0.state.log.sent
-          (λ (s : ℕ × ℕ). s.0) in
+      (λ (s : ℕ × ℕ). s.0) in
       let whole : count_by (by i) (pages_of copier.0) ≡ length (pages_of copier.0) =
       count_whole (by i) (pages_of copier.0) (λ page c. eq-eqb (page_copier table.start.copiers page) i
-          (own i copier.0 page copier.1 (inl c))) in
+      (own i copier.0 page copier.1 (inl c))) in
       let piece = count_piece (by i) pages_of copiers i copier.0 copier.1 in
       let same : count_by (by i) (flat_map pages_sent (round_of copiers ∷ []))
-          ≡ count_by (by i) (flat_map pages_of copiers) = ap (count_by (by i)) pages_sent_by in
+      ≡ count_by (by i) (flat_map pages_of copiers) = ap (count_by (by i)) pages_sent_by in
       omega (arith, sum, size, whole, piece, same)
 
   crowded : (page : ℕ) → Contains (round_of copiers).deferred page
@@ -152,7 +160,7 @@ module _ (trace : GuestTrace) (skip : Bool) (table : TableView) (streams : ℕ) 
       let low_after : i < length after = omega (arith, low, length-map after ids) in
       get_or-map ids after i copier.0.state.outs d low_after
       ∙ ap ids (get_or_from_slice_get after i copier.0.state.outs copier.0.state.outs
-          (makes_at outs_by copiers i copier.0 copier.1))
+      (makes_at outs_by copiers i copier.0 copier.1))
       ∙ (posted_at i copier.0 copier.1).lanes ∙ sym (get_or-map ids rows i [] d inside))
 
   pub have_posted : HavePosted trace table.start.copiers (round_of copiers) rows (map outs_by copiers)

@@ -30,7 +30,7 @@ idle_guests trace table from to guests is = record {
   count = is.count;
   each = λ number guest there.
       let r : IsReplayed trace table from to number guest = each_got
-          (λ (g : GuestView) (n : ℕ). IsReplayed trace table from to n g) guests number guest is.each there in
+      (λ (g : GuestView) (n : ℕ). IsReplayed trace table from to n g) guests number guest is.each there in
       record { table_is = r.table_is; number_is = r.number_is; pending = r.replayed.pending };
 }
 
@@ -41,9 +41,9 @@ idle_copiers trace skip table streams rows copiers seats same is = record {
   count = ap length same ∙ length-map copiers (λ (c : Copier). c.seat) ∙ is.count;
   each = λ number seat there.
       let found = made_of (λ (c : Copier). c.seat) copiers number seat
-          (ap (λ (s : List CopyView). slice_get s number) (sym same) ∙ there) in
+      (ap (λ (s : List CopyView). slice_get s number) (sym same) ∙ there) in
       let c : IsCopied trace skip table streams rows found.0 number = each_got (IsCopied trace skip table streams rows)
-          copiers number found.0 is.each found.1 in
+      copiers number found.0 is.each found.1 in
       record {
         table_is = ap copy_table (sym found.2) ∙ c.table_is;
         number_is = ap (λ (s : CopyView). s.facts.number) (sym found.2) ∙ c.number_is;
@@ -65,22 +65,22 @@ pub all_states : (trace : GuestTrace) (skip : Bool) (table : TableView) (streams
     → AreCopied trace skip table streams rows copiers → All (IsCopierState trace streams) states
 all_states trace skip table streams rows copiers states same is =
     all_made (λ (c : Copier). c.state) (IsCopierState trace streams) copiers states same
-        (λ i c there. (each_got (IsCopied trace skip table streams rows) copiers i c is.each there).is_state)
+    (λ i c there. (each_got (IsCopied trace skip table streams rows) copiers i c is.each there).is_state)
 
 lists_are : (copiers : List Copier) (states : List CopierStateView) → states ≡ map (λ (c : Copier). c.state) copiers
     → round_of copiers ≡ lists_of states
 lists_are copiers states same = λ i. live_round_with
     (sym (ap (flat_map (λ (d : CopierStateView). d.log.sent)) same
-        ∙ flat_map-map (λ (d : CopierStateView). d.log.sent) (λ (c : Copier). c.state) copiers) i)
+    ∙ flat_map-map (λ (d : CopierStateView). d.log.sent) (λ (c : Copier). c.state) copiers) i)
     (sym (ap (flat_map (λ (d : CopierStateView). d.log.skipped)) same
-        ∙ flat_map-map (λ (d : CopierStateView). d.log.skipped) (λ (c : Copier). c.state) copiers) i)
+    ∙ flat_map-map (λ (d : CopierStateView). d.log.skipped) (λ (c : Copier). c.state) copiers) i)
     (sym (ap (flat_map (λ (d : CopierStateView). d.log.deferred)) same
-        ∙ flat_map-map (λ (d : CopierStateView). d.log.deferred) (λ (c : Copier). c.state) copiers) i)
+    ∙ flat_map-map (λ (d : CopierStateView). d.log.deferred) (λ (c : Copier). c.state) copiers) i)
 
 pub opens_so : (trace : GuestTrace) (from : ℕ) (start : Start) (closed : ClosedView) (guests copiers : ℕ) → start
     ≡ start_with closed.versions closed.dirty guests copiers
     → length closed.versions ≡ trace.pages → ((page : ℕ) → page < trace.pages → slice_index closed.versions page
-        ≡ version_before trace page from) → OpensAt trace from start
+    ≡ version_before trace page from) → OpensAt trace from start
 opens_so trace from start closed guests copiers same size versions =
     subst (λ (s : Start). OpensAt trace from s) (sym same) (record { pages = size; places = versions })
 
@@ -88,32 +88,32 @@ opens_so trace from start closed guests copiers same size versions =
 pub closed_is : (trace : GuestTrace) (skip : Bool) (table : TableView) (from to streams : ℕ)
     (rows : List (List OutView)) (guests : List GuestView) (copiers : List Copier) (seats : List CopyView)
     (after : ClosedView) → from ≤ to → OpensAt trace from table.start → IsStart table.start
-        → AreReplayed trace table from to guests → AreCopied trace skip table streams rows copiers
+    → AreReplayed trace table from to guests → AreCopied trace skip table streams rows copiers
     → seats ≡ map (λ (c : Copier). c.seat) copiers → EachPageLeft table.start guests seats after
-        → IsStart (start_with after.versions after.dirty table.start.guests table.start.copiers)
+    → IsStart (start_with after.versions after.dirty table.start.guests table.start.copiers)
     → IsClosedRound trace skip table from to streams rows guests copiers after
 closed_is trace skip table from to streams rows guests copiers seats after span opens start replayed copied seats_are
     left next = record {
-  span = span;
-  opens = opens;
-  is_start = start;
-  replayed = replayed;
-  copied = copied;
-  left = subst (λ (s : List CopyView). EachPageLeft table.start guests s after) seats_are left;
-  next = next;
-}
+      span = span;
+      opens = opens;
+      is_start = start;
+      replayed = replayed;
+      copied = copied;
+      left = subst (λ (s : List CopyView). EachPageLeft table.start guests s after) seats_are left;
+      next = next;
+    }
 
 pub round_is : (trace : GuestTrace) (skip : Bool) (table : TableView) (from to streams replayers workers : ℕ)
     (rows : List (List OutView)) (guests : List GuestView) (copiers : List Copier)
     (states : List CopierStateView) (before after : ClosedView)
-        → IsClosedRound trace skip table from to streams rows guests copiers after
+    → IsClosedRound trace skip table from to streams rows guests copiers after
     → table.start ≡ start_with before.versions before.dirty replayers workers → states
-        ≡ map (λ (c : Copier). c.state) copiers
+    ≡ map (λ (c : Copier). c.state) copiers
     → IsRound trace skip workers before.dirty from to after (lists_of states)
 round_is trace skip table from to streams replayers workers rows guests copiers states before after closed same
     states_are =
     subst (λ (r : LiveRound). IsRound trace skip workers before.dirty from to after r)
-        (lists_are copiers states states_are)
+    (lists_are copiers states states_are)
     (subst (λ (s : Start). IsRound trace skip s.copiers s.dirty from to after (round_of copiers)) same
     (round_left trace skip table from to streams rows guests copiers after closed))
 
@@ -121,12 +121,12 @@ round_is trace skip table from to streams replayers workers rows guests copiers 
 pub posts_are : (trace : GuestTrace) (skip : Bool) (table : TableView) (from to streams : ℕ)
     (rows : List (List OutView)) (guests : List GuestView) (copiers : List Copier)
     (states : List CopierStateView) (after : ClosedView)
-        → IsClosedRound trace skip table from to streams rows guests copiers after → length rows ≡ length copiers
+    → IsClosedRound trace skip table from to streams rows guests copiers after → length rows ≡ length copiers
     → states ≡ map (λ (c : Copier). c.state) copiers
-        → HavePosted trace table.start.copiers (lists_of states) rows (rows_of states)
+    → HavePosted trace table.start.copiers (lists_of states) rows (rows_of states)
 posts_are trace skip table from to streams rows guests copiers states after is count same =
     let posted = have_posted trace skip table streams rows copiers is.copied count
-        (λ i copier page there either. elim either [
+    (λ i copier page there either. elim either [
       | inl sent ↦ (listing trace skip table from to streams rows guests copiers after is i copier page there
           (inl sent)).1
       | inr deferred ↦ (listing trace skip table from to streams rows guests copiers after is i copier page there
@@ -135,7 +135,7 @@ posts_are trace skip table from to streams rows guests copiers states after is c
     let rows_are : map (λ (c : Copier). c.state.outs) copiers ≡ rows_of states =
     sym (ap rows_of same ∙ map-map (λ (d : CopierStateView). d.outs) (λ (c : Copier). c.state) copiers) in
     subst (λ (r : LiveRound). HavePosted trace table.start.copiers r rows (rows_of states))
-        (lists_are copiers states same)
+    (lists_are copiers states same)
     (subst (HavePosted trace table.start.copiers (round_of copiers) rows) rows_are posted)
 
 -- what a round did and left, and what its copiers posted, when all its threads have ended and its table is closed
@@ -143,17 +143,17 @@ pub round_done : (trace : GuestTrace) (skip : Bool) (table : TableView) (from to
     (first : List CopierStateView) (guests : List GuestView)
     (copiers : List Copier) (seats : List CopyView) (states : List CopierStateView) (before after : ClosedView)
     → table.start ≡ start_with before.versions before.dirty replayers workers → IsStart table.start → from ≤ to
-        → OpensAt trace from table.start → length first ≡ workers
+    → OpensAt trace from table.start → length first ≡ workers
     → AreReplayed trace table from to guests → AreCopied trace skip table streams (rows_of first) copiers → seats
-        ≡ map (λ (c : Copier). c.seat) copiers
+    ≡ map (λ (c : Copier). c.seat) copiers
     → states ≡ map (λ (c : Copier). c.state) copiers → EachPageLeft table.start guests seats after
     → IsStart (start_with after.versions after.dirty table.start.guests table.start.copiers)
     → IsRound trace skip workers before.dirty from to after (lists_of states)
-        × HavePosted trace workers (lists_of states) (rows_of first) (rows_of states)
+    × HavePosted trace workers (lists_of states) (rows_of first) (rows_of states)
 round_done trace skip table from to streams replayers workers first guests copiers seats states before after start_is
     start span opens count replayed copied seats_are states_are left next =
     let closed = closed_is trace skip table from to streams (rows_of first) guests copiers seats after span opens start
-        replayed copied seats_are left next in
+    replayed copied seats_are left next in
     let workers_are : table.start.copiers ≡ workers = ap (λ (s : Start). s.copiers) start_is in (
       round_is trace skip table from to streams replayers workers (rows_of first) guests copiers states before after
           closed start_is states_are,

@@ -18,9 +18,12 @@ pub fst_in : (sent : List (ℕ × ℕ)) (page place : ℕ) → Contains sent (pa
     → Contains (map (λ (s : ℕ × ℕ). s.0) sent) page
 fst_in sent page place c =
     let len : length (map (λ (s : ℕ × ℕ). s.0) sent) ≡ length sent = length-map sent (λ (s : ℕ × ℕ). s.0) in
-    let low = c.1 in
-    (c.0, omega (arith, low, len), get_or-map (λ (s : ℕ × ℕ). s.0) sent c.0 (page, place) page c.1
-        ∙ ap (λ (s : ℕ × ℕ). s.0) c.2)
+    let low = c.1 in (
+      c.0,
+      omega (arith, low, len),
+      get_or-map (λ (s : ℕ × ℕ). s.0) sent c.0 (page, place) page c.1
+          ∙ ap (λ (s : ℕ × ℕ). s.0) c.2,
+    )
 
 pub place_of : (sent : List (ℕ × ℕ)) (page : ℕ) → Contains (map (λ (s : ℕ × ℕ). s.0) sent) page → (place : ℕ)
     × Contains sent (page, place)
@@ -57,23 +60,23 @@ pairs_append {X} R xs ys front back across i j d lt low =
           let at_i : get_or (xs ++ ys) i d ≡ get_or xs i d = get_or_append_left xs ys d i (omega (arith, lt, inside)) in
           let at_j : get_or (xs ++ ys) j d ≡ get_or xs j d = get_or_append_left xs ys d j inside in
           subst (λ x. R x (get_or (xs ++ ys) j d)) (sym at_i)
-              (subst (λ y. R (get_or xs i d) y) (sym at_j) (front i j d lt inside))
+          (subst (λ y. R (get_or xs i d) y) (sym at_j) (front i j d lt inside))
       | inr behind ↦
           let place : j ≡ length xs + (j - length xs) = omega (arith, behind) in
           let at_j : get_or (xs ++ ys) j d ≡ get_or ys (j - length xs) d = ap (λ (k : ℕ). get_or (xs ++ ys) k d) place
-              ∙ get_or-append-add xs ys (j - length xs) d in
+          ∙ get_or-append-add xs ys (j - length xs) d in
           elim (cases_lt i (length xs)) [
             | inl early ↦
                 let at_i : get_or (xs ++ ys) i d ≡ get_or xs i d = get_or_append_left xs ys d i early in
                 subst (λ x. R x (get_or (xs ++ ys) j d)) (sym at_i) (subst (λ y. R (get_or xs i d) y) (sym at_j)
                 (across (get_or xs i d) (get_or ys (j - length xs) d) (Contains-get_or xs i d early)
-                    (Contains-get_or ys (j - length xs) d (omega (arith, low, len, behind)))))
+                (Contains-get_or ys (j - length xs) d (omega (arith, low, len, behind)))))
             | inr late ↦
                 let place_i : i ≡ length xs + (i - length xs) = omega (arith, late) in
                 let at_i : get_or (xs ++ ys) i d ≡ get_or ys (i - length xs) d = ap (λ (k : ℕ). get_or (xs ++ ys) k d)
-                    place_i ∙ get_or-append-add xs ys (i - length xs) d in
+                place_i ∙ get_or-append-add xs ys (i - length xs) d in
                 subst (λ x. R x (get_or (xs ++ ys) j d)) (sym at_i)
-                    (subst (λ y. R (get_or ys (i - length xs) d) y) (sym at_j)
+                (subst (λ y. R (get_or ys (i - length xs) d) y) (sym at_j)
                 (back (i - length xs) (j - length xs) d (omega (arith, lt, late)) (omega (arith, low, len, behind))))
           ]
     ]
@@ -93,19 +96,22 @@ one_copier copiers number pages up own i j d lt low =
 -- Rising pages of each of the copiers from a number on, in order.
 pub in_scan_order : {X : Type 0} (copiers : ℕ) (f : X → List ℕ) (first : ℕ) (xs : List X)
     → ((i : ℕ) (x : X) → slice_get xs i ≡ Some x → IsStrictlyIncreasing (f x)
-        × ((page : ℕ) → Contains (f x) page → page_copier copiers page ≡ first + i))
+    × ((page : ℕ) → Contains (f x) page → page_copier copiers page ≡ first + i))
     → IsInScanOrder copiers (flat_map f xs)
 in_scan_order copiers f first [] all = λ i j d lt low. absurd (omega (arith, low))
 in_scan_order {X} copiers f first (x ∷ xs) all =
     let own = all 0 x refl in
     let here : (page : ℕ) → Contains (f x) page → page_copier copiers page ≡ first = λ page c. own.1 page c
-        ∙ (let e : first + 0 ≡ first = omega arith in e) in
+    ∙ (let e : first + 0 ≡ first = omega arith in e) in
     let rest : (i : ℕ) (y : X) → slice_get xs i ≡ Some y → IsStrictlyIncreasing (f y)
-        × ((page : ℕ) → Contains (f y) page → page_copier copiers page ≡ first + 1 + i) =
-    λ i y there. let a = all (suc i) y there in (a.0, λ page c. a.1 page c
-        ∙ (let e : first + suc i ≡ first + 1 + i = omega arith in e)) in
+    × ((page : ℕ) → Contains (f y) page → page_copier copiers page ≡ first + 1 + i) =
+    λ i y there. let a = all (suc i) y there in (
+      a.0,
+      λ page c. a.1 page c
+          ∙ (let e : first + suc i ≡ first + 1 + i = omega arith in e),
+    ) in
     pairs_append (In copiers) (f x) (flat_map f xs) (one_copier copiers first (f x) own.0 here)
-        (in_scan_order copiers f (first + 1) xs rest)
+    (in_scan_order copiers f (first + 1) xs rest)
     (λ p q in_first in_rest.
     let found = in_piece f xs q in_rest in
     let later = (rest found.0 found.1 found.2).1 q found.3 in

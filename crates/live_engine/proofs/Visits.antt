@@ -15,8 +15,11 @@ pub last_is_visit : (visits : Visits) (page place : ℕ) → last_visit visits p
     → IsVisited visits page place
 last_is_visit [] page place is = absurd (none-some place is)
 last_is_visit (v ∷ vs) page place is = elim (cases_eq v.0 page) [
-  | inl e ↦ inl (e, same_Some v.1 place (sym (cond-true (eqb v.0 page) (Some v.1) (last_visit vs page)
-      (eq-eqb v.0 page e)) ∙ is))
+  | inl e ↦ inl (
+    e,
+    same_Some v.1 place (sym (cond-true (eqb v.0 page) (Some v.1) (last_visit vs page)
+        (eq-eqb v.0 page e)) ∙ is),
+  )
   | inr apart ↦ inr (last_is_visit vs page place (sym
       (cond-false (eqb v.0 page) (Some v.1) (last_visit vs page) (ne_eqb v.0 page apart)) ∙ is))
 ]
@@ -50,12 +53,12 @@ rises_to before [] page up = omega arith
 rises_to before (v ∷ vs) page up = elim (cases_eq v.0 page) [
   | inl e ↦
       let last : place_after before (v ∷ vs) page ≡ v.1 = ap (λ (o : Option ℕ). unwrap_or o before)
-          (cond-true (eqb v.0 page) (Some v.1) (last_visit vs page) (eq-eqb v.0 page e)) in
+      (cond-true (eqb v.0 page) (Some v.1) (last_visit vs page) (eq-eqb v.0 page e)) in
       omega (arith, last, up.0 e, rises_to before vs page up.1)
   | inr apart ↦
       let last : place_after before (v ∷ vs) page ≡ place_after before vs page =
       ap (λ (o : Option ℕ). unwrap_or o before) (cond-false (eqb v.0 page) (Some v.1) (last_visit vs page)
-          (ne_eqb v.0 page apart)) in
+      (ne_eqb v.0 page apart)) in
       omega (arith, last, rises_to before vs page up.1)
 ]
 
@@ -65,7 +68,7 @@ visits_below before [] page place up is = absurd is
 visits_below before (v ∷ vs) page place up is = elim (cases_eq v.0 page) [
   | inl e ↦
       let last : place_after before (v ∷ vs) page ≡ v.1 = ap (λ (o : Option ℕ). unwrap_or o before)
-          (cond-true (eqb v.0 page) (Some v.1) (last_visit vs page) (eq-eqb v.0 page e)) in
+      (cond-true (eqb v.0 page) (Some v.1) (last_visit vs page) (eq-eqb v.0 page e)) in
       elim is [
         | inl same ↦ omega (arith, last, same.1)
         | inr earlier ↦ omega (arith, last, up.0 e, visits_below before vs page place up.1 earlier)
@@ -73,7 +76,7 @@ visits_below before (v ∷ vs) page place up is = elim (cases_eq v.0 page) [
   | inr apart ↦
       let last : place_after before (v ∷ vs) page ≡ place_after before vs page =
       ap (λ (o : Option ℕ). unwrap_or o before) (cond-false (eqb v.0 page) (Some v.1) (last_visit vs page)
-          (ne_eqb v.0 page apart)) in
+      (ne_eqb v.0 page apart)) in
       elim is [
         | inl same ↦ absurd (apart same.0)
         | inr earlier ↦ omega (arith, last, visits_below before vs page place up.1 earlier)
@@ -85,9 +88,13 @@ visits_below before (v ∷ vs) page place up is = elim (cases_eq v.0 page) [
 pub place_is_written : (trace : GuestTrace) (page from to place : ℕ) → IsPlaceOf trace page from to place
     → IsWritten trace from to page
 place_is_written trace page from to place is =
-    let low = slice_get_within trace.writes (place - 1) is.write is.there in
-    (place - 1, is.write, low, get_or_from_slice_get trace.writes (place - 1) is.write is.write is.there,
-        (is.page_is, is.low, is.high))
+    let low = slice_get_within trace.writes (place - 1) is.write is.there in (
+      place - 1,
+      is.write,
+      low,
+      get_or_from_slice_get trace.writes (place - 1) is.write is.write is.there,
+      (is.page_is, is.low, is.high),
+    )
 
 pub written_has_place : (trace : GuestTrace) (page from to : ℕ) → IsWritten trace from to page → (place : ℕ)
     × IsPlaceOf trace page from to place
@@ -112,13 +119,25 @@ version_stays trace page from to le none = elim (version_is_place trace page to)
   | inr is ↦ elim (cases_lt is.write.tick from) [
     | inl before ↦
         let low = version_is_greatest trace page 0 from (version_before trace page to)
-        (record { write = is.write; some = is.some; there = is.there; page_is = is.page_is; low = is.low; high = before
-            }) in
+        (record {
+          write = is.write;
+          some = is.some;
+          there = is.there;
+          page_is = is.page_is;
+          low = is.low;
+          high = before;
+        }) in
         let up = version_rises trace page from to le in
         omega (arith, low, up)
     | inr later ↦ absurd (none (place_is_written trace page from to (version_before trace page to)
-        (record { write = is.write; some = is.some; there = is.there; page_is = is.page_is; low = later; high = is.high
-            })))
+        (record {
+          write = is.write;
+          some = is.some;
+          there = is.there;
+          page_is = is.page_is;
+          low = later;
+          high = is.high;
+        })))
   ]
 ]
 
@@ -143,18 +162,32 @@ pub version_stored : (trace : GuestTrace) (page from to before : ℕ) (stores : 
     → place_after before stores page ≡ version_before trace page to
 version_stored trace page from to before stores le opening up stored all =
     let low : place_after before stores page ≤ version_before trace page to = last_case trace page from to before stores
-        (last_visit stores page) le opening stored refl in
+    (last_visit stores page) le opening stored refl in
     let high : version_before trace page to ≤ place_after before stores page = elim (version_is_place trace page to) [
       | inl zero ↦ omega (arith, zero)
       | inr is ↦ elim (cases_lt is.write.tick from) [
         | inl earlier ↦
             let first = version_is_greatest trace page 0 from (version_before trace page to)
-            (record { write = is.write; some = is.some; there = is.there; page_is = is.page_is; low = is.low; high =
-                earlier }) in
+            (record {
+              write = is.write;
+              some = is.some;
+              there = is.there;
+              page_is = is.page_is;
+              low = is.low;
+              high =
+                  earlier;
+            }) in
             omega (arith, first, opening, rises_to before stores page up)
         | inr later ↦ visits_below before stores page (version_before trace page to) up
-            (all (version_before trace page to) (record { write = is.write; some = is.some; there = is.there; page_is =
-                is.page_is; low = later; high = is.high }))
+            (all (version_before trace page to) (record {
+              write = is.write;
+              some = is.some;
+              there = is.there;
+              page_is =
+                  is.page_is;
+              low = later;
+              high = is.high;
+            }))
       ]
     ] in
     omega (arith, low, high)

@@ -10,9 +10,9 @@ ghost use Rattle.migration_model.specs.Touches.{touches_of};
 ghost use Rattle.page_versions.specs.Index.{IsIndexOf};
 
 use crate::error::LiveError;
+use crate::live_round::{LiveRound, list};
 use crate::opening::{Team, versions_before};
 use crate::receivers::Signals;
-use crate::live_round::{LiveRound, list};
 use crate::threads::{Crew, run_crew};
 use crate::warm::pages_lacking;
 use dirty_core::Opening;

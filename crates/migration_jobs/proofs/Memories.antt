@@ -21,7 +21,7 @@ pub image_large : (trace : GuestTrace) → IsTrace trace → IsAsLarge trace (im
 image_large trace is =
     let none = replicate (trace.pages * 2 ^ trace.shift) 0 in
     let after = length-applied trace.version trace.shift trace.pages trace.writes none
-        (length-replicate (trace.pages * 2 ^ trace.shift) 0) is.writes.each in
+    (length-replicate (trace.pages * 2 ^ trace.shift) 0) is.writes.each in
     subst (IsAsLarge trace) (sym after.1) (record { shift = refl; pages = refl; len = after.2 })
 
 -- the memory that is shown is as large as the trace says

@@ -26,7 +26,7 @@ pub wrote_more : (old mid new : Option (List ℕ)) (a b : ℕ) (xs : List ℕ) �
     → Appends old new (between 0 b xs)
 wrote_more old mid new a b xs rise before more =
     subst (Appends old new) (between_more 0 a b xs (omega arith) rise)
-        (Appends-then old mid new (between 0 a xs) (between a b xs) before more)
+    (Appends-then old mid new (between 0 a xs) (between a b xs) before more)
 
 -- the first bytes of a piece are the first bytes behind those in front of it
 cut : (j m : ℕ) (ys : List ℕ) → (k : ℕ) × (take j (take m ys) ≡ take k ys)
@@ -39,9 +39,11 @@ cut j m ys = elim (cases_lt j m) [
 pub wrote_part : (old mid new : Option (List ℕ)) (a b : ℕ) (xs : List ℕ) → Appends old mid (between 0 a xs)
     → AppendsPart mid new (between a b xs) → AppendsPart old new xs
 wrote_part old mid new a b xs before part =
-    let short = cut part.0 (b - a) (drop a xs) in
-    (a + short.0, Appends-more old mid new xs a short.0 (subst (Appends old mid) (between_from_start xs a) before)
-        (subst (Appends mid new) short.1 part.1))
+    let short = cut part.0 (b - a) (drop a xs) in (
+      a + short.0,
+      Appends-more old mid new xs a short.0 (subst (Appends old mid) (between_from_start xs a) before)
+          (subst (Appends mid new) short.1 part.1),
+    )
 
 -- all bytes that are written are a part of them
 pub wrote_all : (old mid new : Option (List ℕ)) (xs : List ℕ) → Appends old mid xs → Keeps mid new

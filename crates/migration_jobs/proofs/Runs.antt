@@ -62,7 +62,7 @@ pub image_made : (known : Option (List ℕ)) (header : Header) (start made : Gue
     → IsAllVisited (λ writes. fold apply start writes ≡ made) known header → IsImageOf known bytes
 image_made known header start made bytes blank is all =
     let same : start ≡ zeros all.trace.shift all.trace.pages = blank
-        ∙ (λ i. zeros (sym all.shift i) (sym all.pages i)) in (
+    ∙ (λ i. zeros (sym all.shift i) (sym all.pages i)) in (
       all.trace,
       all.is_trace,
       all.held,

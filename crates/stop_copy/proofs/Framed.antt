@@ -19,13 +19,13 @@ IsCurrentFrame-from trace versions page shape frame bytes shape_is fits page_is 
   copy = same_copy (copy_in (shape_of_trace trace) frame) (current_copy trace versions frame.page)
       (stamp ∙ ap (λ p. get_or versions p 0) (sym page_is))
       (ap (λ (s : GuestShape). content_of s frame) (sym shape_is) ∙ content ∙ is
-          ∙ ap (λ p. page_at trace p (get_or versions p 0)) (sym page_is));
+      ∙ ap (λ p. page_at trace p (get_or versions p 0)) (sym page_is));
 }
 
 pub AreCurrentFrames-more : (trace : GuestTrace) (versions pages : List ℕ) (i page : ℕ) (frames : List PageFrame)
     (frame : PageFrame) → i < length pages
     → page ≡ get_or pages i page → AreCurrentFrames trace versions (take i pages) frames
-        → IsCurrentFrame trace versions frame → frame.page ≡ page
+    → IsCurrentFrame trace versions frame → frame.page ≡ page
     → AreCurrentFrames trace versions (take (i + 1) pages) (frames ++ frame ∷ [])
 AreCurrentFrames-more trace versions pages i page frames frame low is before current own = record {
   pages_are = map_push (λ (f : PageFrame). f.page) frames frame ∙ (λ j. before.pages_are j ++ own j ∷ [])

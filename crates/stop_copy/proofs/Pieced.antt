@@ -21,7 +21,7 @@ pub whole-next : {H : Type 0} (pages_of : H → List ℕ) (hs : List H) (h : H) 
     → pages_of h ≡ piece → piece ++ behind ≡ rest → flat_map pages_of (hs ++ h ∷ []) ++ behind ≡ pages
 whole-next {H} pages_of hs h piece behind rest pages whole own cut =
     ap (λ (l : List ℕ). l ++ behind) (flat_map-append pages_of hs (h ∷ [])
-        ∙ ap (λ (l : List ℕ). flat_map pages_of hs ++ l) (append-nil (pages_of h) ∙ own))
+    ∙ ap (λ (l : List ℕ). flat_map pages_of hs ++ l) (append-nil (pages_of h) ∙ own))
     ∙ append_assoc (flat_map pages_of hs) piece behind ∙ ap (λ (l : List ℕ). flat_map pages_of hs ++ l) cut ∙ whole
 
 flat-map : {H : Type 0} (pages_of : H → List ℕ) (hs : List H) → flat_map (λ (piece : List ℕ). piece) (map pages_of hs)
@@ -40,7 +40,7 @@ pub AreMade-from_each : {H : Type 0} (trace : GuestTrace) (versions : List ℕ) 
     (made : List MadeOne) → length made ≡ length hs
     → ((i : ℕ) (d : MadeOne) → i < length hs
     → (h : H) × (h ≡ get_or hs i h) × IfOk (get_or made i d)
-        (λ frames. AreCurrentFrames trace versions (pages_of h) frames.items))
+    (λ frames. AreCurrentFrames trace versions (pages_of h) frames.items))
     → AreMade trace versions (map pages_of hs) made
 AreMade-from_each trace versions pages_of [] [] len each = tt
 AreMade-from_each trace versions pages_of [] (m ∷ ms) len each = absurd (omega (arith, len))
@@ -73,7 +73,7 @@ AreJoined-first trace versions pages made are = record {
 next-piece : (trace : GuestTrace) (versions pages done : List ℕ) (left : List (List ℕ)) (frames : List PageFrame)
     (piece : Vec PageFrame) (rest : List MadeOne)
     → done ++ flat_map (λ (piece : List ℕ). piece) left ≡ pages → AreCurrentFrames trace versions done frames
-        → AreMade trace versions left (Ok piece ∷ rest)
+    → AreMade trace versions left (Ok piece ∷ rest)
     → AreJoined trace versions pages (frames ++ piece.items) rest
 next-piece trace versions pages done [] frames piece rest whole before made = absurd made
 next-piece trace versions pages done (p ∷ ps) frames piece rest whole before made = record {
@@ -91,10 +91,10 @@ next-piece trace versions pages done (p ∷ ps) frames piece rest whole before m
 pub AreJoined-next : (trace : GuestTrace) (versions pages : List ℕ) (frames : List PageFrame) (piece : Vec PageFrame)
     (rest : List MadeOne)
     → AreJoined trace versions pages frames (Ok piece ∷ rest)
-        → AreJoined trace versions pages (frames ++ piece.items) rest
+    → AreJoined trace versions pages (frames ++ piece.items) rest
 AreJoined-next trace versions pages frames piece rest so_far =
     next-piece trace versions pages so_far.done so_far.left frames piece rest so_far.whole so_far.frames_are
-        so_far.rest_is
+    so_far.rest_is
 
 nothing-left : (trace : GuestTrace) (versions : List ℕ) (left : List (List ℕ)) → AreMade trace versions left []
     → flat_map (λ (piece : List ℕ). piece) left ≡ []
@@ -106,7 +106,7 @@ AreJoined-last : (trace : GuestTrace) (versions pages : List ℕ) (frames : List
 AreJoined-last trace versions pages frames all =
     subst (λ (l : List ℕ). AreCurrentFrames trace versions l frames)
     (sym (append-nil all.done) ∙ ap (λ (l : List ℕ). all.done ++ l)
-        (sym (nothing-left trace versions all.left all.rest_is)) ∙ all.whole) all.frames_are
+    (sym (nothing-left trace versions all.left all.rest_is)) ∙ all.whole) all.frames_are
 
 pub AreJoined-end : (trace : GuestTrace) (versions pages : List ℕ) (frames : List PageFrame) (rest : List MadeOne)
     → length rest ≡ 0

@@ -18,8 +18,13 @@ later_is (Some f) c x e = elim (cases_Bool (ltb f.stamp c.stamp)) [
 later_of_two : (f c : PageCopy) → (x : PageCopy) × (later (Some f) (Some c) ≡ Some x) × (f.stamp ≤ x.stamp)
     × (c.stamp ≤ x.stamp)
 later_of_two f c = elim (cases_lt f.stamp c.stamp) [
-  | inl lt ↦ (c, cond-true (ltb f.stamp c.stamp) (Some c) (Some f) (lt-ltb f.stamp c.stamp lt), omega (arith, lt), omega
-      arith)
+  | inl lt ↦ (
+    c,
+    cond-true (ltb f.stamp c.stamp) (Some c) (Some f) (lt-ltb f.stamp c.stamp lt),
+    omega (arith, lt),
+    omega
+        arith,
+  )
   | inr ge ↦ elim (cases_Bool (ltb f.stamp c.stamp)) [
     | inl lt ↦ absurd (omega (arith, ge, ltb-true f.stamp c.stamp lt))
     | inr le ↦ (f, cond-false (ltb f.stamp c.stamp) (Some c) (Some f) le, omega arith, ge)
@@ -34,7 +39,7 @@ own_copy : (part : GuestPart) (frame : PageFrame) → IsPart part → IsFrame pa
     → copy_at (with_frame part frame) frame.page ≡ later (copy_at part frame.page) (Some (copy_in part.shape frame))
 own_copy part frame is fits =
     get_or-set_same part.copies frame.page (later (copy_at part frame.page) (Some (copy_in part.shape frame))) None
-        (omega (arith, fits.page, is.places))
+    (omega (arith, fits.page, is.places))
 
 other_copy : (part : GuestPart) (frame : PageFrame) (page : ℕ) → (page ≡ frame.page → ⊥)
     → copy_at (with_frame part frame) page ≡ copy_at part page
@@ -48,9 +53,9 @@ pub one_had : (part : GuestPart) (frame : PageFrame) (page : ℕ) (copy : PageCo
 one_had part frame page copy is fits there = elim (cases_eq page frame.page) [
   | inl e ↦ elim (later_is (copy_at part frame.page) (copy_in part.shape frame) copy
       (sym (own_copy part frame is fits) ∙ ap (copy_at (with_frame part frame)) (sym e) ∙ there)) [
-    | inl old ↦ inl (ap (copy_at part) e ∙ old)
-    | inr new ↦ inr (sym e, new)
-  ]
+        | inl old ↦ inl (ap (copy_at part) e ∙ old)
+        | inr new ↦ inr (sym e, new)
+      ]
   | inr apart ↦ inl (sym (other_copy part frame page apart) ∙ there)
 ]
 
@@ -61,9 +66,12 @@ pub one_kept : (part : GuestPart) (frame : PageFrame) (page : ℕ) (copy : PageC
 one_kept part frame page copy is fits there = elim (cases_eq page frame.page) [
   | inl e ↦
       let two = later_of_two copy (copy_in part.shape frame) in
-      let here : copy_at part frame.page ≡ Some copy = ap (copy_at part) (sym e) ∙ there in
-      (two.0, ap (copy_at (with_frame part frame)) e ∙ own_copy part frame is fits
-          ∙ ap (λ (o : Option PageCopy). later o (Some (copy_in part.shape frame))) here ∙ two.1, two.2)
+      let here : copy_at part frame.page ≡ Some copy = ap (copy_at part) (sym e) ∙ there in (
+        two.0,
+        ap (copy_at (with_frame part frame)) e ∙ own_copy part frame is fits
+            ∙ ap (λ (o : Option PageCopy). later o (Some (copy_in part.shape frame))) here ∙ two.1,
+        two.2,
+      )
   | inr apart ↦ (copy, other_copy part frame page apart ∙ there, omega arith)
 ]
 

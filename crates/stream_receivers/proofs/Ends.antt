@@ -20,13 +20,13 @@ holds_at P xs k x all there = subst P (get_or_from_slice_get xs k x x there) (al
 pub new_ends : (workers streams capacity : ℕ) (rows columns : List (Vec OutView Global))
     (ins : List (Vec InView Global)) (stream : ℕ) (column : Vec OutView Global)
     (row : Vec InView Global) → IsGrid workers streams capacity rows ins → AreColumns streams rows columns
-        → slice_get columns stream ≡ Some column
+    → slice_get columns stream ≡ Some column
     → slice_get ins stream ≡ Some row → AreNewEnds column.items row.items
 new_ends workers streams capacity rows columns ins stream column row grid turned column_is row_is =
     let height : length column.items ≡ length rows = holds_at (λ (c : Vec OutView Global). length c.items ≡ length rows)
-        columns stream column turned.sizes column_is in
+    columns stream column turned.sizes column_is in
     let width : length row.items ≡ workers = holds_at (λ (r : Vec InView Global). length r.items ≡ workers) ins stream
-        row grid.in_rows row_is in
+    row grid.in_rows row_is in
     record {
       are_ends = record {
         count = height ∙ grid.workers_are ∙ sym width;
@@ -34,14 +34,14 @@ new_ends workers streams capacity rows columns ins stream column row grid turned
             let low = slice_get_within column.items worker out out_is in
             let outs = some_at rows worker (omega (arith, low, height)) in
             (grid.lanes worker stream outs.0 out row end outs.1
-                (sym (turned.same worker stream outs.0 column outs.1 column_is) ∙ out_is) row_is end_is).lane;
+            (sym (turned.same worker stream outs.0 column outs.1 column_is) ∙ out_is) row_is end_is).lane;
       };
       nothing = λ worker end low.
           let there = slice_get-get_or row.items worker end low in
           let outs = some_at rows worker (omega (arith, low, width, grid.workers_are)) in
           let out = some_at column.items worker (omega (arith, low, width, height, grid.workers_are)) in
           (grid.lanes worker stream outs.0 out.0 row (get_or row.items worker end) outs.1
-              (sym (turned.same worker stream outs.0 column outs.1 column_is) ∙ out.1) row_is there).taken;
+          (sym (turned.same worker stream outs.0 column outs.1 column_is) ∙ out.1) row_is there).taken;
     }
 
 lane_at : {X : Type 0} (lane : X → LaneId) (olds news : List X) (k : ℕ) (x : X) → map lane news ≡ map lane olds
@@ -63,7 +63,7 @@ same_ends outs outs_now ends ends_now are same_outs same_ins = record {
   count = sym (length-map outs_now (λ (out : OutView). out.lane)) ∙ ap length same_outs
       ∙ length-map outs (λ (out : OutView). out.lane) ∙ are.count
       ∙ sym (length-map ends (λ (end : InView). end.lane)) ∙ ap length (sym same_ins)
-          ∙ length-map ends_now (λ (end : InView). end.lane);
+      ∙ length-map ends_now (λ (end : InView). end.lane);
   each = λ worker out end out_is end_is.
       let o = lane_at (λ (out : OutView). out.lane) outs outs_now worker out same_outs out_is in
       let e = lane_at (λ (end : InView). end.lane) ends ends_now worker end same_ins end_is in

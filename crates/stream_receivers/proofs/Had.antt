@@ -44,18 +44,25 @@ has_nothing shape A is empty none = record {
 pub has_more : (shape : GuestShape) (A B : List ℕ → Type 0) (part : GuestPart) (text : List ℕ) (frame : PageFrame)
     → ((t : List ℕ) → A t → B t)
     → ((t : List ℕ) → B t → A t ⊎ (t ≡ text)) → B text → SpellsFrame shape text frame → HasFrames shape A part
-        → HasFrames shape B (with_frame part frame)
+    → HasFrames shape B (with_frame part frame)
 has_more shape A B part text frame to back here spells has =
     let fits : IsFrame part.shape frame = subst (λ (s : GuestShape). IsFrame s frame) (sym has.shape_is)
-        spells.is_frame in
+    spells.is_frame in
     let is : IsGuestShape shape = subst IsGuestShape has.shape_is has.is_part.shape in
     record {
       is_part = IsPart-with_frame part frame has.is_part fits;
       shape_is = has.shape_is;
       had = λ page copy there. elim (one_had part frame page copy has.is_part fits there) [
         | inl before ↦ let h = has.had page copy before in (h.0, h.1, to h.0 h.2, h.3, h.4, h.5)
-        | inr new ↦ (text, frame, here, spells, new.0, sym new.1
-            ∙ ap (λ (s : GuestShape). copy_in s frame) has.shape_is)
+        | inr new ↦ (
+          text,
+          frame,
+          here,
+          spells,
+          new.0,
+          sym new.1
+              ∙ ap (λ (s : GuestShape). copy_in s frame) has.shape_is,
+        )
       ];
       came = λ t f b spells_f. elim (back t b) [
         | inl before ↦
@@ -64,9 +71,9 @@ has_more shape A B part text frame to back here spells has =
             (kept.0, kept.1, omega (arith, first.2, kept.2))
         | inr last ↦
             let same : frame ≡ f = one_frame_lem shape text frame f is spells
-                (subst (λ (x : List ℕ). SpellsFrame shape x f) last spells_f) in
+            (subst (λ (x : List ℕ). SpellsFrame shape x f) last spells_f) in
             subst (λ (g : PageFrame). (copy : PageCopy) × (copy_at (with_frame part frame) g.page ≡ Some copy)
-                × (g.stamp ≤ copy.stamp)) same
+            × (g.stamp ≤ copy.stamp)) same
             (one_came part frame has.is_part fits)
       ];
     }
@@ -75,7 +82,7 @@ has_more shape A B part text frame to back here spells has =
 pub has_all : (shape : GuestShape) (A B : List ℕ → Type 0) (part : GuestPart) (frames : List PageFrame)
     → ((t : List ℕ) → A t → B t)
     → ((t : List ℕ) → B t → A t ⊎ Contains (map frame_text frames) t)
-        → ((t : List ℕ) → Contains (map frame_text frames) t → B t)
+    → ((t : List ℕ) → Contains (map frame_text frames) t → B t)
     → All (IsFrame shape) frames → HasFrames shape A part → HasFrames shape B (with_frames part frames)
 has_all shape A B part [] to back new fits has =
     has_same shape A B part to (λ t b. elim (back t b) [ inl a ↦ a | inr c ↦ absurd (omega (arith, c.1)) ]) has
@@ -93,4 +100,4 @@ has_all shape A B part (f ∷ fs) to back new fits has =
     ])
     (λ t c. new t (in_rest (frame_text f) t (map frame_text fs) c)) (All-tail (IsFrame shape) f fs fits)
     (has_more shape A A' part (frame_text f) f (λ t a. inl a) (λ t a. a) (inr refl)
-        (record { is_frame = one; text = refl }) has)
+    (record { is_frame = one; text = refl }) has)

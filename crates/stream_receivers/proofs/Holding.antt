@@ -19,8 +19,13 @@ use Rattle.stream_receivers.proofs.Texts.{texts_none, texts_one, texts_both}
 
 pub accepts_none : (part : GuestPart) (refusal : Option ReceiverError) → Accepts part part refusal refusal []
 accepts_none part None = record { shape = refl; kept = tt; taken = λ e. (refl, texts_none part); only = λ e all. tt }
-accepts_none part (Some error) = record { shape = refl; kept = refl; taken = λ e. absurd (cc e); only = λ e all. absurd
-    (cc e) }
+accepts_none part (Some error) = record {
+  shape = refl;
+  kept = refl;
+  taken = λ e. absurd (cc e);
+  only = λ e all. absurd
+      (cc e);
+}
 
 -- one text was taken, and nothing is refused
 pub accepts_taken : (old new : GuestPart) (refusal : Option ReceiverError) (text : List ℕ) → is_some refusal ≡ false
@@ -67,7 +72,7 @@ accepts_both old mid new a b c first second one two =
       only = λ e all.
           both_only b c (one.only e (all_front (Spells old.shape) first second all)) two.kept
           (λ none. two.only none (subst (λ (s : GuestShape). All (Spells s) second) (sym one.shape)
-              (all_back (Spells old.shape) first second all)));
+          (all_back (Spells old.shape) first second all)));
     }
 
 -- ---- a part that these texts come to
@@ -84,9 +89,9 @@ spelled_in shape (f ∷ fs) text fits c = elim (first_or_rest (frame_text f) tex
 held_refused : (shape : GuestShape) (A B : List ℕ → Type 0) (a b : Option ReceiverError) (texts : List (List ℕ))
     → ((t : List ℕ) → A t → B t)
     → ((t : List ℕ) → Contains texts t → B t) → (AreFrames shape A → IfSome a (λ e. e ≡ Memory))
-        → IfSome a (λ e. b ≡ Some e)
+    → IfSome a (λ e. b ≡ Some e)
     → (a ≡ None → All (λ text. (frame : PageFrame) × SpellsFrame shape text frame) texts → IfSome b (λ e. e ≡ Memory))
-        → AreFrames shape B → IfSome b (λ e. e ≡ Memory)
+    → AreFrames shape B → IfSome b (λ e. e ≡ Memory)
 held_refused shape A B None b texts to new refused kept only frames = only refl
     (λ k d low. frames (get_or texts k d) (new (get_or texts k d) (Contains-get_or texts k d low)))
 held_refused shape A B (Some e) b texts to new refused kept only frames =
@@ -95,7 +100,7 @@ held_refused shape A B (Some e) b texts to new refused kept only frames =
 pub held_more : (shape : GuestShape) (A B : List ℕ → Type 0) (old new : GuestPart) (a b : Option ReceiverError)
     (texts : List (List ℕ)) → old.shape ≡ shape
     → ((t : List ℕ) → A t → B t) → ((t : List ℕ) → B t → A t ⊎ Contains texts t)
-        → ((t : List ℕ) → Contains texts t → B t)
+    → ((t : List ℕ) → Contains texts t → B t)
     → Accepts old new a b texts → IsHeld shape A old a → IsHeld shape B new b
 held_more shape A B old new a b texts same to back more accepts held =
     let fits : (e : b ≡ None) → All (IsFrame shape) (accepts.taken e).1.frames = λ e.
@@ -106,19 +111,22 @@ held_more shape A B old new a b texts same to back more accepts held =
         | inr new_one ↦
             let takes = (accepts.taken e).1 in
             spelled_in shape takes.frames t (fits e)
-                (subst (λ (ts : List (List ℕ)). Contains ts t) takes.spelled new_one)
+            (subst (λ (ts : List (List ℕ)). Contains ts t) takes.spelled new_one)
       ];
       has = λ e.
           let takes = (accepts.taken e).1 in
           subst (λ (p : GuestPart). HasFrames shape B p) (sym takes.part)
           (has_all shape A B old takes.frames to
-          (λ t here. elim (back t here) [ inl before ↦ inl before | inr new_one ↦ inr
-              (subst (λ (ts : List (List ℕ)). Contains ts t) takes.spelled new_one) ])
+          (λ t here. elim (back t here) [
+            | inl before ↦ inl before
+            | inr new_one ↦ inr
+                (subst (λ (ts : List (List ℕ)). Contains ts t) takes.spelled new_one)
+          ])
           (λ t c. more t (subst (λ (ts : List (List ℕ)). Contains ts t) (sym takes.spelled) c)) (fits e)
-              (held.has (accepts.taken e).0));
+          (held.has (accepts.taken e).0));
       refused = held_refused shape A B a b texts to more held.refused accepts.kept
           (λ none all. accepts.only none (subst (λ (s : GuestShape). All
-              (λ text. (frame : PageFrame) × SpellsFrame s text frame) texts) (sym same) all));
+          (λ text. (frame : PageFrame) × SpellsFrame s text frame) texts) (sym same) all));
     }
 
 pub held_same : (shape : GuestShape) (A B : List ℕ → Type 0) (part : GuestPart) (refusal : Option ReceiverError)

@@ -16,7 +16,7 @@ shifted text new size long size_is is =
     is ∙ ap (λ (n : ℕ). take n (copy_within text 9 (length text) 0)) none
     ∙ take-paste text 0 (drop 9 text) (length text - 9) (omega arith) (omega (arith, len))
     ∙ take_all (length text - 9) (drop 9 text) (let low : length (drop 9 text) ≤ length text - 9 = omega (arith, len) in
-        low)
+    low)
 
 -- behind the head of a frame with bytes stand these
 body_behind : (page stamp : ℕ) (bytes : List ℕ) → drop 9 (frame_text (frame_with page stamp (Some bytes))) ≡ bytes
@@ -33,7 +33,7 @@ pub owns_bytes : (shape : GuestShape) (text : List ℕ) (page stamp : ℕ) (byte
     → SpellsFrame shape text (frame_with page stamp (Some (drop 9 text)))
 owns_bytes shape text page stamp bytes spells =
     subst (λ (b : List ℕ). SpellsFrame shape text (frame_with page stamp (Some b)))
-        (sym (ap (drop 9) spells.text ∙ body_behind page stamp bytes)) spells
+    (sym (ap (drop 9) spells.text ∙ body_behind page stamp bytes)) spells
 
 false_is_true : false ≡ true → ⊥
 false_is_true e = subst (λ (b : Bool). cond b ⊥ (Unit {0})) e tt
@@ -47,9 +47,11 @@ some_body : (shape : GuestShape) (text : List ℕ) (page stamp : ℕ) (body : Op
     → SpellsFrame shape text (frame_with page stamp body) → is_some body ≡ true
     → SpellsFrame shape text (frame_with page stamp (Some (drop 9 text))) × (9 ≤ length text)
 some_body shape text page stamp None spells some = absurd (false_is_true some)
-some_body shape text page stamp (Some bytes) spells some =
-    (owns_bytes shape text page stamp bytes spells, subst (λ (t : List ℕ). 9 ≤ length t) (sym spells.text)
-        (long_text page stamp bytes))
+some_body shape text page stamp (Some bytes) spells some = (
+  owns_bytes shape text page stamp bytes spells,
+  subst (λ (t : List ℕ). 9 ≤ length t) (sym spells.text)
+      (long_text page stamp bytes),
+)
 
 -- a frame with bytes, as it was viewed in the whole text
 pub owns_some : (shape : GuestShape) (text : List ℕ) (view : PageFrame) (size : ℕ)
@@ -57,9 +59,9 @@ pub owns_some : (shape : GuestShape) (text : List ℕ) (view : PageFrame) (size 
     → SpellsFrame shape text (frame_with view.page view.stamp (Some (drop 9 text))) × (9 ≤ length text)
 owns_some shape text view size spells whole some =
     let text_is : take size text ≡ text = take_all size text
-        (let low : length text ≤ size = omega (arith, whole) in low) in
+    (let low : length text ≤ size = omega (arith, whole) in low) in
     some_body shape text view.page view.stamp view.body
-        (subst (λ (t : List ℕ). SpellsFrame shape t view) text_is spells) some
+    (subst (λ (t : List ℕ). SpellsFrame shape t view) text_is spells) some
 
 -- what is viewed behind a reference is there
 pub some_mapped : {X Y : Type 0} (f : X → Y) (o : Option X) → is_some o ≡ true → is_some (option_map f o) ≡ true

@@ -43,11 +43,11 @@ any_push_cases P (x ∷ xs) y a = elim (any_cases P x (xs ++ y ∷ []) a) [
 pub taken_before : (ends : List InView) (worker : ℕ) (before after : InView) (text : List ℕ) → worker < length ends
     → before ≡ get_or ends worker before
     → after.taken ≡ before.taken ++ text ∷ [] → (t : List ℕ) → IsTakenFrom ends t
-        → IsTakenFrom (set ends worker after) t
+    → IsTakenFrom (set ends worker after) t
 taken_before ends worker before after text low there grown t a = elim (cases_eq a.0 worker) [
   | inl e ↦
       let same : a.1 ≡ before = (let is = a.3 in sym is ∙ ap (λ k. get_or ends k a.1) e
-          ∙ get_or_default ends worker a.1 before low ∙ sym there) in
+      ∙ get_or_default ends worker a.1 before low ∙ sym there) in
       let c : Contains before.taken t = subst (λ (x : InView). Contains x.taken t) same a.4 in (
         worker,
         after,
@@ -57,29 +57,40 @@ taken_before ends worker before after text low there grown t a = elim (cases_eq 
             (Contains-append_left before.taken (text ∷ []) t c),
       )
   | inr apart ↦
-      let within = a.2 in
-      (a.0, a.1, omega (arith, within, length-set ends worker after), get_or-set_other ends worker a.0 after a.1 apart
-          ∙ a.3, a.4)
+      let within = a.2 in (
+        a.0,
+        a.1,
+        omega (arith, within, length-set ends worker after),
+        get_or-set_other ends worker a.0 after a.1 apart
+            ∙ a.3,
+        a.4,
+      )
 ]
 
 pub taken_cases : (ends : List InView) (worker : ℕ) (before after : InView) (text : List ℕ) → worker < length ends
     → before ≡ get_or ends worker before
     → after.taken ≡ before.taken ++ text ∷ [] → (t : List ℕ) → IsTakenFrom (set ends worker after) t
-        → IsTakenFrom ends t ⊎ (t ≡ text)
+    → IsTakenFrom ends t ⊎ (t ≡ text)
 taken_cases ends worker before after text low there grown t a = elim (cases_eq a.0 worker) [
   | inl e ↦
       let same : a.1 ≡ after = (let is = a.3 in sym is ∙ ap (λ k. get_or (set ends worker after) k a.1) e
-          ∙ get_or-set_same ends worker after a.1 low) in
+      ∙ get_or-set_same ends worker after a.1 low) in
       let c : Contains (before.taken ++ text ∷ []) t = subst (λ (texts : List (List ℕ)). Contains texts t) grown
-          (subst (λ (x : InView). Contains x.taken t) same a.4) in
+      (subst (λ (x : InView). Contains x.taken t) same a.4) in
       elim (Contains-push_cases before.taken text t c) [
         | inl earlier ↦ inl (worker, before, low, sym there, earlier)
         | inr last ↦ inr (sym last)
       ]
   | inr apart ↦
       let within = a.2 in
-      inl (a.0, a.1, omega (arith, within, length-set ends worker after), sym
-          (get_or-set_other ends worker a.0 after a.1 apart) ∙ a.3, a.4)
+      inl (
+        a.0,
+        a.1,
+        omega (arith, within, length-set ends worker after),
+        sym
+            (get_or-set_other ends worker a.0 after a.1 apart) ∙ a.3,
+        a.4,
+      )
 ]
 
 pub taken_here : (ends : List InView) (worker : ℕ) (before after : InView) (text : List ℕ) → worker < length ends
@@ -106,7 +117,7 @@ come_before outs out end ends rest all t come = elim come [
   | inr taken ↦ elim (any_cases (λ e. Contains e.taken t) end ends taken) [
     | inl first ↦
         inl (Any-push (λ o. Contains o.sent t) outs out
-            (subst (λ (texts : List (List ℕ)). Contains texts t) all (Contains-append_left end.taken rest t first)))
+        (subst (λ (texts : List (List ℕ)). Contains texts t) all (Contains-append_left end.taken rest t first)))
     | inr later ↦ inr later
   ]
 ]
@@ -119,9 +130,9 @@ come_cases outs out end ends rest all t come = elim come [
     | inl before ↦ inl (inl before)
     | inr last ↦ elim (Contains-append_cases end.taken rest t
         (subst (λ (texts : List (List ℕ)). Contains texts t) (sym all) last)) [
-      | inl taken ↦ inl (inr (any_first (λ e. Contains e.taken t) end ends taken))
-      | inr left ↦ inr left
-    ]
+          | inl taken ↦ inl (inr (any_first (λ e. Contains e.taken t) end ends taken))
+          | inr left ↦ inr left
+        ]
   ]
   | inr later ↦ inl (inr (any_rest (λ e. Contains e.taken t) end ends later))
 ]
@@ -131,7 +142,7 @@ pub come_rest : (outs : List OutView) (out : OutView) (end : InView) (ends : Lis
     → (t : List ℕ) → Contains rest t → IsCome (outs ++ out ∷ []) ends t
 come_rest outs out end ends rest all t left =
     inl (Any-push (λ o. Contains o.sent t) outs out
-        (subst (λ (texts : List (List ℕ)). Contains texts t) all (Contains-append_right end.taken rest t left)))
+    (subst (λ (texts : List (List ℕ)). Contains texts t) all (Contains-append_right end.taken rest t left)))
 
 -- ---- the lanes that are left
 
@@ -141,7 +152,7 @@ ends_rest outs later ends rest out end outs_are ends_are are = record {
   count = let a = ap length outs_are in let b = ap length ends_are in omega (arith, a, b, are.count);
   each = λ worker o e o_is e_is.
       are.each (suc worker) o e (ap (λ (xs : List OutView). slice_get xs (suc worker)) outs_are ∙ o_is)
-          (ap (λ (xs : List InView). slice_get xs (suc worker)) ends_are ∙ e_is);
+      (ap (λ (xs : List InView). slice_get xs (suc worker)) ends_are ∙ e_is);
 }
 
 pub both_done : (outs : List OutView) (ends : List InView) → AreEnds outs ends → (length outs ≡ 0) ⊎ (length ends ≡ 0)

@@ -18,11 +18,11 @@ loop-state-preserved c =
       all = rest_of front old rest c.args.states.items state c.in-Some.ensures.steps.0 c.loop-state.invariant.all;
       lists = λ i. live_round_with
           ((c.in_ok-add_state.ensures.sent ∙ lists_more (λ (d : CopierStateView). d.log.sent) front state
-              c.loop-state.round.sent (ap (λ (r : LiveRound). r.sent) before)) i)
+          c.loop-state.round.sent (ap (λ (r : LiveRound). r.sent) before)) i)
           ((c.in_ok-add_state.ensures.skipped ∙ lists_more (λ (d : CopierStateView). d.log.skipped) front state
-              c.loop-state.round.skipped (ap (λ (r : LiveRound). r.skipped) before)) i)
+          c.loop-state.round.skipped (ap (λ (r : LiveRound). r.skipped) before)) i)
           ((c.in_ok-add_state.ensures.deferred ∙ lists_more (λ (d : CopierStateView). d.log.deferred) front state
-              c.loop-state.round.deferred (ap (λ (r : LiveRound). r.deferred) before)) i);
+          c.loop-state.round.deferred (ap (λ (r : LiveRound). r.deferred) before)) i);
       kept = c.in_ok-push_back.ensures.items ∙ ap (λ (ds : List CopierStateView). ds ++ state ∷ [])
           c.loop-state.invariant.kept;
     }

@@ -15,14 +15,14 @@ returns g c =
     let kept : map identity_of receivers ≡ map (λ h. identity_of h.promise.receiver.value) handles =
     same_at (map identity_of receivers) (map (λ h. identity_of h.promise.receiver.value) handles)
     (length-map receivers identity_of ∙ count ∙ sym (length-map handles (λ h. identity_of h.promise.receiver.value)))
-        (λ i d low.
+    (λ i d low.
     let inside : i < length receivers = omega (arith, low, length-map receivers identity_of) in
     let r = pick receivers i inside in
     let kept = (c.in_ok-receivers.ensures.each i r.0 (omega (arith, inside, count))).1 in
     get_or-map identity_of receivers i r.0 d inside ∙ kept.kept
-        ∙ ap (λ h. identity_of h.promise.receiver.value) kept.handle_is
+    ∙ ap (λ h. identity_of h.promise.receiver.value) kept.handle_is
     ∙ sym (get_or-map (λ h. identity_of h.promise.receiver.value) handles i kept.handle d
-        (omega (arith, inside, count)))) in
+    (omega (arith, inside, count)))) in
     elim c.match-start_receivers.branch [
       | in-Ok w ↦ record {
         done = subst (λ r. IfOk r (λ p. AreDone (g.W.WriteLog.trace c.args.migration.now.trace.now)

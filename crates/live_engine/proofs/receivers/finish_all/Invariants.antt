@@ -17,6 +17,6 @@ invariant-loop-receiver l = record {
   each : (stream : ℕ) (outs : Vec OutView Global) (receiver : ReceiverView) (part : GuestPart)
       → slice_get l.fn.columns.items stream ≡ Some outs
       → slice_get l.fn.receivers.items stream ≡ Some receiver → slice_get l.parts.items stream ≡ Some part
-          → AreFrames receiver.part.shape (IsSentOn outs.items)
+      → AreFrames receiver.part.shape (IsSentOn outs.items)
       → HasFrames receiver.part.shape (IsSentOn outs.items) part;
 }

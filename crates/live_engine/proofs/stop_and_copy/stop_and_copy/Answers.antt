@@ -16,10 +16,10 @@ returns-clause-at_stop g c = λ tick at.
     let copied = c.in_ok-copied.copied.items in
     let versions = c.args.closed.now.versions in
     let shape : shape_of c.shape.result ≡ shape_of_trace trace = λ i. shape_with (c.shape.ensures.shift i)
-        (c.shape.ensures.pages i) (c.shape.ensures.writes i) in
+    (c.shape.ensures.pages i) (c.shape.ensures.writes i) in
     let current : AreCurrent trace (shape_of_trace trace) versions copied =
     c.final_copy_makes_current.ensures trace (shape_of_trace trace) versions (in_words c.args.closed.now.dirty)
-        c.args.parts.items copied c.requires.arrived.not_beyond c.requires.arrived.current c.in_ok-copied.ensures in
+    c.args.parts.items copied c.requires.arrived.not_beyond c.requires.arrived.current c.in_ok-copied.ensures in
     ap memory_by c.in_ok-memory.ensures.made ∙ ap (λ (s : GuestShape). memory_in (join_all s copied)) shape
     ∙ c.current_copies_make_memory.ensures.before trace versions copied tick c.shape.ensures.is_trace current at
 
@@ -29,16 +29,16 @@ returns-clause-stopped g c =
     let copied = c.in_ok-copied.copied.items in
     let versions = c.args.closed.now.versions in
     let shape : shape_of c.shape.result ≡ shape_of_trace trace = λ i. shape_with (c.shape.ensures.shift i)
-        (c.shape.ensures.pages i) (c.shape.ensures.writes i) in
+    (c.shape.ensures.pages i) (c.shape.ensures.writes i) in
     let current : AreCurrent trace (shape_of_trace trace) versions copied =
     c.final_copy_makes_current.ensures trace (shape_of_trace trace) versions (in_words c.args.closed.now.dirty)
-        c.args.parts.items copied c.requires.arrived.not_beyond c.requires.arrived.current c.in_ok-copied.ensures in
+    c.args.parts.items copied c.requires.arrived.not_beyond c.requires.arrived.current c.in_ok-copied.ensures in
     let image : memory_by c.in_ok-memory.memory ≡ memory_in (join_all (shape_of_trace trace) copied) =
     ap memory_by c.in_ok-memory.ensures.made ∙ ap (λ (s : GuestShape). memory_in (join_all s copied)) shape in
     let size = c.current_copies_make_memory.ensures.size trace (shape_of_trace trace) versions copied current in
     let at : AtVersions trace versions (memory_in (join_all (shape_of_trace trace) copied)) =
     λ page low. c.current_copies_make_memory.ensures.pages trace (shape_of_trace trace) versions copied page current
-        (omega (arith, low, size.1)) in
+    (omega (arith, low, size.1)) in
     record {
       is_trace = c.shape.ensures.is_trace;
       is_index = c.requires.index;

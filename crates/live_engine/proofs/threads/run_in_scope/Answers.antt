@@ -20,12 +20,12 @@ returns-clause-guests g c =
       | in-Ok w ↦ record {
         count = count ∙ w.in-Ok.ensures.count ∙ ap length c.requires.guests
             ∙ length-map-range_with_len (λ (n : ℕ). guest_view table.id (first_guest table.start n)) 0
-                table.start.guests;
+            table.start.guests;
         each = each_kept _ _ _ _ seats count w.in-Ok.ensures.started
             (each_from _ seats (λ i d low. let k = (kept i d (omega (arith, low, count))).1 in
-                (k.handle, k.handle_is, k.kept)))
+            (k.handle, k.handle_is, k.kept)))
             (λ h guest i told kept. subst (λ (t : ReplayTask). IsReplayed t.trace t.table t.from t.to t.number guest)
-                told kept);
+            told kept);
       }
       | in-Err w ↦ absurd (subst (λ r. OnOk r ⊥) (sym w.started-is ∙ c.in_ok-started.was) tt)
     ]
@@ -46,18 +46,18 @@ returns-clause-copiers g c =
             count = c.in_ok-copiers.ensures.count ∙ count ∙ ap length same
                 ∙ from_ok _ _ ok w.start_copiers-started.ensures.count ∙ ap length c.requires.copiers
                 ∙ length-map-range_with_len (λ (n : ℕ). copy_view table.id (first_copier table.start n)) 0
-                    table.start.copiers;
+                table.start.copiers;
             each = each_ok _ c.in_ok-copiers.copiers.items _ c.in_ok-copiers.ensures.same
                 (each_kept _ _ _ _ copied count
                 (subst (λ hs. EachAt (λ h i. h.promise
-                    ≡ copy_task trace round.skip table round.streams i
-                    (slice_index_or (rows_of c.args.crew.states.items) i [])) hs) (sym same)
+                ≡ copy_task trace round.skip table round.streams i
+                (slice_index_or (rows_of c.args.crew.states.items) i [])) hs) (sym same)
                 (from_ok _ _ ok w.start_copiers-started.ensures.started))
                 (each_from _ copied (λ i d low. let k = (kept i d (omega (arith, low, count))).1 in
-                    (k.handle, k.handle_is, k.kept)))
+                (k.handle, k.handle_is, k.kept)))
                 (λ h r i told kept. subst (λ (t : CopyTask). IfOk r
-                    (λ copier. HasCopied t.trace t.skip t.table t.number t.streams t.outs copier.seat copier.state))
-                    told kept));
+                (λ copier. HasCopied t.trace t.skip t.table t.number t.streams t.outs copier.seat copier.state))
+                told kept));
           }
       | in-Err w ↦ absurd (subst (λ r. OnOk r ⊥) (sym w.started-is ∙ c.in_ok-started.was) tt)
     ]

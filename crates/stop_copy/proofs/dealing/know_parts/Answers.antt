@@ -12,7 +12,7 @@ loop-part-preserved c = λ k d low.
     elim (cases_eq k i) [
       | inl here ↦ subst IsPart
           (c.part-item.is ∙ get_or_default parts i part d (omega (arith, c.loop-part-test.true))
-              ∙ ap (λ n. get_or parts n d) (sym here)) c.shape.ensures.is_part
+          ∙ ap (λ n. get_or parts n d) (sym here)) c.shape.ensures.is_part
       | inr apart ↦ c.loop-part.invariant k d (omega (arith, low, apart))
     ]
 

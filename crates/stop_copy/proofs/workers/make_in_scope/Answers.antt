@@ -8,7 +8,7 @@ returns g c =
     let handles = c.start_pieces-started.new.handles.items in
     let made = c.in_ok-made.field-0.items in
     AreMadeOf-from trace versions c.args.pages.now (λ h. h.promise.pages.now) handles made
-        c.in_ok-started.ensures.pieces
+    c.in_ok-started.ensures.pieces
     (AreMade-from_each trace versions (λ h. h.promise.pages.now) handles made c.in_ok-made.ensures.count
     (λ i d low.
     let k = (c.in_ok-made.ensures.each i d low).1 in

@@ -23,7 +23,7 @@ loop-out-init c =
     let first = c.zip-out-items.ensures.first in
     let second = c.zip-out-items.ensures.second in
     let outs : into_iter_items (zip_first c.into_iter-out-iterator.result)
-        ≡ c.args.outs.items = cc (is, first, c.into_iter.ensures.rest) in
+    ≡ c.args.outs.items = cc (is, first, c.into_iter.ensures.rest) in
     let ends : into_iter_items (zip_second c.into_iter-out-iterator.result) ≡ c.args.ends.items = cc (is, second.0) in
     record {
       all = outs;
@@ -35,7 +35,7 @@ loop-out-init c =
       held = subst (λ (xs : List InView). IsHeld c.args.part.now.shape (IsCome [] xs) c.args.part.now c.args.refusal)
           (sym ends)
           (held_same c.args.part.now.shape (IsTakenFrom c.args.ends.items) (IsCome [] c.args.ends.items) c.args.part.now
-              c.args.refusal (λ t taken. inr taken)
+          c.args.refusal (λ t taken. inr taken)
           (λ t come. elim come [ inl none ↦ absurd (omega (arith, none.2)) | inr taken ↦ taken ]) c.requires.held);
     }
 
@@ -43,7 +43,7 @@ pub drain-rest-requires : goal.drain-rest-requires
 drain-rest-requires c =
     c.loop-out.invariant.ends.each 0 c.in-Some.out c.in-Some.end
     (ap (λ (xs : List OutView). slice_get xs 0) c.in-Some.ensures.steps.0.0)
-        (ap (λ (xs : List InView). slice_get xs 0) c.in-Some.ensures.steps.1.0)
+    (ap (λ (xs : List InView). slice_get xs 0) c.in-Some.ensures.steps.1.0)
 
 pub loop-out-preserved : goal.loop-out-preserved
 loop-out-preserved c =
@@ -69,12 +69,12 @@ loop-out-preserved c =
       held = subst (λ (xs : List OutView). IsHeld shape (IsCome xs ends) c.accept_rest-refusal.new.part
           c.accept_rest-refusal.result) (sym grown)
           (held_more shape (IsCome front (end ∷ ends)) (IsCome (front ++ out ∷ []) ends) c.loop-out.part
-              c.accept_rest-refusal.new.part c.loop-out.refusal c.accept_rest-refusal.result c.drain-rest.result
+          c.accept_rest-refusal.new.part c.loop-out.refusal c.accept_rest-refusal.result c.drain-rest.result
           before.shape (come_before front out end ends c.drain-rest.result c.drain-rest.ensures)
-              (come_cases front out end ends c.drain-rest.result c.drain-rest.ensures)
+          (come_cases front out end ends c.drain-rest.result c.drain-rest.ensures)
           (come_rest front out end ends c.drain-rest.result c.drain-rest.ensures) c.accept_rest-refusal.ensures
           (subst (λ (xs : List InView). IsHeld shape (IsCome front xs) c.loop-out.part c.loop-out.refusal) ends_are
-              before.held));
+          before.held));
     }
 
 pub returns-clause-held : goal.returns-clause-held
