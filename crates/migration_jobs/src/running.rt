@@ -9,7 +9,8 @@ ghost use Rattle.migration_model.specs.Windows.{working_sets_of};
 ghost use Rattle.trace_codec.specs.declared.error.TraceError.TheVariants.{ReadFault};
 ghost use Rattle.trace_codec.specs.Source.{SourceSpells};
 ghost use Rattle.migration_jobs.specs.Sink.{AppendsPart};
-ghost use Rattle.migration_jobs.specs.Output.{IsOutput, IsOutsideRun, IsRefusalOf, IsReport, IsSweep, RefusesRun};
+ghost use Rattle.migration_jobs.specs.Output.{IsOutput, IsOutsideRun, IsRefusalOf, RefusesRun};
+ghost use Rattle.sweep_report.specs.Reports.{IsReport, IsSweep};
 ghost use Rattle.migration_jobs.specs.Bytes.{bytes_in};
 
 use crate::error::RunError;

@@ -13,4 +13,4 @@ pub use error::SweepError;
 pub use line::Line;
 pub use lines::{end_line, push_field};
 pub use report::report_text;
-pub use sweeping::sweep;
+pub use sweeping::{sweep, sweep_in_turn};

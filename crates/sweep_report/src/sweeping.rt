@@ -264,3 +264,21 @@ pub fn sweep<R: Threads + Sync, T: Timeline + Sync>(
     make_some(rt, alloc, timeline, &index, cases, workers, &mut taken)?;
     in_order(alloc, timeline, &index, cases, taken)
 }
+
+/// Returns the lines of [`sweep`], all made on the caller's thread.
+pub fn sweep_in_turn<T: Timeline>(
+    alloc: Global,
+    timeline: &T,
+    cases: &[Settings],
+) -> Result<Vec<Line>, SweepError>
+    ensures lines { IfOk result (λ lines. AreLines (T.pages timeline.now) (T.touches timeline.now)
+        cases.now lines.items) }
+    ensures refusal { IfErr result (λ e. e ≡ SweepError.Memory) }
+{
+    if cases.len() < WORTH_AN_INDEX {
+        return one_by_one(alloc, timeline, cases);
+    }
+    let index = RoundIndex::build(alloc, timeline).or(Err(SweepError::Memory))?;
+    let taken = no_lines(alloc, cases.len())?;
+    in_order(alloc, timeline, &index, cases, taken)
+}
