@@ -8,7 +8,7 @@ ghost use Rattle.precopy_c.specs.declared.answers.Refusal.TheVariants.{Settings 
 use page_message::FrameError;
 use rate_limit::SettingsError;
 use round_planner::PlanError;
-use std::alloc::AllocError;
+use std::alloc::{AllocError, AllocFailed};
 use sweep_report::SweepError;
 use trace_codec::TraceError;
 use working_sets::TablesError;
@@ -64,6 +64,14 @@ impl From<AllocError> for Refusal {
     ghost from_gives = { λ _ r. r ≡ OutOfMemory };
 
     fn from(_error: AllocError) -> Refusal {
+        Refusal::Memory
+    }
+}
+
+impl<T: Drop> From<AllocFailed<T>> for Refusal {
+    ghost from_gives = { λ _ r. r ≡ OutOfMemory };
+
+    fn from(_error: AllocFailed<T>) -> Refusal {
         Refusal::Memory
     }
 }

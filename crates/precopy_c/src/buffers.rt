@@ -14,11 +14,7 @@ pub(crate) fn put_front(room: &mut [u8], bytes: &[u8])
 }
 
 /// Copies bytes over the front of a buffer where there is room for all of them, and tells how many they are.
-pub(crate) fn answer_bytes(
-    room: &mut [u8],
-    needed: &mut usize,
-    bytes: &[u8],
-) -> Result<(), Refusal>
+pub(crate) fn answer_bytes(room: &mut [u8], needed: &mut usize, bytes: &[u8]) -> Result<(), Refusal>
     ensures needed { needed.new ≡ length bytes.now }
     ensures put { OnOk result (room.new ≡ over bytes.now room.old) }
     ensures refused { IfErr result (λ e. e ≡ Refusal.ShortBuffer) }

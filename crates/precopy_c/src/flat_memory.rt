@@ -89,17 +89,18 @@ fn take_frames(
     ensures some { OnErr result (taken.new.bytes < length bytes.now) }
 {
     let mut rest = bytes;
-    let mut frames = 0usize;
-    *taken = StreamTaken { frames, bytes: 0 };
+    *taken = StreamTaken {
+        frames: 0,
+        bytes: 0,
+    };
     while !rest.is_empty() {
         let (view, size) = view_frame(shape, rest)?;
         accept_view(shape, &view, memory, states);
         let (_, behind) = rest.split_at(size);
         rest = behind;
-        frames += 1;
         *taken = StreamTaken {
-            frames,
-            bytes: bytes.len() - rest.len(),
+            frames: taken.frames + 1,
+            bytes: taken.bytes + size,
         };
     }
     Ok(())

@@ -1,6 +1,6 @@
 //! Frames: one encoded, and one decoded.
 
-ghost use Rattle.std.specs.Prelude.{◌≡◌, ◌≢◌, ◌↔◌, ◌^◌, ◌<◌, ◌≤◌, ◌++◌, ℕ, List, IfErr, IfOk, IsTrue, OnErr, length, take};
+ghost use Rattle.std.specs.Prelude.{◌≡◌, ◌≢◌, ◌↔◌, ◌^◌, ◌<◌, ◌≤◌, ◌++◌, ℕ, List, IfErr, IfOk, IsOk, IsTrue, OnErr, length, take};
 ghost use Rattle.std.specs.List.{All};
 ghost use Rattle.migration_model.specs.Frames.{IsFrame, IsGuestShape, PageFrame, SpellsFrame, content_of, frame_text};
 ghost use Rattle.page_message.specs.Framing.{IsFrameOf};
@@ -105,6 +105,8 @@ fn decoded(sizes: &GuestSizes, bytes: &[u8], content: &mut [u8]) -> Result<Frame
         × (head.page ≡ f.page) × (head.stamp ≡ f.stamp) × (head.size ≤ length bytes.now)
         × (content.new ≡ over (content_of (shape_in sizes.now) f) content.old)) }
     ensures refused { IfErr result (RefusesDecoding sizes.now bytes.now (length content.old)) }
+    ensures only { (f : PageFrame) (rest : List ℕ) → IsGuestShape (shape_in sizes.now) → IsFrame (shape_in sizes.now) f
+        → bytes.now ≡ frame_text f ++ rest → 2 ^ sizes.now.shift ≤ length content.old → IsOk result }
     ensures unchanged { OnErr result (content.new ≡ content.old) }
 {
     let shape = sizes.shape()?;

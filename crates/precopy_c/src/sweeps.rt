@@ -1,6 +1,6 @@
 //! Sweeps: the sums of many plans of one trace, and the best of them.
 
-ghost use Rattle.std.specs.Prelude.{◌≡◌, ◌≢◌, ◌<◌, ◌≤◌, ◌⊎◌, List, IfErr, IfOk, length, map};
+ghost use Rattle.std.specs.Prelude.{◌≡◌, ◌≢◌, ◌<◌, ◌≤◌, ◌⊎◌, ℕ, List, IfErr, IfOk, length, map};
 ghost use Rattle.std.specs.List.{All};
 ghost use Rattle.migration_model.specs.Rates.{AreSettings};
 ghost use Rattle.migration_model.specs.Sweeps.{SweepLine, best_of};
@@ -27,7 +27,10 @@ fn checked_cases(alloc: Global, cases: &[PlanSettings]) -> Result<Vec<Settings>,
 {
     let mut checked = Vec::with_capacity(alloc, cases.len())?;
     for case in cases {
-        checked.push(case.checked()?)?;
+        match case.checked() {
+            Ok(settings) => checked.push(settings)?,
+            Err(error) => return Err(Refusal::Settings(error)),
+        }
     }
     Ok(checked)
 }
@@ -39,7 +42,10 @@ fn swept(alloc: Global, trace: &[u8], cases: &[PlanSettings]) -> Result<Vec<Line
     ensures only { (t : GuestTrace) → Spells trace.now t → All AreSettings (map settings_in cases.now)
         → IfErr result (λ e. number_of e ≡ 16) }
 {
-    let checked = checked_cases(alloc, cases)?;
+    let checked = match checked_cases(alloc, cases) {
+        Ok(checked) => checked,
+        Err(refusal) => return Err(refusal),
+    };
     let log = TouchLog::parse(alloc, trace)?;
     Ok(sweep_in_turn(alloc, &log, &checked)?)
 }

@@ -29,15 +29,11 @@ fn record_of(error: TraceError) -> Option<u32>
 
 /// Tests the bytes of a trace, and tells its sizes. Where they are refused for a record, it tells which, from 0.
 #[unsafe(no_mangle)]
-pub extern "C" fn precopy_check_trace(
-    trace: &[u8],
-    sizes: &mut GuestSizes,
-    record: &mut u32,
-) -> u32
+pub extern "C" fn precopy_check_trace(trace: &[u8], sizes: &mut GuestSizes, number: &mut u32) -> u32
     ensures found { result ≡ 0 → (t : GuestTrace) × Spells trace.now t × (shape_in sizes.new ≡ shape_of_trace t)
-        × (record.new ≡ record.old) }
+        × (number.new ≡ number.old) }
     ensures refused { result ≢ 0 → (e : TraceError) × Refuses trace.now e × (result ≡ number_of_trace e)
-        × (record.new ≡ unwrap_or (record_in e) record.old) }
+        × (number.new ≡ unwrap_or (record_in e) number.old) }
     ensures only { (t : GuestTrace) → Spells trace.now t → result ≡ 0 }
     ensures unchanged { result ≢ 0 → sizes.new ≡ sizes.old }
 {
@@ -47,9 +43,7 @@ pub extern "C" fn precopy_check_trace(
             0
         }
         Err(error) => {
-            if let Some(number) = record_of(error) {
-                *record = number;
-            }
+            *number = record_of(error).unwrap_or(*number);
             Refusal::Trace(error).number()
         }
     }
