@@ -15,4 +15,6 @@ mod reports;
 mod settings;
 mod sizes;
 mod sweeps;
+#[cfg(test)]
+mod tests;
 mod traces;
