@@ -1,0 +1,5 @@
+pub mod Fronts
+pub mod Flat
+pub mod Replayed
+pub mod Streams
+pub mod Cases

@@ -1,0 +1,7 @@
+-- Memory of a trace, as C sees it, and why there is none.
+use Rattle.std.specs.Prelude.{◌≡◌, ℕ, ◌*◌, ◌^◌, List}
+use Rattle.migration_model.specs.Trace.{GuestTrace, Spells}
+
+-- how many bytes the memory of a trace has
+abbrev pub memory_length : GuestTrace → ℕ
+memory_length trace = trace.pages * 2 ^ trace.shift

@@ -1,0 +1,38 @@
+-- The settings and sizes that C asks for, as the definitions' values.
+use Rattle.std.specs.Prelude.{◌≡◌, ℕ, ◌==◌, not, if◌then◌else◌, Option, Some, None, true}
+use Rattle.migration_model.specs.Frames.{GuestShape, shape_with}
+use Rattle.migration_model.specs.Rates.{MigrationSettings}
+use Rattle.trace_codec.specs.Refusals.{sizes_refusal}
+use Rattle.trace_codec.specs.declared.error.TraceError.{TraceError}
+use Rattle.precopy_c.specs.declared.settings.PlanSettings.{PlanSettings}
+use Rattle.precopy_c.specs.declared.sizes.GuestSizes.{GuestSizes}
+
+-- the tick that a base stands at, where there is one
+abbrev pub base_in : PlanSettings → Option ℕ
+base_in s = if s.has_base == 0 then None else Some s.base
+
+-- what a plan keeps to; no call starts a thread, so there is one worker, one stream, one replayer, and a lane of one
+abbrev pub settings_in : PlanSettings → MigrationSettings
+settings_in s = record {
+  min = s.min;
+  max = s.max;
+  increment = s.increment;
+  threshold = s.threshold;
+  rounds = s.rounds;
+  start = s.start;
+  window = s.window;
+  hot = s.hot;
+  workers = 1;
+  streams = 1;
+  replayers = 1;
+  lane = 1;
+  skip = not (s.skip == 0);
+  base = base_in s;
+}
+
+abbrev pub shape_in : GuestSizes → GuestShape
+shape_in sizes = shape_with sizes.shift sizes.pages sizes.writes
+
+-- what sizes are refused for, by themselves
+abbrev pub shape_refusal : GuestSizes → Option TraceError
+shape_refusal sizes = sizes_refusal true 1 sizes.shift sizes.pages sizes.writes

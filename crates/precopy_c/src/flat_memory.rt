@@ -1,0 +1,175 @@
+//! Frames accepted into flat memory of the caller.
+
+ghost use Rattle.std.specs.Prelude.{◌≡◌, ◌≢◌, ◌*◌, ◌^◌, ◌<◌, ◌≤◌, ◌⊎◌, ℕ, List, [], IfErr, IfOk, OnErr, OnOk, Some};
+ghost use Rattle.std.specs.Prelude.{length, slice_index_or};
+ghost use Rattle.migration_model.specs.Frames.{IsFrame, IsGuestShape, PageFrame, SpellsStream, content_of};
+ghost use Rattle.migration_model.specs.Memory.{put};
+ghost use Rattle.migration_model.specs.Parts.{with_frame, with_frames};
+ghost use Rattle.page_message.specs.Refusals.{frame_refusal};
+ghost use Rattle.page_message.specs.Shapes.{shape_of};
+ghost use Rattle.page_message.specs.declared.error.FrameError.{FrameError};
+ghost use Rattle.precopy_c.specs.Answers.{IsNumberOf, number_of_frame};
+ghost use Rattle.precopy_c.specs.FlatMemory.{IsFirstMissing, IsFlat, KeepsOthers, RefusesFlat, TakesFlat, flat_part};
+ghost use Rattle.precopy_c.specs.FlatMemory.{not_come};
+ghost use Rattle.precopy_c.specs.Settings.{shape_in};
+
+use crate::answers::Refusal;
+use crate::frames::put_page;
+use crate::sizes::GuestSizes;
+use guest_log::Shape;
+use page_message::{FrameError, FrameView, view_frame};
+
+/// What is known of a page of flat memory: C's `struct precopy_page`.
+#[derive(Clone, Copy, Debug, PartialEq, Eq)]
+#[repr(C)]
+pub struct PageState {
+    /// Whether the page came: 0 for no.
+    pub came: u32,
+    /// The stamp of its frame, where it came.
+    pub stamp: u32,
+}
+
+/// How much of a stream was taken: C's `struct precopy_taken`.
+#[derive(Clone, Copy, Debug, PartialEq, Eq)]
+#[repr(C)]
+pub struct StreamTaken {
+    /// How many frames.
+    pub frames: usize,
+    /// How many bytes they have together.
+    pub bytes: usize,
+}
+
+/// Copies a frame's page over flat memory, at the page's place.
+fn put_at_page(memory: &mut [u8], shape: &Shape, view: &FrameView<'_>)
+    requires fits { IsFrame (shape_of shape.now) view.now }
+    requires whole { length memory.old ≡ shape.now.pages * 2 ^ shape.now.shift }
+    ensures { memory.new ≡ put memory.old (view.now.page * 2 ^ shape.now.shift) (content_of (shape_of shape.now) view.now) }
+{
+    let start = view.page as usize * shape.page_size();
+    let (_, rest) = memory.split_at_mut(start);
+    put_page(rest, shape, view);
+}
+
+/// Takes a frame into flat memory where its page did not come, or came with a lower stamp.
+fn accept_view(shape: &Shape, view: &FrameView<'_>, memory: &mut [u8], states: &mut [PageState])
+    requires fits { IsFrame (shape_of shape.now) view.now }
+    requires flat { IsFlat (shape_of shape.now) memory.old states.old }
+    ensures kept { flat_part (shape_of shape.now) memory.new states.new
+        ≡ with_frame (flat_part (shape_of shape.now) memory.old states.old) view.now }
+    ensures others { KeepsOthers (shape_of shape.now) memory.old memory.new states.new }
+    ensures came { (page : ℕ) → (slice_index_or states.new page not_come).came ≡ 0
+        → (slice_index_or states.old page not_come).came ≡ 0 }
+{
+    let page = view.page as usize;
+    let state = states[page];
+    if state.came != 0 && view.stamp <= state.stamp {
+        return;
+    }
+    put_at_page(memory, shape, view);
+    states[page] = PageState {
+        came: 1,
+        stamp: view.stamp,
+    };
+}
+
+/// Takes frame after frame to the end of the bytes, and tells how many. An error is that of the first frame that is
+/// refused; the frames in front of it are taken.
+fn take_frames(
+    shape: &Shape,
+    bytes: &[u8],
+    memory: &mut [u8],
+    states: &mut [PageState],
+    taken: &mut StreamTaken,
+) -> Result<(), FrameError>
+    requires { IsFlat (shape_of shape.now) memory.old states.old }
+    ensures taken { OnOk result (TakesFlat (shape_of shape.now) memory.old memory.new states.old states.new bytes.now
+        taken.new []) }
+    ensures refused { IfErr result (λ e. (rest : List ℕ) × TakesFlat (shape_of shape.now) memory.old memory.new
+        states.old states.new bytes.now taken.new rest × (frame_refusal (shape_of shape.now) rest ≡ Some e)) }
+    ensures some { OnErr result (taken.new.bytes < length bytes.now) }
+{
+    let mut rest = bytes;
+    *taken = StreamTaken {
+        frames: 0,
+        bytes: 0,
+    };
+    while !rest.is_empty() {
+        let (view, size) = view_frame(shape, rest)?;
+        accept_view(shape, &view, memory, states);
+        let (_, behind) = rest.split_at(size);
+        rest = behind;
+        *taken = StreamTaken {
+            frames: taken.frames + 1,
+            bytes: taken.bytes + size,
+        };
+    }
+    Ok(())
+}
+
+/// Returns the shape, where memory and states are as many as it says.
+fn flat_shape(sizes: &GuestSizes, memory: &[u8], states: &[PageState]) -> Result<Shape, Refusal>
+    ensures accepted { IfOk result (λ shape. (shape_of shape ≡ shape_in sizes.now)
+        × IsFlat (shape_in sizes.now) memory.now states.now) }
+    ensures refused { IfErr result (RefusesFlat sizes.now (length memory.now) (length states.now)) }
+{
+    let shape = sizes.shape()?;
+    if memory.len() != shape.pages as usize * shape.page_size() {
+        return Err(Refusal::MemoryLength);
+    }
+    if states.len() != shape.pages as usize {
+        return Err(Refusal::PageCount);
+    }
+    Ok(shape)
+}
+
+/// Takes a stream of frames into flat memory, in which each page gets the bytes of the frame with the greatest stamp that
+/// came, whatever the order. It tells how many frames were taken, and how many bytes they have. The first frame that is
+/// refused ends it; the frames in front of it are taken, and `taken.bytes` is where it begins. It allocates nothing.
+#[unsafe(no_mangle)]
+pub extern "C" fn precopy_accept(
+    sizes: &GuestSizes,
+    stream: &[u8],
+    memory: &mut [u8],
+    pages: &mut [PageState],
+    taken: &mut StreamTaken,
+) -> u32
+    ensures taken { result ≡ 0 → TakesFlat (shape_in sizes.now) memory.old memory.new pages.old pages.new stream.now
+        taken.new [] }
+    ensures stopped { 41 ≤ result → result ≤ 45 → (e : FrameError) × (rest : List ℕ) × (result ≡ number_of_frame e)
+        × TakesFlat (shape_in sizes.now) memory.old memory.new pages.old pages.new stream.now taken.new rest
+        × (frame_refusal (shape_in sizes.now) rest ≡ Some e) × (taken.new.bytes < length stream.now) }
+    ensures refused { result ≢ 0 → (result < 41) ⊎ (45 < result)
+        → IsNumberOf result (RefusesFlat sizes.now (length memory.old) (length pages.old)) }
+    ensures unchanged { result ≢ 0 → (result < 41) ⊎ (45 < result)
+        → (memory.new ≡ memory.old) × (pages.new ≡ pages.old) × (taken.new ≡ taken.old) }
+    ensures only { (frames : List PageFrame) → IsGuestShape (shape_in sizes.now)
+        → IsFlat (shape_in sizes.now) memory.old pages.old → SpellsStream (shape_in sizes.now) stream.now frames
+        → (result ≡ 0) × (taken.new.frames ≡ length frames)
+        × (flat_part (shape_in sizes.now) memory.new pages.new
+        ≡ with_frames (flat_part (shape_in sizes.now) memory.old pages.old) frames) }
+{
+    match flat_shape(sizes, memory, pages) {
+        Ok(shape) => match take_frames(&shape, stream, memory, pages, taken) {
+            Ok(()) => 0,
+            Err(error) => Refusal::Frame(error).number(),
+        },
+        Err(refusal) => refusal.number(),
+    }
+}
+
+/// Answers 0 where each page came. Where one did not, it tells the first that did not.
+#[unsafe(no_mangle)]
+pub extern "C" fn precopy_missing(pages: &[PageState], page: &mut usize) -> u32
+    ensures all { result ≡ 0 → (page : ℕ) → page < length pages.now
+        → (slice_index_or pages.now page not_come).came ≢ 0 }
+    ensures missing { result ≢ 0 → (result ≡ 65) × IsFirstMissing pages.now page.new }
+    ensures unchanged { result ≡ 0 → page.new ≡ page.old }
+{
+    for (number, state) in pages.iter().enumerate() {
+        if state.came == 0 {
+            *page = number;
+            return Refusal::PageMissing.number();
+        }
+    }
+    0
+}

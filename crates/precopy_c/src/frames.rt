@@ -1,0 +1,158 @@
+//! Frames: one encoded, and one decoded.
+
+ghost use Rattle.std.specs.Prelude.{◌≡◌, ◌≢◌, ◌↔◌, ◌^◌, ◌<◌, ◌≤◌, ◌++◌, ℕ, List, IfErr, IfOk, IsOk, IsTrue, OnErr, length, take};
+ghost use Rattle.std.specs.List.{All};
+ghost use Rattle.migration_model.specs.Frames.{IsFrame, IsGuestShape, PageFrame, SpellsFrame, content_of, frame_text};
+ghost use Rattle.page_message.specs.Framing.{IsFrameOf};
+ghost use Rattle.page_message.specs.Shapes.{shape_of};
+ghost use Rattle.precopy_c.specs.Answers.{IsNumberOf};
+ghost use Rattle.precopy_c.specs.Buffers.{over};
+ghost use Rattle.precopy_c.specs.Frames.{RefusesDecoding, RefusesEncoding};
+ghost use Rattle.precopy_c.specs.Settings.{shape_in};
+
+use crate::answers::Refusal;
+use crate::buffers::{answer_bytes, put_front};
+use crate::sizes::GuestSizes;
+use guest_log::Shape;
+use page_message::{FrameError, FrameView, append_frame, view_frame};
+use std::alloc::Global;
+
+/// What stands in front of the bytes of a page in a frame, and how many bytes the frame has: C's `struct
+/// precopy_frame`.
+#[derive(Clone, Copy, Debug, PartialEq, Eq)]
+#[repr(C)]
+pub struct FrameHead {
+    /// The number of the page, from 0.
+    pub page: u32,
+    /// The place of the last write in the bytes, or 0 before any.
+    pub stamp: u32,
+    /// How many bytes the frame has.
+    pub size: usize,
+}
+
+/// Returns the encoding of the frame of a page.
+fn encoded(
+    alloc: Global,
+    sizes: &GuestSizes,
+    page: u32,
+    stamp: u32,
+    bytes: &[u8],
+) -> Result<Vec<u8>, Refusal>
+    ensures made { IfOk result (λ text. (frame : PageFrame) × IsFrameOf (shape_in sizes.now) page stamp bytes.now frame
+        × (text.items ≡ frame_text frame)) }
+    ensures refused { IfErr result (RefusesEncoding sizes.now page stamp bytes.now) }
+{
+    let shape = sizes.shape()?;
+    if page >= shape.pages {
+        return Err(Refusal::Frame(FrameError::Page));
+    }
+    if stamp > shape.writes {
+        return Err(Refusal::Frame(FrameError::Stamp));
+    }
+    if bytes.len() != shape.page_size() {
+        return Err(Refusal::PageLength);
+    }
+    let mut text = Vec::new(alloc);
+    append_frame(&mut text, &shape, page, stamp, bytes).or(Err(Refusal::Memory))?;
+    Ok(text)
+}
+
+/// Answers the encoding of the frame of a page at a stamp, with these bytes of the page, over the front of a buffer, and
+/// tells how many bytes it has. Where the buffer is too short for them, it tells how many, and writes none.
+#[unsafe(no_mangle)]
+pub extern "C" fn precopy_encode_frame(
+    alloc: Global,
+    sizes: &GuestSizes,
+    page: u32,
+    stamp: u32,
+    bytes: &[u8],
+    frame: &mut [u8],
+    needed: &mut usize,
+) -> u32
+    ensures made { result ≡ 0 → (f : PageFrame) × IsFrameOf (shape_in sizes.now) page stamp bytes.now f
+        × (needed.new ≡ length (frame_text f)) × (frame.new ≡ over (frame_text f) frame.old) }
+    ensures short { result ≡ 61 → (f : PageFrame) × IsFrameOf (shape_in sizes.now) page stamp bytes.now f
+        × (needed.new ≡ length (frame_text f)) × (length frame.old < needed.new) }
+    ensures refused { result ≢ 0 → result ≢ 61
+        → IsNumberOf result (RefusesEncoding sizes.now page stamp bytes.now) × (needed.new ≡ needed.old) }
+    ensures unchanged { result ≢ 0 → frame.new ≡ frame.old }
+{
+    match encoded(alloc, sizes, page, stamp, bytes) {
+        Ok(text) => match answer_bytes(frame, needed, &text) {
+            Ok(()) => 0,
+            Err(refusal) => refusal.number(),
+        },
+        Err(refusal) => refusal.number(),
+    }
+}
+
+/// Copies the bytes of a frame's page over the front of a buffer.
+pub(crate) fn put_page(room: &mut [u8], shape: &Shape, view: &FrameView<'_>)
+    requires fits { IsFrame (shape_of shape.now) view.now }
+    requires room { 2 ^ shape.now.shift ≤ length room.old }
+    ensures { room.new ≡ over (content_of (shape_of shape.now) view.now) room.old }
+{
+    match view.body {
+        Some(bytes) => put_front(room, bytes),
+        None => room[..shape.page_size()].fill(0),
+    }
+}
+
+/// Decodes the frame at the front of some bytes: puts the bytes of its page over the front of a buffer, and returns
+/// what else it has.
+fn decoded(sizes: &GuestSizes, bytes: &[u8], content: &mut [u8]) -> Result<FrameHead, Refusal>
+    ensures found { IfOk result (λ head. (f : PageFrame) × SpellsFrame (shape_in sizes.now) (take head.size bytes.now) f
+        × (head.page ≡ f.page) × (head.stamp ≡ f.stamp) × (head.size ≤ length bytes.now)
+        × (content.new ≡ over (content_of (shape_in sizes.now) f) content.old)) }
+    ensures refused { IfErr result (RefusesDecoding sizes.now bytes.now (length content.old)) }
+    ensures only { (f : PageFrame) (rest : List ℕ) → IsGuestShape (shape_in sizes.now) → IsFrame (shape_in sizes.now) f
+        → bytes.now ≡ frame_text f ++ rest → 2 ^ sizes.now.shift ≤ length content.old → IsOk result }
+    ensures unchanged { OnErr result (content.new ≡ content.old) }
+{
+    let shape = sizes.shape()?;
+    let (view, size) = view_frame(&shape, bytes)?;
+    if content.len() < shape.page_size() {
+        return Err(Refusal::ShortBuffer);
+    }
+    put_page(content, &shape, &view);
+    Ok(FrameHead {
+        page: view.page,
+        stamp: view.stamp,
+        size,
+    })
+}
+
+/// Decodes the frame at the front of some bytes: answers the bytes of its page over the front of a buffer, and what else
+/// it has. It allocates nothing.
+#[unsafe(no_mangle)]
+pub extern "C" fn precopy_decode_frame(
+    sizes: &GuestSizes,
+    bytes: &[u8],
+    head: &mut FrameHead,
+    content: &mut [u8],
+) -> u32
+    ensures found { result ≡ 0 → (f : PageFrame) × SpellsFrame (shape_in sizes.now) (take head.new.size bytes.now) f
+        × (head.new.page ≡ f.page) × (head.new.stamp ≡ f.stamp) × (head.new.size ≤ length bytes.now)
+        × (content.new ≡ over (content_of (shape_in sizes.now) f) content.old) }
+    ensures refused { result ≢ 0
+        → IsNumberOf result (RefusesDecoding sizes.now bytes.now (length content.old)) }
+    ensures only { (f : PageFrame) (rest : List ℕ) → IsGuestShape (shape_in sizes.now) → IsFrame (shape_in sizes.now) f
+        → bytes.now ≡ frame_text f ++ rest → 2 ^ sizes.now.shift ≤ length content.old → result ≡ 0 }
+    ensures unchanged { result ≢ 0 → (content.new ≡ content.old) × (head.new ≡ head.old) }
+{
+    match decoded(sizes, bytes, content) {
+        Ok(found) => {
+            *head = found;
+            0
+        }
+        Err(refusal) => refusal.number(),
+    }
+}
+
+/// Answers whether each byte is 0; so it is of no bytes.
+#[unsafe(no_mangle)]
+pub extern "C" fn precopy_is_zero(bytes: &[u8]) -> bool
+    ensures { IsTrue result ↔ All (λ byte. byte ≡ 0) bytes.now }
+{
+    zero_pages::is_zero(bytes)
+}

@@ -1,0 +1,124 @@
+//! Memory as the writes of a trace leave it, in a buffer of the caller.
+
+ghost use Rattle.std.specs.Prelude.{◌≡◌, ◌≢◌, ◌+◌, ◌*◌, ◌^◌, ◌<◌, ◌≤◌, ◌⊎◌, IfErr, OnErr, OnOk, length};
+ghost use Rattle.migration_model.specs.Memory.{bytes_put, image_before, image_of, put};
+ghost use Rattle.migration_model.specs.Trace.{GuestTrace, Spells};
+ghost use Rattle.guest_log.specs.Writes.{shown};
+ghost use Rattle.trace_codec.specs.Refusals.{Refuses};
+ghost use Rattle.trace_codec.specs.declared.error.TraceError.{TraceError};
+ghost use Rattle.precopy_c.specs.Answers.{number_of_trace};
+ghost use Rattle.precopy_c.specs.Buffers.{over};
+ghost use Rattle.precopy_c.specs.Memories.{memory_length};
+
+use crate::answers::Refusal;
+use guest_log::{Shape, WriteView};
+use trace_codec::TraceView;
+
+/// A tick behind those of all writes: ticks are below `2^40`.
+const END: u64 = 1 << 40;
+
+/// Puts a write over memory of this shape, in which it stands at its offset of its page.
+fn write_over(memory: &mut [u8], shape: Shape, write: &WriteView<'_>)
+    requires { write.now.page * 2 ^ shape.shift + write.now.offset + length (bytes_put shape.shift (shown write.now))
+        ≤ length memory.old }
+    ensures { memory.new
+        ≡ put memory.old (write.now.page * 2 ^ shape.shift + write.now.offset)
+        (bytes_put shape.shift (shown write.now)) }
+{
+    let start = write.page as usize * shape.page_size() + write.offset as usize;
+    write.put_at(shape, memory, start);
+}
+
+/// Makes the memory after the writes before a tick.
+fn replay_before(trace: &TraceView<'_>, tick: u64, memory: &mut [u8])
+    requires { length memory.old ≡ memory_length trace.now }
+    ensures { memory.new ≡ (image_before trace.now tick).bytes }
+{
+    let shape = trace.shape();
+    memory.fill(0);
+    for write in trace.records() {
+        if write.tick < tick {
+            write_over(memory, shape, &write);
+        }
+    }
+}
+
+/// Makes the memory after the writes before a tick over the front of a buffer, and tells how many bytes it has.
+fn answer_memory(
+    trace: &TraceView<'_>,
+    tick: u64,
+    room: &mut [u8],
+    needed: &mut usize,
+) -> Result<(), Refusal>
+    ensures needed { needed.new ≡ memory_length trace.now }
+    ensures put { OnOk result (room.new ≡ over (image_before trace.now tick).bytes room.old) }
+    ensures refused { IfErr result (λ e. e ≡ Refusal.ShortBuffer) }
+    ensures short { OnErr result (length room.old < memory_length trace.now) }
+    ensures unchanged { OnErr result (room.new ≡ room.old) }
+{
+    let shape = trace.shape();
+    let count = shape.pages as usize * shape.page_size();
+    *needed = count;
+    if room.len() < count {
+        return Err(Refusal::ShortBuffer);
+    }
+    let (front, _) = room.split_at_mut(count);
+    replay_before(trace, tick, front);
+    Ok(())
+}
+
+/// Answers the memory after the writes before a tick, for both calls.
+fn answer_before(trace: &[u8], tick: u64, memory: &mut [u8], needed: &mut usize) -> u32
+    ensures made { result ≡ 0 → (t : GuestTrace) × Spells trace.now t × (needed.new ≡ memory_length t)
+        × (memory.new ≡ over (image_before t tick).bytes memory.old) }
+    ensures short { result ≡ 61 → (t : GuestTrace) × Spells trace.now t × (needed.new ≡ memory_length t)
+        × (length memory.old < needed.new) }
+    ensures refused { result ≢ 0 → result ≢ 61 → (e : TraceError) × Refuses trace.now e × (result ≡ number_of_trace e)
+        × (needed.new ≡ needed.old) }
+    ensures only { (t : GuestTrace) → Spells trace.now t → (result ≡ 0) ⊎ (result ≡ 61) }
+    ensures unchanged { result ≢ 0 → memory.new ≡ memory.old }
+{
+    match TraceView::parse(trace) {
+        Ok(view) => match answer_memory(&view, tick, memory, needed) {
+            Ok(()) => 0,
+            Err(refusal) => refusal.number(),
+        },
+        Err(error) => Refusal::Trace(error).number(),
+    }
+}
+
+/// Answers the memory after all writes of a trace, page after page, over the front of a buffer, and tells how many bytes
+/// it has. Where the buffer is too short for them, it tells how many, and writes none. It allocates nothing.
+#[unsafe(no_mangle)]
+pub extern "C" fn precopy_memory(trace: &[u8], memory: &mut [u8], needed: &mut usize) -> u32
+    ensures made { result ≡ 0 → (t : GuestTrace) × Spells trace.now t × (needed.new ≡ memory_length t)
+        × (memory.new ≡ over (image_of t).bytes memory.old) }
+    ensures short { result ≡ 61 → (t : GuestTrace) × Spells trace.now t × (needed.new ≡ memory_length t)
+        × (length memory.old < needed.new) }
+    ensures refused { result ≢ 0 → result ≢ 61 → (e : TraceError) × Refuses trace.now e × (result ≡ number_of_trace e)
+        × (needed.new ≡ needed.old) }
+    ensures only { (t : GuestTrace) → Spells trace.now t → (result ≡ 0) ⊎ (result ≡ 61) }
+    ensures unchanged { result ≢ 0 → memory.new ≡ memory.old }
+{
+    answer_before(trace, END, memory, needed)
+}
+
+/// Answers the memory after the writes before a tick, as [`precopy_memory`] does that after all of them.
+#[unsafe(no_mangle)]
+pub extern "C" fn precopy_memory_before(
+    trace: &[u8],
+    tick: u64,
+    memory: &mut [u8],
+    needed: &mut usize,
+) -> u32
+    ensures made { result ≡ 0 → (t : GuestTrace) × Spells trace.now t × (needed.new ≡ memory_length t)
+        × (memory.new ≡ over (image_before t tick).bytes memory.old) }
+    ensures short { result ≡ 61 → (t : GuestTrace) × Spells trace.now t × (needed.new ≡ memory_length t)
+        × (length memory.old < needed.new) }
+    ensures refused { result ≢ 0 → result ≢ 61 → (e : TraceError) × Refuses trace.now e × (result ≡ number_of_trace e)
+        × (needed.new ≡ needed.old) }
+    ensures only { (t : GuestTrace) → Spells trace.now t → (result ≡ 0) ⊎ (result ≡ 61) }
+    ensures unchanged { result ≢ 0 → memory.new ≡ memory.old }
+{
+    answer_before(trace, tick, memory, needed)
+}

@@ -1,0 +1,170 @@
+//! Plans: their sums, and their rounds.
+
+ghost use Rattle.std.specs.Prelude.{◌≡◌, ◌≢◌, ◌<◌, ◌≤◌, ◌⊎◌, IfErr, IfOk, length, map};
+ghost use Rattle.migration_model.specs.Rates.{AreSettings};
+ghost use Rattle.migration_model.specs.Rounds.{MigrationPlan};
+ghost use Rattle.migration_model.specs.Sweeps.{PlanOutcome, outcome_of};
+ghost use Rattle.migration_model.specs.Trace.{GuestTrace, Spells};
+ghost use Rattle.rate_limit.specs.Pacing.{reason_of};
+ghost use Rattle.precopy_c.specs.Answers.{IsNumberOf, number_of};
+ghost use Rattle.precopy_c.specs.Buffers.{over};
+ghost use Rattle.precopy_c.specs.Plans.{IsPlanOf, RefusesPlan, reason_number, row_of, sums_of};
+ghost use Rattle.precopy_c.specs.Settings.{settings_in};
+
+use crate::answers::Refusal;
+use crate::settings::PlanSettings;
+use rate_limit::Reason;
+use round_planner::{Outcome, Plan, Round, plan};
+use std::alloc::Global;
+use trace_readers::TouchLog;
+
+/// The sums of a plan: C's `struct precopy_sums`.
+#[derive(Clone, Copy, Debug, PartialEq, Eq)]
+#[repr(C)]
+pub struct PlanSums {
+    /// How many rounds there are.
+    pub rounds: u64,
+    /// Why no further round comes: 0 where few pages remain, 1 where the next rate is too high, 2 after the last round.
+    pub reason: u64,
+    /// The tick at which the guest is stopped.
+    pub stop: u64,
+    /// The downtime, in ticks.
+    pub down: u64,
+    /// How many pages are sent, over all rounds and after the stop.
+    pub total: u64,
+}
+
+/// A round of a plan: C's `struct precopy_round`.
+#[derive(Clone, Copy, Debug, PartialEq, Eq)]
+#[repr(C)]
+pub struct PlanRound {
+    /// The round's first tick.
+    pub from: u64,
+    /// The first tick behind it.
+    pub to: u64,
+    /// Its rate, in pages per 1,000 ticks.
+    pub rate: u64,
+    /// How many pages it has.
+    pub pages: u64,
+    /// How many of them it sends.
+    pub sent: u64,
+    /// How many pages are written while it lasts.
+    pub dirtied: u64,
+}
+
+/// Returns the number of a reason.
+fn number_of_reason(reason: Reason) -> u64
+    ensures { result ≡ reason_number (reason_of reason) }
+{
+    match reason {
+        Reason::Few => 0,
+        Reason::Fast => 1,
+        Reason::Rounds => 2,
+    }
+}
+
+/// Returns the sums as C sees them.
+pub(crate) fn sums(outcome: &Outcome) -> PlanSums
+    ensures { result ≡ sums_of outcome.now }
+{
+    PlanSums {
+        rounds: outcome.rounds,
+        reason: number_of_reason(outcome.reason),
+        stop: outcome.stop,
+        down: outcome.down,
+        total: outcome.total,
+    }
+}
+
+/// Returns a round as C sees it.
+fn row(round: &Round) -> PlanRound
+    ensures { result ≡ row_of round.now }
+{
+    PlanRound {
+        from: round.from,
+        to: round.to,
+        rate: round.rate,
+        pages: round.pages.len() as u64,
+        sent: round.sent.len() as u64,
+        dirtied: round.dirtied as u64,
+    }
+}
+
+/// Returns the plan of the trace that the bytes encode. The settings are tested first.
+fn planned(alloc: Global, trace: &[u8], settings: &PlanSettings) -> Result<Plan, Refusal>
+    ensures made { IfOk result (IsPlanOf trace.now (settings_in settings.now)) }
+    ensures refused { IfErr result (RefusesPlan trace.now (settings_in settings.now)) }
+    ensures only { (t : GuestTrace) → Spells trace.now t → AreSettings (settings_in settings.now)
+        → IfErr result (λ e. number_of e ≡ 16) }
+{
+    let settings = settings.checked()?;
+    let log = TouchLog::parse(alloc, trace)?;
+    Ok(plan(alloc, &log, &settings)?)
+}
+
+/// Answers the sums of the plan of a trace with some settings.
+#[unsafe(no_mangle)]
+pub extern "C" fn precopy_plan(
+    alloc: Global,
+    trace: &[u8],
+    settings: &PlanSettings,
+    found: &mut PlanSums,
+) -> u32
+    ensures made { result ≡ 0 → (plan : MigrationPlan) × IsPlanOf trace.now (settings_in settings.now) plan
+        × (found.new ≡ sums_of (outcome_of plan)) }
+    ensures refused { result ≢ 0 → IsNumberOf result (RefusesPlan trace.now (settings_in settings.now)) }
+    ensures only { (t : GuestTrace) → Spells trace.now t → AreSettings (settings_in settings.now)
+        → (result ≡ 0) ⊎ (result ≡ 16) }
+    ensures unchanged { result ≢ 0 → found.new ≡ found.old }
+{
+    match planned(alloc, trace, settings) {
+        Ok(plan) => {
+            *found = sums(&plan.outcome());
+            0
+        }
+        Err(refusal) => refusal.number(),
+    }
+}
+
+/// Writes rounds over the front of a buffer.
+fn put_rounds(rounds: &[Round], room: &mut [PlanRound])
+    requires { length rounds.now ≤ length room.old }
+    ensures { room.new ≡ over (map row_of rounds.now) room.old }
+{
+    for (number, round) in rounds.iter().enumerate() {
+        room[number] = row(round);
+    }
+}
+
+/// Answers the rounds of the plan of a trace, in order, over the front of a buffer, and tells how many there are. Where
+/// the buffer is too short for them, it tells how many, and writes no round.
+#[unsafe(no_mangle)]
+pub extern "C" fn precopy_rounds(
+    alloc: Global,
+    trace: &[u8],
+    settings: &PlanSettings,
+    rounds: &mut [PlanRound],
+    count: &mut usize,
+) -> u32
+    ensures made { result ≡ 0 → (plan : MigrationPlan) × IsPlanOf trace.now (settings_in settings.now) plan
+        × (count.new ≡ length plan.rounds) × (rounds.new ≡ over (map row_of plan.rounds) rounds.old) }
+    ensures short { result ≡ 61 → (plan : MigrationPlan) × IsPlanOf trace.now (settings_in settings.now) plan
+        × (count.new ≡ length plan.rounds) × (length rounds.old < count.new) }
+    ensures refused { result ≢ 0 → result ≢ 61
+        → IsNumberOf result (RefusesPlan trace.now (settings_in settings.now)) × (count.new ≡ count.old) }
+    ensures only { (t : GuestTrace) → Spells trace.now t → AreSettings (settings_in settings.now)
+        → (result ≡ 0) ⊎ (result ≡ 16) ⊎ (result ≡ 61) }
+    ensures unchanged { result ≢ 0 → rounds.new ≡ rounds.old }
+{
+    match planned(alloc, trace, settings) {
+        Ok(plan) => {
+            *count = plan.rounds.len();
+            if rounds.len() < plan.rounds.len() {
+                return Refusal::ShortBuffer.number();
+            }
+            put_rounds(&plan.rounds, rounds);
+            0
+        }
+        Err(refusal) => refusal.number(),
+    }
+}

@@ -1,0 +1,61 @@
+//! Reports.
+
+ghost use Rattle.std.specs.Prelude.{◌≡◌, ◌≢◌, ◌<◌, ◌⊎◌, ℕ, List, IfErr, IfOk, length};
+ghost use Rattle.migration_model.specs.Rates.{AreSettings};
+ghost use Rattle.migration_model.specs.Trace.{GuestTrace, Spells};
+ghost use Rattle.precopy_c.specs.Answers.{IsNumberOf, number_of};
+ghost use Rattle.precopy_c.specs.Buffers.{over};
+ghost use Rattle.precopy_c.specs.Plans.{IsReportOf, RefusesPlan};
+ghost use Rattle.precopy_c.specs.Settings.{settings_in};
+
+use crate::answers::Refusal;
+use crate::buffers::answer_bytes;
+use crate::settings::PlanSettings;
+use round_planner::plan;
+use std::alloc::Global;
+use sweep_report::report_text;
+use trace_readers::TouchLog;
+use working_sets::tables;
+
+/// Returns the text of the report on the trace that the bytes encode. The settings are tested first.
+fn reported(alloc: Global, trace: &[u8], settings: &PlanSettings) -> Result<Vec<u8>, Refusal>
+    ensures made { IfOk result (λ text. IsReportOf trace.now (settings_in settings.now) text.items) }
+    ensures refused { IfErr result (RefusesPlan trace.now (settings_in settings.now)) }
+    ensures only { (t : GuestTrace) → Spells trace.now t → AreSettings (settings_in settings.now)
+        → IfErr result (λ e. number_of e ≡ 16) }
+{
+    let settings = settings.checked()?;
+    let log = TouchLog::parse(alloc, trace)?;
+    let sets = tables(alloc, &log, &settings)?;
+    let planned = plan(alloc, &log, &settings)?;
+    Ok(report_text(alloc, &log.shape(), &settings, &sets, &planned)?)
+}
+
+/// Answers the text of the report on a trace, in ASCII, over the front of a buffer, and tells how many bytes it has.
+/// Where the buffer is too short for them, it tells how many, and writes none.
+#[unsafe(no_mangle)]
+pub extern "C" fn precopy_report(
+    alloc: Global,
+    trace: &[u8],
+    settings: &PlanSettings,
+    text: &mut [u8],
+    needed: &mut usize,
+) -> u32
+    ensures made { result ≡ 0 → (report : List ℕ) × IsReportOf trace.now (settings_in settings.now) report
+        × (needed.new ≡ length report) × (text.new ≡ over report text.old) }
+    ensures short { result ≡ 61 → (report : List ℕ) × IsReportOf trace.now (settings_in settings.now) report
+        × (needed.new ≡ length report) × (length text.old < needed.new) }
+    ensures refused { result ≢ 0 → result ≢ 61
+        → IsNumberOf result (RefusesPlan trace.now (settings_in settings.now)) × (needed.new ≡ needed.old) }
+    ensures only { (t : GuestTrace) → Spells trace.now t → AreSettings (settings_in settings.now)
+        → (result ≡ 0) ⊎ (result ≡ 16) ⊎ (result ≡ 61) }
+    ensures unchanged { result ≢ 0 → text.new ≡ text.old }
+{
+    match reported(alloc, trace, settings) {
+        Ok(report) => match answer_bytes(text, needed, &report) {
+            Ok(()) => 0,
+            Err(refusal) => refusal.number(),
+        },
+        Err(refusal) => refusal.number(),
+    }
+}

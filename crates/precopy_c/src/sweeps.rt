@@ -1,0 +1,116 @@
+//! Sweeps: the sums of many plans of one trace, and the best of them.
+
+ghost use Rattle.std.specs.Prelude.{◌≡◌, ◌≢◌, ◌<◌, ◌≤◌, ◌⊎◌, ℕ, List, IfErr, IfOk, length, map};
+ghost use Rattle.std.specs.List.{All};
+ghost use Rattle.migration_model.specs.Rates.{AreSettings};
+ghost use Rattle.migration_model.specs.Sweeps.{SweepLine, best_of};
+ghost use Rattle.migration_model.specs.Trace.{GuestTrace, Spells};
+ghost use Rattle.precopy_c.specs.Answers.{IsNumberOf, number_of};
+ghost use Rattle.precopy_c.specs.Buffers.{over};
+ghost use Rattle.precopy_c.specs.Settings.{settings_in};
+ghost use Rattle.precopy_c.specs.Sweeps.{IsSweepOf, RefusesSweep, line_sums};
+
+use crate::answers::Refusal;
+use crate::plans::{PlanSums, sums};
+use crate::settings::PlanSettings;
+use rate_limit::Settings;
+use round_planner::Outcome;
+use std::alloc::Global;
+use sweep_report::{Line, best_case, sweep_in_turn};
+use trace_readers::TouchLog;
+
+/// Returns the settings of all cases, or the refusal of the first that is out of range.
+fn checked_cases(alloc: Global, cases: &[PlanSettings]) -> Result<Vec<Settings>, Refusal>
+    ensures made { IfOk result (λ checked. checked.items ≡ map settings_in cases.now) }
+    ensures refused { (bytes : List ℕ) → IfErr result (RefusesSweep bytes (map settings_in cases.now)) }
+    ensures only { All AreSettings (map settings_in cases.now) → IfErr result (λ e. e ≡ Refusal.Memory) }
+{
+    let mut checked = Vec::with_capacity(alloc, cases.len())?;
+    for case in cases {
+        match case.checked() {
+            Ok(settings) => checked.push(settings)?,
+            Err(error) => return Err(Refusal::Settings(error)),
+        }
+    }
+    Ok(checked)
+}
+
+/// Returns the lines of a sweep of the trace that the bytes encode. The cases are tested first.
+fn swept(alloc: Global, trace: &[u8], cases: &[PlanSettings]) -> Result<Vec<Line>, Refusal>
+    ensures made { IfOk result (λ lines. IsSweepOf trace.now (map settings_in cases.now) lines.items) }
+    ensures refused { IfErr result (RefusesSweep trace.now (map settings_in cases.now)) }
+    ensures only { (t : GuestTrace) → Spells trace.now t → All AreSettings (map settings_in cases.now)
+        → IfErr result (λ e. number_of e ≡ 16) }
+{
+    let checked = match checked_cases(alloc, cases) {
+        Ok(checked) => checked,
+        Err(refusal) => return Err(refusal),
+    };
+    let log = TouchLog::parse(alloc, trace)?;
+    Ok(sweep_in_turn(alloc, &log, &checked)?)
+}
+
+/// Returns the sums of a line.
+fn sums_of_line(line: &Line) -> PlanSums
+    ensures { result ≡ line_sums line.now }
+{
+    sums(&Outcome {
+        rounds: line.rounds,
+        reason: line.reason,
+        stop: line.stop,
+        down: line.down,
+        total: line.total,
+    })
+}
+
+/// Writes the sums of lines over the front of a buffer.
+fn put_lines(lines: &[Line], room: &mut [PlanSums])
+    requires { length lines.now ≤ length room.old }
+    ensures { room.new ≡ over (map line_sums lines.now) room.old }
+{
+    for (number, line) in lines.iter().enumerate() {
+        room[number] = sums_of_line(line);
+    }
+}
+
+/// Returns the index of the best of some lines, 0 where there is none.
+fn best(lines: &[Line]) -> usize
+    ensures { result ≡ best_of lines.now }
+{
+    if lines.is_empty() {
+        return 0;
+    }
+    best_case(lines)
+}
+
+/// Answers the sums of the plan of a trace for each of some cases, in order, over the front of a buffer, and the index
+/// of the best of them. All is done on the caller's thread.
+#[unsafe(no_mangle)]
+pub extern "C" fn precopy_sweep(
+    alloc: Global,
+    trace: &[u8],
+    cases: &[PlanSettings],
+    found: &mut [PlanSums],
+    chosen: &mut usize,
+) -> u32
+    ensures made { result ≡ 0 → (lines : List SweepLine) × IsSweepOf trace.now (map settings_in cases.now) lines
+        × (found.new ≡ over (map line_sums lines) found.old) × (chosen.new ≡ best_of lines) }
+    ensures short { result ≡ 61 → length found.old < length cases.now }
+    ensures refused { result ≢ 0 → result ≢ 61
+        → IsNumberOf result (RefusesSweep trace.now (map settings_in cases.now)) }
+    ensures only { (t : GuestTrace) → Spells trace.now t → All AreSettings (map settings_in cases.now)
+        → length cases.now ≤ length found.old → (result ≡ 0) ⊎ (result ≡ 16) }
+    ensures unchanged { result ≢ 0 → (found.new ≡ found.old) × (chosen.new ≡ chosen.old) }
+{
+    if found.len() < cases.len() {
+        return Refusal::ShortBuffer.number();
+    }
+    match swept(alloc, trace, cases) {
+        Ok(lines) => {
+            put_lines(&lines, found);
+            *chosen = best(&lines);
+            0
+        }
+        Err(refusal) => refusal.number(),
+    }
+}

@@ -1,0 +1,290 @@
+/*
+ * precopy: plans of pre-copy live migrations, memory of recorded guests, and frames of pages.
+ *
+ * A trace is a recording of a guest's writes (docs/FORMATS.md). A tick is its unit of time. A rate is in pages per
+ * 1,000 ticks. Pages are numbered from 0, and have 2^shift bytes. Memory is all pages, one after the other. A stamp
+ * is the place of the last write in a page, 1 for the first write of the trace, or 0 before any.
+ *
+ * What holds for every function:
+ *
+ * - It returns PRECOPY_OK, which is 0, or another number of enum precopy_status. Where it isn't PRECOPY_OK, the
+ *   function has written nothing but what its comment names.
+ * - It keeps nothing between two calls, starts no thread, and doesn't block. Any number of threads may call at
+ *   once.
+ * - All memory is the caller's. A function that needs memory of its own takes it by malloc, gives it back before it
+ *   returns, and returns PRECOPY_NO_MEMORY where there is none. Its comment says if it takes any.
+ * - A buffer that is longer than needed keeps what is behind. One that is too short gets nothing: the function
+ *   returns PRECOPY_SHORT_BUFFER, and tells the length that it needs.
+ *
+ * What nothing checks, and a caller has to keep:
+ *
+ * - No pointer is null, also where its length is 0. A pointer is aligned as its type is.
+ * - The memory that a pointer and its length describe is there, and all of an input is initialized.
+ * - What a function writes overlaps nothing else that is passed to it, and no other thread reads or writes it
+ *   meanwhile. No thread writes an input meanwhile.
+ * - No function is called from a signal handler, nor from the forked child of a process with threads.
+ */
+#ifndef PRECOPY_H
+#define PRECOPY_H
+
+#include <stdbool.h>
+#include <stddef.h>
+#include <stdint.h>
+
+#ifdef __cplusplus
+extern "C" {
+#endif
+
+/* The number in the name libprecopy.so.1: it changes where a program has to be compiled again. */
+#define PRECOPY_ABI 1
+
+/* What functions return. The names E1, S1 and F1 are those that the program precopy writes. */
+enum precopy_status {
+    PRECOPY_OK = 0,
+
+    /* A trace is refused. */
+    PRECOPY_SHORT_HEADER = 1,       /* E1: fewer than 16 bytes */
+    PRECOPY_BAD_MAGIC = 2,          /* E2: bytes 0 to 3 are not PCWT */
+    PRECOPY_BAD_VERSION = 3,        /* E3: the version is not 1 or 2 */
+    PRECOPY_BAD_SHIFT = 4,          /* E4: the page shift is not 4 to 12; so too in struct precopy_sizes */
+    PRECOPY_BAD_RESERVED = 5,       /* E5: byte 6 or 7 is not 0 */
+    PRECOPY_BAD_PAGES = 6,          /* E6: pages are not 1 to 65,536; so too in struct precopy_sizes */
+    PRECOPY_TOO_MANY_WRITES = 7,    /* E7: writes are more than 1,048,576; so too in struct precopy_sizes */
+    PRECOPY_SHORT_RECORD = 8,       /* E8: a record is cut off */
+    PRECOPY_TICK_ORDER = 9,         /* E9: a tick is below that of the record before */
+    PRECOPY_TICK_TOO_LARGE = 10,    /* E10: a tick is 2^40 or more */
+    PRECOPY_PAGE_OUT_OF_RANGE = 11, /* E11: a page is not below the number of pages */
+    PRECOPY_EMPTY_WRITE = 12,       /* E12: a length is 0, and the record releases no page */
+    PRECOPY_OUT_OF_PAGE = 13,       /* E13: a write ends behind its page */
+    PRECOPY_TRAILING_BYTES = 14,    /* E14: bytes stand behind the last record */
+    PRECOPY_TOO_LONG = 15,          /* E15: more than 2^28 bytes */
+
+    PRECOPY_NO_MEMORY = 16, /* E16: malloc returned null */
+
+    /* Settings are refused. */
+    PRECOPY_BAD_MIN = 21,       /* S1: min is not 1 to 1,000,000 */
+    PRECOPY_BAD_MAX = 22,       /* S2: max is not min to 1,000,000 */
+    PRECOPY_BAD_INCREMENT = 23, /* S3: increment is more than 1,000,000 */
+    PRECOPY_BAD_THRESHOLD = 24, /* S4: threshold is not 1 to 65,536 */
+    PRECOPY_BAD_ROUNDS = 25,    /* S5: rounds is not 1 to 64 */
+    PRECOPY_BAD_WINDOW = 26,    /* S6: window is not 1 to 2^40 */
+    PRECOPY_BAD_HOT = 27,       /* S7: hot is not 1 to 1,048,576 */
+    PRECOPY_BAD_START = 28,     /* S8: start is 2^40 or more */
+    PRECOPY_BAD_BASE = 30,      /* S10: base is after start */
+
+    /* A frame is refused. */
+    PRECOPY_FRAME_SHORT = 41, /* F1: a frame is cut off */
+    PRECOPY_FRAME_PAGE = 42,  /* F2: a page is not below the number of pages */
+    PRECOPY_FRAME_STAMP = 43, /* F3: a stamp is greater than the number of writes */
+    PRECOPY_FRAME_KIND = 44,  /* F4: a kind is not 0 or 1 */
+    PRECOPY_FRAME_ZEROS = 45, /* F5: a page of zeros comes byte by byte */
+
+    /* A buffer or a number of pages does not fit. */
+    PRECOPY_SHORT_BUFFER = 61,  /* a buffer is too short for what belongs there */
+    PRECOPY_PAGE_LENGTH = 62,   /* the bytes of a page are not as many as a page has */
+    PRECOPY_MEMORY_LENGTH = 63, /* memory has not as many bytes as all pages */
+    PRECOPY_PAGE_COUNT = 64,    /* there is not a struct precopy_page for each page */
+    PRECOPY_PAGE_MISSING = 65   /* a page did not come */
+};
+
+/* A line about a status, in English. It never returns null, and the text stays. */
+const char *precopy_strerror(uint32_t status);
+
+/* The version of the library, as "1.2.3". The text stays. */
+const char *precopy_version(void);
+
+/* ---- traces */
+
+/* The sizes of a trace, which stand in its header. */
+struct precopy_sizes {
+    uint32_t shift;  /* a page has 2^shift bytes; 4 to 12 */
+    uint32_t pages;  /* 1 to 65,536 */
+    uint32_t writes; /* 0 to 1,048,576 */
+};
+
+/*
+ * Tests the bytes of a trace, and tells its sizes.
+ *
+ * Where they are refused for a record, PRECOPY_SHORT_RECORD to PRECOPY_OUT_OF_PAGE, *record is its number, from 0.
+ * Of several causes the first one is told. It takes no memory.
+ */
+uint32_t precopy_check_trace(const uint8_t *trace, size_t trace_length, struct precopy_sizes *sizes, uint32_t *record);
+
+/* ---- plans */
+
+/* The settings of a plan. Rates are in pages per 1,000 ticks. */
+struct precopy_settings {
+    uint64_t min;       /* the rate of the first round, and the least one */
+    uint64_t max;       /* the greatest rate; that of the final copy */
+    uint64_t increment; /* what is added to a dirtying rate to get the next rate */
+    uint64_t threshold; /* rounds end after one in which fewer pages were dirtied */
+    uint64_t rounds;    /* the most rounds */
+    uint64_t start;     /* the tick at which the first round begins */
+    uint64_t window;    /* of a report: the ticks of a window */
+    uint64_t hot;       /* of a report: a page is hot that is written in so many windows */
+    uint64_t base;      /* the destination begins with the memory before this tick, where has_base isn't 0 */
+    uint32_t has_base;  /* 0: the destination begins with nothing */
+    uint32_t skip;      /* 0: all pages of a round are sent, also those that were written again */
+};
+
+/* Settings to begin with: those that the program precopy has where no option is given. */
+#define PRECOPY_SETTINGS_DEFAULT {1000, 5000, 500, 64, 30, 0, 1000, 2, 0, 0, 0}
+
+/* Why pre-copying ends. */
+enum precopy_reason {
+    PRECOPY_FEW = 0,       /* fewer pages than the threshold were dirtied */
+    PRECOPY_FAST = 1,      /* the next rate would be above the greatest */
+    PRECOPY_ALL_ROUNDS = 2 /* as many rounds as were asked for are done */
+};
+
+/* What a plan comes to. */
+struct precopy_sums {
+    uint64_t rounds; /* how many rounds there are */
+    uint64_t reason; /* of enum precopy_reason */
+    uint64_t stop;   /* the tick at which the guest is stopped */
+    uint64_t down;   /* the downtime, in ticks */
+    uint64_t total;  /* the pages that are sent, over all rounds and after the stop */
+};
+
+/* A round of a plan: from a tick on, and before another. */
+struct precopy_round {
+    uint64_t from;    /* its first tick */
+    uint64_t to;      /* the first tick behind it */
+    uint64_t rate;    /* its rate */
+    uint64_t pages;   /* the pages that it has */
+    uint64_t sent;    /* those of them that it sends */
+    uint64_t dirtied; /* the pages that are written meanwhile */
+};
+
+/* Tests settings: returns PRECOPY_OK, or what the first of them is refused for. It takes no memory. */
+uint32_t precopy_check_settings(const struct precopy_settings *settings);
+
+/*
+ * Plans the migration of a trace, and writes what the plan comes to into *sums.
+ *
+ * The settings are tested first, and then the trace. It takes 16 bytes for each write, and up to 1 MiB.
+ */
+uint32_t precopy_plan(const uint8_t *trace, size_t trace_length, const struct precopy_settings *settings,
+                      struct precopy_sums *sums);
+
+/*
+ * Plans the migration of a trace, and writes its rounds into an array, in order. *count is how many there are.
+ *
+ * Where the array has fewer elements, it returns PRECOPY_SHORT_BUFFER and writes *count and no round. There are at
+ * most 64 rounds. It takes memory as precopy_plan does.
+ */
+uint32_t precopy_rounds(const uint8_t *trace, size_t trace_length, const struct precopy_settings *settings,
+                        struct precopy_round *rounds, size_t rounds_length, size_t *count);
+
+/*
+ * Writes the report on a trace, as `precopy report` writes it: ASCII, without a 0 at the end. *needed is its
+ * length.
+ *
+ * Where the buffer is shorter, it returns PRECOPY_SHORT_BUFFER and writes *needed and no text. It takes memory as
+ * precopy_plan does, and for the text.
+ */
+uint32_t precopy_report(const uint8_t *trace, size_t trace_length, const struct precopy_settings *settings, uint8_t *text,
+                        size_t text_length, size_t *needed);
+
+/*
+ * Plans the migration of a trace with each of some settings. sums[i] is what the plan of cases[i] comes to. *best
+ * is the number of the best case: the first with the least downtime, and of these the first with the fewest pages
+ * sent. Of no cases it is 0.
+ *
+ * Where there are fewer sums than cases, it returns PRECOPY_SHORT_BUFFER; the length that it needs is that of the
+ * cases. The first case that is out of range is what it refuses; precopy_check_settings tells which that is. It
+ * takes 24 bytes for each write, and 200 for each case.
+ */
+uint32_t precopy_sweep(const uint8_t *trace, size_t trace_length, const struct precopy_settings *cases,
+                       size_t cases_length, struct precopy_sums *sums, size_t sums_length, size_t *best);
+
+/* ---- memory */
+
+/*
+ * Writes the memory after all writes of a trace, as `precopy image` does. *needed is its length, pages times
+ * 2^shift.
+ *
+ * Where the buffer is shorter, it returns PRECOPY_SHORT_BUFFER and writes *needed and no memory. It takes no
+ * memory.
+ */
+uint32_t precopy_memory(const uint8_t *trace, size_t trace_length, uint8_t *memory, size_t memory_length, size_t *needed);
+
+/*
+ * Writes the memory before a tick, after the writes of all lower ticks; else as precopy_memory. A migration that
+ * stops its guest at that tick has to leave this memory.
+ */
+uint32_t precopy_memory_before(const uint8_t *trace, size_t trace_length, uint64_t tick, uint8_t *memory,
+                               size_t memory_length, size_t *needed);
+
+/* ---- frames */
+
+/* What a frame has beside the bytes of its page. */
+struct precopy_frame {
+    uint32_t page;  /* the number of the page */
+    uint32_t stamp; /* the place of the last write in its bytes, or 0 */
+    size_t size;    /* how many bytes the frame has: 9, or 9 and those of a page */
+};
+
+/*
+ * Encodes the frame of a page at a stamp, with these bytes of the page. *needed is how many bytes the frame has: 9
+ * for a page of zeros, or 9 and those of the page.
+ *
+ * Where the buffer is shorter, it returns PRECOPY_SHORT_BUFFER and writes *needed and no frame. It takes memory for
+ * one frame.
+ */
+uint32_t precopy_encode_frame(const struct precopy_sizes *sizes, uint32_t page, uint32_t stamp, const uint8_t *bytes,
+                              size_t bytes_length, uint8_t *frame, size_t frame_length, size_t *needed);
+
+/*
+ * Decodes the frame at the front of some bytes: writes what it has into *frame, and the bytes of its page to
+ * `content`.
+ *
+ * Bytes behind the frame are left: the next frame begins at bytes + frame->size. Where `content` is shorter than a
+ * page, it returns PRECOPY_SHORT_BUFFER. It takes no memory.
+ */
+uint32_t precopy_decode_frame(const struct precopy_sizes *sizes, const uint8_t *bytes, size_t bytes_length,
+                              struct precopy_frame *frame, uint8_t *content, size_t content_length);
+
+/* What is known of a page of flat memory. With all bytes 0, the page did not come. */
+struct precopy_page {
+    uint32_t came;  /* 0: no frame of the page came, and its bytes in memory stand for nothing */
+    uint32_t stamp; /* else the stamp of the frame that its bytes are of */
+};
+
+/* How much of a stream was taken. */
+struct precopy_taken {
+    size_t frames; /* how many frames */
+    size_t bytes;  /* how many bytes they have together */
+};
+
+/*
+ * Takes a stream of frames into flat memory: `memory` has the bytes of all pages, and `pages` an element for each
+ * page. Both begin as zeros, and are the caller's to keep from call to call. Of the frames of a page the one with
+ * the greatest stamp stays, in whatever order they come, however often and in however many calls; of equal stamps
+ * the first.
+ *
+ * It returns PRECOPY_OK where all bytes of the stream are frames, or what the first frame is refused for that is
+ * none, PRECOPY_FRAME_SHORT to PRECOPY_FRAME_ZEROS. In both cases the frames in front are taken, and *taken tells
+ * how many they are; stream + taken->bytes is where the refused one begins. So of a stream that comes in pieces,
+ * keep what PRECOPY_FRAME_SHORT leaves, and put the next piece behind it.
+ *
+ * Any other status leaves memory, pages and *taken as they were. It takes no memory.
+ */
+uint32_t precopy_accept(const struct precopy_sizes *sizes, const uint8_t *stream, size_t stream_length, uint8_t *memory,
+                        size_t memory_length, struct precopy_page *pages, size_t pages_length,
+                        struct precopy_taken *taken);
+
+/*
+ * Returns PRECOPY_OK where each page came, or PRECOPY_PAGE_MISSING, and then *page is the first that did not. It
+ * takes no memory.
+ */
+uint32_t precopy_missing(const struct precopy_page *pages, size_t pages_length, size_t *page);
+
+/* Returns whether each byte is 0; so it is of no bytes. It takes no memory. */
+bool precopy_is_zero(const uint8_t *bytes, size_t bytes_length);
+
+#ifdef __cplusplus
+}
+#endif
+
+#endif
