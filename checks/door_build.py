@@ -257,7 +257,7 @@ def go_on(tally, tree):
 
 
 def differ(tally, tree, folder):
-    """tools/library, where the toolchain's module is another one."""
+    """tools/library, if the toolchain's module is another one."""
     other = os.path.join(folder, "other")
     for number, (text, told) in enumerate(
         [

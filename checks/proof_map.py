@@ -46,7 +46,7 @@ def clauses_of(contract):
 
 
 def contract_row(cell):
-    """`crate`: `call`, ..: `clause`, .. of the last call, and more of these behind semicolons."""
+    """`crate`: `call`, ..: `clause`, .. of the last call, and more of these after semicolons."""
     for part in cell.split(";"):
         (crate,), calls, clauses = [CODE.findall(words) for words in f"{part}: ".split(": ")[:3]]
         for call in calls:
