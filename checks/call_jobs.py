@@ -30,7 +30,7 @@ def told(part):
 class Call:
     """A call: all that is printed if nothing is refused, and if something is.
 
-    `refused` has the whole text for each refusal that the call may return. The text tells what remains after it, and
+    `refused` has the whole text for each refusal that the call may return. The text says what remains after it, and
     what the same call returns with ample memory."""
 
     trace = None
@@ -43,7 +43,7 @@ class Call:
         self.has_threads = has_threads
 
     def refusal(self, output):
-        """Which refusal a text tells that has all that is promised after it; None if it has not."""
+        """Which refusal a text reports together with all that is promised after it; None if that is missing."""
         return self.refused.get(output)
 
 

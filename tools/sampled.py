@@ -56,7 +56,7 @@ class SampledGuest:
         return wanted
 
     def tracker(self):
-        """What tells which sampled pages were written, the name of its method, and why it is not the other one."""
+        """What finds out which sampled pages were written, the name of its method, and why it is not the other one."""
         if self.options.by == "values" or self.options.file:
             return page_values.ChangedPages(self.pages, self.places), "values", None
         try:
