@@ -2,7 +2,7 @@
 #
 #     make                            builds the programs if they are not built yet or a source has changed
 #     make install PREFIX=/usr        installs below PREFIX: programs, tools, manuals, completions, documents, examples
-#     make uninstall PREFIX=/usr      takes the same files away
+#     make uninstall PREFIX=/usr      removes the same files
 #     make deb                        makes a package for Debian in out/
 #     make dist                       makes a tarball for other systems in out/, and its checksum
 #

@@ -1,9 +1,9 @@
-"""A process whose pages are written on demand, for checks/recording. It says so where a call of its was disturbed.
+"""A process whose pages are written on demand, for checks/recording. It says so if one of its calls was disturbed.
 
     python3 checks/known_pages.py private|shared|huge PAGES [filtered|watched]
 
-It prints the address of its pages, one of which in three is zero. For each line of numbers it writes the bytes that
-stand there again, on these pages, and prints how many of its calls of poll(2) ended with anything but one ready file.
+It prints the address of its pages, one of which in three is zero. For each line of numbers it rewrites the bytes that
+are already on these pages, and prints how many of its calls of poll(2) ended with anything but one ready file.
 With `filtered` a userfaultfd of its own would kill it, by seccomp; with `watched` it has one over its pages already.
 """
 

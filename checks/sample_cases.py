@@ -443,7 +443,7 @@ def bad_words(_, folder):
 
 
 def cause_of_no_writes():
-    """Why this machine tells no writes, or None where it does."""
+    """Why this machine reports no writes, or None if it does."""
     with tempfile.TemporaryDirectory() as folder, Pages("private") as pages:
         drawn = Drawn(folder, pages.source, ["--for", "50ms"])
         drawn.end()

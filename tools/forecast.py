@@ -1,7 +1,7 @@
 """What a migration of a guest will be, from a sample of its pages: plans, and their standard errors.
 
-A plan of the sample has rates and thresholds divided by the weight of a page, and its pages are multiplied by it. Rates
-are whole numbers, so ticks are made longer where a rate would be small. The standard error is a bootstrap (Efron 1979):
+A plan of the sample divides rates and thresholds by the weight of a page, and multiplies its pages by it. Rates are
+whole numbers, so ticks are made longer if a rate would be small. The standard error is a bootstrap (Efron 1979):
 pages are drawn again from the sample, with replacement, and planned as the sample is.
 """
 
@@ -19,7 +19,7 @@ from samples import Sample
 FACTORS = (1, 2, 5, 10, 20)
 LEAST_RATE = 200
 RECORD = struct.Struct("<QIHHB")
-# Writes are taken so much behind the end of the plan, for plans that end later.
+# How far past the end of the plan writes are taken, for plans that end later.
 MARGIN = 1.5
 
 
@@ -31,7 +31,7 @@ class Link(NamedTuple):
 
 
 class Outcome(NamedTuple):
-    """What a plan says of the whole guest. `is_known` where the recording goes on up to its stop."""
+    """What a plan says of the whole guest. `is_known` if the recording lasts to its stop."""
 
     sent: float
     seconds: float
@@ -116,7 +116,7 @@ class Forecast:
         return self.planned(self.coarse(factor), link, factor)
 
     def deciding(self, link: Link) -> int:
-        """How many pages of the sample fit the downtime limit: so many decide when the guest stops."""
+        """How many pages of the sample fit the downtime limit: these decide when the guest stops."""
         return int(link.downtime * link.bandwidth / self.page_size / self.sample.weight)
 
     def redrawn(self, draws: random.Random, writes: list[tuple[int, int]]) -> Pages:
@@ -132,7 +132,7 @@ class Forecast:
         return Pages(count, weight, [(tick, number) for tick, page in writes for number in numbers[page]])
 
     def errors(self, link: Link, of: Outcome, count: int, seed: int) -> Errors:
-        """The standard errors of an outcome, from so many plans of pages that are drawn again."""
+        """The standard errors of an outcome, from a number of plans of pages that are drawn again."""
         factor, draws = self.factor(link), random.Random(seed)
         tick, writes = self.sample.tick_seconds * factor, self.coarse(factor).writes
         end = self.sample.first_tick // factor + math.ceil(MARGIN * of.stop / tick)

@@ -1,7 +1,7 @@
 """The bytes of single pages of a guest, of a file or a process, and which of some pages have changed.
 
-Many pages come by one call of process_vm_readv: of a file through a mapping of this process. It says so where a page
-is gone, while a look through the mapping itself would end this process. A page that has no memory yet is not read: that
+One call of process_vm_readv reads many pages; those of a file through a mapping of this process. It reports a page that
+is gone, while a look through the mapping itself would end this process. A page without memory is not read, since that
 would give it some.
 """
 

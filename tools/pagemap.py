@@ -1,8 +1,8 @@
-"""Which pages of a process were written since the last look, as the kernel tells it: PAGEMAP_SCAN, Linux 6.7.
+"""Which pages of a process were written since the last look, by the kernel's PAGEMAP_SCAN (Linux 6.7).
 
-A userfaultfd protects pages from writes. A write to a protected page takes the protection away, and the writer goes on
-at once. The scan tells pages without protection and protects them again, in one step for each page: no write is
-lost, and nobody waits. The kernel takes all of it back when the descriptor is closed, or its owner dies.
+A userfaultfd protects pages from writes. A write to a protected page removes the protection, and the writer goes on at
+once. The scan reports pages without protection and protects them again, in one step for each page: no write is lost,
+and nobody waits. The kernel undoes all of it when the descriptor is closed, or its owner dies.
 """
 
 import bisect
@@ -29,7 +29,7 @@ REQUEST = struct.Struct("=12Q")
 REGION = struct.Struct("=3Q")
 REGIONS = 1 << 14
 # A whole scan takes some nanoseconds a page, and a scan of one page about a microsecond. But a whole scan protects all
-# pages, and each costs the process a microsecond when it is written: so only where it is much faster.
+# pages, and each costs the process a microsecond when it is written: so only if it is much faster.
 WHOLE_PAGES = 16
 
 ioctl = fcntl.ioctl
@@ -87,7 +87,7 @@ class WrittenPages:
         return f"the kernel does not watch {begin:#x}-{end:#x}: {fault.strerror}"
 
     def _prepare(self) -> None:
-        """Makes the requests once: of the whole where that is much faster or asked for, else of one page each."""
+        """Makes the requests once: of the whole if that is much faster or asked for, else of one page each."""
         pages = sum(end - begin for begin, end in self.ranges) // PAGE
         self.is_whole = self.scan == "whole" if self.scan else pages <= WHOLE_PAGES * len(self.places)
         self.regions = bytearray(REGION.size * REGIONS)

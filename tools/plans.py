@@ -1,4 +1,4 @@
-"""Plans of a migration: the settings of `precopy report`, and what it answers."""
+"""Plans of a migration: the settings of `precopy report`, and its answer."""
 
 import math
 import re
@@ -30,7 +30,7 @@ class Settings(NamedTuple):
 
 
 def settings_of(bandwidth: float, downtime: float, tick: float, weight: float = 1.0) -> Settings:
-    """The settings for bytes a second and a limit in seconds, where a page of the trace stands for `weight` pages."""
+    """The settings for bytes a second and a limit in seconds, if a page of the trace stands for `weight` pages."""
     rate = round(bandwidth / PAGE / weight * tick * 1000)
     return Settings(rate, min(MOST_THRESHOLD, int(downtime / tick * rate / 1000) + 1))
 
