@@ -1,24 +1,30 @@
 # Builds the programs, installs them, and packs them.
 #
 #     make                            builds the programs if they are not built yet or a source has changed
-#     make install PREFIX=/usr        installs below PREFIX: programs, tools, manuals, completions, documents, examples
+#     make lib                        builds the library for C in out/library, in the same way
+#     make install PREFIX=/usr        installs below PREFIX: programs, tools, manuals, completions, documents, examples,
+#                                     the library with its header, and precopy.pc for pkg-config
 #     make uninstall PREFIX=/usr      removes the same files
 #     make deb                        makes a package for Debian in out/
 #     make dist                       makes a tarball for other systems in out/, and its checksum
 #
-# DESTDIR stands in front of each path of an installation. BINDIR, LIBDIR, MANDIR, DOCDIR, BASHDIR and ZSHDIR name
-# single folders, and MAINTAINER who answers for a package.
+# DESTDIR stands in front of each path of an installation. BINDIR, LIBDIR, MANDIR, DOCDIR, BASHDIR, ZSHDIR, LIBRARYDIR
+# and INCLUDEDIR name single folders, and MAINTAINER who answers for a package.
 
 PREFIX ?= /usr/local
 PACK = packaging/make
 WHERE = --prefix "$(PREFIX)" --destdir "$(DESTDIR)" --bindir "$(BINDIR)" --libdir "$(LIBDIR)" --mandir "$(MANDIR)" \
-	--docdir "$(DOCDIR)" --bashdir "$(BASHDIR)" --zshdir "$(ZSHDIR)"
+	--docdir "$(DOCDIR)" --bashdir "$(BASHDIR)" --zshdir "$(ZSHDIR)" --librarydir "$(LIBRARYDIR)" \
+	--includedir "$(INCLUDEDIR)"
 
 all:
 	./precopy --help > /dev/null
 	./precopy-view --help > /dev/null
 
-install: all
+lib:
+	$(PACK) lib
+
+install: all lib
 	$(PACK) install $(WHERE)
 
 uninstall:
@@ -27,4 +33,4 @@ uninstall:
 deb dist: all
 	$(PACK) $@ $(if $(MAINTAINER),--maintainer "$(MAINTAINER)")
 
-.PHONY: all install uninstall deb dist
+.PHONY: all lib install uninstall deb dist

@@ -162,7 +162,8 @@ uint32_t precopy_check_settings(const struct precopy_settings *settings);
 /*
  * Plans the migration of a trace, and writes what the plan comes to into *sums.
  *
- * The settings are tested first, and then the trace. It takes 16 bytes for each write, and up to 1 MiB.
+ * The settings are tested first, and then the trace. It takes 16 bytes for each write, and 8 for each page of each
+ * round.
  */
 uint32_t precopy_plan(const uint8_t *trace, size_t trace_length, const struct precopy_settings *settings,
                       struct precopy_sums *sums);
@@ -183,8 +184,8 @@ uint32_t precopy_rounds(const uint8_t *trace, size_t trace_length, const struct 
  * Where the buffer is shorter, it returns PRECOPY_SHORT_BUFFER and writes *needed and no text. It takes memory as
  * precopy_plan does, and for the text.
  */
-uint32_t precopy_report(const uint8_t *trace, size_t trace_length, const struct precopy_settings *settings, uint8_t *text,
-                        size_t text_length, size_t *needed);
+uint32_t precopy_report(const uint8_t *trace, size_t trace_length, const struct precopy_settings *settings,
+                        uint8_t *text, size_t text_length, size_t *needed);
 
 /*
  * Plans the migration of a trace with each of some settings. sums[i] is what the plan of cases[i] comes to. *best
@@ -193,7 +194,7 @@ uint32_t precopy_report(const uint8_t *trace, size_t trace_length, const struct 
  *
  * Where there are fewer sums than cases, it returns PRECOPY_SHORT_BUFFER; the length that it needs is that of the
  * cases. The first case that is out of range is what it refuses; precopy_check_settings tells which that is. It
- * takes 24 bytes for each write, and 200 for each case.
+ * takes 20 bytes for each write, and memory for each case.
  */
 uint32_t precopy_sweep(const uint8_t *trace, size_t trace_length, const struct precopy_settings *cases,
                        size_t cases_length, struct precopy_sums *sums, size_t sums_length, size_t *best);
@@ -207,7 +208,8 @@ uint32_t precopy_sweep(const uint8_t *trace, size_t trace_length, const struct p
  * Where the buffer is shorter, it returns PRECOPY_SHORT_BUFFER and writes *needed and no memory. It takes no
  * memory.
  */
-uint32_t precopy_memory(const uint8_t *trace, size_t trace_length, uint8_t *memory, size_t memory_length, size_t *needed);
+uint32_t precopy_memory(const uint8_t *trace, size_t trace_length, uint8_t *memory, size_t memory_length,
+                        size_t *needed);
 
 /*
  * Writes the memory before a tick, after the writes of all lower ticks; else as precopy_memory. A migration that

@@ -37,6 +37,8 @@ class Places(NamedTuple):
     doc: str
     bash: str
     zsh: str
+    library: str
+    include: str
 
 
 def places_below(prefix) -> Places:
@@ -48,6 +50,8 @@ def places_below(prefix) -> Places:
         os.path.join(share, "doc", "precopy"),
         os.path.join(share, "bash-completion", "completions"),
         os.path.join(share, "zsh", "site-functions"),
+        os.path.join(prefix, "lib"),
+        os.path.join(prefix, "include"),
     )
 
 
@@ -144,7 +148,7 @@ def documents(places) -> Iterator[Entry]:
     """The documents and the examples, in folders as in the sources, so that the names in them lead to them."""
     for path in ("README.md", "CHANGELOG.md", "CONTRIBUTING.md", "LICENSE"):
         yield Entry(os.path.join(places.doc, path), read(path))
-    for folder in ("docs", "examples", "examples/guests"):
+    for folder in ("docs", "examples", "examples/c", "examples/guests", "bindings/python"):
         for name in sorted(os.listdir(os.path.join(TOP, folder))):
             path = os.path.join(folder, name)
             if os.path.isfile(os.path.join(TOP, path)):

@@ -1,0 +1,437 @@
+/*
+ * Calls the library for C over one trace, for checks/library, from which it is compiled with the sanitizers.
+ *
+ *     library TRACE TICK
+ *
+ * Each input lies in memory that cannot be written. Each buffer ends where memory ends, so that one byte read or
+ * written behind it stops the program, and has bytes of one pattern in front. malloc and realloc are wrapped: one of
+ * them can be refused, and what is not given back is counted. It prints what is wrong, and at last how many trials
+ * there were.
+ */
+#define _GNU_SOURCE
+#include "precopy.h"
+
+#include <pthread.h>
+#include <stdatomic.h>
+#include <stdio.h>
+#include <stdlib.h>
+#include <string.h>
+#include <sys/mman.h>
+#include <unistd.h>
+
+#define PATTERN 0xA5
+#define FRONT 64
+#define THREADS 8
+#define TURNS 20
+#define MOST_MEMORY ((size_t)1 << 22)
+#define MOST_CUTS 400
+
+static int passed, failed;
+
+static void expect(int holds, const char *what, const char *detail) {
+    if (holds) {
+        passed++;
+    } else {
+        failed++;
+        printf("FAILED %s: %s\n", what, detail);
+    }
+}
+
+/* ---- allocations */
+
+static _Atomic long asked, live;
+static _Atomic long refused_at; /* the number of the request that is refused; 0 for none */
+
+void *__real_malloc(size_t size);
+void *__real_realloc(void *old, size_t size);
+void __real_free(void *old);
+
+static int is_refused(void) {
+    return atomic_fetch_add(&asked, 1) + 1 == atomic_load(&refused_at);
+}
+
+void *__wrap_malloc(size_t size) {
+    void *made = is_refused() ? NULL : __real_malloc(size);
+    if (made) {
+        atomic_fetch_add(&live, 1);
+    }
+    return made;
+}
+
+void *__wrap_realloc(void *old, size_t size) {
+    void *made = is_refused() ? NULL : __real_realloc(old, size);
+    if (made && !old) {
+        atomic_fetch_add(&live, 1);
+    }
+    return made;
+}
+
+void __wrap_free(void *old) {
+    if (old) {
+        atomic_fetch_sub(&live, 1);
+    }
+    __real_free(old);
+}
+
+/* ---- buffers with a fence behind them */
+
+struct room {
+    uint8_t *at;
+    size_t length;
+    uint8_t *mapped;
+    size_t whole;
+};
+
+static struct room fenced(size_t length) {
+    size_t page = (size_t)sysconf(_SC_PAGESIZE);
+    size_t inside = (length + FRONT + page - 1) / page * page;
+    uint8_t *mapped = mmap(NULL, inside + page, PROT_READ | PROT_WRITE, MAP_PRIVATE | MAP_ANONYMOUS, -1, 0);
+    if (mapped == MAP_FAILED || mprotect(mapped + inside, page, PROT_NONE)) {
+        perror("mmap");
+        exit(3);
+    }
+    memset(mapped, PATTERN, inside);
+    struct room room = {mapped + inside - length, length, mapped, inside + page};
+    return room;
+}
+
+static struct room input_of(const void *bytes, size_t length) {
+    struct room room = fenced(length);
+    memcpy(room.at, bytes, length);
+    mprotect(room.mapped, room.whole - (size_t)sysconf(_SC_PAGESIZE), PROT_READ);
+    return room;
+}
+
+static void drop(struct room *room) {
+    munmap(room->mapped, room->whole);
+}
+
+/* Whether the bytes in front of a buffer are untouched, and those from `from` on. */
+static int is_untouched(const struct room *room, size_t from) {
+    for (const uint8_t *at = room->at - FRONT; at < room->at; at++) {
+        if (*at != PATTERN) {
+            return 0;
+        }
+    }
+    for (size_t i = from; i < room->length; i++) {
+        if (room->at[i] != PATTERN) {
+            return 0;
+        }
+    }
+    return 1;
+}
+
+/* ---- the calls, each over the inputs of a guest and three buffers */
+
+struct guest {
+    struct room trace, settings, cases, sizes, page, stream;
+    uint64_t tick;
+};
+
+/* What a call writes: its long buffer, its states of pages, and what it tells. */
+struct outputs {
+    struct room room, states, told;
+};
+
+typedef uint32_t call_of(const struct guest *guest, struct outputs *out);
+
+static uint32_t check_trace(const struct guest *g, struct outputs *out) {
+    struct precopy_sizes *sizes = (struct precopy_sizes *)out->told.at;
+    return precopy_check_trace(g->trace.at, g->trace.length, sizes, (uint32_t *)(out->told.at + sizeof *sizes));
+}
+
+static uint32_t plan(const struct guest *g, struct outputs *out) {
+    return precopy_plan(g->trace.at, g->trace.length, (void *)g->settings.at, (void *)out->told.at);
+}
+
+static uint32_t rounds(const struct guest *g, struct outputs *out) {
+    return precopy_rounds(g->trace.at, g->trace.length, (void *)g->settings.at, (void *)out->room.at,
+                          out->room.length / sizeof(struct precopy_round), (void *)out->told.at);
+}
+
+static uint32_t report(const struct guest *g, struct outputs *out) {
+    return precopy_report(g->trace.at, g->trace.length, (void *)g->settings.at, out->room.at, out->room.length,
+                          (void *)out->told.at);
+}
+
+static uint32_t sweep(const struct guest *g, struct outputs *out) {
+    return precopy_sweep(g->trace.at, g->trace.length, (void *)g->cases.at,
+                         g->cases.length / sizeof(struct precopy_settings), (void *)out->room.at,
+                         out->room.length / sizeof(struct precopy_sums), (void *)out->told.at);
+}
+
+static uint32_t memory(const struct guest *g, struct outputs *out) {
+    return precopy_memory(g->trace.at, g->trace.length, out->room.at, out->room.length, (void *)out->told.at);
+}
+
+static uint32_t memory_before(const struct guest *g, struct outputs *out) {
+    return precopy_memory_before(g->trace.at, g->trace.length, g->tick, out->room.at, out->room.length,
+                                 (void *)out->told.at);
+}
+
+static uint32_t encode(const struct guest *g, struct outputs *out) {
+    return precopy_encode_frame((void *)g->sizes.at, 0, 0, g->page.at, g->page.length, out->room.at, out->room.length,
+                                (void *)out->told.at);
+}
+
+static uint32_t decode(const struct guest *g, struct outputs *out) {
+    return precopy_decode_frame((void *)g->sizes.at, g->stream.at, g->stream.length, (void *)out->told.at, out->room.at,
+                                out->room.length);
+}
+
+/* Each call that writes through a buffer or allocates: its name, the lengths that it writes, and how long an element of
+ * its buffer is. */
+struct trial {
+    const char *name;
+    call_of *call;
+    size_t room, told, element;
+};
+
+static struct outputs outputs_of(size_t room, size_t told) {
+    struct outputs out = {fenced(room), fenced(0), fenced(told)};
+    return out;
+}
+
+static void drop_outputs(struct outputs *out) {
+    drop(&out->room);
+    drop(&out->states);
+    drop(&out->told);
+}
+
+/* Refuses one request for memory after the other, until none is left. */
+static void try_refusals(const struct guest *guest, const struct trial *trial) {
+    for (long number = 1;; number++) {
+        struct outputs out = outputs_of(trial->room, trial->told);
+        atomic_store(&asked, 0);
+        atomic_store(&refused_at, number);
+        uint32_t status = trial->call(guest, &out);
+        int came = atomic_load(&asked) >= number;
+        atomic_store(&refused_at, 0);
+        expect(atomic_load(&live) == 0, trial->name, "memory is not given back");
+        if (came) {
+            expect(status == PRECOPY_NO_MEMORY, trial->name, "a refused request for memory is not told");
+            expect(is_untouched(&out.room, 0) && is_untouched(&out.told, 0), trial->name, "it writes without memory");
+        } else {
+            expect(status == PRECOPY_OK && is_untouched(&out.room, out.room.length), trial->name, "it refuses");
+        }
+        drop_outputs(&out);
+        if (!came) {
+            return;
+        }
+    }
+}
+
+/* Buffers of no length, one element too short, and longer than needed. */
+static void try_lengths(const struct guest *guest, const struct trial *trial) {
+    if (!trial->room) {
+        return;
+    }
+    size_t lengths[] = {0, trial->room - trial->element};
+    for (int i = 0; i < 2; i++) {
+        struct outputs out = outputs_of(lengths[i], trial->told);
+        uint32_t status = trial->call(guest, &out);
+        expect(status == PRECOPY_SHORT_BUFFER && is_untouched(&out.room, 0), trial->name, "of a short buffer");
+        size_t needed;
+        memcpy(&needed, out.told.at, sizeof needed);
+        int tells = trial->call != decode && trial->call != sweep;
+        expect(!tells || needed * trial->element == trial->room, trial->name, "the length that is needed");
+        expect(tells || is_untouched(&out.told, 0), trial->name, "what is told of a short buffer");
+        drop_outputs(&out);
+    }
+    struct outputs out = outputs_of(trial->room + 4 * trial->element, trial->told);
+    uint32_t status = trial->call(guest, &out);
+    expect(status == PRECOPY_OK && is_untouched(&out.room, trial->room), trial->name, "of a long buffer");
+    drop_outputs(&out);
+}
+
+/* ---- threads */
+
+struct turn {
+    const struct guest *guest;
+    const struct trial *trial;
+    struct outputs whole; /* what one thread alone wrote */
+    _Atomic int differing;
+};
+
+static void *take_turns(void *words) {
+    struct turn *turn = words;
+    for (int i = 0; i < TURNS; i++) {
+        struct outputs out = outputs_of(turn->trial->room, turn->trial->told);
+        uint32_t status = turn->trial->call(turn->guest, &out);
+        int same = !memcmp(out.room.at, turn->whole.room.at, out.room.length)
+                   && !memcmp(out.told.at, turn->whole.told.at, out.told.length);
+        if (status != PRECOPY_OK || !same) {
+            atomic_fetch_add(&turn->differing, 1);
+        }
+        drop_outputs(&out);
+    }
+    return NULL;
+}
+
+/* All calls at once, each of them by as many threads. */
+static void try_threads(const struct guest *guest, const struct trial *trials, size_t count) {
+    pthread_t threads[THREADS];
+    struct turn turns[THREADS];
+    for (size_t first = 0; first < count; first++) {
+        for (int i = 0; i < THREADS; i++) {
+            const struct trial *trial = &trials[(first + (size_t)i / 2) % count];
+            turns[i] = (struct turn){guest, trial, outputs_of(trial->room, trial->told), 0};
+            trial->call(guest, &turns[i].whole);
+        }
+        for (int i = 0; i < THREADS; i++) {
+            if (pthread_create(&threads[i], NULL, take_turns, &turns[i])) {
+                exit(3);
+            }
+        }
+        for (int i = 0; i < THREADS; i++) {
+            pthread_join(threads[i], NULL);
+            expect(!turns[i].differing, turns[i].trial->name, "beside other threads it writes something else");
+            drop_outputs(&turns[i].whole);
+        }
+    }
+    expect(atomic_load(&live) == 0, "threads", "memory is not given back");
+}
+
+/* ---- streams */
+
+/* Appends the frames of some memory, all at one stamp. Returns how long the stream is then. */
+static size_t append_frames(uint8_t *stream, size_t length, const struct precopy_sizes *sizes, const uint8_t *bytes,
+                            uint32_t stamp) {
+    size_t size = (size_t)1 << sizes->shift;
+    for (uint32_t page = 0; page < sizes->pages; page++) {
+        size_t needed = 0;
+        uint32_t status = precopy_encode_frame(sizes, page, stamp, bytes + page * size, size, stream + length,
+                                               size + 9, &needed);
+        expect(status == PRECOPY_OK, "encode_frame", "of a page");
+        length += needed;
+    }
+    return length;
+}
+
+/* Takes a stream that is cut at a place, from two inputs that end there, into flat memory with a fence. */
+static void take_cut(const struct precopy_sizes *sizes, const uint8_t *stream, size_t length, size_t cut,
+                     const uint8_t *whole) {
+    size_t bytes = (size_t)sizes->pages << sizes->shift;
+    struct room flat = fenced(bytes), states = fenced(sizes->pages * sizeof(struct precopy_page));
+    struct precopy_page *pages = (struct precopy_page *)states.at;
+    memset(flat.at, 0, flat.length);
+    memset(states.at, 0, states.length);
+    struct precopy_taken taken = {0, 0};
+    struct room piece = input_of(stream, cut);
+    uint32_t status = precopy_accept(sizes, piece.at, cut, flat.at, bytes, pages, sizes->pages, &taken);
+    int good = taken.bytes <= cut && status == (taken.bytes < cut ? PRECOPY_FRAME_SHORT : PRECOPY_OK);
+    expect(good, "accept", "of the front of a stream");
+    drop(&piece);
+    piece = input_of(stream + taken.bytes, length - taken.bytes);
+    status = precopy_accept(sizes, piece.at, piece.length, flat.at, bytes, pages, sizes->pages, &taken);
+    expect(status == PRECOPY_OK && !memcmp(flat.at, whole, bytes), "accept", "of a stream in two pieces");
+    size_t missing;
+    expect(precopy_missing(pages, sizes->pages, &missing) == PRECOPY_OK, "missing", "of a whole stream");
+    expect(is_untouched(&flat, bytes) && is_untouched(&states, states.length), "accept", "in front of a buffer");
+    drop(&piece);
+    drop(&flat);
+    drop(&states);
+}
+
+static void try_streams(const struct precopy_sizes *sizes, const uint8_t *earlier, const uint8_t *whole) {
+    size_t most = 2 * sizes->pages * (((size_t)1 << sizes->shift) + 9) + ((size_t)1 << sizes->shift) + 9;
+    uint8_t *stream = __real_malloc(most);
+    /* The last memory comes first, and then what is older, where there was a write. */
+    size_t length = append_frames(stream, 0, sizes, whole, sizes->writes);
+    if (sizes->writes) {
+        length = append_frames(stream, length, sizes, earlier, 0);
+    }
+    size_t step = length / MOST_CUTS + 1;
+    for (size_t cut = 0; cut <= length; cut += step) {
+        take_cut(sizes, stream, length, cut, whole);
+    }
+    __real_free(stream);
+}
+
+/* ---- one trace */
+
+static struct precopy_settings settings_of(uint64_t min, uint64_t max, uint64_t threshold, uint32_t skip) {
+    struct precopy_settings settings = PRECOPY_SETTINGS_DEFAULT;
+    settings.min = min, settings.max = max, settings.threshold = threshold, settings.skip = skip;
+    return settings;
+}
+
+/* Each call over a trace that is refused: the same number, and nothing written. */
+static void try_refused(const struct guest *guest, uint32_t status) {
+    call_of *calls[] = {plan, rounds, report, sweep, memory, memory_before};
+    for (size_t i = 0; i < sizeof calls / sizeof *calls; i++) {
+        struct outputs out = outputs_of(1920, 40);
+        uint32_t told = calls[i](guest, &out);
+        expect(told == status && is_untouched(&out.room, 0) && is_untouched(&out.told, 0), "a refused trace", "a call");
+        drop_outputs(&out);
+    }
+}
+
+static void try_all(struct guest *guest, const struct precopy_sizes *sizes) {
+    size_t bytes = (size_t)sizes->pages << sizes->shift, size = (size_t)1 << sizes->shift;
+    struct outputs whole = outputs_of(bytes, sizeof(size_t)), earlier = outputs_of(bytes, sizeof(size_t));
+    expect(memory(guest, &whole) == PRECOPY_OK && memory_before(guest, &earlier) == PRECOPY_OK, "memory", "of a trace");
+    uint8_t frame[9 + 4096];
+    size_t needed = 0, text = 0, count = 0;
+    guest->page = input_of(whole.room.at, size);
+    precopy_encode_frame(sizes, 0, 0, guest->page.at, size, frame, sizeof frame, &needed);
+    guest->stream = input_of(frame, needed);
+    struct outputs none = outputs_of(0, sizeof(size_t));
+    report(guest, &none);
+    memcpy(&text, none.told.at, sizeof text);
+    rounds(guest, &none);
+    memcpy(&count, none.told.at, sizeof count);
+    struct trial trials[] = {
+        {"check_trace", check_trace, 0, sizeof(struct precopy_sizes) + 4, 1},
+        {"plan", plan, 0, sizeof(struct precopy_sums), 1},
+        {"rounds", rounds, count * sizeof(struct precopy_round), sizeof(size_t), sizeof(struct precopy_round)},
+        {"report", report, text, sizeof(size_t), 1},
+        {"sweep", sweep, 3 * sizeof(struct precopy_sums), sizeof(size_t), sizeof(struct precopy_sums)},
+        {"memory", memory, bytes, sizeof(size_t), 1},
+        {"memory_before", memory_before, bytes, sizeof(size_t), 1},
+        {"encode_frame", encode, needed, sizeof(size_t), 1},
+        {"decode_frame", decode, size, sizeof(struct precopy_frame), 1},
+    };
+    size_t all = sizeof trials / sizeof *trials;
+    for (size_t i = 0; i < all; i++) {
+        try_refusals(guest, &trials[i]);
+        try_lengths(guest, &trials[i]);
+    }
+    if (sizes->writes < 20000) {
+        try_threads(guest, trials, all);
+    }
+    try_streams(sizes, earlier.room.at, whole.room.at);
+    drop_outputs(&whole);
+    drop_outputs(&earlier);
+    drop_outputs(&none);
+}
+
+int main(int argc, char **argv) {
+    FILE *file = argc == 3 ? fopen(argv[1], "rb") : NULL;
+    if (!file) {
+        fprintf(stderr, "usage: library TRACE TICK\n");
+        return 2;
+    }
+    uint8_t *bytes = __real_malloc(((size_t)1 << 28) + 2);
+    size_t length = fread(bytes, 1, ((size_t)1 << 28) + 2, file);
+    fclose(file);
+    struct precopy_settings settings = settings_of(2, 4000, 2, 0);
+    struct precopy_settings cases[] = {settings, settings_of(100, 4000, 2, 1), settings_of(2, 4, 3, 0)};
+    struct guest guest = {.trace = input_of(bytes, length), .settings = input_of(&settings, sizeof settings)};
+    __real_free(bytes);
+    guest.cases = input_of(cases, sizeof cases);
+    guest.tick = strtoull(argv[2], NULL, 10);
+    struct outputs out = outputs_of(0, sizeof(struct precopy_sizes) + 4);
+    uint32_t status = check_trace(&guest, &out);
+    struct precopy_sizes sizes;
+    memcpy(&sizes, out.told.at, sizeof sizes);
+    if (status != PRECOPY_OK) {
+        expect(precopy_strerror(status)[0] != 0, "strerror", "of a status");
+        try_refused(&guest, status);
+    } else if ((size_t)sizes.pages << sizes.shift <= MOST_MEMORY) {
+        guest.sizes = input_of(&sizes, sizeof sizes);
+        try_all(&guest, &sizes);
+    }
+    printf("status %u, %d passed, %d failed\n", status, passed, failed);
+    return failed != 0;
+}

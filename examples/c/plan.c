@@ -1,0 +1,84 @@
+/*
+ * Reads a trace from standard input, and prints the rounds of its plan and what it comes to, as `precopy report` does.
+ *
+ *     cc -I include -o plan examples/c/plan.c out/library/libprecopy.a
+ *     ./plan 500 4000 10 < examples/gzip.pcwt
+ *
+ * The words are the least rate, the greatest rate and the threshold.
+ */
+#include "precopy.h"
+
+#include <inttypes.h>
+#include <stdio.h>
+#include <stdlib.h>
+
+/* A plan has no more rounds than its settings ask for, and these no more than 64. */
+#define MOST_ROUNDS 64
+
+/* Reads a file to its end. *length is how many bytes it has. Returns null where memory runs out or a read fails. */
+static uint8_t *read_all(FILE *file, size_t *length) {
+    size_t room = 1 << 16;
+    uint8_t *bytes = malloc(room);
+    *length = 0;
+    while (bytes) {
+        *length += fread(bytes + *length, 1, room - *length, file);
+        if (*length < room) {
+            break;
+        }
+        room *= 2;
+        uint8_t *more = realloc(bytes, room);
+        if (!more) {
+            free(bytes);
+        }
+        bytes = more;
+    }
+    if (bytes && ferror(file)) {
+        free(bytes);
+        return NULL;
+    }
+    return bytes;
+}
+
+static void print_plan(const struct precopy_round *rounds, size_t count, const struct precopy_sums *sums) {
+    static const char *const reasons[] = {"few", "fast", "rounds"};
+    for (size_t i = 0; i < count; i++) {
+        const struct precopy_round *it = &rounds[i];
+        printf("round %zu from %" PRIu64 " to %" PRIu64 " rate %" PRIu64, i, it->from, it->to, it->rate);
+        printf(" pages %" PRIu64 " sent %" PRIu64 " dirtied %" PRIu64 "\n", it->pages, it->sent, it->dirtied);
+    }
+    /* What the last round leaves dirty goes after the stop. */
+    printf("stop %s at %" PRIu64 " pages %" PRIu64, reasons[sums->reason], sums->stop, rounds[count - 1].dirtied);
+    printf(" down %" PRIu64 " total %" PRIu64 "\n", sums->down, sums->total);
+}
+
+int main(int argc, char **argv) {
+    struct precopy_settings settings = PRECOPY_SETTINGS_DEFAULT;
+    if (argc != 4) {
+        fprintf(stderr, "usage: plan MIN MAX THRESHOLD < trace\n");
+        return 2;
+    }
+    settings.min = strtoull(argv[1], NULL, 10);
+    settings.max = strtoull(argv[2], NULL, 10);
+    settings.threshold = strtoull(argv[3], NULL, 10);
+
+    size_t length;
+    uint8_t *trace = read_all(stdin, &length);
+    if (!trace) {
+        fprintf(stderr, "plan: standard input cannot be read\n");
+        return 1;
+    }
+    struct precopy_round rounds[MOST_ROUNDS];
+    struct precopy_sums sums;
+    size_t count = 0;
+    uint32_t status = precopy_plan(trace, length, &settings, &sums);
+    if (status == PRECOPY_OK) {
+        status = precopy_rounds(trace, length, &settings, rounds, MOST_ROUNDS, &count);
+    }
+    free(trace);
+    if (status != PRECOPY_OK) {
+        fprintf(stderr, "plan: %s\n", precopy_strerror(status));
+        return 1;
+    }
+    print_plan(rounds, count, &sums);
+    return 0;
+}

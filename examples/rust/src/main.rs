@@ -1,0 +1,50 @@
+//! Reads a trace from standard input, and prints the report on it, as `precopy report` does; or, by the words
+//! `memory TICK`, the memory before a tick; or, by the words `receive SHIFT PAGES WRITES`, the memory that a stream of
+//! frames leaves.
+
+use precopy::{memory_before, report, FlatMemory, Settings, Sizes};
+use std::error::Error;
+use std::io::{Read, Write};
+
+fn number(words: &[String], at: usize) -> Result<u64, Box<dyn Error>> {
+    Ok(words.get(at).ok_or("a number is missing")?.parse()?)
+}
+
+/// Takes a stream piece by piece.
+fn received(words: &[String], stream: &[u8]) -> Result<Vec<u8>, Box<dyn Error>> {
+    let sizes = Sizes {
+        shift: number(words, 1)? as u32,
+        pages: number(words, 2)? as u32,
+        writes: number(words, 3)? as u32,
+    };
+    let mut memory = FlatMemory::new(sizes);
+    let mut rest: Vec<u8> = Vec::new();
+    for piece in stream.chunks(1021) {
+        rest.extend_from_slice(piece);
+        let taken = memory.accept(&rest)?;
+        rest.drain(..taken);
+    }
+    if !rest.is_empty() {
+        return Err("the stream ends within a frame".into());
+    }
+    match memory.whole() {
+        Ok(bytes) => Ok(bytes.to_vec()),
+        Err(page) => Err(format!("page {page} did not come").into()),
+    }
+}
+
+fn output(words: &[String], input: &[u8]) -> Result<Vec<u8>, Box<dyn Error>> {
+    match words.first().map(String::as_str) {
+        Some("memory") => Ok(memory_before(input, number(words, 1)?)?),
+        Some("receive") => received(words, input),
+        _ => Ok(report(input, &Settings::default())?.into_bytes()),
+    }
+}
+
+fn main() -> Result<(), Box<dyn Error>> {
+    let words: Vec<String> = std::env::args().skip(1).collect();
+    let mut input = Vec::new();
+    std::io::stdin().read_to_end(&mut input)?;
+    std::io::stdout().write_all(&output(&words, &input)?)?;
+    Ok(())
+}

@@ -1,0 +1,119 @@
+"""The library for C: libprecopy.a and libprecopy.so.1, made of the proved archive of crates/precopy_c.
+
+Both hold the same object, in which only the functions of include/precopy.h have names that others see.
+"""
+
+import os
+import shutil
+import subprocess
+import tempfile
+
+import contents
+
+ARCHIVE = os.path.join(contents.TOP, "crates", "precopy_c", "out", "libprecopy_c.a")
+FOLDER = os.path.join(contents.TOP, "out", "library")
+NAME = "libprecopy.so.1"
+# What it is made of beside the archive.
+PARTS = ("include/precopy.h", "packaging/messages.c", "packaging/library.map", "tools/version.py")
+CONFIG = """\
+prefix={prefix}
+libdir={lib}
+includedir={include}
+
+Name: precopy
+Description: plans of pre-copy live migrations, memory of recorded guests, and frames of pages
+Version: {version}
+Libs: -L${{libdir}} -lprecopy
+Cflags: -I${{includedir}}
+"""
+
+
+class Lacks(Exception):
+    """Something that the library is made with is not there, or fails; the text says what."""
+
+
+def tool(name):
+    path = shutil.which(os.environ.get("CC", "cc") if name == "cc" else name)
+    if not path:
+        raise Lacks(f"{name} is not on the path, and makes the library")
+    return path
+
+
+def heap():
+    """Returns the toolchain's archive that calls malloc, realloc and free for proved code."""
+    command = shutil.which("rt")
+    if not command:
+        raise Lacks("the Rattle toolchain is not here: its command rt is not on the path")
+    path = os.path.join(os.path.dirname(os.path.dirname(os.path.realpath(command))), "c", "liblibc_c.a")
+    if not os.path.isfile(path):
+        raise Lacks(f"the Rattle toolchain here has no {path}")
+    return path
+
+
+def run(*words):
+    status = subprocess.run(words, check=False, stdin=subprocess.DEVNULL).returncode
+    if status:
+        raise Lacks(f"{words[0]} ended with status {status}")
+
+
+def build():
+    """Makes the library of the archive, and returns the paths of both forms."""
+    if not os.path.isfile(ARCHIVE):
+        raise contents.NotBuilt("the library is not built: make lib builds it")
+    os.makedirs(FOLDER, exist_ok=True)
+    include, here = os.path.join(contents.TOP, "include"), os.path.join(contents.TOP, "packaging")
+    with tempfile.TemporaryDirectory() as room:
+        words, whole = os.path.join(room, "messages.o"), os.path.join(room, "precopy.o")
+        options = ["-std=c99", "-O2", "-fPIC", "-Wall", "-Wextra", "-pedantic", "-I", include]
+        version = f'-DPRECOPY_VERSION="{contents.version.VERSION}"'
+        run(tool("cc"), *options, version, "-c", os.path.join(here, "messages.c"), "-o", words)
+        run(tool("ld"), "-r", "-o", whole, "--whole-archive", ARCHIVE, heap(), "--no-whole-archive", words)
+        run(tool("objcopy"), "--wildcard", "--keep-global-symbol=precopy_*", whole)
+        run(tool("strip"), "--strip-unneeded", "--enable-deterministic-archives", whole)
+        return pack(room, whole, os.path.join(here, "library.map"))
+
+
+def is_current():
+    """Returns whether both forms are there, and nothing that they are made of is newer."""
+    parts = [ARCHIVE, __file__, *(os.path.join(contents.TOP, it) for it in PARTS)]
+    made = [os.path.join(FOLDER, name) for name in ("libprecopy.a", NAME)]
+    if not all(map(os.path.isfile, [*parts, *made])):
+        return False
+    return max(map(os.path.getmtime, parts)) <= min(map(os.path.getmtime, made))
+
+
+def make(_asked):
+    """Builds the library, where it is not built or something has changed."""
+    if subprocess.run([os.path.join(contents.TOP, "tools", "build"), "--if-needed", "precopy_c"]).returncode:
+        raise contents.NotBuilt("the library could not be built")
+    if not is_current():
+        build()
+
+
+def pack(room, whole, versions):
+    """Puts an object into an archive and into a shared library, and each in its place once it is whole."""
+    archive, shared = os.path.join(room, "libprecopy.a"), os.path.join(room, NAME)
+    run(tool("ar"), "rcsD", archive, whole)
+    link = [f"-Wl,-soname,{NAME}", f"-Wl,--version-script={versions}", "-Wl,-z,text", "-Wl,-z,defs", "-Wl,-z,now"]
+    run(tool("cc"), "-shared", *link, "-Wl,--build-id=none", "-Wl,-s", "-o", shared, whole)
+    made = [os.path.join(FOLDER, os.path.basename(path)) for path in (archive, shared)]
+    for path, place in zip((archive, shared), made):
+        shutil.copy(path, f"{place}.part")
+        os.replace(f"{place}.part", place)
+    short = os.path.join(FOLDER, "libprecopy.so")
+    if not os.path.islink(short):
+        os.symlink(NAME, short)
+    return made
+
+
+def entries(prefix, lib, include):
+    """Yields what an installation has of the library, of which `make lib` made both forms."""
+    for name, mode in (("libprecopy.a", 0o644), (NAME, 0o644)):
+        path = os.path.join(FOLDER, name)
+        if not os.path.isfile(path):
+            raise contents.NotBuilt("the library is not built: make lib builds it")
+        yield contents.Entry(os.path.join(lib, name), contents.read(path), mode)
+    yield contents.Entry(os.path.join(lib, "libprecopy.so"), link=NAME)
+    yield contents.Entry(os.path.join(include, "precopy.h"), contents.read("include/precopy.h"))
+    config = CONFIG.format(prefix=prefix, lib=lib, include=include, version=contents.version.VERSION)
+    yield contents.Entry(os.path.join(lib, "pkgconfig", "precopy.pc"), config.encode())

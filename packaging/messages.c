@@ -1,0 +1,89 @@
+/* What the library for C says in words: a line for each status, and its version. */
+#include "precopy.h"
+
+#ifndef PRECOPY_VERSION
+#error "PRECOPY_VERSION is the version of tools/version.py: packaging/library.py gives it"
+#endif
+
+const char *precopy_version(void) {
+    return PRECOPY_VERSION;
+}
+
+const char *precopy_strerror(uint32_t status) {
+    switch (status) {
+    case PRECOPY_OK:
+        return "done";
+    case PRECOPY_SHORT_HEADER:
+        return "trace E1: fewer than 16 bytes";
+    case PRECOPY_BAD_MAGIC:
+        return "trace E2: bytes 0 to 3 are not PCWT";
+    case PRECOPY_BAD_VERSION:
+        return "trace E3: the version is not 1 or 2";
+    case PRECOPY_BAD_SHIFT:
+        return "trace E4: the page shift is not 4 to 12";
+    case PRECOPY_BAD_RESERVED:
+        return "trace E5: byte 6 or 7 is not 0";
+    case PRECOPY_BAD_PAGES:
+        return "trace E6: pages are not 1 to 65,536";
+    case PRECOPY_TOO_MANY_WRITES:
+        return "trace E7: writes are more than 1,048,576";
+    case PRECOPY_SHORT_RECORD:
+        return "trace E8: a record is cut off";
+    case PRECOPY_TICK_ORDER:
+        return "trace E9: a tick is below that of the record before";
+    case PRECOPY_TICK_TOO_LARGE:
+        return "trace E10: a tick is 2^40 or more";
+    case PRECOPY_PAGE_OUT_OF_RANGE:
+        return "trace E11: a page is not below the number of pages";
+    case PRECOPY_EMPTY_WRITE:
+        return "trace E12: a length is 0, and the record releases no page";
+    case PRECOPY_OUT_OF_PAGE:
+        return "trace E13: a write ends behind its page";
+    case PRECOPY_TRAILING_BYTES:
+        return "trace E14: bytes stand behind the last record";
+    case PRECOPY_TOO_LONG:
+        return "trace E15: more than 2^28 bytes";
+    case PRECOPY_NO_MEMORY:
+        return "memory ran out";
+    case PRECOPY_BAD_MIN:
+        return "settings S1: min is not 1 to 1,000,000";
+    case PRECOPY_BAD_MAX:
+        return "settings S2: max is not min to 1,000,000";
+    case PRECOPY_BAD_INCREMENT:
+        return "settings S3: increment is more than 1,000,000";
+    case PRECOPY_BAD_THRESHOLD:
+        return "settings S4: threshold is not 1 to 65,536";
+    case PRECOPY_BAD_ROUNDS:
+        return "settings S5: rounds is not 1 to 64";
+    case PRECOPY_BAD_WINDOW:
+        return "settings S6: window is not 1 to 2^40";
+    case PRECOPY_BAD_HOT:
+        return "settings S7: hot is not 1 to 1,048,576";
+    case PRECOPY_BAD_START:
+        return "settings S8: start is 2^40 or more";
+    case PRECOPY_BAD_BASE:
+        return "settings S10: base is after start";
+    case PRECOPY_FRAME_SHORT:
+        return "frame F1: a frame is cut off";
+    case PRECOPY_FRAME_PAGE:
+        return "frame F2: a page is not below the number of pages";
+    case PRECOPY_FRAME_STAMP:
+        return "frame F3: a stamp is greater than the number of writes";
+    case PRECOPY_FRAME_KIND:
+        return "frame F4: a kind is not 0 or 1";
+    case PRECOPY_FRAME_ZEROS:
+        return "frame F5: a page of zeros comes byte by byte";
+    case PRECOPY_SHORT_BUFFER:
+        return "a buffer is too short for what belongs there";
+    case PRECOPY_PAGE_LENGTH:
+        return "the bytes of a page are not as many as a page has";
+    case PRECOPY_MEMORY_LENGTH:
+        return "memory has not as many bytes as all pages";
+    case PRECOPY_PAGE_COUNT:
+        return "there is not a struct precopy_page for each page";
+    case PRECOPY_PAGE_MISSING:
+        return "a page did not come";
+    default:
+        return "no status of this library";
+    }
+}
