@@ -53,12 +53,12 @@ def migrate(trace, settings, mended):
 def main(words):
     with open(words[0], "rb") as file:
         trace = file.read()
-    flat, stop = migrate(trace, precopy.Settings(min=500, max=4000, threshold=10), "--mended" in words)
+    flat, stop = migrate(trace, precopy.Settings(min=500, max=4000, threshold=6), "--mended" in words)
     wanted, size = precopy.memory_before(trace, stop), flat.sizes.page_length
     wrong = [at // size for at in range(0, len(wanted), size) if flat.memory[at : at + size] != wanted[at : at + size]]
     for page in wrong:
-        last = max(place for tick, which, place in writes_of(trace) if which == page and tick < stop)
-        print(f"page {page} arrived as write {flat.stamp(page)} left it, and write {last} came before the stop")
+        place, tick = max((place, tick) for tick, which, place in writes_of(trace) if which == page and tick < stop)
+        print(f"page {page} arrived as write {flat.stamp(page)} left it, and write {place} came at tick {tick}")
     if not wrong:
         print(f"equal at the stop, tick {stop}")
     return 1 if wrong else 0
