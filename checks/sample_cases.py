@@ -205,7 +205,7 @@ def exact_huge(_, folder):
 
 
 def exact_of_few(_, folder):
-    """Each drawn page asked for by itself, and found by a look over all memory."""
+    """Each drawn page asked for by itself, and found by a survey of all memory."""
     for kind in ("private", "shared", "huge"):
         for scan in ("pages", "whole"):
             exact(folder, kind, 1 << 14, 200, words=["--scan", scan])
@@ -241,7 +241,8 @@ def mapped_anew(_, folder):
         # Other pages than before, so all of them may be told once more.
         once = max((times for place, times in found.items() if place >= anew and place not in later), default=0)
         missed = sum(found.get(place, 0) <= once for place in later)
-        expect(once <= 1 and not missed and len(later) >= 20, f"{missed} of {len(later)} missed, others told {once} times")
+        expect(not missed and len(later) >= 20, f"{missed} of {len(later)} writes missed")
+        expect(once <= 1, f"pages that were not written are told {once} times")
         for name in os.listdir(folder):
             os.unlink(os.path.join(folder, name))
 

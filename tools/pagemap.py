@@ -2,7 +2,11 @@
 
 A userfaultfd protects pages from writes. A write to a protected page takes the protection away, and the writer goes on
 at once. The scan tells pages without protection and protects them again, in one step for each page: no write is
-lost, and nobody waits. The kernel takes all of it back when the descriptor is closed, or its owner dies.
+lost, and nobody waits. Only the pages that are followed are protected. The kernel takes all of it back when the
+descriptor is closed, or its owner dies.
+
+To ask for each page costs the same for a guest of any size. Where a guest is not much larger than what is followed, a
+survey of all its memory is faster: it tells which pages are protected still, and only the others are asked for.
 """
 
 import bisect
@@ -28,9 +32,9 @@ PROTECTING, ONLY_WATCHED = 1, 2
 WRITTEN, PRESENT, SWAPPED = 1 << 1, 1 << 3, 1 << 4
 REQUEST = struct.Struct("=12Q")
 REGION = struct.Struct("=3Q")
-# A look over all memory takes some 6 nanoseconds a page, and to ask for one page takes 750.
+# A survey takes some 6 nanoseconds for each page of the guest, and to ask for one page takes 750.
 WHOLE_PAGES = 100
-# So many pages are looked over at once: few enough that of most parts none was written since the last look.
+# So many pages are surveyed at once: few enough that of most parts none was written since the last look.
 PART = 32
 
 ioctl = fcntl.ioctl
@@ -46,10 +50,10 @@ def asking(place: int, into: int) -> bytearray:
     return bytearray(REQUEST.pack(REQUEST.size, flags, place, place + PAGE, 0, into, 1, 0, 0, WRITTEN, 0, WRITTEN))
 
 
-def overlooking(begin: int, end: int, into: int, regions: int) -> bytearray:
-    """Which pages are protected: there, or in the page table at least, and not written. Nothing changes."""
-    there = PRESENT | SWAPPED
-    return bytearray(REQUEST.pack(REQUEST.size, ONLY_WATCHED, begin, end, 0, into, regions, 0, WRITTEN, WRITTEN, there, 0))
+def surveying(begin: int, end: int, into: int, regions: int) -> bytearray:
+    """Which pages are protected: they have an entry in a page table, and were not written. Nothing changes."""
+    categories = WRITTEN, WRITTEN, PRESENT | SWAPPED, 0
+    return bytearray(REQUEST.pack(REQUEST.size, ONLY_WATCHED, begin, end, 0, into, regions, 0, *categories))
 
 
 def regions_of(places: list[int]) -> Iterator[bytes]:
@@ -69,7 +73,7 @@ class Part(NamedTuple):
     unwritten: bytes
 
 
-class Overlook:
+class Survey:
     """Looks over all memory for pages that may have been written, and changes nothing."""
 
     def __init__(self, ranges: list[tuple[int, int]], places: list[int]):
@@ -81,7 +85,7 @@ class Overlook:
             of, slot = places[low:high], slice(REGION.size * low, REGION.size * high)
             unwritten = b"".join(regions_of(of)).ljust(slot.stop - slot.start, b"\0")
             self.parts.append(Part(dict(zip(of, range(low, high))), slot, unwritten))
-            self.requests.append(overlooking(of[0], of[-1] + PAGE, into + slot.start, len(of)))
+            self.requests.append(surveying(of[0], of[-1] + PAGE, into + slot.start, len(of)))
 
     @staticmethod
     def _bounds(ranges: list[tuple[int, int]], places: list[int]) -> Iterator[tuple[int, int]]:
@@ -153,10 +157,10 @@ class WrittenPages:
         return f"the kernel does not watch {begin:#x}-{end:#x}: {fault.strerror}"
 
     def _prepare(self) -> None:
-        """Makes the requests once: one for each page, and those that look over all memory where that is faster."""
+        """Makes the requests once: one for each page, and those of a survey where that is faster."""
         pages = sum(end - begin for begin, end in self.ranges) // PAGE
         self.is_whole = self.scan == "whole" if self.scan else pages <= WHOLE_PAGES * len(self.places)
-        self.overlook = Overlook(self.ranges, self.places) if self.is_whole else None
+        self.survey = Survey(self.ranges, self.places) if self.is_whole else None
         self.region = bytearray(REGION.size)
         self.requests = [asking(place, address_of(self.region)) for place in self.places]
 
@@ -179,9 +183,9 @@ class WrittenPages:
 
     def _unprotected(self) -> Iterable[int]:
         """The numbers of pages that are to be asked for."""
-        if self.overlook:
+        if self.survey:
             try:
-                return self.overlook.look(self.pagemap)
+                return self.survey.look(self.pagemap)
             except PermissionError:
                 self.register()
         return range(len(self.places))
