@@ -1,8 +1,8 @@
 """What a migration of a guest will be, from a sample of its pages: plans, and their standard errors.
 
-`precopy-view` plans by the limits of the guest, and by how many of its pages are drawn. Rates are whole numbers, rounded
-down, so ticks are made longer where a rate would be small. The standard error is a bootstrap (Efron 1979): pages are
-drawn again from the sample, with replacement, and planned as the sample is.
+`precopy-view` plans by the limits of the guest, and by how many of its pages are drawn. Rates are whole numbers,
+rounded down, so ticks are made longer where a rate would be small. The standard error is a bootstrap (Efron 1979):
+pages are drawn again from the sample, with replacement, and planned as the sample is.
 """
 
 import collections
