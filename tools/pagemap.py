@@ -32,8 +32,8 @@ PROTECTING, ONLY_WATCHED = 1, 2
 WRITTEN, PRESENT, SWAPPED = 1 << 1, 1 << 3, 1 << 4
 REQUEST = struct.Struct("=12Q")
 REGION = struct.Struct("=3Q")
-# A survey takes some 6 nanoseconds for each page of the guest, and to ask for one page takes 750.
-WHOLE_PAGES = 100
+# A survey takes some 5 nanoseconds for each page of the guest, and to ask for one page takes 750.
+WHOLE_PAGES = 150
 # So many pages are surveyed at once: few enough that of most parts none was written since the last look.
 PART = 32
 
