@@ -5,7 +5,8 @@
 It prints the address of its pages, one of which in three is zero. For each line of numbers it writes the bytes that
 stand there again, on these pages, and prints how many of its calls of poll(2) ended with anything but one ready file.
 A line `anew N M` maps pages N to M - 1 anew. With `filtered` a userfaultfd of its own would kill it, by seccomp; with
-`watched` it has one over its pages already; with `changing` it writes other bytes than stand there.
+`watched` it has one over its pages already; with `changing` it writes other bytes than stand there. A write is one byte,
+in another place of each page.
 """
 
 import ctypes
@@ -86,7 +87,7 @@ def serve(memory, begin, address, change):
                 map_anew(address, *map(int, line.split()[1:]))
                 line = b""
             for page in map(int, line.split()):
-                at = begin + page * PAGE
+                at = begin + page * PAGE + page * 997 % PAGE
                 memory[at] = (memory[at] + change) % 256
             print(disturbed, flush=True)
 
