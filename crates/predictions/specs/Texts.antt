@@ -16,8 +16,8 @@ verdict is_kept = if is_kept then codes ", kept" else codes ", not kept"
 
 -- the line on the downtime, beside its limit
 abbrev pub downtime_line : ℕ → GuestPrediction → List ℕ
-downtime_line limit p = line (codes "downtime: " ∷ seconds_text p.downtime ∷ codes ", limit: " ∷ seconds_text limit
-    ∷ verdict p.is_kept ∷ [])
+downtime_line limit p = line (codes "downtime: " ∷ seconds_text p.cost.downtime ∷ codes ", limit: " ∷ seconds_text limit
+    ∷ verdict p.cost.is_kept ∷ [])
 
 -- the line on the time of all
 abbrev pub time_line : ℕ → List ℕ
@@ -25,8 +25,8 @@ time_line time = codes "total time: " ++ (seconds_text time ++ 10 ∷ [])
 
 -- what a migration will be
 abbrev pub facts_text : ℕ → GuestPrediction → List ℕ
-facts_text limit p = line (field (ending p.reason) p.rounds ∷ []) ++ (time_line p.time
-    ++ (line (codes "sent: " ∷ bytes_text p.bytes ∷ []) ++ downtime_line limit p))
+facts_text limit p = line (field (ending p.reason) p.cost.rounds ∷ []) ++ (time_line p.cost.time
+    ++ (line (codes "sent: " ∷ bytes_text p.cost.bytes ∷ []) ++ downtime_line limit p))
 
 -- a line where something holds
 abbrev pub line_if : Bool → List ℕ → List ℕ
@@ -45,7 +45,7 @@ reason_words rounds_done = codes "warning: the plan ends with `rounds`, so nothi
 
 -- what speaks against the prediction
 abbrev pub warnings : GuestPrediction → List ℕ
-warnings p = line_if p.is_late (codes "warning: the stop lies behind the end of the trace; record longer")
+warnings p = line_if p.cost.is_late (codes "warning: the stop lies behind the end of the trace; record longer")
     ++ (line_if (nat_lt p.left 100) (codes "warning: fewer than 100 pages decided the stop; chance moves it")
     ++ line_if (ends_early p.reason) (reason_words p.reason))
 

@@ -1,11 +1,13 @@
 //! What a migration will be, in time and bytes: predictions of one plan, and of many starts.
 #![tactic(auto)]
 
+mod cost;
 mod hosts;
 mod prediction;
 mod prediction_text;
 mod quantities;
 
+pub use cost::Cost;
 pub use hosts::push_hosts;
 pub use prediction::Prediction;
 pub use prediction_text::push_prediction;

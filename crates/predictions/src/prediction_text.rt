@@ -85,10 +85,10 @@ fn push_downtime(
 fn push_facts(text: &mut Vec<u8>, limit: u64, prediction: &Prediction) -> Result<(), AllocError>
     ensures { OnOk result (text.new.items ≡ text.old.items ++ facts_text limit prediction.now) }
 {
-    push_ending(text, &prediction.reason, prediction.rounds)?;
-    push_time(text, prediction.time)?;
-    push_sent(text, prediction.bytes)?;
-    push_downtime(text, prediction.downtime, limit, prediction.is_kept)?;
+    push_ending(text, &prediction.reason, prediction.cost.rounds)?;
+    push_time(text, prediction.cost.time)?;
+    push_sent(text, prediction.cost.bytes)?;
+    push_downtime(text, prediction.cost.downtime, limit, prediction.cost.is_kept)?;
     Ok(())
 }
 
@@ -131,7 +131,7 @@ fn push_warnings(text: &mut Vec<u8>, prediction: &Prediction) -> Result<(), Allo
 {
     push_if(
         text,
-        prediction.is_late,
+        prediction.cost.is_late,
         "warning: the stop lies behind the end of the trace; record longer",
     )?;
     push_if(

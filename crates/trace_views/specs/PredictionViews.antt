@@ -21,4 +21,4 @@ pub record IsPredictionView (log : GuestTouches) (settings : MigrationSettings) 
   pub is_plan : IsPlan log.pages log.touches settings plan
   pub text_is : text ≡ predicted_text settings limits
       (prediction_of scale limits settings.start plan (last_tick_of log.touches))
-  pub kept : is_kept ≡ (prediction_of scale limits settings.start plan (last_tick_of log.touches)).is_kept
+  pub kept : is_kept ≡ (prediction_of scale limits settings.start plan (last_tick_of log.touches)).cost.is_kept

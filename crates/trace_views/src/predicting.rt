@@ -1,6 +1,6 @@
 //! Predictions of a log of touches.
 
-ghost use Rattle.std.specs.Prelude.{◌≡◌, ◌++◌, IfOk, OnOk};
+ghost use Rattle.std.specs.Prelude.{◌≡◌, ◌++◌, IfErr, IfOk, OnOk};
 ghost use Rattle.predictions.specs.Predictions.{last_tick_of};
 ghost use Rattle.trace_views.specs.PredictionViews.{IsPredictionView, predicted_text};
 
@@ -16,7 +16,7 @@ use std::alloc::{AllocError, Global};
 use trace_readers::TouchLog;
 
 /// Returns the tick of the last touch, or 0 where there is none.
-fn last_tick(log: &TouchLog) -> u64
+pub(crate) fn last_tick(log: &TouchLog) -> u64
     ensures { result ≡ last_tick_of log.now.touches }
 {
     match log.touch_count() {
@@ -49,14 +49,15 @@ pub(crate) fn prediction_view(
     limits: &Limits,
     log: &TouchLog,
 ) -> Result<Shown, ViewError>
-    ensures { IfOk result (λ shown. IsPredictionView log.now settings.now scale.now limits.now shown.text.items
+    ensures made { IfOk result (λ shown. IsPredictionView log.now settings.now scale.now limits.now shown.text.items
         shown.is_kept) }
+    ensures refused { IfErr result (λ e. e ≡ ViewError.Memory) }
 {
     let plan = plan(alloc, log, settings).or(Err(ViewError::Memory))?;
     let start = settings.asked().start;
     let prediction = Prediction::new(scale, limits, start, &plan, last_tick(log));
     Ok(Shown {
         text: predicted(alloc, settings, limits, &prediction)?,
-        is_kept: prediction.is_kept,
+        is_kept: prediction.cost.is_kept,
     })
 }

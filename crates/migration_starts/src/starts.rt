@@ -1,0 +1,87 @@
+//! At which ticks a migration may begin.
+
+ghost use Rattle.std.specs.Prelude.{◌≡◌, ◌≤◌, ◌<◌, ◌+◌, ◌-◌, ◌*◌, ◌/◌, ◌^◌, IfErr, IfOk, Some, max};
+ghost use Rattle.migration_starts.specs.Starts.{RefusesStarts, cases_at, count_of, last_start, spacing_of};
+ghost use Rattle.migration_starts.specs.Starts.{start_ticks};
+
+use crate::error::StartsError;
+use rate_limit::{Asked, Settings};
+use std::alloc::Global;
+
+/// Into how many parts a trace is cut by starts, where no spacing is said.
+const PARTS: u64 = 200;
+
+/// The most starts.
+const MOST_STARTS: u64 = 4096;
+
+/// At which ticks a migration may begin: from one tick on to another, so many ticks apart.
+#[derive(Clone, Copy, Debug, PartialEq, Eq)]
+pub struct Starts {
+    /// The first start.
+    pub from: u64,
+    /// The tick after which there is no start; the last of the trace where none is said.
+    pub to: Option<u64>,
+    /// The ticks between two starts; some 200th of all where none are said.
+    pub every: Option<u64>,
+}
+
+impl Starts {
+    /// Returns the tick after which there is no start, over a trace with this last tick.
+    fn last(&self, last_tick: u64) -> u64
+        ensures { result ≡ last_start self.now last_tick }
+    {
+        self.to.unwrap_or(last_tick).max(self.from)
+    }
+
+    /// Returns the ticks between two starts, over a trace with this last tick.
+    fn spacing(&self, last_tick: u64) -> u64
+        ensures { result ≡ spacing_of self.now last_tick }
+    {
+        let span = self.last(last_tick) - self.from;
+        self.every.unwrap_or(span.div_ceil(PARTS)).max(1)
+    }
+
+    /// Returns how many starts there are, over a trace with this last tick.
+    fn count(&self, last_tick: u64) -> u128
+        ensures { result ≡ count_of self.now last_tick }
+    {
+        let span = self.last(last_tick) - self.from;
+        (span / self.spacing(last_tick)) as u128 + 1
+    }
+
+    /// Returns the settings of a migration from each start, in order, over a trace with this last tick.
+    pub fn cases(
+        &self,
+        alloc: Global,
+        settings: &Settings,
+        last_tick: u64,
+    ) -> Result<Vec<Settings>, StartsError>
+        ensures made { IfOk result (λ cases. cases.items ≡ cases_at settings.now (start_ticks self.now last_tick)) }
+        ensures refused { IfErr result (RefusesStarts self.now settings.now last_tick) }
+    {
+        let count = self.count(last_tick);
+        if count > MOST_STARTS as u128 {
+            return Err(StartsError::TooMany);
+        }
+        let count = count as u64;
+        let every = self.spacing(last_tick);
+        let mut cases = Vec::with_capacity(alloc, count as usize)?;
+        for number in 0..count {
+            cases.push(case_at(settings, self.from + number * every)?)?;
+        }
+        Ok(cases)
+    }
+}
+
+/// Returns the settings of a migration that begins at a tick.
+fn case_at(settings: &Settings, tick: u64) -> Result<Settings, StartsError>
+    ensures made { IfOk result (λ case. case ≡ record settings.now { start = tick }) }
+{
+    match Settings::new(Asked {
+        start: tick,
+        ..*settings.asked()
+    }) {
+        Ok(case) => Ok(case),
+        Err(error) => Err(StartsError::Settings(error)),
+    }
+}
