@@ -16,13 +16,13 @@ right_in width words = replicate (width - length words) 32 ++ words
 -- whether the limit is kept, where that is known
 abbrev pub mark_of : MigrationCost → List ℕ
 mark_of cost =
-    if cost.is_late then codes "  ends behind the trace"
-    else (if cost.is_kept then codes "  kept" else codes "  not kept")
+    if cost.is_late then codes "ends behind the trace"
+    else (if cost.is_kept then codes "kept" else codes "not kept")
 
 -- what a migration costs, as columns
 unfoldable pub cost_cells : MigrationCost → List ℕ
 cost_cells cost = right_in 14 (seconds_text cost.time) ++ (right_in 14 (bytes_text cost.bytes)
-    ++ (right_in 14 (seconds_text cost.downtime) ++ mark_of cost))
+    ++ (right_in 14 (seconds_text cost.downtime) ++ (codes "  " ++ mark_of cost)))
 
 -- a start, and what the migration costs from there
 abbrev pub start_row : TraceScale → CostAtStart → List ℕ
@@ -40,7 +40,7 @@ heading = codes "          tick         start          time          sent      d
 unfoldable pub chosen_text : TraceScale → CostAtStart → List ℕ
 chosen_text scale at = seconds_text (micros_of scale at.start) ++ (field (codes ", --start ") at.start
     ++ (codes ": time " ++ (seconds_text at.cost.time ++ (codes ", sent " ++ (bytes_text at.cost.bytes
-    ++ (codes ", downtime " ++ (seconds_text at.cost.downtime ++ (mark_of at.cost ++ 10 ∷ []))))))))
+    ++ (codes ", downtime " ++ (seconds_text at.cost.downtime ++ (codes ", " ++ (mark_of at.cost ++ 10 ∷ [])))))))))
 
 -- the line of a start that is chosen, or of none
 abbrev pub choice_line : TraceScale → List ℕ → Option CostAtStart → List ℕ

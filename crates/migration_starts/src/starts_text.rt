@@ -61,11 +61,11 @@ fn mark_words(cost: &Cost) -> &'static str
     ensures { result.now ≡ mark_of cost.now }
 {
     if cost.is_late {
-        "  ends behind the trace"
+        "ends behind the trace"
     } else if cost.is_kept {
-        "  kept"
+        "kept"
     } else {
-        "  not kept"
+        "not kept"
     }
 }
 
@@ -77,6 +77,7 @@ fn push_cost(alloc: Global, text: &mut Vec<u8>, cost: &Cost) -> Result<(), Alloc
     push_time_cell(alloc, text, cost.time)?;
     push_size_cell(alloc, text, cost.bytes)?;
     push_time_cell(alloc, text, cost.downtime)?;
+    text.extend_from_slice("  ".as_bytes())?;
     text.extend_from_slice(mark_words(cost).as_bytes())
 }
 
@@ -123,6 +124,7 @@ fn push_chosen(text: &mut Vec<u8>, scale: &Scale, at: &StartCost) -> Result<(), 
     push_bytes(text, at.cost.bytes)?;
     text.extend_from_slice(", downtime ".as_bytes())?;
     push_seconds(text, at.cost.downtime)?;
+    text.extend_from_slice(", ".as_bytes())?;
     text.extend_from_slice(mark_words(&at.cost).as_bytes())?;
     end_line(text)
 }

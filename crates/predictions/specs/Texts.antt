@@ -1,6 +1,8 @@
 -- A prediction as lines. This project's own.
 use Rattle.std.specs.Prelude.{ℕ, nat_lt, Bool, true, false, if◌then◌else◌, List, [], ◌∷◌, ◌++◌, codes}
+use Rattle.std.specs.Prelude.{Option, None, Some}
 use Rattle.migration_model.specs.Rates.{StopReason, few_remain, rounds_done, too_fast}
+use Rattle.predictions.specs.Errors.{GuestErrors}
 use Rattle.predictions.specs.Predictions.{GuestPrediction}
 use Rattle.predictions.specs.Quantities.{bytes_text, seconds_text}
 use Rattle.sweep_report.specs.Lines.{field, line}
@@ -49,5 +51,11 @@ warnings p = line_if p.cost.is_late (codes "warning: the stop lies behind the en
     ++ (line_if (nat_lt p.left 100) (codes "warning: fewer than 100 pages decided the stop; chance moves it")
     ++ line_if (ends_early p.reason) (reason_words p.reason))
 
-abbrev pub prediction_text : ℕ → GuestPrediction → List ℕ
-prediction_text limit p = facts_text limit p ++ warnings p
+-- how far chance moves the prediction, where pages were sampled
+abbrev pub errors_line : Option GuestErrors → List ℕ
+errors_line None = []
+errors_line (Some errors) = line (codes "standard errors: sent " ∷ bytes_text errors.bytes ∷ codes ", downtime "
+    ∷ seconds_text errors.downtime ∷ [])
+
+abbrev pub prediction_text : ℕ → GuestPrediction → Option GuestErrors → List ℕ
+prediction_text limit p errors = facts_text limit p ++ (errors_line errors ++ warnings p)

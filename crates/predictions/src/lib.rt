@@ -2,12 +2,16 @@
 #![tactic(auto)]
 
 mod cost;
+mod errors;
 mod hosts;
 mod prediction;
 mod prediction_text;
 mod quantities;
+mod roots;
+mod tally;
 
 pub use cost::Cost;
+pub use errors::Errors;
 pub use hosts::push_hosts;
 pub use prediction::Prediction;
 pub use prediction_text::push_prediction;

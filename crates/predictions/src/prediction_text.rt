@@ -3,11 +3,12 @@
 ghost use Rattle.std.specs.Prelude.{◌≡◌, ◌++◌, ◌∷◌, ◌<◌, ◌^◌, [], OnOk, codes};
 ghost use Rattle.migration_model.specs.Rates.{StopReason};
 ghost use Rattle.predictions.specs.Quantities.{bytes_text, seconds_text};
-ghost use Rattle.predictions.specs.Texts.{downtime_line, ending, facts_text, ends_early, line_if, prediction_text};
-ghost use Rattle.predictions.specs.Texts.{reason_words, time_line, verdict, warnings};
+ghost use Rattle.predictions.specs.Texts.{downtime_line, ending, ends_early, errors_line, facts_text, line_if};
+ghost use Rattle.predictions.specs.Texts.{prediction_text, reason_words, time_line, verdict, warnings};
 ghost use Rattle.rate_limit.specs.Pacing.{reason_of};
 ghost use Rattle.sweep_report.specs.Lines.{field, line};
 
+use crate::errors::Errors;
 use crate::prediction::Prediction;
 use crate::quantities::{push_bytes, push_seconds};
 use rate_limit::Reason;
@@ -144,15 +145,31 @@ fn push_warnings(text: &mut Vec<u8>, prediction: &Prediction) -> Result<(), Allo
     Ok(())
 }
 
+/// Appends the line on standard errors, where they are told.
+fn push_errors(text: &mut Vec<u8>, errors: &Option<Errors>) -> Result<(), AllocError>
+    ensures { OnOk result (text.new.items ≡ text.old.items ++ errors_line errors.now) }
+{
+    let Some(errors) = errors else {
+        return Ok(());
+    };
+    text.extend_from_slice("standard errors: sent ".as_bytes())?;
+    push_bytes(text, errors.bytes)?;
+    text.extend_from_slice(", downtime ".as_bytes())?;
+    push_seconds(text, errors.downtime)?;
+    end_line(text)
+}
+
 /// Appends a prediction as lines, in ASCII: how the migration ends, its time, what it sends, its downtime beside the
-/// limit, in microseconds, and what speaks against the prediction.
+/// limit, in microseconds, how far chance moves these, and what speaks against the prediction.
 pub fn push_prediction(
     text: &mut Vec<u8>,
     limit: u64,
     prediction: &Prediction,
+    errors: &Option<Errors>,
 ) -> Result<(), AllocError>
-    ensures { OnOk result (text.new.items ≡ text.old.items ++ prediction_text limit prediction.now) }
+    ensures { OnOk result (text.new.items ≡ text.old.items ++ prediction_text limit prediction.now errors.now) }
 {
     push_facts(text, limit, prediction)?;
+    push_errors(text, errors)?;
     push_warnings(text, prediction)
 }

@@ -12,7 +12,7 @@ abbrev pub cost_members : MigrationCost → List (List Token)
 cost_members cost =
     number_member (codes "rounds") cost.rounds ∷ seconds_member (codes "time_seconds") cost.time
     ∷ number_member (codes "sent_bytes") cost.bytes ∷ seconds_member (codes "down_seconds") cost.downtime
-    ∷ flag_member (codes "kept") cost.is_kept ∷ flag_member (codes "known") (not cost.is_late) ∷ []
+    ∷ flag_member (codes "kept") cost.is_kept ∷ flag_member (codes "within_trace") (not cost.is_late) ∷ []
 
 -- a start, and what the migration costs from there
 abbrev pub start_object : TraceScale → CostAtStart → List Token

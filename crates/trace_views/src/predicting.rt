@@ -9,7 +9,7 @@ use crate::error::ViewError;
 use crate::view::Shown;
 use guest_log::Timeline;
 use guest_units::{Limits, Scale};
-use predictions::{Prediction, push_hosts, push_prediction};
+use predictions::{Errors, Prediction, push_hosts, push_prediction};
 use rate_limit::Settings;
 use round_planner::plan;
 use std::alloc::{AllocError, Global};
@@ -31,11 +31,12 @@ fn predicted(
     settings: &Settings,
     limits: &Limits,
     prediction: &Prediction,
+    errors: &Option<Errors>,
 ) -> Result<Vec<u8>, AllocError>
-    ensures { IfOk result (λ text. text.items ≡ predicted_text settings.now limits.now prediction.now) }
+    ensures { IfOk result (λ text. text.items ≡ predicted_text settings.now limits.now prediction.now errors.now) }
 {
     let mut text = Vec::new(alloc);
-    push_prediction(&mut text, limits.downtime, prediction)?;
+    push_prediction(&mut text, limits.downtime, prediction, errors)?;
     push_live(&mut text, settings)?;
     push_hosts(&mut text, limits)?;
     Ok(text)
@@ -54,10 +55,11 @@ pub(crate) fn prediction_view(
     ensures refused { IfErr result (λ e. e ≡ ViewError.Memory) }
 {
     let plan = plan(alloc, log, settings).or(Err(ViewError::Memory))?;
-    let start = settings.asked().start;
-    let prediction = Prediction::new(scale, limits, start, &plan, last_tick(log));
+    let asked = settings.asked();
+    let prediction = Prediction::new(scale, limits, asked.start, &plan, last_tick(log));
+    let errors = Errors::of_plan(alloc, scale, asked.max, log.page_count(), &plan)?;
     Ok(Shown {
-        text: predicted(alloc, settings, limits, &prediction)?,
+        text: predicted(alloc, settings, limits, &prediction, &errors)?,
         is_kept: prediction.cost.is_kept,
     })
 }

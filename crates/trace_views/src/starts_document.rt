@@ -20,7 +20,7 @@ fn write_cost(alloc: Global, out: &mut Document, cost: &Cost) -> Result<(), Allo
     out.wide_member("sent_bytes", cost.bytes)?;
     out.seconds_member(alloc, "down_seconds", cost.downtime)?;
     out.flag_member("kept", cost.is_kept)?;
-    out.flag_member("known", !cost.is_late)?;
+    out.flag_member("within_trace", !cost.is_late)?;
     Ok(())
 }
 

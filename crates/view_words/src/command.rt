@@ -47,6 +47,9 @@ pub struct AskedView {
 /// What is told of words without a command. `clap` refuses them itself.
 const NO_COMMAND: &str = "error: a command is required\n";
 
+/// What is told behind the program's name by `--version`: that of all of precopy, as in tools/version.py.
+const VERSION: &str = "(precopy) 0.6.0";
+
 /// Returns the command with the options of a report, in either kind of words.
 fn with_either<'a>(alloc: Global, command: Command<'a>) -> Result<Command<'a>, AllocError> {
     with_units(alloc, with_report(alloc, command)?)
@@ -91,6 +94,7 @@ fn commands<'a>(alloc: Global) -> Result<Command<'a>, AllocError> {
     );
     let command = Command::new(alloc, "precopy-view")
         .about("Shows what precopy tells of a trace, for people and for programs")
+        .version(VERSION)
         .subcommand_required(true)
         .subcommand(with_either(alloc, predict)?)?
         .subcommand(with_chart(alloc, with_starts(alloc, when)?)?)?
