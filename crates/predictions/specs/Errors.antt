@@ -2,7 +2,7 @@
 -- replacement, each set of M being as likely as any other. Of a number for each page, let S be the sum over the sampled
 -- pages and Q that of the squares. Then P S / M is the estimate for all pages, and P (P - M) (M Q - S S) / (M M (M - 1))
 -- that of the square of its standard error. See Cochran, Sampling Techniques, section 2.6.
-use Rattle.std.specs.Prelude.{◌≡◌, ◌⊎◌, ℕ, ◌+◌, ◌-◌, ◌*◌, ◌<◌, ◌≤◌, ◌==◌, List, length, Option, Some, None}
+use Rattle.std.specs.Prelude.{◌≡◌, ◌⊎◌, ℕ, ◌+◌, ◌-◌, ◌*◌, ◌<◌, ◌≤◌, ◌==◌, List, ◌++◌, length, Option, Some, None}
 use Rattle.std.specs.Int.{div_ceil}
 use Rattle.std.specs.List.{count_by, flat_map, range_with_len, sum_by}
 use Rattle.guest_units.specs.Scales.{TraceScale}

@@ -2,7 +2,7 @@
 use Rattle.std.specs.Prelude.{◌≡◌, ℕ, ◌*◌, ◌<◌, List, length, slice_index}
 use Rattle.std.specs.List.{sum_by}
 use Rattle.predictions.specs.Errors.{times_in}
-use Rattle.predictions.specs.declared.tally.Tally.{Tally}
+use Rattle.predictions.specs.declared.counts.Tally.{Tally}
 
 -- this is how often each of the first pages, so many, is among some pages, and the sum of the squares
 pub record IsTally (pages : ℕ) (sent : List ℕ) (tally : Tally) : Type 0 where

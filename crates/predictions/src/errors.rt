@@ -1,9 +1,10 @@
 //! How far chance moves a prediction, where pages were sampled.
 
 ghost use Rattle.std.specs.Prelude.{◌≡◌, ◌↔◌, ◌≤◌, ◌^◌, IfOk, IsTrue};
+ghost use Rattle.guest_units.specs.Scales.{IsScale};
 ghost use Rattle.predictions.specs.Errors.{AreErrors, HasErrors, IsErrorOf, time_for};
 
-use crate::roots::{quotient_above, root_above};
+use crate::roots::{quotient_above, root_above_quotient};
 use crate::tally::tally_of;
 use guest_units::Scale;
 use round_planner::Plan;
@@ -37,10 +38,11 @@ impl Model for Errors {
 
 /// Returns whether standard errors are told for a trace of this scale.
 fn has_errors(scale: &Scale) -> bool
-    ensures { IsTrue result ↔ HasErrors scale.now }
+    ensures told { IsTrue result ↔ HasErrors scale.now }
+    ensures in_range { IsScale scale.now }
 {
-    let sampled = scale.sampled();
-    2 <= sampled && sampled < scale.guest() && sampled <= MOST_PAGES
+    let (sampled, guest) = (scale.sampled(), scale.guest());
+    2 <= sampled && sampled < guest && sampled <= MOST_PAGES
 }
 
 /// Returns a standard error in pages of the guest, from the sum of a number of each sampled page, and that of the
@@ -52,12 +54,11 @@ fn error_of(scale: &Scale, sum: u64, squares: u64) -> u128
     ensures error { IsErrorOf scale.now sum squares result }
     ensures small { result ≤ 2 ^ 64 }
 {
-    let sampled = scale.sampled() as u128;
     let guest = scale.guest() as u128;
+    let sampled = scale.sampled() as u128;
     let left = guest - sampled;
     let spread = (sampled * squares as u128).saturating_sub(sum as u128 * sum as u128);
-    let weight = sampled * sampled * (sampled - 1);
-    root_above(quotient_above(guest * left * spread, weight))
+    root_above_quotient(guest * left * spread, sampled * sampled * (sampled - 1))
 }
 
 /// Returns how long so many pages of the guest take at a rate of the trace, in microseconds and rounded up.
@@ -67,8 +68,9 @@ fn time_of(scale: &Scale, rate: u64, pages: u128) -> u128
     requires few { pages ≤ 2 ^ 64 }
     ensures { result ≡ time_for scale.now rate pages }
 {
+    let guest = scale.guest() as u128;
     let time = pages * scale.sampled() as u128 * scale.tick() as u128 * 1000;
-    quotient_above(time, scale.guest() as u128 * rate as u128)
+    quotient_above(time, guest * rate as u128)
 }
 
 impl Errors {

@@ -2,6 +2,7 @@
 #![tactic(auto)]
 
 mod cost;
+mod counts;
 mod errors;
 mod hosts;
 mod prediction;

@@ -145,18 +145,28 @@ fn push_warnings(text: &mut Vec<u8>, prediction: &Prediction) -> Result<(), Allo
     Ok(())
 }
 
+/// Appends the line on standard errors.
+fn push_both(text: &mut Vec<u8>, bytes: u128, downtime: u128) -> Result<(), AllocError>
+    requires { bytes < 2 ^ 120 }
+    ensures { OnOk result (text.new.items ≡ text.old.items ++ line (codes "standard errors: sent " ∷ bytes_text bytes
+        ∷ codes ", downtime " ∷ seconds_text downtime ∷ [])) }
+{
+    text.extend_from_slice("standard errors: sent ".as_bytes())?;
+    push_bytes(text, bytes)?;
+    text.extend_from_slice(", downtime ".as_bytes())?;
+    push_seconds(text, downtime)?;
+    end_line(text)?;
+    Ok(())
+}
+
 /// Appends the line on standard errors, where they are told.
 fn push_errors(text: &mut Vec<u8>, errors: &Option<Errors>) -> Result<(), AllocError>
     ensures { OnOk result (text.new.items ≡ text.old.items ++ errors_line errors.now) }
 {
-    let Some(errors) = errors else {
-        return Ok(());
-    };
-    text.extend_from_slice("standard errors: sent ".as_bytes())?;
-    push_bytes(text, errors.bytes)?;
-    text.extend_from_slice(", downtime ".as_bytes())?;
-    push_seconds(text, errors.downtime)?;
-    end_line(text)
+    match errors {
+        Some(errors) => push_both(text, errors.bytes, errors.downtime),
+        None => Ok(()),
+    }
 }
 
 /// Appends a prediction as lines, in ASCII: how the migration ends, its time, what it sends, its downtime beside the

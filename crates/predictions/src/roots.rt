@@ -24,3 +24,13 @@ pub(crate) fn quotient_above(n: u128, divisor: u128) -> u128
 {
     n.div_ceil(divisor)
 }
+
+/// Returns the least number whose square is no less than this quotient.
+pub(crate) fn root_above_quotient(n: u128, divisor: u128) -> u128
+    requires { 1 ≤ divisor }
+    ensures enough { n ≤ result * result * divisor }
+    ensures least { (k : ℕ) → n ≤ k * k * divisor → result ≤ k }
+    ensures small { result ≤ 2 ^ 64 }
+{
+    root_above(quotient_above(n, divisor))
+}

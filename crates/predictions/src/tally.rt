@@ -1,22 +1,13 @@
 //! How often each page is sent.
 
-ghost use Rattle.std.specs.Prelude.{◌≡◌, ◌+◌, ◌*◌, ◌≤◌, ◌<◌, ◌^◌, ◌++◌, ◌∷◌, [], ℕ, IfOk, List, length, slice_index};
+ghost use Rattle.std.specs.Prelude.{◌≡◌, ◌+◌, ◌≤◌, ◌<◌, ◌^◌, ◌++◌, ◌∷◌, [], ℕ, IfOk, List, length};
 ghost use Rattle.migration_model.specs.Rounds.{total_of};
 ghost use Rattle.predictions.specs.Errors.{pages_sent, squares_in};
 ghost use Rattle.predictions.specs.Tallies.{IsTally};
 
+use crate::counts::Tally;
 use round_planner::Plan;
 use std::alloc::{AllocError, Global};
-
-/// How often each page is among some pages, how many these are, and the sum of the squares.
-#[derive(Drop)]
-pub(crate) struct Tally {
-    counts: Vec<u64>,
-    pub(crate) squares: u64,
-    pub(crate) number: u64,
-    ghost low: { (k : ℕ) → slice_index counts.items k ≤ number },
-    ghost small: { squares ≤ number * number },
-}
 
 impl Tally {
     /// Returns a tally of no pages, for the first pages, so many.

@@ -1,6 +1,6 @@
 use Rattle.std.proofs.Common.{◌≡◌, ◌+◌, ◌++◌, ℕ, List, take}
 use Rattle.predictions.specs.Tallies.{IsTally}
-use Rattle.predictions.proofs.tally.Tally.add_all.Given as goal
+use Rattle.predictions.proofs.counts.Tally.add_all.Given as goal
 
 abbrev pub invariant-loop-page : goal.invariant-loop-page
 invariant-loop-page l = record {
