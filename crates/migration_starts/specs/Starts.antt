@@ -18,14 +18,14 @@ spacing_of starts last_tick = max (unwrap_or starts.every (div_ceil (last_start 
 abbrev pub count_of : Starts → ℕ → ℕ
 count_of starts last_tick = (last_start starts last_tick - starts.from) / spacing_of starts last_tick + 1
 
--- the first start, and each that is so many ticks after another, up to the last
-abbrev pub start_ticks : Starts → ℕ → List ℕ
-start_ticks starts last_tick = map (λ k. starts.from + k * spacing_of starts last_tick)
-    (range_with_len 0 (count_of starts last_tick))
+-- the first start, and each that is so many ticks after another, by its number
+abbrev pub start_at : Starts → ℕ → ℕ → ℕ
+start_at starts last_tick k = starts.from + k * spacing_of starts last_tick
 
--- the settings of a migration from each of these ticks
-abbrev pub cases_at : MigrationSettings → List ℕ → List MigrationSettings
-cases_at settings ticks = map (λ tick. record settings { start = tick }) ticks
+-- the settings of a migration from each start, up to the last
+abbrev pub cases_from : MigrationSettings → Starts → ℕ → List MigrationSettings
+cases_from settings starts last_tick = map (λ k. record settings { start = start_at starts last_tick k })
+    (range_with_len 0 (count_of starts last_tick))
 
 -- the starts are refused for this: there are more than 4,096 of them
 abbrev pub RefusesStarts : Starts → ℕ → StartsError → Type 0

@@ -36,11 +36,15 @@ start_rows scale costs = flat_map (start_row scale) costs
 abbrev pub heading : List ℕ
 heading = codes "          tick         start          time          sent      downtime\n"
 
+-- what a migration costs from a start that is chosen
+unfoldable pub chosen_cost : MigrationCost → List ℕ
+chosen_cost cost = codes ": time " ++ (seconds_text cost.time ++ (codes ", sent " ++ (bytes_text cost.bytes
+    ++ (codes ", downtime " ++ (seconds_text cost.downtime ++ (codes ", " ++ (mark_of cost ++ 10 ∷ [])))))))
+
 -- a start that is chosen
 unfoldable pub chosen_text : TraceScale → CostAtStart → List ℕ
-chosen_text scale at = seconds_text (micros_of scale at.start) ++ (field (codes ", --start ") at.start
-    ++ (codes ": time " ++ (seconds_text at.cost.time ++ (codes ", sent " ++ (bytes_text at.cost.bytes
-    ++ (codes ", downtime " ++ (seconds_text at.cost.downtime ++ (codes ", " ++ (mark_of at.cost ++ 10 ∷ [])))))))))
+chosen_text scale at = seconds_text (micros_of scale at.start)
+    ++ (field (codes ", --start ") at.start ++ chosen_cost at.cost)
 
 -- the line of a start that is chosen, or of none
 abbrev pub choice_line : TraceScale → List ℕ → Option CostAtStart → List ℕ

@@ -5,10 +5,10 @@ mod choosing;
 mod error;
 mod starting;
 mod starts;
-mod starts_text;
+mod table;
 
 pub use choosing::{best_start, known_starts, worst_start};
 pub use error::StartsError;
 pub use starting::{StartCost, start_costs};
 pub use starts::Starts;
-pub use starts_text::starts_text;
+pub use table::starts_text;

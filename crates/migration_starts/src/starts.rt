@@ -1,11 +1,10 @@
 //! At which ticks a migration may begin.
 
 ghost use Rattle.std.specs.Prelude.{◌≡◌, ◌≤◌, ◌<◌, ◌+◌, ◌-◌, ◌*◌, ◌/◌, ◌^◌, IfErr, IfOk, Some, max};
-ghost use Rattle.migration_starts.specs.Starts.{RefusesStarts, cases_at, count_of, last_start, spacing_of};
-ghost use Rattle.migration_starts.specs.Starts.{start_ticks};
+ghost use Rattle.migration_starts.specs.Starts.{RefusesStarts, cases_from, count_of, last_start, spacing_of};
 
 use crate::error::StartsError;
-use rate_limit::{Asked, Settings};
+use rate_limit::{Asked, Settings, SettingsError};
 use std::alloc::Global;
 
 /// Into how many parts a trace is cut by starts, where no spacing is said.
@@ -56,32 +55,42 @@ impl Starts {
         settings: &Settings,
         last_tick: u64,
     ) -> Result<Vec<Settings>, StartsError>
-        ensures made { IfOk result (λ cases. cases.items ≡ cases_at settings.now (start_ticks self.now last_tick)) }
-        ensures refused { IfErr result (RefusesStarts self.now settings.now last_tick) }
+        ensures made { IfOk result (λ cases. cases.items ≡ cases_from settings.now self.now last_tick) }
+        ensures refused { IfErr result (RefusesStarts self.now last_tick) }
     {
         let count = self.count(last_tick);
         if count > MOST_STARTS as u128 {
             return Err(StartsError::TooMany);
         }
         let count = count as u64;
+        let last = self.last(last_tick);
         let every = self.spacing(last_tick);
         let mut cases = Vec::with_capacity(alloc, count as usize)?;
         for number in 0..count {
-            cases.push(case_at(settings, self.from + number * every)?)?;
+            let tick = tick_at(self.from, last, every, number);
+            match case_at(settings, tick) {
+                Ok(case) => cases.push(case)?,
+                Err(error) => return Err(StartsError::Settings(error)),
+            }
         }
         Ok(cases)
     }
 }
 
-/// Returns the settings of a migration that begins at a tick.
-fn case_at(settings: &Settings, tick: u64) -> Result<Settings, StartsError>
-    ensures made { IfOk result (λ case. case ≡ record settings.now { start = tick }) }
+/// Returns the tick of a start, by its number.
+fn tick_at(from: u64, last: u64, every: u64, number: u64) -> u64
+    requires { from + number * every ≤ last }
+    ensures { result ≡ from + number * every }
 {
-    match Settings::new(Asked {
+    from + number * every
+}
+
+/// Returns the settings of a migration that begins at a tick.
+fn case_at(settings: &Settings, tick: u64) -> Result<Settings, SettingsError>
+    ensures { IfOk result (λ case. case ≡ record settings.now { start = tick }) }
+{
+    Settings::new(Asked {
         start: tick,
         ..*settings.asked()
-    }) {
-        Ok(case) => Ok(case),
-        Err(error) => Err(StartsError::Settings(error)),
-    }
+    })
 }

@@ -2,9 +2,9 @@
 
 use crate::axis::{Axis, LEFT};
 use crate::panel::Panel;
-use crate::round_panels::{push_rounds, round_panels};
+use crate::round_panels::{panels_of_rounds, push_rounds};
 use crate::svg::{begin_picture, begin_text, end_picture, end_text, push_words};
-use crate::window_panel::{push_windows, window_panel};
+use crate::window_panel::{panel_of_windows, push_windows};
 use guest_log::Shape;
 use guest_units::Scale;
 use predictions::{push_bytes, push_seconds};
@@ -86,8 +86,8 @@ pub fn report_chart(
     let length = settings.asked().window;
     let rounds_axis = Axis::of_rounds(settings, plan);
     let axis = rounds_axis.with_windows(length, tables);
-    let windows = window_panel(&tables.windows);
-    let (pages, rates) = round_panels(&plan.rounds);
+    let windows = panel_of_windows(&tables.windows);
+    let (pages, rates) = panels_of_rounds(&plan.rounds);
     let mut text = Vec::new(alloc);
     begin_picture(&mut text, 720)?;
     push_trace(&mut text, shape, length)?;

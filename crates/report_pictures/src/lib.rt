@@ -7,7 +7,7 @@ mod hot_pages;
 mod panel;
 mod round_panels;
 mod screen;
-mod starts_chart;
+mod start_curves;
 mod svg;
 mod table;
 mod units_screen;
@@ -15,5 +15,5 @@ mod window_panel;
 
 pub use chart::report_chart;
 pub use screen::{measured_screen, report_screen};
-pub use starts_chart::starts_chart;
+pub use start_curves::starts_chart;
 pub use table::Style;

@@ -8,7 +8,7 @@ use round_planner::{Plan, Round};
 use std::alloc::AllocError;
 
 /// Returns the panels of the rounds: their pages, and their rates.
-pub(crate) fn round_panels(rounds: &[Round]) -> (Panel, Panel) {
+pub(crate) fn panels_of_rounds(rounds: &[Round]) -> (Panel, Panel) {
     let mut pages = 1;
     let mut rate = 1;
     for round in rounds {

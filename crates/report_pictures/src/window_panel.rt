@@ -83,7 +83,7 @@ fn push_columns(
 }
 
 /// Returns the panel of the working set: its greatest number is that of the window with the most pages.
-pub(crate) fn window_panel(windows: &[Window]) -> Panel {
+pub(crate) fn panel_of_windows(windows: &[Window]) -> Panel {
     let mut most = 1;
     for window in windows {
         most = (window.pages as u64).max(most);

@@ -6,7 +6,7 @@ use Rattle.migration_model.specs.Sweeps.{SweepLine, AreLines}
 use Rattle.migration_model.specs.Touches.{GuestTouches}
 use Rattle.migration_starts.specs.Choices.{IsChosen, is_better_start, is_worse_start, known_of}
 use Rattle.migration_starts.specs.Costs.{CostAtStart, costs_at_starts}
-use Rattle.migration_starts.specs.Starts.{cases_at, count_of, start_ticks}
+use Rattle.migration_starts.specs.Starts.{cases_from, count_of}
 use Rattle.migration_starts.specs.Texts.{starts_text_of}
 use Rattle.migration_starts.specs.declared.starts.Starts.{Starts}
 use Rattle.predictions.specs.Predictions.{last_tick_of}
@@ -24,7 +24,7 @@ pub record AreStartsOf (log : GuestTouches) (asked : AskedStarts) (costs : List 
     (best worst : Option CostAtStart) : Type 0 where
   pub lines : List SweepLine
   pub are_lines : AreLines log.pages log.touches
-      (cases_at asked.settings (start_ticks asked.starts (last_tick_of log.touches))) lines
+      (cases_from asked.settings asked.starts (last_tick_of log.touches)) lines
   pub costs_are : costs ≡ costs_at_starts asked.scale asked.limits (last_tick_of log.touches) lines
   pub best_is : IsChosen is_better_start (known_of costs) best
   pub worst_is : IsChosen is_worse_start (known_of costs) worst

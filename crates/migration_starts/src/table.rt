@@ -3,8 +3,8 @@
 ghost use Rattle.std.specs.Prelude.{◌≡◌, ◌++◌, ◌∷◌, [], ◌<◌, ◌^◌, IfOk, OnOk};
 ghost use Rattle.std.specs.Fmt.{decimal};
 ghost use Rattle.predictions.specs.Quantities.{bytes_text, seconds_text};
-ghost use Rattle.migration_starts.specs.Texts.{choice_line, chosen_text, cost_cells, mark_of, right_in, start_row};
-ghost use Rattle.migration_starts.specs.Texts.{start_rows, starts_text_of};
+ghost use Rattle.migration_starts.specs.Texts.{choice_line, chosen_cost, chosen_text, cost_cells, mark_of, right_in};
+ghost use Rattle.migration_starts.specs.Texts.{start_row, start_rows, starts_text_of};
 
 use crate::starting::StartCost;
 use guest_units::Scale;
@@ -25,7 +25,8 @@ fn push_right(text: &mut Vec<u8>, words: &[u8]) -> Result<(), AllocError>
     for _column in words.len()..WIDTH {
         text.push(b' ')?;
     }
-    text.extend_from_slice(words)
+    text.extend_from_slice(words)?;
+    Ok(())
 }
 
 /// Appends a number as a column.
@@ -78,7 +79,8 @@ fn push_cost(alloc: Global, text: &mut Vec<u8>, cost: &Cost) -> Result<(), Alloc
     push_size_cell(alloc, text, cost.bytes)?;
     push_time_cell(alloc, text, cost.downtime)?;
     text.extend_from_slice("  ".as_bytes())?;
-    text.extend_from_slice(mark_words(cost).as_bytes())
+    text.extend_from_slice(mark_words(cost).as_bytes())?;
+    Ok(())
 }
 
 /// Appends the line of a start.
@@ -111,6 +113,23 @@ fn push_rows(
     Ok(())
 }
 
+/// Appends what a migration costs from a start that is chosen.
+#[tactic(auto, unfolding(crate::specs::Texts::chosen_cost))]
+fn push_chosen_cost(text: &mut Vec<u8>, cost: &Cost) -> Result<(), AllocError>
+    ensures { OnOk result (text.new.items ≡ text.old.items ++ chosen_cost cost.now) }
+{
+    text.extend_from_slice(": time ".as_bytes())?;
+    push_seconds(text, cost.time)?;
+    text.extend_from_slice(", sent ".as_bytes())?;
+    push_bytes(text, cost.bytes)?;
+    text.extend_from_slice(", downtime ".as_bytes())?;
+    push_seconds(text, cost.downtime)?;
+    text.extend_from_slice(", ".as_bytes())?;
+    text.extend_from_slice(mark_words(cost).as_bytes())?;
+    end_line(text)?;
+    Ok(())
+}
+
 /// Appends a start that is chosen.
 #[tactic(auto, unfolding(crate::specs::Texts::chosen_text))]
 fn push_chosen(text: &mut Vec<u8>, scale: &Scale, at: &StartCost) -> Result<(), AllocError>
@@ -118,15 +137,7 @@ fn push_chosen(text: &mut Vec<u8>, scale: &Scale, at: &StartCost) -> Result<(), 
 {
     push_seconds(text, scale.micros(at.start))?;
     push_field(text, ", --start ", at.start)?;
-    text.extend_from_slice(": time ".as_bytes())?;
-    push_seconds(text, at.cost.time)?;
-    text.extend_from_slice(", sent ".as_bytes())?;
-    push_bytes(text, at.cost.bytes)?;
-    text.extend_from_slice(", downtime ".as_bytes())?;
-    push_seconds(text, at.cost.downtime)?;
-    text.extend_from_slice(", ".as_bytes())?;
-    text.extend_from_slice(mark_words(&at.cost).as_bytes())?;
-    end_line(text)
+    push_chosen_cost(text, &at.cost)
 }
 
 /// Appends the line of a start that is chosen, or of none.

@@ -6,7 +6,7 @@ use crate::panel::Panel;
 use crate::svg::{
     Area, begin_picture, begin_text, end_picture, end_text, push_rect, push_text, push_words,
 };
-use crate::window_panel::{push_windows, window_panel};
+use crate::window_panel::{panel_of_windows, push_windows};
 use guest_units::{Limits, Scale};
 use migration_starts::StartCost;
 use predictions::{push_bytes, push_seconds};
@@ -198,7 +198,7 @@ pub fn starts_chart(
     let length = settings.asked().window;
     let axis = axis_of(costs).with_windows(length, tables);
     let known = Some(*scale);
-    let windows = window_panel(&tables.windows);
+    let windows = panel_of_windows(&tables.windows);
     let (best, worst) = chosen;
     let chosen = Chosen {
         best: *best,
