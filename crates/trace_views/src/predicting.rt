@@ -42,6 +42,13 @@ fn predicted(
     Ok(text)
 }
 
+/// Returns whether a prediction is within its limit.
+fn is_kept(prediction: &Prediction) -> bool
+    ensures { result ≡ prediction.now.cost.is_kept }
+{
+    prediction.cost.is_kept
+}
+
 /// Returns what a migration over a log will be, as a text.
 pub(crate) fn prediction_view(
     alloc: Global,
@@ -60,6 +67,6 @@ pub(crate) fn prediction_view(
     let errors = Errors::of_plan(alloc, scale, asked.max, log.page_count(), &plan)?;
     Ok(Shown {
         text: predicted(alloc, settings, limits, &prediction, &errors)?,
-        is_kept: prediction.cost.is_kept,
+        is_kept: is_kept(&prediction),
     })
 }
