@@ -47,8 +47,8 @@ begins_as (d ∷ ds) x low = (refl, omega arith)
 begins_well : (n : ℕ) → n < 10 ^ 64 → BeginsWell n (decimal n)
 begins_well = decimal_by_steps_wide BeginsWell (λ n low. record { some = omega arith; first = λ high. omega arith })
     (λ n ds high before.
-    let as = begins_as ds (48 + n % 10) before.some in
-    record { some = as.1; first = λ _. omega (arith, before.first (omega arith), as.0) })
+    let front = begins_as ds (48 + n % 10) before.some in
+    record { some = front.1; first = λ _. omega (arith, before.first (omega arith), front.0) })
 
 -- the whole part of a number, in front of a text that does not begin with a digit
 record IsWholePart (ds : List ℕ) : Type 0 where

@@ -58,13 +58,16 @@ trace_object pages size writes =
     (codes "writes") writes ∷ [])
 
 -- what ticks, windows of so many ticks, and pages stand for, where that is known
-abbrev pub units_member : Option TraceScale → ℕ → List Token
-units_member None length = []
-units_member (Some scale) length = member_of (codes "units")
-    (object_of (seconds_member (codes "tick_seconds") scale.tick ∷ seconds_member
+abbrev pub units_object : TraceScale → ℕ → List Token
+units_object scale length =
+    object_of (seconds_member (codes "tick_seconds") scale.tick ∷ seconds_member
     (codes "window_seconds") (micros_of scale length)
     ∷ number_member (codes "page_bytes") scale.page ∷ number_member (codes "sampled_pages") scale.sampled
-    ∷ number_member (codes "guest_pages") scale.guest ∷ []))
+    ∷ number_member (codes "guest_pages") scale.guest ∷ [])
+
+abbrev pub units_member : Option TraceScale → ℕ → List Token
+units_member None length = []
+units_member (Some scale) length = member_of (codes "units") (units_object scale length)
 
 -- the bytes of the guest that are written in a window, where they are known
 abbrev pub window_units : Option TraceScale → WindowRow → List (List Token)
@@ -84,14 +87,17 @@ hot_object hot pages =
     (array_of (flat_map (λ page. number_token page ∷ []) pages)) ∷ [])
 
 -- the times, the bytes and the share of the link of a round, where they are known; `max` is the rate of the link
-abbrev pub round_units : Option TraceScale → ℕ → PlannedRound → List (List Token)
-round_units None max round = []
-round_units (Some scale) max round =
+abbrev pub round_measures : TraceScale → ℕ → PlannedRound → List (List Token)
+round_measures scale max round =
     seconds_member (codes "from_seconds") (micros_of scale round.from) ∷ seconds_member
     (codes "to_seconds") (micros_of scale round.to)
     ∷ number_member (codes "sent_bytes") (bytes_of scale (length round.sent)) ∷ number_member
     (codes "dirtied_bytes") (bytes_of scale round.dirtied)
     ∷ seconds_member (codes "link_share") (round.rate * 1_000_000 / max) ∷ []
+
+abbrev pub round_units : Option TraceScale → ℕ → PlannedRound → List (List Token)
+round_units None max round = []
+round_units (Some scale) max round = round_measures scale max round
 
 -- a round of a plan, by its number
 abbrev pub round_object : Option TraceScale → ℕ → ℕ → PlannedRound → List Token
@@ -107,13 +113,16 @@ abbrev pub round_objects : Option TraceScale → ℕ → List PlannedRound → L
 round_objects scale max rounds = flat_map (λ at. round_object scale max at.0 at.1) (enumerate_from 0 rounds)
 
 -- the times and the bytes of the end of a plan, where they are known
-abbrev pub stop_units : Option TraceScale → MigrationPlan → List (List Token)
-stop_units None plan = []
-stop_units (Some scale) plan =
+abbrev pub stop_measures : TraceScale → MigrationPlan → List (List Token)
+stop_measures scale plan =
     seconds_member (codes "at_seconds") (micros_of scale plan.stop) ∷ number_member
     (codes "bytes") (bytes_of scale (length plan.last))
     ∷ seconds_member (codes "down_seconds") (micros_of scale plan.down) ∷ number_member
     (codes "total_bytes") (bytes_of scale (total_of plan)) ∷ []
+
+abbrev pub stop_units : Option TraceScale → MigrationPlan → List (List Token)
+stop_units None plan = []
+stop_units (Some scale) plan = stop_measures scale plan
 
 -- the end of a plan
 abbrev pub stop_object : Option TraceScale → MigrationPlan → List Token

@@ -1,6 +1,6 @@
 //! A JSON document on its way.
 
-ghost use Rattle.std.specs.Prelude.{◌≡◌, ◌<◌, ◌^◌, ◌++◌, ◌∷◌, [], IfOk, OnOk};
+ghost use Rattle.std.specs.Prelude.{◌≡◌, ◌++◌, ◌∷◌, [], IfOk, OnOk};
 ghost use Rattle.json.specs.Print.{print};
 ghost use Rattle.json.specs.Token.{begin_array, begin_object, end_array, end_object, key};
 ghost use Rattle.trace_views.specs.Json.{flag_member, number_member, number_token, seconds_member, text_member};
@@ -100,7 +100,6 @@ impl Document {
     /// Writes a member whose value is a great number.
     #[tactic(auto, unfolding(crate::specs::Json::number_member))]
     pub(crate) fn wide_member(&mut self, name: &str, n: u128) -> Result<(), AllocError>
-        requires { n < 2 ^ 120 }
         ensures { OnOk result (self.new ≡ self.old ++ number_member name.now n) }
     {
         let mut digits = Buffer::new();
@@ -117,12 +116,11 @@ impl Document {
         name: &str,
         micros: u128,
     ) -> Result<(), AllocError>
-        requires { micros < 2 ^ 120 }
         ensures { OnOk result (self.new ≡ self.old ++ seconds_member name.now micros) }
     {
-        let number = millionths(alloc, micros)?;
+        let text = millionths(alloc, micros)?;
         self.writer.key(name)?;
-        self.writer.number(number.as_str())?;
+        self.writer.number(text.as_str())?;
         Ok(())
     }
 

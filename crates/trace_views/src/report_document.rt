@@ -3,8 +3,9 @@
 ghost use Rattle.std.specs.Prelude.{◌≡◌, ◌≤◌, ◌*◌, ◌/◌, ◌^◌, ◌++◌, ◌∷◌, [], IfErr, IfOk, OnOk, length};
 ghost use Rattle.std.specs.List.{flat_map};
 ghost use Rattle.trace_views.specs.Json.{array_of, hot_object, line_of, number_token, plan_members, report_object};
-ghost use Rattle.trace_views.specs.Json.{round_object, round_objects, round_units, sets_members, stop_object};
-ghost use Rattle.trace_views.specs.Json.{stop_units, trace_object, units_member, window_object, window_units};
+ghost use Rattle.trace_views.specs.Json.{round_measures, round_object, round_objects, round_units, sets_members};
+ghost use Rattle.trace_views.specs.Json.{stop_measures, stop_object, stop_units, trace_object, units_member};
+ghost use Rattle.trace_views.specs.Json.{units_object, window_object, window_units};
 
 use crate::document::Document;
 use crate::error::ViewError;
@@ -26,6 +27,25 @@ fn write_sizes(out: &mut Document, pages: u32, size: usize, writes: u32) -> Resu
     out.end_object()
 }
 
+/// Writes what ticks, windows of so many ticks, and pages stand for.
+fn write_scale(
+    alloc: Global,
+    out: &mut Document,
+    scale: &Scale,
+    length: u64,
+) -> Result<(), AllocError>
+    ensures { OnOk result (out.new ≡ out.old ++ units_object scale.now length) }
+{
+    out.begin_object()?;
+    out.seconds_member(alloc, "tick_seconds", scale.tick() as u128)?;
+    out.seconds_member(alloc, "window_seconds", scale.micros(length))?;
+    out.number_member("page_bytes", scale.page())?;
+    out.number_member("sampled_pages", scale.sampled())?;
+    out.number_member("guest_pages", scale.guest())?;
+    out.end_object()?;
+    Ok(())
+}
+
 /// Writes what ticks, windows of so many ticks, and pages stand for as a member, where that is known.
 fn write_units(
     alloc: Global,
@@ -35,18 +55,13 @@ fn write_units(
 ) -> Result<(), AllocError>
     ensures { OnOk result (out.new ≡ out.old ++ units_member scale.now length) }
 {
-    let Some(scale) = scale else {
-        return Ok(());
-    };
-    out.key("units")?;
-    out.begin_object()?;
-    out.seconds_member(alloc, "tick_seconds", scale.tick() as u128)?;
-    out.seconds_member(alloc, "window_seconds", scale.micros(length))?;
-    out.number_member("page_bytes", scale.page())?;
-    out.number_member("sampled_pages", scale.sampled())?;
-    out.number_member("guest_pages", scale.guest())?;
-    out.end_object()?;
-    Ok(())
+    match scale {
+        Some(scale) => {
+            out.key("units")?;
+            write_scale(alloc, out, scale, length)
+        }
+        None => Ok(()),
+    }
 }
 
 /// Writes the bytes of a window as a member, where they are known.
@@ -78,7 +93,8 @@ fn write_window(
     out.number_member("again", window.again as u64)?;
     out.number_member("fresh", window.fresh as u64)?;
     write_window_units(out, scale, window)?;
-    out.end_object()
+    out.end_object()?;
+    Ok(())
 }
 
 /// Writes the items of an array of windows.
@@ -118,6 +134,26 @@ fn write_hot(out: &mut Document, hot: u64, pages: &[u32]) -> Result<(), AllocErr
     out.end_object()
 }
 
+/// Writes the times, the bytes and the share of the link of a round as members.
+fn write_round_measures(
+    alloc: Global,
+    out: &mut Document,
+    scale: &Scale,
+    max: u64,
+    round: &Round,
+) -> Result<(), AllocError>
+    requires { 1 ≤ max }
+    ensures { OnOk result (out.new ≡ out.old ++ flat_map (λ m. m) (round_measures scale.now max round.now)) }
+{
+    let share = round.rate as u128 * 1_000_000 / max as u128;
+    out.seconds_member(alloc, "from_seconds", scale.micros(round.from))?;
+    out.seconds_member(alloc, "to_seconds", scale.micros(round.to))?;
+    out.wide_member("sent_bytes", scale.bytes(round.sent.len() as u64))?;
+    out.wide_member("dirtied_bytes", scale.bytes(round.dirtied as u64))?;
+    out.seconds_member(alloc, "link_share", share)?;
+    Ok(())
+}
+
 /// Writes the times, the bytes and the share of the link of a round as members, where they are known.
 fn write_round_units(
     alloc: Global,
@@ -129,16 +165,10 @@ fn write_round_units(
     requires { 1 ≤ max }
     ensures { OnOk result (out.new ≡ out.old ++ flat_map (λ m. m) (round_units scale.now max round.now)) }
 {
-    let Some(scale) = scale else {
-        return Ok(());
-    };
-    let share = round.rate as u128 * 1_000_000 / max as u128;
-    out.seconds_member(alloc, "from_seconds", scale.micros(round.from))?;
-    out.seconds_member(alloc, "to_seconds", scale.micros(round.to))?;
-    out.wide_member("sent_bytes", scale.bytes(round.sent.len() as u64))?;
-    out.wide_member("dirtied_bytes", scale.bytes(round.dirtied as u64))?;
-    out.seconds_member(alloc, "link_share", share)?;
-    Ok(())
+    match scale {
+        Some(scale) => write_round_measures(alloc, out, scale, max, round),
+        None => Ok(()),
+    }
 }
 
 /// Writes a round.
@@ -183,6 +213,22 @@ fn write_rounds(
     Ok(())
 }
 
+/// Writes the times and the bytes of the end of a plan as members.
+fn write_stop_measures(
+    alloc: Global,
+    out: &mut Document,
+    scale: &Scale,
+    plan: &Plan,
+) -> Result<(), AllocError>
+    ensures { OnOk result (out.new ≡ out.old ++ flat_map (λ m. m) (stop_measures scale.now plan.now)) }
+{
+    out.seconds_member(alloc, "at_seconds", scale.micros(plan.stop))?;
+    out.wide_member("bytes", scale.bytes(plan.last.len() as u64))?;
+    out.seconds_member(alloc, "down_seconds", scale.micros(plan.down))?;
+    out.wide_member("total_bytes", scale.bytes(plan.total()))?;
+    Ok(())
+}
+
 /// Writes the times and the bytes of the end of a plan as members, where they are known.
 fn write_stop_units(
     alloc: Global,
@@ -192,14 +238,10 @@ fn write_stop_units(
 ) -> Result<(), AllocError>
     ensures { OnOk result (out.new ≡ out.old ++ flat_map (λ m. m) (stop_units scale.now plan.now)) }
 {
-    let Some(scale) = scale else {
-        return Ok(());
-    };
-    out.seconds_member(alloc, "at_seconds", scale.micros(plan.stop))?;
-    out.wide_member("bytes", scale.bytes(plan.last.len() as u64))?;
-    out.seconds_member(alloc, "down_seconds", scale.micros(plan.down))?;
-    out.wide_member("total_bytes", scale.bytes(plan.total()))?;
-    Ok(())
+    match scale {
+        Some(scale) => write_stop_measures(alloc, out, scale, plan),
+        None => Ok(()),
+    }
 }
 
 /// Writes the end of a plan.
@@ -218,7 +260,8 @@ fn write_stop(
     out.number_member("down", plan.down)?;
     out.number_member("total", plan.total())?;
     write_stop_units(alloc, out, scale, plan)?;
-    out.end_object()
+    out.end_object()?;
+    Ok(())
 }
 
 /// Writes the working sets as members: the windows, and the hot pages.
@@ -257,6 +300,30 @@ fn write_plan(
     write_stop(alloc, out, scale, plan)
 }
 
+/// Writes the facts of a report on a trace of this shape.
+fn write_report(
+    alloc: Global,
+    out: &mut Document,
+    shape: &Shape,
+    settings: &Settings,
+    scale: &Option<Scale>,
+    tables: &Tables,
+    plan: &Plan,
+) -> Result<(), AllocError>
+    ensures { OnOk result (out.new ≡ out.old ++ report_object shape.now.shift shape.now.pages shape.now.writes
+        settings.now scale.now tables.now plan.now) }
+{
+    let asked = settings.asked();
+    out.begin_object()?;
+    out.key("trace")?;
+    write_sizes(out, shape.pages, shape.page_size(), shape.writes)?;
+    write_units(alloc, out, scale, asked.window)?;
+    write_sets(out, scale, asked.hot, tables)?;
+    write_plan(alloc, out, scale, asked.max, plan)?;
+    out.end_object()?;
+    Ok(())
+}
+
 /// Returns the facts of a report on a trace of this shape as a JSON document, in one line. With a scale it has times
 /// and bytes of the guest too.
 pub fn json_report(
@@ -272,14 +339,7 @@ pub fn json_report(
         tables.now plan.now)) }
     ensures refused { IfErr result (λ e. e ≡ ViewError.Memory) }
 {
-    let asked = settings.asked();
     let mut out = Document::new(alloc);
-    out.begin_object()?;
-    out.key("trace")?;
-    write_sizes(&mut out, shape.pages, shape.page_size(), shape.writes)?;
-    write_units(alloc, &mut out, scale, asked.window)?;
-    write_sets(&mut out, scale, asked.hot, tables)?;
-    write_plan(alloc, &mut out, scale, asked.max, plan)?;
-    out.end_object()?;
+    write_report(alloc, &mut out, shape, settings, scale, tables, plan)?;
     Ok(out.into_line()?)
 }

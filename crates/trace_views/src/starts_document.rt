@@ -75,6 +75,30 @@ fn write_chosen(
     }
 }
 
+/// Writes the facts of some starts.
+fn write_facts(
+    alloc: Global,
+    out: &mut Document,
+    scale: &Scale,
+    limit: u64,
+    costs: &[StartCost],
+    best: &Option<StartCost>,
+    worst: &Option<StartCost>,
+) -> Result<(), AllocError>
+    ensures { OnOk result (out.new ≡ out.old ++ starts_object scale.now limit costs.now best.now worst.now) }
+{
+    out.begin_object()?;
+    out.seconds_member(alloc, "limit_seconds", limit as u128)?;
+    out.key("starts")?;
+    out.begin_array()?;
+    write_starts(alloc, out, scale, costs)?;
+    out.end_array()?;
+    write_chosen(alloc, out, scale, "best", best)?;
+    write_chosen(alloc, out, scale, "worst", worst)?;
+    out.end_object()?;
+    Ok(())
+}
+
 /// Returns the costs of starts as a JSON document, in one line: the limit, each start, and the best and the worst.
 pub fn json_starts(
     alloc: Global,
@@ -88,14 +112,6 @@ pub fn json_starts(
         ≡ line_of (starts_object scale.now limit costs.now best.now worst.now)) }
 {
     let mut out = Document::new(alloc);
-    out.begin_object()?;
-    out.seconds_member(alloc, "limit_seconds", limit as u128)?;
-    out.key("starts")?;
-    out.begin_array()?;
-    write_starts(alloc, &mut out, scale, costs)?;
-    out.end_array()?;
-    write_chosen(alloc, &mut out, scale, "best", best)?;
-    write_chosen(alloc, &mut out, scale, "worst", worst)?;
-    out.end_object()?;
+    write_facts(alloc, &mut out, scale, limit, costs, best, worst)?;
     out.into_line()
 }
