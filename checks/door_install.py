@@ -50,6 +50,8 @@ def run_from_there(tally, prefix):
     tally.add(image.startswith("01" + "00" * 30 + "02"), f"the installed precopy writes the image {image[:80]}")
     told = shell(f"precopy-view json report < '{trace}'")
     tally.add(told.startswith(b'{"trace":{"pages":4,"size":16,"writes":5}'), f"the installed precopy-view: {told[:80]}")
+    told = shell("precopy-view --version")
+    tally.add(told.decode() == f"precopy-view (precopy) {version.VERSION}\n", f"precopy-view --version tells {told!r}")
     back = shell(f"precopy-export '{trace}' - | precopy-import - - | cmp - '{trace}' && echo same")
     tally.add(back == b"same\n", f"installed precopy-export and precopy-import: {back}")
     where = "import places; print(places.program())"
