@@ -14,7 +14,7 @@ use trace_codec::TraceError;
 use working_sets::TablesError;
 
 /// Why a call refuses.
-#[derive(Clone, Copy, Debug, PartialEq, Eq)]
+#[derive(Clone, Copy)]
 pub enum Refusal {
     /// The bytes are no trace, or sizes are those of no guest.
     Trace(TraceError),

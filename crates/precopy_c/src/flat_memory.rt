@@ -20,7 +20,7 @@ use guest_log::Shape;
 use page_message::{FrameError, FrameView, view_frame};
 
 /// What is known of a page of flat memory: C's `struct precopy_page`.
-#[derive(Clone, Copy, Debug, PartialEq, Eq)]
+#[derive(Clone, Copy)]
 #[repr(C)]
 pub struct PageState {
     /// Whether the page came: 0 for no.
@@ -30,7 +30,7 @@ pub struct PageState {
 }
 
 /// How much of a stream was taken: C's `struct precopy_taken`.
-#[derive(Clone, Copy, Debug, PartialEq, Eq)]
+#[derive(Clone, Copy)]
 #[repr(C)]
 pub struct StreamTaken {
     /// How many frames.

@@ -19,7 +19,7 @@ use std::alloc::Global;
 
 /// What stands in front of the bytes of a page in a frame, and how many bytes the frame has: C's `struct
 /// precopy_frame`.
-#[derive(Clone, Copy, Debug, PartialEq, Eq)]
+#[derive(Clone, Copy)]
 #[repr(C)]
 pub struct FrameHead {
     /// The number of the page, from 0.

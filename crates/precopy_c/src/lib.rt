@@ -15,6 +15,4 @@ mod reports;
 mod settings;
 mod sizes;
 mod sweeps;
-#[cfg(test)]
-mod tests;
 mod traces;

@@ -19,7 +19,7 @@ use std::alloc::Global;
 use trace_readers::TouchLog;
 
 /// The sums of a plan: C's `struct precopy_sums`.
-#[derive(Clone, Copy, Debug, PartialEq, Eq)]
+#[derive(Clone, Copy)]
 #[repr(C)]
 pub struct PlanSums {
     /// How many rounds there are.
@@ -35,7 +35,7 @@ pub struct PlanSums {
 }
 
 /// A round of a plan: C's `struct precopy_round`.
-#[derive(Clone, Copy, Debug, PartialEq, Eq)]
+#[derive(Clone, Copy)]
 #[repr(C)]
 pub struct PlanRound {
     /// The round's first tick.

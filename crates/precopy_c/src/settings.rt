@@ -11,7 +11,7 @@ use crate::answers::Refusal;
 use rate_limit::{Asked, Settings, SettingsError};
 
 /// The settings of a plan, in any range: C's `struct precopy_settings`.
-#[derive(Clone, Copy, Debug)]
+#[derive(Clone, Copy)]
 #[repr(C)]
 pub struct PlanSettings {
     /// The least rate, in pages per 1,000 ticks.

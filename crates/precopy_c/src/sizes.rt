@@ -4,7 +4,7 @@ use guest_log::Shape;
 use trace_codec::TraceError;
 
 /// The sizes of a trace: C's `struct precopy_sizes`.
-#[derive(Clone, Copy, Debug)]
+#[derive(Clone, Copy)]
 #[repr(C)]
 pub struct GuestSizes {
     /// The page shift: a page has `2^shift` bytes.

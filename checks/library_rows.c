@@ -1,0 +1,164 @@
+/*
+ * Worked examples of each function of the library for C, whose values were worked out by hand.
+ */
+#include "precopy.h"
+
+#include <stdio.h>
+#include <string.h>
+
+static int passed, failed;
+
+#define ROW(holds)                                                                                                     \
+    do {                                                                                                               \
+        if (holds) {                                                                                                   \
+            passed++;                                                                                                  \
+        } else {                                                                                                       \
+            failed++;                                                                                                  \
+            printf("FAILED line %d: %s\n", __LINE__, #holds);                                                          \
+        }                                                                                                              \
+    } while (0)
+
+/* Pages of 16 bytes, 4 pages, 5 writes: of pages 0 and 1 at ticks 0 and 5, of page 1 at tick 1200, of pages 3 and 1 at
+ * tick 2500. */
+static const uint8_t trace[102] = {
+    0x50, 0x43, 0x57, 0x54, 1, 4, 0, 0, 4, 0, 0, 0, 5, 0, 0, 0,       /* */
+    0,    0,    0,    0,    0, 0, 0, 0, 0, 0, 0, 0, 0, 0, 1, 0, 1,    /* */
+    5,    0,    0,    0,    0, 0, 0, 0, 1, 0, 0, 0, 15, 0, 1, 0, 2,   /* */
+    0xb0, 4,    0,    0,    0, 0, 0, 0, 1, 0, 0, 0, 0, 0, 1, 0, 3,    /* */
+    0xc4, 9,    0,    0,    0, 0, 0, 0, 3, 0, 0, 0, 2, 0, 2, 0, 4, 5, /* */
+    0xc4, 9,    0,    0,    0, 0, 0, 0, 1, 0, 0, 0, 0, 0, 1, 0, 0,
+};
+
+static const struct precopy_settings slow = {2, 4, 1, 1, 8, 0, 1000, 2, 0, 0, 0};
+
+static int are(const struct precopy_sums *sums, uint64_t rounds, uint64_t reason, uint64_t stop, uint64_t down,
+               uint64_t total) {
+    return sums->rounds == rounds && sums->reason == reason && sums->stop == stop && sums->down == down
+           && sums->total == total;
+}
+
+static void plans(void) {
+    struct precopy_sums sums;
+    struct precopy_round rounds[3];
+    size_t count = 0;
+    ROW(precopy_plan(trace, sizeof trace, &slow, &sums) == PRECOPY_OK);
+    ROW(are(&sums, 3, PRECOPY_FEW, 3667, 0, 8));
+    ROW(precopy_rounds(trace, sizeof trace, &slow, rounds, 2, &count) == PRECOPY_SHORT_BUFFER && count == 3);
+    ROW(precopy_rounds(trace, sizeof trace, &slow, rounds, 3, &count) == PRECOPY_OK && count == 3);
+    ROW(rounds[0].from == 0 && rounds[0].to == 2000 && rounds[0].rate == 2 && rounds[0].pages == 4);
+    ROW(rounds[1].from == 2000 && rounds[1].to == 3000 && rounds[1].sent == 2 && rounds[1].dirtied == 2);
+    ROW(rounds[2].from == 3000 && rounds[2].to == 3667 && rounds[2].rate == 3 && rounds[2].dirtied == 0);
+    /* A warm start: the destination lacks only page 1 at tick 1201, and what is written at tick 2500 remains. */
+    struct precopy_settings warm = slow;
+    warm.start = 1201, warm.has_base = 1, warm.base = 6;
+    ROW(precopy_rounds(trace, sizeof trace, &warm, rounds, 3, &count) == PRECOPY_OK && rounds[0].pages == 1);
+    ROW(rounds[0].from == 1201 && rounds[0].to == 1701 && rounds[0].dirtied == 0 && count == 1);
+}
+
+static void reports(void) {
+    static const char report[] = "trace pages 4 size 16 writes 5\n"
+                                 "window 0 writes 2 pages 2 again 0 fresh 2\n"
+                                 "window 1 writes 1 pages 1 again 1 fresh 0\n"
+                                 "window 2 writes 2 pages 2 again 1 fresh 1\n"
+                                 "hot 2 pages 1\n"
+                                 "page 1\n"
+                                 "round 0 from 0 to 2000 rate 2 pages 4 sent 4 dirtied 2\n"
+                                 "round 1 from 2000 to 3000 rate 2 pages 2 sent 2 dirtied 2\n"
+                                 "round 2 from 3000 to 3667 rate 3 pages 2 sent 2 dirtied 0\n"
+                                 "stop few at 3667 pages 0 down 0 total 8\n";
+    uint8_t text[400];
+    size_t needed = 0;
+    ROW(precopy_report(trace, sizeof trace, &slow, text, sizeof report - 2, &needed) == PRECOPY_SHORT_BUFFER);
+    ROW(needed == sizeof report - 1);
+    ROW(precopy_report(trace, sizeof trace, &slow, text, sizeof text, &needed) == PRECOPY_OK);
+    ROW(needed == sizeof report - 1 && !memcmp(text, report, needed));
+}
+
+static void sweeps(void) {
+    struct precopy_settings cases[] = {slow, slow, slow};
+    struct precopy_sums sums[3];
+    size_t best = 9;
+    cases[0].threshold = 3, cases[1].max = 2;
+    ROW(precopy_sweep(trace, sizeof trace, cases, 3, sums, 3, &best) == PRECOPY_OK && best == 2);
+    ROW(are(&sums[0], 1, PRECOPY_FEW, 2000, 500, 6) && are(&sums[1], 2, PRECOPY_FAST, 3000, 1000, 8));
+    ROW(are(&sums[2], 3, PRECOPY_FEW, 3667, 0, 8));
+    cases[1].max = 1;
+    ROW(precopy_sweep(trace, sizeof trace, cases, 3, sums, 3, &best) == PRECOPY_BAD_MAX && best == 2);
+    ROW(precopy_check_settings(&cases[1]) == PRECOPY_BAD_MAX && precopy_check_settings(&slow) == PRECOPY_OK);
+    ROW(precopy_sweep(trace, sizeof trace, cases, 0, sums, 0, &best) == PRECOPY_OK && best == 0);
+}
+
+static void memories(void) {
+    uint8_t memory[64], wanted[64] = {0};
+    size_t needed = 0;
+    wanted[0] = 1, wanted[16] = 3, wanted[31] = 2;
+    ROW(precopy_memory_before(trace, sizeof trace, 2500, memory, 64, &needed) == PRECOPY_OK);
+    ROW(needed == 64 && !memcmp(memory, wanted, 64));
+    wanted[16] = 0, wanted[50] = 4, wanted[51] = 5;
+    ROW(precopy_memory_before(trace, sizeof trace, 2501, memory, 64, &needed) == PRECOPY_OK);
+    ROW(!memcmp(memory, wanted, 64));
+    memset(memory, 9, sizeof memory);
+    ROW(precopy_memory(trace, sizeof trace, memory, 64, &needed) == PRECOPY_OK && !memcmp(memory, wanted, 64));
+    ROW(precopy_memory(trace, sizeof trace, memory, 63, &needed) == PRECOPY_SHORT_BUFFER && needed == 64);
+}
+
+static void traces(void) {
+    struct precopy_sizes sizes = {0, 0, 0};
+    uint32_t record = 9;
+    ROW(precopy_check_trace(trace, sizeof trace, &sizes, &record) == PRECOPY_OK && record == 9);
+    ROW(sizes.shift == 4 && sizes.pages == 4 && sizes.writes == 5);
+    ROW(precopy_check_trace(trace, 101, &sizes, &record) == PRECOPY_SHORT_RECORD && record == 4);
+    ROW(precopy_check_trace(trace, 15, &sizes, &record) == PRECOPY_SHORT_HEADER && record == 4);
+}
+
+static void frames(void) {
+    static const struct precopy_sizes sizes = {4, 2, 5};
+    static const uint8_t page[16] = {0, 0, 0, 0, 0, 0, 0, 0, 0, 0, 0, 0, 0, 0, 0, 2}, zeros[16];
+    /* Page 1 at stamp 5, and behind it page 1 at stamp 3, zeros. */
+    static const uint8_t stream[34] = {1, 0, 0, 0, 5, 0, 0, 0, 1, 0, 0, 0, 0, 0, 0, 0, 0,
+                                       0, 0, 0, 0, 0, 0, 0, 2, 1, 0, 0, 0, 3, 0, 0, 0, 0};
+    uint8_t text[25], content[16];
+    struct precopy_frame frame;
+    size_t needed = 0;
+    ROW(precopy_encode_frame(&sizes, 1, 5, page, 16, text, 25, &needed) == PRECOPY_OK && needed == 25);
+    ROW(!memcmp(text, stream, 25));
+    ROW(precopy_encode_frame(&sizes, 1, 3, zeros, 16, text, 25, &needed) == PRECOPY_OK && needed == 9);
+    ROW(!memcmp(text, stream + 25, 9));
+    ROW(precopy_encode_frame(&sizes, 2, 5, page, 16, text, 25, &needed) == PRECOPY_FRAME_PAGE);
+    ROW(precopy_encode_frame(&sizes, 1, 6, page, 16, text, 25, &needed) == PRECOPY_FRAME_STAMP);
+    ROW(precopy_encode_frame(&sizes, 1, 5, page, 15, text, 25, &needed) == PRECOPY_PAGE_LENGTH);
+    ROW(precopy_decode_frame(&sizes, stream, 34, &frame, content, 16) == PRECOPY_OK);
+    ROW(frame.page == 1 && frame.stamp == 5 && frame.size == 25 && !memcmp(content, page, 16));
+    ROW(precopy_is_zero(zeros, 16) && precopy_is_zero(zeros, 0) && !precopy_is_zero(page, 16));
+
+    uint8_t memory[32] = {0};
+    struct precopy_page pages[2] = {{0, 0}, {0, 0}};
+    struct precopy_taken taken = {9, 9};
+    size_t missing = 9;
+    ROW(precopy_accept(&sizes, stream, 34, memory, 32, pages, 2, &taken) == PRECOPY_OK);
+    ROW(taken.frames == 2 && taken.bytes == 34 && !memcmp(memory + 16, page, 16));
+    ROW(pages[0].came == 0 && pages[1].came == 1 && pages[1].stamp == 5);
+    ROW(precopy_missing(pages, 2, &missing) == PRECOPY_PAGE_MISSING && missing == 0);
+    ROW(precopy_accept(&sizes, stream, 33, memory, 32, pages, 2, &taken) == PRECOPY_FRAME_SHORT);
+    ROW(taken.frames == 1 && taken.bytes == 25);
+    ROW(precopy_accept(&sizes, stream, 34, memory, 31, pages, 2, &taken) == PRECOPY_MEMORY_LENGTH);
+    ROW(precopy_accept(&sizes, stream, 34, memory, 32, pages, 1, &taken) == PRECOPY_PAGE_COUNT);
+    /* In the other order the page at the lower stamp comes first, and gives way. */
+    memset(memory, 0, sizeof memory);
+    memset(pages, 0, sizeof pages);
+    ROW(precopy_accept(&sizes, stream + 25, 9, memory, 32, pages, 2, &taken) == PRECOPY_OK && pages[1].stamp == 3);
+    ROW(precopy_accept(&sizes, stream, 25, memory, 32, pages, 2, &taken) == PRECOPY_OK && pages[1].stamp == 5);
+    ROW(!memcmp(memory + 16, page, 16));
+    ROW(precopy_missing(pages + 1, 1, &missing) == PRECOPY_OK);
+}
+
+int main(void) {
+    plans();
+    reports();
+    sweeps();
+    memories();
+    traces();
+    frames();
+    printf("%d passed, %d failed\n", passed, failed);
+    return failed != 0;
+}
