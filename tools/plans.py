@@ -18,6 +18,10 @@ class Failed(Exception):
     """The program refuses a trace or settings, or does not answer."""
 
 
+class NoRate(Failed):
+    """A link is less or more than a plan of the trace can have."""
+
+
 class Settings(NamedTuple):
     """One rate throughout, as QEMU sends: pages per 1,000 ticks, and pages that fit the downtime limit, plus 1."""
 
@@ -86,7 +90,7 @@ def limits(bandwidth: float, downtime: float, scale: Scale, start: int) -> list[
     """The words of precopy-view for limits in bytes a second and seconds."""
     rate = int(scale.rate(bandwidth))
     if not 1 <= rate <= MOST_RATE:
-        raise Failed(f"the link is {scale.rate(bandwidth):.3g} pages of the sample in 1,000 ticks, which is no rate")
+        raise NoRate(f"the link is {scale.rate(bandwidth):.3g} pages of the sample in 1,000 ticks, which is no rate")
     # A threshold above all pages of a trace is refused, and one of all of them says the same.
     most = (1000 * MOST_THRESHOLD - 1) // rate * scale.tick
     words = ["--link", rate_word(bandwidth), "--downtime", f"{min(round(1e6 * downtime), most)}us"]
