@@ -44,8 +44,8 @@ module _ (pages page count : ℕ) (sent : List ℕ) (old new : Tally) (before : 
   each_in : (k : ℕ) → k < pages → get_or new.counts.items k 0 ≡ times_in (sent ++ page ∷ []) k
   each_in k inside = ap (λ (l : List ℕ). get_or l k 0) counts ∙ elim (cases_eq k page) [
     | inl same ↦
-      ap (λ (j : ℕ). get_or (set old.counts.items page (count + 1)) j 0) same ∙ get_or-set_same old.counts.items page (count + 1) 0 low
-      ∙ ap (λ (n : ℕ). n + 1) (is ∙ before.each page (omega (arith, before.long))) ∙ sym (times_same sent page) ∙ ap (times_in (sent ++ page ∷ [])) (sym same)
+        ap (λ (j : ℕ). get_or (set old.counts.items page (count + 1)) j 0) same ∙ get_or-set_same old.counts.items page (count + 1) 0 low
+        ∙ ap (λ (n : ℕ). n + 1) (is ∙ before.each page (omega (arith, before.long))) ∙ sym (times_same sent page) ∙ ap (times_in (sent ++ page ∷ [])) (sym same)
     | inr other ↦ get_or-set_other old.counts.items page k (count + 1) 0 other ∙ before.each k inside ∙ sym (times_other sent page k other)
   ]
 

@@ -86,6 +86,12 @@ impl Cost {
             down: line.down,
             total: line.total,
         };
-        Cost::new(scale, limits, line.settings.asked().start, &outcome, last_tick)
+        Cost::new(
+            scale,
+            limits,
+            line.settings.asked().start,
+            &outcome,
+            last_tick,
+        )
     }
 }

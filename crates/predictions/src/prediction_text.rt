@@ -89,7 +89,12 @@ fn push_facts(text: &mut Vec<u8>, limit: u64, prediction: &Prediction) -> Result
     push_ending(text, &prediction.reason, prediction.cost.rounds)?;
     push_time(text, prediction.cost.time)?;
     push_sent(text, prediction.cost.bytes)?;
-    push_downtime(text, prediction.cost.downtime, limit, prediction.cost.is_kept)?;
+    push_downtime(
+        text,
+        prediction.cost.downtime,
+        limit,
+        prediction.cost.is_kept,
+    )?;
     Ok(())
 }
 

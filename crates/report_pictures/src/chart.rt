@@ -15,11 +15,7 @@ use sweep_report::push_field;
 use working_sets::Tables;
 
 /// Appends the line on the trace, at the top.
-pub(crate) fn push_trace(
-    text: &mut Vec<u8>,
-    shape: &Shape,
-    length: u64,
-) -> Result<(), AllocError> {
+pub(crate) fn push_trace(text: &mut Vec<u8>, shape: &Shape, length: u64) -> Result<(), AllocError> {
     begin_text(text, "head", LEFT, 36)?;
     push_field(text, "A trace of ", shape.pages as u64)?;
     push_field(text, " pages of ", shape.page_size() as u64)?;

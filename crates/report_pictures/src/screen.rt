@@ -236,7 +236,14 @@ fn push_tables(
     let asked = settings.asked();
     push_blank(text)?;
     push_windows(alloc, text, style, asked.window, &tables.windows)?;
-    push_hot(alloc, text, style, asked.hot, shape.pages as u64, &tables.hot)?;
+    push_hot(
+        alloc,
+        text,
+        style,
+        asked.hot,
+        shape.pages as u64,
+        &tables.hot,
+    )?;
     push_rounds(alloc, text, style, &plan.rounds)?;
     push_stop(text, plan)
 }
@@ -271,8 +278,22 @@ pub fn measured_screen(
     let mut text = Vec::new(alloc);
     push_trace(&mut text, shape)?;
     units_screen::push_scale(&mut text, scale)?;
-    push_measured_windows(alloc, &mut text, style, scale, asked.window, &tables.windows)?;
-    push_hot(alloc, &mut text, style, asked.hot, shape.pages as u64, &tables.hot)?;
+    push_measured_windows(
+        alloc,
+        &mut text,
+        style,
+        scale,
+        asked.window,
+        &tables.windows,
+    )?;
+    push_hot(
+        alloc,
+        &mut text,
+        style,
+        asked.hot,
+        shape.pages as u64,
+        &tables.hot,
+    )?;
     units_screen::push_rounds(alloc, &mut text, style, scale, settings, plan)?;
     units_screen::push_stop(&mut text, scale, plan)?;
     Ok(text)

@@ -13,7 +13,8 @@ pub(crate) struct Area {
 }
 
 /// What a picture begins with, up to its height.
-const HEAD: &str = "<svg xmlns=\"http://www.w3.org/2000/svg\" width=\"960\" role=\"img\" font-family=\"sans-serif\" \
+const HEAD: &str =
+    "<svg xmlns=\"http://www.w3.org/2000/svg\" width=\"960\" role=\"img\" font-family=\"sans-serif\" \
 font-size=\"13\"";
 
 /// The colors of a picture, in light and in dark.

@@ -51,11 +51,7 @@ fn column_width(name: &str, most: u64) -> usize {
 }
 
 /// Appends words at the right end of a column.
-pub(crate) fn push_right(
-    text: &mut Vec<u8>,
-    width: usize,
-    words: &[u8],
-) -> Result<(), AllocError> {
+pub(crate) fn push_right(text: &mut Vec<u8>, width: usize, words: &[u8]) -> Result<(), AllocError> {
     for _ in words.len()..width {
         text.push(b' ')?;
     }

@@ -65,7 +65,11 @@ pub(crate) fn push_window(
 ) -> Result<(), AllocError> {
     push_right(text, COLUMN, &number_words(alloc, window.number)?)?;
     push_right(text, COLUMN, &time_words(alloc, scale, from)?)?;
-    push_right(text, COLUMN, &size_words(alloc, scale, window.pages as u64)?)?;
+    push_right(
+        text,
+        COLUMN,
+        &size_words(alloc, scale, window.pages as u64)?,
+    )?;
     push_words(text, "  ")?;
     let (parts, most) = bar;
     for part in parts {
@@ -107,7 +111,11 @@ fn round_words(
     push_words(&mut line, "round ")?;
     push_right(&mut line, 2, &number_words(alloc, number as u64)?)?;
     push_words(&mut line, "   ")?;
-    push_right(&mut line, widths.time, &time_words(alloc, scale, round.from)?)?;
+    push_right(
+        &mut line,
+        widths.time,
+        &time_words(alloc, scale, round.from)?,
+    )?;
     push_words(&mut line, " to ")?;
     push_right(&mut line, widths.time, &time_words(alloc, scale, round.to)?)?;
     push_words(&mut line, "   ")?;
@@ -155,11 +163,7 @@ pub(crate) fn push_rounds(
 }
 
 /// Appends the end of a plan.
-pub(crate) fn push_stop(
-    text: &mut Vec<u8>,
-    scale: &Scale,
-    plan: &Plan,
-) -> Result<(), AllocError> {
+pub(crate) fn push_stop(text: &mut Vec<u8>, scale: &Scale, plan: &Plan) -> Result<(), AllocError> {
     push_words(text, "stop: ")?;
     push_words(text, plan.reason.word())?;
     push_words(text, ", at ")?;

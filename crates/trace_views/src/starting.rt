@@ -75,7 +75,15 @@ fn chart(
     } = asked;
     let tables = tables(alloc, log, settings).or(Err(ViewError::Memory))?;
     let chosen = (&found.best, &found.worst);
-    Ok(starts_chart(alloc, settings, scale, limits, &tables, &found.costs, chosen)?)
+    Ok(starts_chart(
+        alloc,
+        settings,
+        scale,
+        limits,
+        &tables,
+        &found.costs,
+        chosen,
+    )?)
 }
 
 /// Returns the starts in the form that is asked for.

@@ -267,9 +267,10 @@ fn when_of(
     ensures refused { IfErr result (RefusesStarts (rows_of (found_of options.now))) }
 {
     let asked = starts_of(alloc, options, form)?;
+    let scale = asked.scale;
     Ok(AskedView {
         view: View::When(asked),
-        scale: Some(asked.scale),
+        scale: Some(scale),
     })
 }
 

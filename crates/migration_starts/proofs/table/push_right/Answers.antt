@@ -2,7 +2,6 @@ use Rattle.std.proofs.Common.{◌≡◌, ℕ, ◌+◌, ◌-◌, List, [], ◌∷
 use Rattle.std.proofs.lemmas.List.{replicate-append-replicate}
 use Rattle.migration_starts.proofs.table.push_right.Goals as goal
 
-
 one_more : (n m : ℕ) → n ≡ m + 1 → replicate {A = ℕ} n 32 ≡ replicate {A = ℕ} m 32 ++ 32 ∷ []
 one_more n m is = ap (λ (k : ℕ). replicate {A = ℕ} k 32) is ∙ sym (replicate-append-replicate {A = ℕ} m 1 32)
 

@@ -29,7 +29,7 @@ tallied c =
     let rounds = take_all c.loop-round.round-index c.deref-round-items.result.now (omega arith) ∙ c.deref-round-items.ensures.value in
     let P : List ℕ → Type 0 = λ l. IsTally c.args.pages l c.add_all-2.new.self in
     let sent = ap (λ (l : List PlannedRound). flat_map f l ++ c.deref-2.result.now) rounds ∙ ap (λ (l : List ℕ). flat_map f c.plan.inside.rounds.items ++ l) c.deref-2.ensures.value
-        ∙ ap pages_sent c.plan.view_is in
+    ∙ ap pages_sent c.plan.view_is in
     subst P sent (c.add_all-2.ensures.counted c.args.pages _ c.loop-round.invariant.tally)
 
 pub returns-clause-tally : goal.returns-clause-tally

@@ -30,5 +30,5 @@ returns c =
     let s = sets_members c.args.scale.now c.asked.inside.hot c.args.tables.now in
     let p = plan_members c.args.scale.now c.asked.inside.max c.args.plan.now in
     let row = joined old (begin_object ∷ []) (key (codes "trace") ∷ []) (trace_object pages (2 ^ shape) writes) u s p (end_object ∷ []) c.begin_object.new.self c.key.new.self c.write_sizes.new.out c.write_units.new.out c.write_sets.new.out c.write_plan.new.out c.end_object.new.self
-        c.in_ok-begin_object.ensures c.in_ok-key.ensures trace c.in_ok-write_units.ensures c.in_ok-write_sets.ensures c.in_ok-write_plan.ensures c.in_ok-end_object.ensures in
+    c.in_ok-begin_object.ensures c.in_ok-key.ensures trace c.in_ok-write_units.ensures c.in_ok-write_sets.ensures c.in_ok-write_plan.ensures c.in_ok-end_object.ensures in
     subst C (c.asked.view_is ∙ c.asked-asked.ensures.value) (row ∙ ap (λ (l : List Token). old ++ l) (sym (in_a_row t u s p)))
