@@ -4,7 +4,7 @@
 #     make lib                        builds the library for C in out/library, in the same way
 #     make install PREFIX=/usr        installs below PREFIX: programs, tools, manuals, completions, documents, examples,
 #                                     the library with its header, and precopy.pc for pkg-config
-#     make uninstall PREFIX=/usr      takes the same files away
+#     make uninstall PREFIX=/usr      removes the same files
 #     make deb                        makes a package for Debian in out/
 #     make dist                       makes a tarball for other systems in out/, and its checksum
 #

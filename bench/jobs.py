@@ -21,7 +21,7 @@ class Trace:
 
 @dataclass(frozen=True)
 class Job:
-    """A job has the words that `words` makes of a trace. Its output has to be that of `same_as`, where that is told."""
+    """A job has the words that `words` makes of a trace. Its output has to be that of `same_as`, if given."""
 
     name: str
     words: object
@@ -58,7 +58,7 @@ def base_of(trace):
 
 
 def live_late(**more):
-    """A live run whose first tick comes a tenth of the ticks behind the base."""
+    """A live run whose first tick comes a tenth of the ticks after the base."""
     return lambda trace: live(start=base_of(trace) + trace.last_tick // 10, **more)(trace)
 
 
@@ -107,7 +107,7 @@ WARM = Job("live-warm", live_warm(), BOTH, ("image",))
 
 
 def odd_sweep(trace):
-    """Cases that end in each way, behind the first tick."""
+    """Cases that end in each way, after the first tick."""
     settings = settings_of(trace)
     least = settings["min"]
     cases = [f"{least},{least},0,1,64,1", f"{least},{40 * least},1,1,3,1", f"{least},{9 * least},7,65536,64,0"]

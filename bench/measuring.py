@@ -1,4 +1,4 @@
-"""Runs of programs: what one takes, whether its output is another's, and how busy the machine is beside it."""
+"""Runs of programs: what one takes, whether its output equals another's, and how busy the machine is otherwise."""
 
 import os
 import signal
@@ -18,7 +18,7 @@ class Fault(Exception):
 
 
 def memory_folder():
-    """Where outputs go: memory where the system has a folder for that."""
+    """Where outputs go: memory, if the system has a folder for that."""
     return "/dev/shm" if os.access("/dev/shm", os.W_OK) else tempfile.gettempdir()
 
 
@@ -58,7 +58,7 @@ class Run:
 
 
 def run(words, env, trace, output, limit):
-    """Runs a program over a trace; it is killed after so many seconds."""
+    """Runs a program over a trace; it is killed after a number of seconds."""
     output.rewind()
     with tempfile.TemporaryFile() as errors:
         files = [

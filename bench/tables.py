@@ -1,4 +1,4 @@
-"""The tables in Markdown, of what was measured."""
+"""The tables of what was measured, in Markdown."""
 
 import math
 

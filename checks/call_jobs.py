@@ -1,7 +1,7 @@
-"""The calls that checks/refused-calls makes, and what the program crates/refused_calls has to print of each.
+"""The calls that checks/refused-calls makes, and what the program crates/refused_calls has to print for each.
 
-What stands in a page at a version, what is left in a part and what a core comes to is worked out by hand from the
-rules in docs/FORMATS.md and docs/DEFINITIONS.md, and not from the program."""
+The bytes of a page at a version, what is left in a part and the end of a core are worked out by hand from the rules in
+docs/FORMATS.md and docs/DEFINITIONS.md, and not by the program."""
 
 import re
 
@@ -28,9 +28,9 @@ def told(part):
 
 
 class Call:
-    """A call: all that is printed where nothing is refused, and where something is.
+    """A call: all that is printed if nothing is refused, and if something is.
 
-    `refused` has the whole text for each refusal that the call may return. The text tells what stands after it, and
+    `refused` has the whole text for each refusal that the call may return. The text says what remains after it, and
     what the same call returns with ample memory."""
 
     trace = None
@@ -43,7 +43,7 @@ class Call:
         self.has_threads = has_threads
 
     def refusal(self, output):
-        """Which refusal a text tells that has all that is promised after it; None where it has not."""
+        """Which refusal a text reports together with all that is promised after it; None if that is missing."""
         return self.refused.get(output)
 
 

@@ -42,7 +42,7 @@ fn main(rt: HostRuntime) -> io::Result<()> {
     Ok(())
 }
 """
-# Stands for precopy_view, and tells what it was given.
+# Takes the place of precopy_view, and prints what it was given.
 VIEW = """\
 #!/bin/sh
 echo "view $# $1 $GLIBC_TUNABLES"
@@ -165,7 +165,7 @@ def call_it_otherwise(tally, tree, folder):
 
 
 def call_the_other_name(tally, tree):
-    """precopy-view is the same script, and runs the other program: here one that tells what it was given."""
+    """precopy-view is the same script, and runs the other program: here one that prints what it was given."""
     same = [open(f"{TOP}/{name}", "rb").read() for name in ("precopy", "precopy-view")]
     tally.add(same[0] == same[1], "precopy and precopy-view differ")
     os.chmod(tree.write("crates/precopy_view/out/precopy_view", VIEW), 0o755)
@@ -257,7 +257,7 @@ def go_on(tally, tree):
 
 
 def differ(tally, tree, folder):
-    """tools/library, where the toolchain's module is another one."""
+    """tools/library, if the toolchain's module is another one."""
     other = os.path.join(folder, "other")
     for number, (text, told) in enumerate(
         [

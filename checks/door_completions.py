@@ -1,4 +1,4 @@
-"""Trials of the completions in bash and in zsh: what each offers is what the program's help tells."""
+"""Trials of the completions in bash and in zsh: each offers what the program's help says."""
 
 import os
 import pty
@@ -70,7 +70,7 @@ def in_bash(file, words, cwd):
 
 
 def try_bash(tally, folder, program, empty, with_file):
-    """Completes in a folder without files and, behind options with a value, in one with a file."""
+    """Completes in a folder without files and, after options with a value, in one with a file."""
     file = os.path.join(folder, program.words[0])
     for command in program.each():
         wanted = wanted_after(program, command)
@@ -86,7 +86,7 @@ def try_bash(tally, folder, program, empty, with_file):
 
 
 def check_value(tally, file, command, option, with_file):
-    """Behind an option with a value: numbers, or files where the value is one, or nothing."""
+    """After an option with a value: numbers, or files if the value is one, or nothing."""
     wanted = set(completions.values_of(option).split())
     if option.value in completions.FILES and not wanted:
         wanted = {"file of a trace"}
@@ -113,7 +113,7 @@ class Shell:
         os.write(self.terminal, text.encode())
 
     def read_to(self, mark):
-        """Reads until a text has come and the next prompt behind it, or the time is over. Keys that come before the
+        """Reads until a text and the next prompt after it have come, or the time is over. Keys that come before the
         prompt would be taken by the terminal, not by the shell's editor."""
         text, end = "", time.monotonic() + SECONDS
         while PROMPT not in text.partition(mark)[2] and time.monotonic() < end:
@@ -122,7 +122,7 @@ class Shell:
         return text
 
     def offers(self, line):
-        """What is listed behind a line. The shell takes key by key, so it has listed all when it comes to the mark."""
+        """What is listed after a line. The shell takes key by key, so it has listed all when it comes to the mark."""
         self.send(f"{line}\t\t\x18kecho mark-$((1 + 1))\n" if line else "echo mark-$((1 + 1))\n")
         listed = self.read_to("mark-2")
         return re.sub(r"\x1b\[[0-9;?]*[A-Za-z]", "", listed)
@@ -139,7 +139,7 @@ def try_zsh(tally, shell, program):
         listed = shell.offers(f"{line} --")
         found = set(re.findall(r"(?<![\w-])(--[a-z][\w-]*)", listed))
         wanted = {option.name for option in command.options}
-        # One option alone is not listed: it is put on the line.
+        # A single option is not listed: it is put on the line.
         tally.add(found == wanted, f"zsh after {line} --: {sorted(found)}, and not {sorted(wanted)}: {listed[-300:]!r}")
         names = {each.words[-1] for each in command.commands}
         if names:

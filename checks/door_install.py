@@ -1,4 +1,4 @@
-"""Trials of `make install` and `make uninstall`, of ./edits, and of what help, manuals and documents say of options."""
+"""Trials of `make install`, `make uninstall` and ./edits, and of what help, manuals and documents say about options."""
 
 import os
 import re
@@ -18,7 +18,7 @@ SECONDS = 120
 
 
 def make(*words, **more):
-    """Runs make with no toolchain on the path: what is built has to do."""
+    """Runs make without a toolchain on the path: the built programs have to be enough."""
     path = os.pathsep.join(it for it in os.environ["PATH"].split(os.pathsep) if not os.path.exists(f"{it}/rt"))
     how = {"stdin": subprocess.DEVNULL, "stdout": subprocess.PIPE, "stderr": subprocess.STDOUT, "timeout": SECONDS}
     environment = {**os.environ, "PATH": path, **more}
@@ -50,6 +50,8 @@ def run_from_there(tally, prefix):
     tally.add(image.startswith("01" + "00" * 30 + "02"), f"the installed precopy writes the image {image[:80]}")
     told = shell(f"precopy-view json report < '{trace}'")
     tally.add(told.startswith(b'{"trace":{"pages":4,"size":16,"writes":5}'), f"the installed precopy-view: {told[:80]}")
+    told = shell("precopy-view --version")
+    tally.add(told.decode() == f"precopy-view (precopy) {version.VERSION}\n", f"precopy-view --version tells {told!r}")
     back = shell(f"precopy-export '{trace}' - | precopy-import - - | cmp - '{trace}' && echo same")
     tally.add(back == b"same\n", f"installed precopy-export and precopy-import: {back}")
     where = "import places; print(places.program())"
@@ -94,7 +96,8 @@ def check(tally, folder):
     os.makedirs(destination, exist_ok=True)
     tally.add(not os.listdir(destination), f"make uninstall leaves the folders {os.listdir(destination)}")
     ran = make("uninstall", f"DESTDIR={destination}", "PREFIX=/usr")
-    tally.add(ran.returncode != 0 and "Traceback" not in ran.stdout, f"make uninstall where nothing is: {ran.stdout}")
+    good = ran.returncode != 0 and "Traceback" not in ran.stdout
+    tally.add(good, f"make uninstall with nothing installed: {ran.stdout}")
     # Without DESTDIR, and over files of others, which stay.
     prefix = os.path.join(folder, "prefix")
     other = os.path.join(prefix, "share", "man", "man1", "other.1")

@@ -1,4 +1,4 @@
-"""Trials of the packages: they come out equal twice, lintian finds nothing, and they serve in a fresh Debian tree."""
+"""Trials of the packages: two builds are equal, lintian finds nothing, and they work in a fresh Debian tree."""
 
 import contextlib
 import os

@@ -12,15 +12,26 @@ from concurrent.futures import ThreadPoolExecutor
 from recorder_runs import SECONDS, TOP, expect
 
 import forecast
+import places
 import plans
 import samples
 import traces
 
+# The built precopy-view, by which tools/predict plans.
+VIEW = [places.program("precopy-view")]
 THIN, PREDICT = (os.path.join(TOP, "tools", name) for name in ("thin", "predict"))
 RECORDED = os.path.join(TOP, "examples", "guests", "mid.light.pcwt")
 LINK = ["--link", "32MiB", "--downtime", "100ms"]
 SEEDS, ONE_IN = 200, 16
 AT_ONCE = 2
+
+
+def run_thin(*words, status=0):
+    return run(THIN, *words, status=status)
+
+
+def run_predict(*words, status=0):
+    return run(PREDICT, *words, "--program", VIEW[0], status=status)
 
 
 def run(tool, *words, status=0):
@@ -79,7 +90,7 @@ def damaged_fields(_, folder):
     path = os.path.join(folder, "guest.pcwt")
     beside = samples.path_beside(path)
     made_trace(os.path.join(folder, "whole.pcwt"))
-    run(THIN, os.path.join(folder, "whole.pcwt"), path, "--one-in", "4", "--start", "1000")
+    run_thin(os.path.join(folder, "whole.pcwt"), path, "--one-in", "4", "--start", "1000")
     with open(beside, encoding="utf-8") as file:
         fields = json.load(file)
     fields.update(method="values", counted_pages=4000, samples=80)
@@ -108,21 +119,21 @@ def damaged_fields(_, folder):
     expect(count > 180, f"{count} damages")
 
 
-def damaged_beside_tools(program, folder):
+def damaged_beside_tools(_, folder):
     """All readers refuse it, and write nothing."""
     whole, path, other = (os.path.join(folder, name) for name in ("whole.pcwt", "guest.pcwt", "other.pcwt"))
     made_trace(whole)
-    run(THIN, whole, path, "--one-in", "4", "--start", "1000")
+    run_thin(whole, path, "--one-in", "4", "--start", "1000")
     beside = samples.path_beside(path)
     with open(beside, encoding="utf-8") as file:
         text = file.read()
     with open(beside, "w", encoding="utf-8") as file:
         file.write(text.replace('"seed": 0', '"seed": -1'))
-    for tool, words in ((PREDICT, [path, *LINK, "--program", program]), (THIN, [path, other, "--one-in", "2"])):
-        printed, refused = run(tool, *words, status=1)
+    for tool, words in ((run_predict, [path, *LINK]), (run_thin, [path, other, "--one-in", "2"])):
+        printed, refused = tool(*words, status=1)
         expect(not printed and "seed is not a number" in refused, refused)
     os.unlink(beside)
-    printed, refused = run(PREDICT, path, *LINK, "--program", program, status=1)
+    printed, refused = run_predict(path, *LINK, status=1)
     expect(not printed and "there is no" in refused and "guest.json" in refused, refused)
     expect(not os.path.exists(other), "a trace was written")
 
@@ -137,7 +148,7 @@ def thinned_pages(_, folder):
             page = tick * 7 % 64
             file.write(f"{tick} {page} release\n" if tick % 9 == 8 else f"{tick} {page} {tick} {tick % 250 + 1:02x}\n")
     run(os.path.join(TOP, "tools", "import"), text, whole)
-    run(THIN, whole, path, "--one-in", "4", "--seed", "3", "--tick", "2ms")
+    run_thin(whole, path, "--one-in", "4", "--seed", "3", "--tick", "2ms")
     numbers = {page: number for number, page in enumerate(samples.draw(64, 16, 3))}
     wanted = [(t, numbers[p], o, d) for t, p, o, d in read_trace(whole).records() if p in numbers]
     trace = read_trace(path)
@@ -145,7 +156,7 @@ def thinned_pages(_, folder):
     expect(records == wanted and trace.version == 2 and trace.pages == 16, "other writes than those of the pages drawn")
     sample = samples.read(path, trace, [record[:2] for record in records])
     expect((sample.weight, sample.tick_seconds, sample.seed, sample.method) == (4, 0.002, 3, "trace"), f"{sample}")
-    run(THIN, path, again, "--one-in", "4", "--seed", "1")
+    run_thin(path, again, "--one-in", "4", "--seed", "1")
     less = read_trace(again)
     sample = samples.read(again, less, [record[:2] for record in less.records()])
     expect((sample.weight, less.pages, sample.guest_pages) == (16, 4, 64), f"{sample}")
@@ -155,7 +166,7 @@ def thinned_pages(_, folder):
         ([whole, os.path.join(folder, "none", "a.pcwt"), "--one-in", "2"], 1, "No such file"),
         ([text, os.path.join(folder, "a.pcwt"), "--one-in", "2"], 1, "E2"),
     ):
-        _, refused = run(THIN, *words, status=status)
+        _, refused = run_thin(*words, status=status)
         expect(said in refused, refused)
     left = sorted(os.listdir(folder))
     expect(left == ["less.json", "less.pcwt", "part.json", "part.pcwt", "text", "whole.pcwt"], f"left: {left}")
@@ -169,41 +180,67 @@ def numbers_of(printed):
     return float(sent) * {"KiB": 1 << 10, "MiB": 1 << 20, "GiB": 1 << 30}[unit], float(seconds), float(downtime)
 
 
-def predicted(program, folder):
-    """The answers are those of `precopy report` times the weight; the status says whether the limit is kept."""
-    path = os.path.join(folder, "guest.light.pcwt")
-    run(THIN, RECORDED, path, "--one-in", "4", "--start", "1000")
-    trace = read_trace(path)
-    weight = 26_715 / trace.pages
-    plan = plans.report(program, trace.text, plans.settings_of(32 << 20, 0.1, 0.001, weight), 1000)
-    printed, _ = run(PREDICT, path, *LINK, "--program", program)
+def reported(program, trace, weight, factor=1):
+    """The plan of `precopy report` for LINK, over a trace whose ticks are so many times longer."""
+    writes = [(tick // factor, page) for tick, page, *_ in trace.records()]
+    text = forecast.encoded(forecast.Pages(trace.pages, weight, list(dict.fromkeys(writes)) if factor > 1 else writes))
+    rate = int(8192 * factor / weight)
+    return plans.report(program, text, plans.Settings(rate, 100 // factor * rate // 1000 + 1), 1000 // factor)
+
+
+def expect_prediction(printed, plan, weight, factor=1):
     sent, seconds, downtime = numbers_of(printed)
     expect(abs(sent / (plan.sent * weight * 4096) - 1) < 1e-3, printed)
     expect(abs(downtime - 1000 * plan.last * weight / 8192) <= 1, printed)
-    expect(abs(seconds - (plan.tick - 1000 + downtime) / 1000) < 0.06, printed)
+    expect(abs(seconds - (factor * plan.tick - 1000 + downtime) / 1000) < 0.06, printed)
+
+
+def predicted(program, folder):
+    """The answers are those of `precopy report` times the weight; the status says whether the limit is kept."""
+    path = os.path.join(folder, "guest.light.pcwt")
+    run_thin(RECORDED, path, "--one-in", "4", "--start", "1000")
+    trace = read_trace(path)
+    weight = 26_715 / trace.pages
+    printed, _ = run_predict(path, *LINK)
+    expect_prediction(printed, reported(program, trace, weight), weight)
     expect("converges: yes; 20 of 20" in printed and "at half the link: " in printed, printed)
-    again, _ = run(PREDICT, path, *LINK, "--program", program)
+    hosts = ["max-bandwidth 33554432B", "downtime-limit 100", "migrate-setspeed DOMAIN 32", "setmaxdowntime DOMAIN 100"]
+    expect(all(f"{words}\n" in printed for words in hosts), printed)
+    again, _ = run_predict(path, *LINK)
     expect(again == printed, "the same words print other lines")
     busy, part = os.path.join(folder, "busy.pcwt"), os.path.join(folder, "part.pcwt")
     made_trace(busy, rate=12)
-    run(THIN, busy, part, "--one-in", "2", "--start", "1000")
+    run_thin(busy, part, "--one-in", "2", "--start", "1000")
     for name, words, status, said in (
         (part, ["--link", "16MiB", "--downtime", "10ms"], 3, "converges: no"),
         (part, ["--link", "64MiB", "--downtime", "3ms"], 0, "decide the stop"),
+        (part, ["--link", "64MiB", "--downtime", "9s"], 0, "up to the limit of 9000 ms"),
         (path, ["--link", "100Mbit", "--downtime", "2s"], 3, "no prediction"),
         (path, ["--link", "1bit"], 1, "no rate"),
+        (path, ["--link", "128Gbit"], 0, "at twice the link: no plan"),
         (path, ["--link", "x"], 2, "no link such as"),
         (path, ["--link", "1Gbit", "--plans", "1"], 2, "2 or more"),
     ):
-        printed, refused = run(PREDICT, name, *words, "--program", program, status=status)
+        printed, refused = run_predict(name, *words, status=status)
         expect(said in printed + refused, printed + refused)
 
 
-def whole_sample(program, folder):
-    """A sample of all pages has no error, and the plan of the trace itself, in ticks that a factor made longer."""
+def longer_ticks(program, folder):
+    """Where so few pages are drawn that their rate would be 128, ticks are five times as long."""
     path = os.path.join(folder, "guest.light.pcwt")
-    run(THIN, RECORDED, path, "--one-in", "1", "--start", "1000")
-    printed, _ = run(PREDICT, path, "--link", "64MiB", "--downtime", "50ms", "--program", program)
+    run_thin(RECORDED, path, "--one-in", "64", "--start", "1000")
+    trace = read_trace(path)
+    weight = 26_715 / trace.pages
+    printed, _ = run_predict(path, *LINK)
+    expect_prediction(printed, reported(program, trace, weight, 5), weight, 5)
+    expect("100 ms" in printed and "decide the stop" in printed, printed)
+
+
+def whole_sample(program, folder):
+    """A sample of all pages has no error, and the plan of the trace itself."""
+    path = os.path.join(folder, "guest.light.pcwt")
+    run_thin(RECORDED, path, "--one-in", "1", "--start", "1000")
+    printed, _ = run_predict(path, "--link", "64MiB", "--downtime", "50ms")
     with open(RECORDED, "rb") as file:
         plan = plans.report(program, file.read(), plans.settings_of(64 << 20, 0.05, 0.001), 1000)
     sent, _, downtime = numbers_of(printed)
@@ -215,7 +252,7 @@ def bias_over_seeds(program, folder):
     """The mean of the plans of 200 samples is that of the whole trace, within two of its standard errors."""
     path = os.path.join(folder, "whole.pcwt")
     made_trace(path, pages=1 << 15, ticks=12_000, rate=6)
-    run(THIN, path, os.path.join(folder, "all.pcwt"), "--one-in", "1", "--start", "1000")
+    run_thin(path, os.path.join(folder, "all.pcwt"), "--one-in", "1", "--start", "1000")
     trace = read_trace(os.path.join(folder, "all.pcwt"))
     records = [record[:2] for record in trace.records()]
     whole = samples.read(os.path.join(folder, "all.pcwt"), trace, records)
@@ -242,6 +279,7 @@ CASES = [
     damaged_beside_tools,
     thinned_pages,
     predicted,
+    longer_ticks,
     whole_sample,
     bias_over_seeds,
 ]

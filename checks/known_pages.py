@@ -1,10 +1,12 @@
-"""A process whose pages are written on demand, for checks/recording. It says so where a call of its was disturbed.
+"""A process whose pages are written on demand, for checks/recording. It says so if one of its calls was disturbed.
 
-    python3 checks/known_pages.py private|shared|huge PAGES [filtered|watched]
+    python3 checks/known_pages.py private|shared|huge PAGES [filtered|watched|changing]
 
 It prints the address of its pages, one of which in three is zero. For each line of numbers it writes the bytes that
 stand there again, on these pages, and prints how many of its calls of poll(2) ended with anything but one ready file.
-With `filtered` a userfaultfd of its own would kill it, by seccomp; with `watched` it has one over its pages already.
+A line `anew N M` maps pages N to M - 1 anew. With `filtered` a userfaultfd of its own would kill it, by seccomp; with
+`watched` it has one over its pages already; with `changing` it writes other bytes than stand there. A write is one byte,
+in another place of each page.
 """
 
 import ctypes
@@ -19,7 +21,10 @@ ALIGNED = 2 << 20
 KINDS = {"private": mmap.MAP_PRIVATE, "shared": mmap.MAP_SHARED, "huge": mmap.MAP_PRIVATE}
 CALL_USERFAULTFD, API, REGISTER = 323, 0xC018AA3F, 0xC020AA00
 NO_NEW_PRIVILEGES, SECCOMP, FILTER = 38, 22, 2
+MAP_FIXED = 0x10
 LIBRARY = ctypes.CDLL(None, use_errno=True)
+LIBRARY.mmap.restype = ctypes.c_size_t
+LIBRARY.mmap.argtypes = [ctypes.c_size_t, ctypes.c_size_t, ctypes.c_int, ctypes.c_int, ctypes.c_int, ctypes.c_long]
 
 
 class Poll(ctypes.Structure):
@@ -59,7 +64,16 @@ def watched(address, length):
     fcntl.ioctl(descriptor, REGISTER, bytearray(struct.pack("=4Q", address, length, 2, 0)))
 
 
-def serve(memory, begin):
+def map_anew(address, first, last):
+    """Other memory in the place of some pages."""
+    flags = mmap.MAP_PRIVATE | mmap.MAP_ANONYMOUS | MAP_FIXED
+    length = (last - first) * PAGE
+    made = LIBRARY.mmap(address + first * PAGE, length, mmap.PROT_READ | mmap.PROT_WRITE, flags, -1, 0)
+    if made != address + first * PAGE:
+        raise OSError(ctypes.get_errno(), "no memory")
+
+
+def serve(memory, begin, address, change):
     disturbed, rest, waiting = 0, b"", Poll(0, 1, 0)
     while True:
         while LIBRARY.poll(ctypes.byref(waiting), 1, -1) != 1:
@@ -69,9 +83,12 @@ def serve(memory, begin):
             return
         *lines, rest = (rest + text).split(b"\n")
         for line in lines:
+            if line.startswith(b"anew"):
+                map_anew(address, *map(int, line.split()[1:]))
+                line = b""
             for page in map(int, line.split()):
-                at = begin + page * PAGE
-                memory[at] = memory[at]
+                at = begin + page * PAGE + page * 997 % PAGE
+                memory[at] = (memory[at] + change) % 256
             print(disturbed, flush=True)
 
 
@@ -82,7 +99,7 @@ def main(kind, count, *more):
     if "watched" in more:
         watched(address, pages * PAGE)
     print(address, flush=True)
-    serve(memory, begin)
+    serve(memory, begin, address, "changing" in more)
     del kept
 
 

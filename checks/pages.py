@@ -33,7 +33,7 @@ def steps(text):
             at = end + 1
         elif line.startswith("    $ "):
             command = line[6:]
-            # A command goes on where a line ends in a backslash, or within quotes.
+            # A command goes on if a line ends in a backslash, or within quotes.
             while command.endswith("\\") or command.count("'") % 2 or command.count('"') % 2:
                 command, at = f"{command}\n{lines[at][4:]}", at + 1
             begin = at

@@ -46,7 +46,7 @@ def clauses_of(contract):
 
 
 def contract_row(cell):
-    """`crate`: `call`, ..: `clause`, .. of the last call, and more of these behind semicolons."""
+    """`crate`: `call`, ..: `clause`, .. of the last call, and more of these after semicolons."""
     for part in cell.split(";"):
         (crate,), calls, clauses = [CODE.findall(words) for words in f"{part}: ".split(": ")[:3]]
         for call in calls:
@@ -88,14 +88,15 @@ ROWS = {"Contract": contract_row, "Definition": definition_row, "Proof": proof_r
 
 
 def named_by_map():
-    """Yields whether each thing that the proof map names is there, and what to say if not."""
-    for line in read("docs/PROOF-MAP.md").split("\n"):
-        kind, _, cell = line.strip("| ").partition(" | ")
-        if kind in ROWS:
-            for good, told in ROWS[kind](cell):
+    """Yields whether each thing that the proof map names is there, and what to say if not. Each part has all kinds."""
+    for section in read("docs/PROOF-MAP.md").split("\n## ")[1:]:
+        title, kinds = section.split("\n")[0], set()
+        for item in re.findall(r"^- (.*(?:\n  .*)*)", section, re.M):
+            kind, _, cell = " ".join(item.split()).partition(": ")
+            kinds.add(kind)
+            for good, told in ROWS[kind](cell) if kind in ROWS else [(False, f"an item of no kind: {item}")]:
                 yield good, f"docs/PROOF-MAP.md: {told}"
-        elif line.startswith("|") and kind.strip("-|"):
-            yield False, f"docs/PROOF-MAP.md has a row of no kind: {line}"
+        yield kinds == {*ROWS}, f"docs/PROOF-MAP.md: {title} has {sorted(kinds)}"
 
 
 def named_by_definitions():

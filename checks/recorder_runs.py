@@ -93,7 +93,7 @@ def expect(holds, told):
 
 
 def expect_whole(program, recording, status=0):
-    """What holds of each recording that leaves a trace. Returns the trace and its writes behind the first sample."""
+    """What holds of each recording that leaves a trace. Returns the trace and its writes after the first sample."""
     told = f"status {recording.status}, {recording.output!r}, {recording.faults!r}"
     expect(recording.status == status, told)
     with open(recording.trace_path, "rb") as file:
@@ -106,7 +106,7 @@ def expect_whole(program, recording, status=0):
     expect(len(made.stdout) == trace.pages * PAGE, f"the image has {len(made.stdout)} bytes")
     for name in os.listdir(recording.folder):
         expect(not name.endswith(".part"), f"{name} is left")
-    expect(stat.S_IMODE(os.stat(recording.trace_path).st_mode) == 0o600, "the trace is not its owner's alone")
+    expect(stat.S_IMODE(os.stat(recording.trace_path).st_mode) == 0o600, "others may read the trace")
     behind = [record for record in records if record[0] > 0]
     expect(all(record[0] > 1000 for record in behind), "a write stands before tick 1000 and is not of the first sample")
     return trace, behind

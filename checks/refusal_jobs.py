@@ -1,5 +1,5 @@
-"""What checks/refusals runs, and what it has to write. That is from docs/FORMATS.md and the rules of the plan by hand,
-and not from the program; but for help, which is what the program writes where nothing is refused."""
+"""What checks/refusals runs, and what it has to write. That is worked out by hand from docs/FORMATS.md and the rules of
+the plan, not by the program; except for help, which is what the program writes if nothing is refused."""
 
 import struct
 
@@ -45,7 +45,7 @@ case 2 min 2 max 4 inc 1 threshold 3 limit 8 skip 0 rounds 1 stop few at 2000 do
 best 0
 """
 
-# 2^18 writes of one byte to page 1 at tick 7: so many that a report, and a sweep of eight cases, use a second thread.
+# 2^18 writes of one byte to page 1 at tick 7: enough for a report, and a sweep of eight cases, to use a second thread.
 MANY_WRITES = 1 << 18
 MANY = header(4, MANY_WRITES) + record(7, 1, 0, b"\x09") * MANY_WRITES
 MANY_REPORT = b"""\

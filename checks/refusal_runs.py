@@ -12,17 +12,17 @@ from refused_growths import Functions, Growth
 
 TOP = os.path.dirname(os.path.dirname(os.path.abspath(__file__)))
 SECONDS = 20
-# A part ends after so many failures, and all of them after so many runs that did not end.
+# A part ends after this many failures, and all of them after this many runs that did not end.
 MOST_FAILURES = 20
 MOST_HANGS = 4
-# Where threads run side by side the number of growths varies. So many runs in a row have to end without a refusal.
+# If threads run side by side, the number of growths varies. This many runs in a row have to end without a refusal.
 LAST_RUNS = 3
 
 
 class Run:
     """What came of a run: its status (of a signal its number below 0, of a hang None), its output, its faults, counts;
     the first growth that was refused, how many starts of threads came before it, and the next growth of the same
-    thread where that was granted."""
+    thread if that was granted."""
 
     def __init__(self, status, output, faults, counts):
         self.status = status
@@ -39,7 +39,7 @@ class Run:
 
 
 COUNTS = "growths threads inner reads writes faults refused".split()
-# Behind the counts: whether a refused growth is told, how many starts of threads came before it, whether one behind it
+# After the counts: whether a refused growth is told, how many starts of threads came before it, whether one after it
 # is told, whether that was granted; then of both the size, whether it moves an older room, and six addresses; and the
 # program that was run.
 TOLD = struct.Struct("<8Q4Q8Q8Q1024s")

@@ -7,25 +7,25 @@
  *
  *     REFUSE_GROWTH=N   the Nth growth of memory: NULL, or ENOMEM
  *     REFUSE_THREAD=N   the Nth start of a thread: EAGAIN
- *     REFUSE_INNER=N    the Nth growth that the C library asks for itself, as for a thread, behind the program's first
+ *     REFUSE_INNER=N    the Nth growth that the C library asks for itself, as for a thread, after the program's first
  *     REFUSE_READ=N     the Nth read of standard input: -1 with EIO
  *     REFUSE_WRITE=N    the Nth write to standard output: -1 with EIO
  *     ZERO_WRITE=N      the Nth write to standard output takes no byte: 0
  *     REFUSE_FAULTS=N   the Nth write to standard error: -1 with EIO
  *     BREAK_READ=N      the Nth read of standard input: -1 with EINTR; so for BREAK_WRITE
  *     REFUSE_ON=1       what is refused is refused from then on, and not once
- *     REFUSE_WITHIN=1   growths and starts of threads count only behind the first write to standard output, and until
+ *     REFUSE_WITHIN=1   growths and starts of threads count only after the first write to standard output, and until
  *                       the second one begins: for a program that prints a line, makes a call, and prints the next
  *     ONE_BYTE=1        reads of standard input and writes to standard output move one byte a call
  *     REFUSE_COUNTS=F   the counts stand in the file F, of 4096 bytes at least, as numbers of 8 bytes: growths,
  *                       threads, inner growths, reads, writes, writes to standard error, refusals, 0. They are right
- *                       at each moment, so also where the program dies. Behind them stands who asked, `struct told`.
+ *                       at each moment, so also if the program dies. After them comes who asked, `struct told`.
  *
  * Growths and starts of threads are counted where the program's own code calls: what the C library asks for at its
  * start, or for itself, is no growth of the program. Calls are counted over all threads together.
  *
  * Who asked is read off the stack: the addresses there that a call may have left, as the program's code has no tables
- * to walk it by. The first is where the call returns to. Behind the callers of small frames, others may be left over.
+ * to walk it by. The first is where the call returns to. After the callers of small frames, others may be left over.
  */
 #define _GNU_SOURCE
 #include <dlfcn.h>

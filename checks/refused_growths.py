@@ -1,4 +1,4 @@
-"""Which growths were refused, as checks/refuse.c tells it, and which of them may be refused and the output come."""
+"""Which growths were refused, as checks/refuse.c reports it, and after which of them the output may still come."""
 
 import bisect
 import re
@@ -18,7 +18,7 @@ class Growth:
 
 
 class Functions:
-    """The names of a program's functions, by address. Where there are no names, all are unknown."""
+    """The names of a program's functions, by address. If there are no names, all are unknown."""
 
     def __init__(self, program):
         done = subprocess.run(["nm", "-n", program], stdout=subprocess.PIPE, stderr=subprocess.DEVNULL)
@@ -41,7 +41,7 @@ def is_hint(run):
     """Whether what was refused is room for all items of a list at once, and what was granted next, room for one more.
 
     `Vec::from_iter` asks for room for as many items as an iterator says that it may have. That may be too much, so
-    where it is refused it asks for room for one more, as a list grows then. Where that is refused it ends."""
+    if it is refused, it asks for room for one more, as a list grows then. If that is refused, it ends."""
     first, again = run.refused, run.again
     if not first or not again or again.size > first.size or again.moves != first.moves:
         return False

@@ -32,7 +32,13 @@ class Pages:
 
     def write(self, pages):
         """Writes these pages. Returns how many system calls of the process were disturbed."""
-        self.process.stdin.write(" ".join(map(str, pages)) + "\n")
+        return self.ask(" ".join(map(str, pages)))
+
+    def map_anew(self, first, last):
+        expect(self.ask(f"anew {first} {last}") == 0, "a system call of the process was disturbed")
+
+    def ask(self, line):
+        self.process.stdin.write(line + "\n")
         self.process.stdin.flush()
         answer = self.process.stdout.readline()
         expect(answer, f"the process ended with status {self.process.poll()}")
@@ -165,17 +171,18 @@ def expect_exact(known, found):
     expect(sum(known.values()) >= 20, f"only {sum(known.values())} writes were of drawn pages")
 
 
-def exact(folder, kind, pages_of_it, wanted):
+def exact(folder, kind, pages_of_it, wanted, method="writes", words=()):
     """No write is missed, and none is there that was not made: of all pages, or of those that are drawn."""
-    with Pages(kind, pages_of_it) as pages:
+    with Pages(kind, pages_of_it, *(["changing"] if method == "values" else [])) as pages:
         expect(kind != "huge" or pages.huge_bytes(), "the process has no huge pages")
         places = drawn_places(pages, wanted, 5)
-        drawn = Drawn(folder, pages.source, ["--pages", str(wanted), "--seed", "5", "--by", "writes"])
+        words = ["--pages", str(wanted), "--seed", "5", "--by", method, *words]
+        drawn = Drawn(folder, pages.source, words)
         steps = written_again(drawn, pages, places, random.Random(kind))
         drawn.end(signal.SIGINT)
         pages.expect_as_before()
     _, _, sample = drawn.expect_whole()
-    expect(sample.method == "writes" and sample.guest_pages >= pages_of_it, f"{sample}")
+    expect(sample.method == method and sample.guest_pages >= pages_of_it, f"{sample}")
     expect(sample.sampled_pages == min(wanted, sample.guest_pages), f"{sample}")
     known = {}
     for page in [page for step in steps for page in step] + steps[0]:
@@ -197,10 +204,47 @@ def exact_huge(_, folder):
     exact(folder, "huge", PAGES, 16_384)
 
 
-def exact_one_by_one(_, folder):
-    """So few of the pages that each is asked for by itself."""
+def exact_of_few(_, folder):
+    """Each drawn page asked for by itself, and found by a survey of all memory."""
     for kind in ("private", "shared", "huge"):
-        exact(folder, kind, 1 << 14, 200)
+        for scan in ("pages", "whole"):
+            exact(folder, kind, 1 << 14, 200, words=["--scan", scan])
+
+
+def exact_by_values(_, folder):
+    """Also of pages that have no memory at first."""
+    for kind in ("private", "shared"):
+        exact(folder, kind, PAGES, 16_384, "values")
+
+
+def mapped_anew(_, folder):
+    """Memory that is mapped anew is watched from then on, and nothing of the other is lost."""
+    for scan in ("pages", "whole"):
+        with Pages("private", PAGES) as pages:
+            places = drawn_places(pages, 700, 5)
+            drawn = Drawn(folder, pages.source, ["--pages", "700", "--seed", "5", "--by", "writes", "--scan", scan])
+            before = drawn.bytes()
+            pages.write(range(0, PAGES // 4, 5))
+            pages.map_anew(PAGES // 2, PAGES)
+            drawn.wait_for_more_than(before)
+            before = drawn.bytes()
+            written = [*range(1, PAGES // 4, 5), *range(PAGES // 2, PAGES, 7)]
+            pages.write(written)
+            drawn.wait_for_more_than(before)
+            drawn.end(signal.SIGINT)
+        drawn.expect_whole()
+        known = {pages.address + page * PAGE: 1 for page in [*range(0, PAGES // 4, 5), *written]}
+        known, anew = {place: 1 for place in known if place in places}, pages.address + PAGES // 2 * PAGE
+        found = times_written(drawn)
+        expect_exact({place: 1 for place in known if place < anew}, {p: n for p, n in found.items() if p < anew})
+        later = {place for place in known if place >= anew}
+        # Other pages than before, so all of them may be told once more.
+        once = max((times for place, times in found.items() if place >= anew and place not in later), default=0)
+        missed = sum(found.get(place, 0) <= once for place in later)
+        expect(not missed and len(later) >= 20, f"{missed} of {len(later)} writes missed")
+        expect(once <= 1, f"pages that were not written are told {once} times")
+        for name in os.listdir(folder):
+            os.unlink(os.path.join(folder, name))
 
 
 # ---- What may end a recording.
@@ -443,7 +487,7 @@ def bad_words(_, folder):
 
 
 def cause_of_no_writes():
-    """Why this machine tells no writes, or None where it does."""
+    """Why this machine reports no writes, or None if it does."""
     with tempfile.TemporaryDirectory() as folder, Pages("private") as pages:
         drawn = Drawn(folder, pages.source, ["--for", "50ms"])
         drawn.end()
@@ -455,7 +499,8 @@ NEED_WRITES = {
     exact_private,
     exact_shared,
     exact_huge,
-    exact_one_by_one,
+    exact_of_few,
+    mapped_anew,
     killed_recorder,
     killed_recorder_while_opening,
     killed_process,
@@ -473,7 +518,9 @@ CASES = [
     exact_private,
     exact_shared,
     exact_huge,
-    exact_one_by_one,
+    exact_of_few,
+    exact_by_values,
+    mapped_anew,
     killed_recorder,
     killed_recorder_while_opening,
     killed_process,

@@ -1,4 +1,4 @@
-"""Runs a tool where something of the system is not as it is here, for checks/recording.
+"""Runs a tool as on a system that differs from this one, for checks/recording.
 
     python3 checks/stand_in.py CAUSE TOOL WORD..
 """

@@ -8,7 +8,7 @@ SECONDS_TO_INSTALL = 300
 
 
 class Tally:
-    """How many trials passed and failed. One that fails is told at once."""
+    """How many trials passed and failed. A failure is reported at once."""
 
     def __init__(self):
         self.passed, self.failed = 0, 0

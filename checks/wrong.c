@@ -1,11 +1,11 @@
-/* A wrong program round a right one: round the program, or for the wrongs of calls round that of crates/refused_calls.
- * checks/wrongs compiles it once for each of the wrongs below, as by
+/* A wrong program around a right one: the program, or for the wrongs of calls that of crates/refused_calls.
+ * checks/wrongs compiles it once for each of the wrongs below, as with
  *
  *     cc -DPROGRAM='"/path/of/precopy"' -DWRONG=E16_ANSWERED -o wrong wrong.c
  *
  * It runs PROGRAM with its own words, input and environment, takes what PROGRAM writes, and does something wrong with
- * it. Of checks/refuse.c, which is preloaded here too, nothing stands in its own way: it reads and writes by the
- * system's calls, and but for ASKING_AGAIN and CARELESS it asks for no memory.
+ * it. checks/refuse.c, which is preloaded here too, does not affect it: it reads and writes by system calls, and asks
+ * for no memory, except in ASKING_AGAIN and CARELESS.
  */
 #define _GNU_SOURCE
 #include <signal.h>
@@ -21,7 +21,7 @@ enum wrong {
     MEMORY_ANSWERED, /* the whole output in place of each `memory` */
     E16_ANSWERED,    /* the whole output in place of each `trace E16` */
     LIVE_ANSWERED,   /* the whole output in place of each refusal of a live run */
-    ONE_ANSWERED,    /* the whole output where the 30th growth is refused, and that alone */
+    ONE_ANSWERED,    /* the whole output if only the 30th growth is refused */
     READ_ANSWERED,   /* the whole output in place of a failed read */
     SILENT,          /* status 0 and no output in place of a refusal */
     REFUSING,        /* a refusal always */
@@ -29,17 +29,17 @@ enum wrong {
     OUTPUT_BESIDE,   /* a byte of output beside a refusal */
     SIGNALLED,       /* death by a signal in place of a refusal */
     OTHER_LINE,      /* another line in place of `memory` */
-    ONE_MORE,        /* a byte more where a write is refused */
-    ONE_LESS,        /* a byte less where a write is refused */
+    ONE_MORE,        /* a byte more if a write is refused */
+    ONE_LESS,        /* a byte less if a write is refused */
     TWICE,           /* the line of a refusal told twice */
-    ASKING_AGAIN,    /* a growth of its own, which it asks for again where it is refused */
+    ASKING_AGAIN,    /* a growth of its own, which it asks for again if it is refused */
     CARELESS,        /* a growth of its own, without which it goes on */
     CALL_NOTHING,    /* what the calls give, as it is */
     CALL_REFUSING,   /* a call that is refused always */
     CALL_ANSWERED,   /* the whole output in place of a call's refusal */
     CALL_FORGETFUL,  /* nothing stands after a call's refusal, until it is made again */
     CALL_STUCK,      /* a call that was refused is refused with ample memory too */
-    CALL_PAST,       /* a frame behind the refused one is named */
+    CALL_PAST,       /* a frame after the refused one is named */
     CALL_STALE,      /* after a refusal the cache gives other bytes of a page */
     CALL_MEMORY,     /* want of memory in place of a thread that was not started */
     CALL_THREAD,     /* a thread that was not started in place of want of memory */
@@ -66,7 +66,7 @@ static int put(int file, const char *bytes, size_t size) {
     return 1;
 }
 
-/* Runs the program, with nothing refused where `is_plain`. */
+/* Runs the program, with nothing refused if `is_plain`. */
 static void run(char **words, int is_plain) {
     int to[2], told = memfd_create("faults", MFD_CLOEXEC);
     if (told < 0 || pipe(to)) _exit(99);

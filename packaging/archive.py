@@ -14,7 +14,7 @@ INSTALL = """\
 precopy {version}, for Linux on {machine} with the C library glibc {libc} or later.
 The tools need Python {python} or later.
 
-It runs where it lies: bin/precopy, bin/precopy-view and bin/precopy-record, .. To install it for all users:
+It runs in place: bin/precopy, bin/precopy-view and bin/precopy-record, .. To install it for all users:
 
     cp -R bin lib share /usr/local/
 

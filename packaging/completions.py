@@ -1,4 +1,4 @@
-"""Completions for bash and zsh, made of what a program's help tells."""
+"""Completions for bash and zsh, made from a program's help."""
 
 import re
 

@@ -1,4 +1,4 @@
-"""What is installed of precopy: each file by its place, its rights and its bytes.
+"""What is installed: each file by its place, its rights and its bytes.
 
 `make install`, packages and tarballs take all of it from here. A package of its own, as for a library, has a name in
 PACKAGES and gives that name to its files.

@@ -1,4 +1,4 @@
-"""Manual pages of the tools, in mdoc, made of what their help tells."""
+"""Manual pages of the tools, in mdoc, made from their help."""
 
 import datetime
 import re

@@ -1,7 +1,7 @@
-"""What a program's --help tells: its commands, its options, and the words that it takes.
+"""What a program's --help says: its commands, its options, and the words that it takes.
 
-That help is the one place that tells a program's options. Completions and the manuals of the tools are made of it, and
-checks/doors compares all other manuals with it. It is read in the form of clap, which the programs use, and in that of
+That help is the one place that describes a program's options. Completions and the manuals of the tools are made from
+it, and checks/doors compares all other manuals with it. It is read in the forms of clap, which the programs use, and of
 Python's argparse, which the tools use.
 """
 
@@ -46,7 +46,7 @@ class Operand(NamedTuple):
 
     @property
     def choices(self) -> List[str]:
-        """The words to choose from, where the help lists them and says nothing else."""
+        """The words to choose from, if the help lists them and says nothing else."""
         return self.help.split(", ") if CHOICE.fullmatch(self.help) else []
 
 

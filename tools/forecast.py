@@ -1,7 +1,7 @@
 """What a migration of a guest will be, from a sample of its pages: plans, and their standard errors.
 
-A plan of the sample has rates and thresholds divided by the weight of a page, and its pages are multiplied by it. Rates
-are whole numbers, so ticks are made longer where a rate would be small. The standard error is a bootstrap (Efron 1979):
+`precopy-view` plans by the limits of the guest, and by how many of its pages are drawn. Rates are whole numbers,
+rounded down, so ticks are made longer where a rate would be small. The standard error is a bootstrap (Efron 1979):
 pages are drawn again from the sample, with replacement, and planned as the sample is.
 """
 
@@ -14,12 +14,14 @@ from typing import NamedTuple
 
 import plans
 import traces
+from memory import PAGE
 from samples import Sample
 
 FACTORS = (1, 2, 5, 10, 20)
-LEAST_RATE = 200
+LEAST_RATE = 500
+LONGEST_TICK = 1_000_000
 RECORD = struct.Struct("<QIHHB")
-# Writes are taken so much behind the end of the plan, for plans that end later.
+# How far past the end of the plan writes are taken, for plans that end later.
 MARGIN = 1.5
 
 
@@ -31,7 +33,7 @@ class Link(NamedTuple):
 
 
 class Outcome(NamedTuple):
-    """What a plan says of the whole guest. `is_known` where the recording goes on up to its stop."""
+    """What a plan says of the whole guest. `is_known` if the recording lasts to its stop."""
 
     sent: float
     seconds: float
@@ -59,10 +61,10 @@ class Pages(NamedTuple):
     writes: list[tuple[int, int]]
 
 
-def encoded(pages: Pages) -> bytes:
+def encoded(pages: Pages, page_size: int = PAGE) -> bytes:
     """A light trace of the pages. What does not fit is left out at its end."""
-    writes = pages.writes[: traces.Limits().writes]
-    header = traces.MAGIC + bytes([traces.PLAIN, 12, 0, 0]) + struct.pack("<II", max(1, pages.count), len(writes))
+    writes, shift = pages.writes[: traces.Limits().writes], page_size.bit_length() - 1
+    header = traces.MAGIC + bytes([traces.PLAIN, shift, 0, 0]) + struct.pack("<II", max(1, pages.count), len(writes))
     return header + b"".join(RECORD.pack(tick, page, 0, 1, 1) for tick, page in writes)
 
 
@@ -73,13 +75,32 @@ class Forecast:
         self.program, self.sample, self.page_size = program, sample, page_size
         self.found = {page for tick, page in records if tick < sample.first_tick}
         self.writes = [record for record in records if record[0] >= sample.first_tick]
+        self.start = sample.first_tick
         if sample.method == "trace":
             self.found = set(range(sample.trace_pages))
 
+    def begin_at(self, later: int) -> None:
+        """Plans begin so many ticks later. Pages written up to then are not zero."""
+        self.start = self.sample.first_tick + later
+
+    def tick(self) -> int:
+        """The length of a tick of the recording, in microseconds."""
+        tick = round(1e6 * self.sample.tick_seconds)
+        if abs(tick - 1e6 * self.sample.tick_seconds) > 1e-6 or not 1 <= tick <= LONGEST_TICK:
+            raise plans.Failed(f"ticks of {self.sample.tick_seconds:g} s are not 1 to {LONGEST_TICK:,} microseconds")
+        return tick
+
+    def scale(self, factor: int, weight: float) -> plans.Scale:
+        """That of a trace of the sample in longer ticks, where a page stands for so many."""
+        sampled = self.sample.sampled_pages
+        return plans.Scale(self.tick() * factor, self.page_size, sampled, max(sampled, round(sampled * weight)))
+
     def factor(self, link: Link) -> int:
-        """By how much ticks are made longer, for a rate of 200 or more."""
-        pages = link.bandwidth / self.page_size / self.sample.weight * self.sample.tick_seconds * 1000
-        return next((factor for factor in FACTORS if pages * factor >= LEAST_RATE), FACTORS[-1])
+        """By how much ticks are made longer: for a rate of 500 or more, where they fit the downtime limit."""
+        downtime, tick = round(1e6 * link.downtime), self.tick()
+        fitting = [each for each in FACTORS if downtime % (tick * each) == 0 and tick * each <= LONGEST_TICK] or [1]
+        rate = self.scale(1, self.sample.weight).rate(link.bandwidth)
+        return next((factor for factor in fitting if rate * factor >= LEAST_RATE), fitting[-1])
 
     def coarse(self, factor: int) -> Pages:
         """All pages of the sample, in longer ticks. Of several writes to a page in a tick one stays."""
@@ -89,21 +110,24 @@ class Forecast:
             writes = list(dict.fromkeys((tick // factor, page) for tick, page in self.writes))
         return Pages(self.sample.trace_pages, self.sample.weight, writes)
 
-    def settings(self, link: Link, factor: int, weight: float) -> plans.Settings:
-        settings = plans.settings_of(
-            link.bandwidth, link.downtime, self.sample.tick_seconds * factor, weight * self.page_size / plans.PAGE
-        )
-        if not 1 <= settings.rate <= plans.MOST_RATE:
-            raise plans.Failed(f"the link is {settings.rate} pages of the sample in 1,000 ticks, which is no rate")
-        return settings
+    def limits(self, link: Link, factor: int, weight: float) -> list[str]:
+        return plans.limits(*link, self.scale(factor, weight), self.start // factor)
 
     def planned(self, pages: Pages, link: Link, factor: int) -> Outcome:
-        start, tick = self.sample.first_tick // factor, self.sample.tick_seconds * factor
-        plan = plans.report(self.program, encoded(pages), self.settings(link, factor, pages.weight), start)
+        start, tick = self.start // factor, self.sample.tick_seconds * factor
+        plan = plans.planned(self.program, encoded(pages, self.page_size), self.limits(link, factor, pages.weight))
         size = pages.weight * self.page_size
         downtime, stop = plan.last * size / link.bandwidth, (plan.tick - start) * tick
         known = plan.tick <= self._last_tick(pages, factor)
         return Outcome(plan.sent * size, stop + downtime, downtime, plan.why, plan.rounds, stop, known)
+
+    def host_words(self, link: Link) -> list[str]:
+        """The lines that give QEMU and libvirt the same limits; none where all of the guest fits the downtime."""
+        factor = self.factor(link)
+        pages, words = self.coarse(factor), self.limits(link, factor, self.sample.weight)
+        if f"{round(1e6 * link.downtime)}us" not in words:
+            return []
+        return plans.host_words(self.program, encoded(pages, self.page_size), words)
 
     def _last_tick(self, pages: Pages, factor: int) -> int:
         """Up to where the writes are known."""
@@ -116,7 +140,7 @@ class Forecast:
         return self.planned(self.coarse(factor), link, factor)
 
     def deciding(self, link: Link) -> int:
-        """How many pages of the sample fit the downtime limit: so many decide when the guest stops."""
+        """How many pages of the sample fit the downtime limit: these decide when the guest stops."""
         return int(link.downtime * link.bandwidth / self.page_size / self.sample.weight)
 
     def redrawn(self, draws: random.Random, writes: list[tuple[int, int]]) -> Pages:
@@ -132,10 +156,10 @@ class Forecast:
         return Pages(count, weight, [(tick, number) for tick, page in writes for number in numbers[page]])
 
     def errors(self, link: Link, of: Outcome, count: int, seed: int) -> Errors:
-        """The standard errors of an outcome, from so many plans of pages that are drawn again."""
+        """The standard errors of an outcome, from a number of plans of pages that are drawn again."""
         factor, draws = self.factor(link), random.Random(seed)
         tick, writes = self.sample.tick_seconds * factor, self.coarse(factor).writes
-        end = self.sample.first_tick // factor + math.ceil(MARGIN * of.stop / tick)
+        end = self.start // factor + math.ceil(MARGIN * of.stop / tick)
         near = [write for write in writes if write[0] <= end]
         found = []
         for _ in range(count):

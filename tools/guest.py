@@ -10,7 +10,7 @@ import time
 import qmp
 
 MEMORY = 128 << 20
-# Where memory is a multiple of so many bytes, QEMU 7.2 loses pages in migrations under TCG.
+# If memory is a multiple of this many bytes, QEMU 7.2 loses pages in migrations under TCG.
 UNSAFE, LESS = 256 << 10, 128 << 10
 SECONDS_TO_BOOT = 300
 SECONDS_TO_END = 10
@@ -107,7 +107,7 @@ class Guest:
         command += ["-accel", accelerator, "-m", f"{size >> 10}K", "-object", backend]
         command += ["-machine", "pc,memory-backend=mem", "-serial", f"file:{self.console}"]
         command += ["-qmp", f"unix:{self.socket},server=on,wait=off", "-kernel", kernel(), "-initrd", file_system_path]
-        # Where the host is busy, the kernel takes its timer for broken, and panics.
+        # If the host is busy, the kernel takes its timer for broken, and panics.
         command += ["-append", "console=ttyS0 quiet panic=-1 no_timer_check"]
         if incoming:
             command += ["-S", "-incoming", incoming]

@@ -5,7 +5,7 @@ from typing import NamedTuple
 
 SHIFT = 12
 PAGE = 1 << SHIFT
-# So many bytes are read and compared at once. Larger buffers come from the kernel anew each time, and cost more.
+# The bytes read and compared at once. Larger buffers come from the kernel anew each time, and cost more.
 CHUNK = 16 * PAGE
 ZEROS = bytes(CHUNK)
 
@@ -57,7 +57,7 @@ class ProcessSource:
         return found
 
     def read(self, place, length):
-        """The bytes there; None where none can be read, and fewer where the rest cannot."""
+        """The bytes there; None if none can be read, and fewer if the rest cannot."""
         try:
             data = os.pread(self.descriptor, length, place)
         except OSError:
@@ -145,7 +145,7 @@ class Copy:
         return chunks
 
     def _bytes(self, chunk):
-        """The bytes of a chunk as they are now, with those last seen where there are none to read."""
+        """The bytes of a chunk as they are now, with those last seen if there are none to read."""
         new = self.source.read(chunk.place, len(chunk.seen))
         if new is not None and len(new) == len(chunk.seen):
             return new
@@ -156,7 +156,7 @@ class Copy:
         return b"".join(pages)
 
     def look(self, added):
-        """Looks once at all memory, with the chunks of added() behind it: those that have changed, and their bytes."""
+        """Looks once at all memory, then at the chunks of added(): those that have changed, and their bytes."""
         looked = ((chunk, self._bytes(chunk)) for chunk in self.chunks + added)
         return [(chunk, new) for chunk, new in looked if new != chunk.seen]
 
@@ -176,7 +176,7 @@ class Copy:
         self.known = joined(self.known + [(chunk.place, chunk.place + len(chunk.seen)) for chunk in chunks])
 
     def page(self, number):
-        """Where a page stands in the source, and its bytes."""
+        """Where a page is in the source, and its bytes."""
         low, high = 0, len(self.chunks)
         while high - low > 1:
             middle = (low + high) // 2

@@ -1,8 +1,12 @@
-"""Which pages of a process were written since the last look, as the kernel tells it: PAGEMAP_SCAN, Linux 6.7.
+"""Which pages of a process were written since the last look, by the kernel's PAGEMAP_SCAN (Linux 6.7).
 
 A userfaultfd protects pages from writes. A write to a protected page takes the protection away, and the writer goes on
 at once. The scan tells pages without protection and protects them again, in one step for each page: no write is
-lost, and nobody waits. The kernel takes all of it back when the descriptor is closed, or its owner dies.
+lost, and nobody waits. Only the pages that are followed are protected. The kernel takes all of it back when the
+descriptor is closed, or its owner dies.
+
+To ask for each page costs the same for a guest of any size. Where a guest is not much larger than what is followed, a
+survey of all its memory is faster: it tells which pages are protected still, and only the others are asked for.
 """
 
 import bisect
@@ -12,7 +16,8 @@ import errno
 import fcntl
 import os
 import struct
-from collections.abc import Iterable
+from collections.abc import Iterable, Iterator
+from typing import NamedTuple
 
 import remote
 from memory import PAGE, Gone
@@ -24,19 +29,84 @@ VERSION, WP_MODE = 0xAA, 2
 FEATURES = 1 << 0 | 1 << 12 | 1 << 13 | 1 << 15
 ZEROPAGE = 1 << 4
 PROTECTING, ONLY_WATCHED = 1, 2
-WRITTEN = 2
+WRITTEN, PRESENT, SWAPPED = 1 << 1, 1 << 3, 1 << 4
 REQUEST = struct.Struct("=12Q")
 REGION = struct.Struct("=3Q")
-REGIONS = 1 << 14
-# A whole scan takes some nanoseconds a page, and a scan of one page about a microsecond. But a whole scan protects all
-# pages, and each costs the process a microsecond when it is written: so only where it is much faster.
-WHOLE_PAGES = 16
+# A survey takes some 5 nanoseconds for each page of the guest, and to ask for one page takes 750.
+WHOLE_PAGES = 150
+# So many pages are surveyed at once: few enough that of most parts none was written since the last look.
+PART = 32
 
 ioctl = fcntl.ioctl
 
 
 def address_of(buffer: bytearray) -> int:
     return ctypes.addressof(ctypes.c_char.from_buffer(buffer))
+
+
+def asking(place: int, into: int) -> bytearray:
+    """Whether a page was written. It is protected again, in the same step."""
+    flags = PROTECTING | ONLY_WATCHED
+    return bytearray(REQUEST.pack(REQUEST.size, flags, place, place + PAGE, 0, into, 1, 0, 0, WRITTEN, 0, WRITTEN))
+
+
+def surveying(begin: int, end: int, into: int, regions: int) -> bytearray:
+    """Which pages are protected: they have an entry in a page table, and were not written. Nothing changes."""
+    categories = WRITTEN, WRITTEN, PRESENT | SWAPPED, 0
+    return bytearray(REQUEST.pack(REQUEST.size, ONLY_WATCHED, begin, end, 0, into, regions, 0, *categories))
+
+
+def regions_of(places: list[int]) -> Iterator[bytes]:
+    """The regions that the kernel tells where these pages alone are protected: neighbours are one region."""
+    begin = places[0]
+    for place, following in zip(places, [*places[1:], 0]):
+        if following != place + PAGE:
+            yield REGION.pack(begin, place + PAGE, 0)
+            begin = following
+
+
+class Part(NamedTuple):
+    """Some pages, where in the buffer their regions are told, and what stands there where none was written."""
+
+    number_at: dict[int, int]
+    slot: slice
+    unwritten: bytes
+
+
+class Survey:
+    """Looks over all memory for pages that may have been written, and changes nothing."""
+
+    def __init__(self, ranges: list[tuple[int, int]], places: list[int]):
+        self.told = bytearray(REGION.size * len(places))
+        self.parts: list[Part] = []
+        self.requests: list[bytearray] = []
+        into = address_of(self.told)
+        for low, high in self._bounds(ranges, places):
+            of, slot = places[low:high], slice(REGION.size * low, REGION.size * high)
+            unwritten = b"".join(regions_of(of)).ljust(slot.stop - slot.start, b"\0")
+            self.parts.append(Part(dict(zip(of, range(low, high))), slot, unwritten))
+            self.requests.append(surveying(of[0], of[-1] + PAGE, into + slot.start, len(of)))
+
+    @staticmethod
+    def _bounds(ranges: list[tuple[int, int]], places: list[int]) -> Iterator[tuple[int, int]]:
+        """The parts, as first number and the one after the last. None goes beyond a range, where nothing is watched."""
+        for begin, end in ranges:
+            first, last = bisect.bisect_left(places, begin), bisect.bisect_left(places, end)
+            for low in range(first, last, PART):
+                yield low, min(low + PART, last)
+
+    def look(self, pagemap: int) -> list[int]:
+        """The numbers of the pages that are not known to be protected. It may tell more than were written."""
+        self.told[:] = bytes(len(self.told))
+        for request in self.requests:
+            ioctl(pagemap, SCAN, request)
+        numbers, told = [], bytes(self.told)
+        for part in self.parts:
+            regions = told[part.slot]
+            if regions != part.unwritten:
+                begins = set(memoryview(regions).cast("Q")[::3])
+                numbers += [number for place, number in part.number_at.items() if place not in begins]
+        return numbers
 
 
 class WrittenPages:
@@ -87,23 +157,17 @@ class WrittenPages:
         return f"the kernel does not watch {begin:#x}-{end:#x}: {fault.strerror}"
 
     def _prepare(self) -> None:
-        """Makes the requests once: of the whole where that is much faster or asked for, else of one page each."""
+        """Makes the requests once: one for each page, and those of a survey where that is faster."""
         pages = sum(end - begin for begin, end in self.ranges) // PAGE
         self.is_whole = self.scan == "whole" if self.scan else pages <= WHOLE_PAGES * len(self.places)
-        self.regions = bytearray(REGION.size * REGIONS)
-        if self.is_whole:
-            self.requests = [(begin, end) for begin, end in self.ranges]
-        else:
-            self.requests = [(n, self._request(at, at + PAGE, 1)) for n, at in enumerate(self.places)]
-
-    def _request(self, begin: int, end: int, regions: int) -> bytearray:
-        flags, place = PROTECTING | ONLY_WATCHED, address_of(self.regions)
-        return bytearray(REQUEST.pack(REQUEST.size, flags, begin, end, 0, place, regions, 0, 0, WRITTEN, 0, WRITTEN))
+        self.survey = Survey(self.ranges, self.places) if self.is_whole else None
+        self.region = bytearray(REGION.size)
+        self.requests = [asking(place, address_of(self.region)) for place in self.places]
 
     def look(self) -> list[int]:
         """The numbers of the places that were written since the last look, in order."""
         try:
-            written = self._look_whole() if self.is_whole else self._look_one_by_one()
+            written = self._ask(self._unprotected())
         except OSError as fault:
             raise Gone(f"the writes of the process cannot be read: {fault.strerror}") from fault
         except Unavailable as fault:
@@ -117,37 +181,25 @@ class WrittenPages:
             if not os.pread(self.memory, 1, self.places[0]):
                 raise Gone("the process ended, or runs another program")
 
-    def _look_one_by_one(self) -> list[int]:
-        call, pagemap, written = ioctl, self.pagemap, []
-        for number, request in self.requests:
+    def _unprotected(self) -> Iterable[int]:
+        """The numbers of pages that are to be asked for."""
+        if self.survey:
             try:
-                if call(pagemap, SCAN, request):
+                return self.survey.look(self.pagemap)
+            except PermissionError:
+                self.register()
+        return range(len(self.places))
+
+    def _ask(self, numbers: Iterable[int]) -> list[int]:
+        call, pagemap, requests, written = ioctl, self.pagemap, self.requests, []
+        for number in numbers:
+            try:
+                if call(pagemap, SCAN, requests[number]):
                     written.append(number)
             except PermissionError:
-                self._watch_anew(request)
+                self._watch_anew(requests[number])
                 written.append(number)
         return written
-
-    def _look_whole(self) -> list[int]:
-        written, places = [], self.places
-        for begin, end in self._written_ranges():
-            low = bisect.bisect_left(places, begin)
-            if low < len(places) and places[low] < end:
-                written.extend(range(low, bisect.bisect_left(places, end, low)))
-        return sorted(set(written))
-
-    def _written_ranges(self):
-        for begin, end in self.requests:
-            while begin < end:
-                request = self._request(begin, end, REGIONS)
-                try:
-                    count = ioctl(self.pagemap, SCAN, request)
-                except PermissionError:
-                    self._watch_anew(request)
-                    yield begin, end
-                    break
-                begin = REQUEST.unpack(request)[4]
-                yield from (region[:2] for region in REGION.iter_unpack(self.regions[: count * REGION.size]))
 
     def _watch_anew(self, request: bytearray) -> None:
         """Memory that was mapped anew is watched from now on, and all that was asked for counts as written."""

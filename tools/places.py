@@ -7,7 +7,7 @@ HERE = os.path.dirname(os.path.realpath(__file__))
 
 
 def program(name: str = "precopy") -> str:
-    """The path of a program. Of sources in which it is not built yet, it is the path that it will have."""
+    """The path of a program. In sources where it is not built yet, it is the path that it will have."""
     top, crate = os.path.dirname(HERE), name.replace("-", "_")
     if os.path.isdir(os.path.join(top, "crates")):
         return os.path.join(top, "crates", crate, "out", crate)

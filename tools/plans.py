@@ -1,5 +1,6 @@
-"""Plans of a migration: the settings of `precopy report`, and what it answers."""
+"""Plans of a migration: the settings of `precopy report`, the limits of `precopy-view`, and what they answer."""
 
+import json
 import math
 import re
 import subprocess
@@ -17,6 +18,10 @@ class Failed(Exception):
     """The program refuses a trace or settings, or does not answer."""
 
 
+class NoRate(Failed):
+    """A link is less or more than a plan of the trace can have."""
+
+
 class Settings(NamedTuple):
     """One rate throughout, as QEMU sends: pages per 1,000 ticks, and pages that fit the downtime limit, plus 1."""
 
@@ -30,7 +35,7 @@ class Settings(NamedTuple):
 
 
 def settings_of(bandwidth: float, downtime: float, tick: float, weight: float = 1.0) -> Settings:
-    """The settings for bytes a second and a limit in seconds, where a page of the trace stands for `weight` pages."""
+    """The settings for bytes a second and a limit in seconds, if a page of the trace stands for `weight` pages."""
     rate = round(bandwidth / PAGE / weight * tick * 1000)
     return Settings(rate, min(MOST_THRESHOLD, int(downtime / tick * rate / 1000) + 1))
 
@@ -58,6 +63,59 @@ def report(program: str, trace: bytes, settings: Settings, start: int) -> Plan:
         raise Failed(f"{' '.join(command)}: {done.stderr.decode(errors='replace').strip()}")
     tick, last, down, sent = (int(word) for word in stop.groups()[1:])
     return Plan(stop[1], tick, last, down, sent, len(re.findall(r"^round ", text, re.M)))
+
+
+class Scale(NamedTuple):
+    """What a trace stands for: the length of a tick in microseconds, bytes of a page, pages sampled of the guest's."""
+
+    tick: int
+    page: int
+    sampled: int
+    guest: int
+
+    def rate(self, bandwidth: float) -> float:
+        """Pages of the trace in 1,000 ticks, for bytes a second."""
+        return bandwidth * self.tick * self.sampled / (1000 * self.page * self.guest)
+
+
+def rate_word(bandwidth: float) -> str:
+    """Bytes a second as precopy-view takes them, in the unit in which they are whole."""
+    for unit, size in (("KiB", 1024), ("KB", 1000)):
+        if bandwidth % size == 0:
+            return f"{bandwidth / size:.0f}{unit}"
+    return f"{bandwidth / 125:.0f}Kbit"
+
+
+def limits(bandwidth: float, downtime: float, scale: Scale, start: int) -> list[str]:
+    """The words of precopy-view for limits in bytes a second and seconds."""
+    rate = int(scale.rate(bandwidth))
+    if not 1 <= rate <= MOST_RATE:
+        raise NoRate(f"the link is {scale.rate(bandwidth):.3g} pages of the sample in 1,000 ticks, which is no rate")
+    # A threshold above all pages of a trace is refused, and one of all of them says the same.
+    most = (1000 * MOST_THRESHOLD - 1) // rate * scale.tick
+    words = ["--link", rate_word(bandwidth), "--downtime", f"{min(round(1e6 * downtime), most)}us"]
+    words += ["--tick", f"{scale.tick}us", "--page", str(scale.page), "--sampled", f"{scale.sampled}/{scale.guest}"]
+    return [*words, "--start", str(start), "--rounds", str(ROUNDS)]
+
+
+def answer(program: str, command: list[str], trace: bytes, statuses: tuple[int, ...] = (0,)) -> str:
+    done = subprocess.run([program, *command], input=trace, capture_output=True)
+    if done.returncode not in statuses:
+        raise Failed(f"{' '.join([program, *command])}: {done.stderr.decode(errors='replace').strip()}")
+    return done.stdout.decode()
+
+
+def planned(program: str, trace: bytes, words: list[str]) -> Plan:
+    """What precopy-view plans of a trace, by the words of limits()."""
+    told = json.loads(answer(program, ["json", "report", *words, "--window", str(1 << 40)], trace))
+    stop = told["stop"]
+    return Plan(stop["why"], stop["at"], stop["pages"], stop["down"], stop["total"], len(told["rounds"]))
+
+
+def host_words(program: str, trace: bytes, words: list[str]) -> list[str]:
+    """The lines that give QEMU and libvirt the same limits."""
+    lines = answer(program, ["predict", *words], trace, (0, 3)).split("\n")
+    return [line for line in lines if line.startswith(("QEMU: ", "libvirt: "))]
 
 
 def end_of_first_round(start: int, pages: int, rate: int) -> int:

@@ -1,4 +1,4 @@
-"""A client of QEMU's machine protocol, over its Unix socket: one command after the other, events are passed over."""
+"""A client of QEMU's machine protocol, over its Unix socket: one command at a time; events are ignored."""
 
 import contextlib
 import json

@@ -1,4 +1,4 @@
-"""Opens a userfaultfd in another process, for this one alone, by one short stop of its main thread.
+"""Opens a userfaultfd in another process, only for this one, by one short stop of its main thread.
 
 A userfaultfd watches the memory of the process that opens it. So its main thread is stopped by ptrace, makes the system
 call, and goes on with the registers, the signal mask and the interrupted call that it had. The descriptor is copied to

@@ -15,7 +15,7 @@ WRITE = b"\x01"
 
 
 class SampledGuest:
-    """The pages of a guest that are looked at: drawn from a file, or from the memory of a process."""
+    """The pages of a guest that are watched: drawn from a file, or from the memory of a process."""
 
     def __init__(self, options):
         self.options = options
@@ -46,7 +46,7 @@ class SampledGuest:
         return sum(end - begin for begin, end in self.ranges) // PAGE
 
     def _wanted(self):
-        """How many pages are sampled: as asked, and by default all where they fit the default."""
+        """How many pages are sampled: as asked, and by default all if they fit the default."""
         if not self.options.one_in:
             return self.options.pages or samples.DEFAULT_PAGES
         wanted = max(1, self.count // self.options.one_in)
@@ -56,7 +56,7 @@ class SampledGuest:
         return wanted
 
     def tracker(self):
-        """What tells which sampled pages were written, the name of its method, and why it is not the other one."""
+        """What finds out which sampled pages were written, the name of its method, and why it is not the other one."""
         if self.options.by == "values" or self.options.file:
             return page_values.ChangedPages(self.pages, self.places), "values", None
         try:
@@ -91,7 +91,7 @@ class SampleRecorder:
         self.nonzero, self.counted = guest.nonzero()
 
     def pages(self):
-        """How many pages the trace has: one at least, where none is ever written."""
+        """How many pages the trace has: at least one, even if none is ever written."""
         return max(1, len(self.numbers))
 
     def guest_pages(self):

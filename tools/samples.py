@@ -1,4 +1,4 @@
-"""Samples of a guest's pages: drawing them, and the file NAME.json that stands beside the trace of a sample.
+"""Samples of a guest's pages: drawing them, and the file NAME.json beside the trace of a sample.
 
 Pages are drawn once, without replacement. One page of the sample stands for `weight` pages of the guest: the pages of
 the guest that are not zero, divided by those of the sample.

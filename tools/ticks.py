@@ -5,7 +5,7 @@ FIRST = 1000
 
 
 def spread(page: int, sample: int, last: int, tick: int) -> int:
-    """A tick behind `last` and up to `tick`, by page and sample: evenly over the interval, and the same each time."""
+    """A tick after `last` and up to `tick`, by page and sample: evenly over the interval, and the same each time."""
     interval = tick - max(last, FIRST)
     if interval <= 1:
         return tick

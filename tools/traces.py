@@ -97,7 +97,7 @@ class Trace(NamedTuple):
 
 
 def read(text):
-    """Reads the header of a trace. Its records are tested where they are read."""
+    """Reads the header of a trace. Its records are tested as they are read."""
     if len(text) > Limits().bytes:
         raise Refused("E15")
     if len(text) < HEADER:
@@ -117,7 +117,7 @@ def read(text):
 
 
 class Pending:
-    """A file that is written under another name, for its owner alone, and takes its own name when it is whole.
+    """A file that is written under another name, only for its owner, and takes its own name when it is whole.
 
     The path - is standard output, to which all is copied when it is whole.
     """
@@ -162,7 +162,7 @@ class Pending:
 class Writer(Pending):
     """Writes a trace. Some writes are taken together, or none of them is; so the trace is valid after each call.
 
-    It has version 1 where no write is a release, unless finish() is told otherwise.
+    It has version 1 if no write is a release, unless finish() is told otherwise.
     """
 
     def __init__(self, path, limits=Limits()):
@@ -182,7 +182,7 @@ class Writer(Pending):
         return self.limits.writes - self.writes, self.limits.bytes - self.size
 
     def append(self, records):
-        """Appends (tick, page, offset, data) in this order; raises Full, and appends none, where they do not fit.
+        """Appends (tick, page, offset, data) in this order; raises Full, and appends none, if they do not fit.
 
         No data, at offset 0, is a release.
         """

@@ -21,7 +21,7 @@ class WholeRecorder:
         self.times = []
 
     def pages(self):
-        """How many pages the trace has. It has one at least, where none was ever written."""
+        """How many pages the trace has. It has at least one, even if none was ever written."""
         return max(1, len(self.numbers)) if self.options.compact else self.copy.pages
 
     def guest_pages(self):
@@ -41,7 +41,7 @@ class WholeRecorder:
         return tick, begun, added, self.copy.look(added)
 
     def take(self, tick, begun, added, looked):
-        """Writes what look() saw. The ticks are behind those of the sample before, and at most `tick`."""
+        """Writes what look() saw. The ticks are after those of the sample before, and at most `tick`."""
         fresh, records, room = {}, [], self.writer.room()[1]
         for chunk, new in looked:
             for page, offset, data in self.copy.changes(chunk, new, self.options.light):

@@ -73,7 +73,7 @@ impl Trace {
             demand(is_release || length > 0 && write.offset + length <= trace.page_size, "a length")?;
             trace.writes.push(write);
         }
-        demand(text.0.is_empty(), "bytes behind the last record")?;
+        demand(text.0.is_empty(), "bytes after the last record")?;
         Ok(trace)
     }
 

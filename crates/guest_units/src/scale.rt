@@ -1,7 +1,7 @@
 //! What ticks and pages of a trace stand for.
 
 ghost use Rattle.std.specs.Prelude.{◌≡◌, ◌*◌, ◌<◌, ◌^◌, IfErr, IfOk, Some, true};
-ghost use Rattle.guest_units.specs.Scales.{bytes_of, micros_of, rate_of, scale_refusal, scale_with, ticks_in};
+ghost use Rattle.guest_units.specs.Scales.{IsScale, bytes_of, micros_of, rate_of, scale_refusal, scale_with, ticks_in};
 
 use crate::error::UnitsError;
 use std::marker::Model;
@@ -93,7 +93,8 @@ impl Scale {
 
     /// Returns how many pages the guest has.
     pub fn guest(&self) -> u64
-        ensures { result ≡ self.now.guest }
+        ensures value { result ≡ self.now.guest }
+        ensures in_range { IsScale self.now }
     {
         self.guest
     }

@@ -16,4 +16,5 @@ pub version_at_first : (trace : GuestTrace) (page : ℕ) → version_before trac
 version_at_first trace page =
     ap (λ l. fold max 0 (map (λ (at : ℕ × GuestWrite). at.0) l))
     (filter_none (λ (at : ℕ × GuestWrite). (at.1.page == page) && nat_lt at.1.tick 0) (enumerate_from 1 trace.writes)
-    (λ k d low. never (get_or (enumerate_from 1 trace.writes) k d).1.tick page (get_or (enumerate_from 1 trace.writes) k d).1.page))
+    (λ k d low. never (get_or (enumerate_from 1 trace.writes) k d).1.tick page
+    (get_or (enumerate_from 1 trace.writes) k d).1.page))

@@ -1,5 +1,6 @@
 -- What the destination began with comes to what arrived on the first stream.
-use Rattle.std.proofs.Common.{◌≡◌, ℕ, zero, suc, ◌≤◌, inl, inr, List, [], ◌∷◌, length, get_or, set, refl, sym, ap, subst, ◌∙◌, arith}
+use Rattle.std.proofs.Common.{◌≡◌, ℕ, zero, suc, ◌≤◌, inl, inr, List, [], ◌∷◌, length, get_or, set, refl, sym, ap}
+use Rattle.std.proofs.Common.{subst, ◌∙◌, arith}
 use Rattle.std.specs.Prelude.{Option, Some, None, IfSome, IsSomeAnd, option_map, slice_get}
 use Rattle.std.specs.List.{All}
 use Rattle.std.proofs.lemmas.Bool.{cases_lt}
@@ -12,7 +13,8 @@ use Rattle.migration_model.specs.Parts.{GuestPart, PageCopy, IsCopy, IsPart, IsH
 use Rattle.migration_model.specs.Images.{AreNotBeyond, HaveCurrent}
 use Rattle.migration_model.specs.Final.{shape_of_trace}
 use Rattle.migration_model.specs.Warm.{first_part}
-use Rattle.migration_model.proofs.Parts.{IsHonest-join, get_or-later_each, later_first, later_one, later_second, length-later_each}
+use Rattle.migration_model.proofs.Parts.{IsHonest-join, get_or-later_each, later_first, later_one, later_second}
+use Rattle.migration_model.proofs.Parts.{length-later_each}
 use Rattle.migration_model.proofs.Warm.{first_copy, first_had, first_shape, is_first_part}
 use Rattle.dirty_words.specs.Seats.{ClosedView}
 use Rattle.live_engine.specs.Runs.{AllArrived, AllCame}
@@ -40,14 +42,16 @@ all_cons P x xs one rest (suc i) d low = rest i d (omega (arith, low))
 
 -- ---- a page of a join
 
-keeps_first : (a : PageCopy) (b : Option PageCopy) → (now : PageCopy) × (later (Some a) b ≡ Some now) × (a.stamp ≤ now.stamp)
+keeps_first : (a : PageCopy) (b : Option PageCopy) → (now : PageCopy) × (later (Some a) b ≡ Some now)
+    × (a.stamp ≤ now.stamp)
 keeps_first a None = (a, refl, omega arith)
 keeps_first a (Some b) = elim (cases_lt a.stamp b.stamp) [
   | inl newer ↦ (b, later_second a b newer, omega (arith, newer))
   | inr older ↦ (a, later_first a b older, omega arith)
 ]
 
-keeps_second : (a : Option PageCopy) (b : PageCopy) → (now : PageCopy) × (later a (Some b) ≡ Some now) × (b.stamp ≤ now.stamp)
+keeps_second : (a : Option PageCopy) (b : PageCopy) → (now : PageCopy) × (later a (Some b) ≡ Some now)
+    × (b.stamp ≤ now.stamp)
 keeps_second None b = (b, refl, omega arith)
 keeps_second (Some a) b = elim (cases_lt a.stamp b.stamp) [
   | inl newer ↦ (b, later_second a b newer, omega arith)
@@ -60,11 +64,14 @@ joined_at a b page = get_or-later_each a.copies b.copies page
 is_joined : (a b : GuestPart) → IsPart a → IsPart b → a.shape ≡ b.shape → IsPart (join a b)
 is_joined a b is_a is_b same = record {
   shape = is_a.shape;
-  places = length-later_each a.copies b.copies (is_a.places ∙ ap (λ (s : GuestShape). s.pages) same ∙ sym is_b.places) ∙ is_a.places;
-  copies = λ page. if_some (copy_at (join a b) page) (λ copy there. elim (later_one (copy_at a page) (copy_at b page) copy (sym (joined_at a b page) ∙ there)) [
-    | inl one ↦ from_if (IsCopy a.shape) (copy_at a page) copy (is_a.copies page) one
-    | inr two ↦ subst (λ (s : GuestShape). IsCopy s copy) (sym same) (from_if (IsCopy b.shape) (copy_at b page) copy (is_b.copies page) two)
-  ]);
+  places = length-later_each a.copies b.copies (is_a.places ∙ ap (λ (s : GuestShape). s.pages) same ∙ sym is_b.places)
+      ∙ is_a.places;
+  copies = λ page. if_some (copy_at (join a b) page)
+      (λ copy there. elim (later_one (copy_at a page) (copy_at b page) copy (sym (joined_at a b page) ∙ there)) [
+        | inl one ↦ from_if (IsCopy a.shape) (copy_at a page) copy (is_a.copies page) one
+        | inr two ↦ subst (λ (s : GuestShape). IsCopy s copy) (sym same)
+            (from_if (IsCopy b.shape) (copy_at b page) copy (is_b.copies page) two)
+      ]);
 }
 
 -- ---- the parts of the streams
@@ -72,7 +79,8 @@ is_joined a b is_a is_b same = record {
 abbrev IsBelow : ℕ → PageCopy → Type 0
 IsBelow version copy = copy.stamp ≤ version
 
-module _ (trace : GuestTrace) (versions : List ℕ) (first part : GuestPart) (rest : List GuestPart) (before : AreNotBeyond trace (shape_of_trace trace) versions (part ∷ rest))
+module _ (trace : GuestTrace) (versions : List ℕ) (first part : GuestPart) (rest : List GuestPart)
+    (before : AreNotBeyond trace (shape_of_trace trace) versions (part ∷ rest))
     (is_part : IsPart first) (shape : first.shape ≡ shape_of_trace trace) (honest : IsHonest trace first)
     (bound : (page : ℕ) → IfSome (copy_at first page) (IsBelow (get_or versions page 0))) where
   part_is : IsPart part
@@ -82,65 +90,88 @@ module _ (trace : GuestTrace) (versions : List ℕ) (first part : GuestPart) (re
   same_shape = shape ∙ sym (All-head (λ (p : GuestPart). p.shape ≡ shape_of_trace trace) part rest before.shapes)
 
   part_bound : (page : ℕ) → IfSome (copy_at part page) (IsBelow (get_or versions page 0))
-  part_bound page = All-head (λ (p : GuestPart). IfSome (copy_at p page) (IsBelow (get_or versions page 0))) part rest (before.bound page)
+  part_bound page = All-head (λ (p : GuestPart). IfSome (copy_at p page) (IsBelow (get_or versions page 0))) part rest
+      (before.bound page)
 
   join_bound : (page : ℕ) → IfSome (copy_at (join first part) page) (IsBelow (get_or versions page 0))
-  join_bound page = if_some (copy_at (join first part) page) (λ copy there. elim (later_one (copy_at first page) (copy_at part page) copy (sym (joined_at first part page) ∙ there)) [
-    | inl one ↦ from_if (IsBelow (get_or versions page 0)) (copy_at first page) copy (bound page) one
-    | inr two ↦ from_if (IsBelow (get_or versions page 0)) (copy_at part page) copy (part_bound page) two
-  ])
+  join_bound page = if_some (copy_at (join first part) page)
+      (λ copy there. elim (later_one (copy_at first page) (copy_at part page) copy
+      (sym (joined_at first part page) ∙ there)) [
+        | inl one ↦ from_if (IsBelow (get_or versions page 0)) (copy_at first page) copy (bound page) one
+        | inr two ↦ from_if (IsBelow (get_or versions page 0)) (copy_at part page) copy (part_bound page) two
+      ])
 
   pub not_beyond_with : AreNotBeyond trace (shape_of_trace trace) versions (join first part ∷ rest)
   not_beyond_with = record {
-    are_parts = all_cons IsPart (join first part) rest (is_joined first part is_part part_is same_shape) (All-tail IsPart part rest before.are_parts);
+    are_parts = all_cons IsPart (join first part) rest (is_joined first part is_part part_is same_shape)
+        (All-tail IsPart part rest before.are_parts);
     shapes = all_cons (λ (p : GuestPart). p.shape ≡ shape_of_trace trace) (join first part) rest shape
         (All-tail (λ (p : GuestPart). p.shape ≡ shape_of_trace trace) part rest before.shapes);
     honest = all_cons (IsHonest trace) (join first part) rest
-        (IsHonest-join trace first part honest (All-head (IsHonest trace) part rest before.honest)) (All-tail (IsHonest trace) part rest before.honest);
-    bound = λ page. all_cons (λ (p : GuestPart). IfSome (copy_at p page) (IsBelow (get_or versions page 0))) (join first part) rest (join_bound page)
-        (All-tail (λ (p : GuestPart). IfSome (copy_at p page) (IsBelow (get_or versions page 0))) part rest (before.bound page));
+        (IsHonest-join trace first part honest (All-head (IsHonest trace) part rest before.honest))
+        (All-tail (IsHonest trace) part rest before.honest);
+    bound = λ page. all_cons (λ (p : GuestPart). IfSome (copy_at p page) (IsBelow (get_or versions page 0)))
+        (join first part) rest (join_bound page)
+        (All-tail (λ (p : GuestPart). IfSome (copy_at p page) (IsBelow (get_or versions page 0))) part rest
+        (before.bound page));
   }
 
   -- the join has a page at its version where one of the two has
-  at_version : (page : ℕ) (now : PageCopy) → copy_at (join first part) page ≡ Some now → get_or versions page 0 ≤ now.stamp
+  at_version : (page : ℕ) (now : PageCopy) → copy_at (join first part) page ≡ Some now
+      → get_or versions page 0 ≤ now.stamp
       → HaveCurrent versions (join first part ∷ rest) page
   at_version page now there up =
-      let down : now.stamp ≤ get_or versions page 0 = from_if (IsBelow (get_or versions page 0)) (copy_at (join first part) page) now (join_bound page) there in
-      any_at (λ (p : GuestPart). IsSomeAnd (copy_at p page) (λ copy. copy.stamp ≡ get_or versions page 0)) (join first part ∷ rest) 0 (join first part) refl
-      (some_from (λ copy. copy.stamp ≡ get_or versions page 0) (copy_at (join first part) page) now there (omega (arith, up, down)))
+      let down : now.stamp ≤ get_or versions page 0 = from_if (IsBelow (get_or versions page 0))
+      (copy_at (join first part) page) now (join_bound page) there in
+      any_at (λ (p : GuestPart). IsSomeAnd (copy_at p page) (λ copy. copy.stamp ≡ get_or versions page 0))
+      (join first part ∷ rest) 0 (join first part) refl
+      (some_from (λ copy. copy.stamp ≡ get_or versions page 0) (copy_at (join first part) page) now there
+      (omega (arith, up, down)))
 
-  pub first_current : (page : ℕ) (copy : PageCopy) → copy_at first page ≡ Some copy → copy.stamp ≡ get_or versions page 0 → HaveCurrent versions (join first part ∷ rest) page
+  pub first_current : (page : ℕ) (copy : PageCopy) → copy_at first page ≡ Some copy → copy.stamp
+      ≡ get_or versions page 0 → HaveCurrent versions (join first part ∷ rest) page
   first_current page copy there stamp =
       let kept = keeps_first copy (copy_at part page) in
-      at_version page kept.0 (joined_at first part page ∙ ap (λ (o : Option PageCopy). later o (copy_at part page)) there ∙ kept.1) (let up = kept.2 in omega (arith, stamp, up))
+      at_version page kept.0 (joined_at first part page
+      ∙ ap (λ (o : Option PageCopy). later o (copy_at part page)) there ∙ kept.1)
+      (let up = kept.2 in omega (arith, stamp, up))
 
-  part_current : (page : ℕ) (copy : PageCopy) → copy_at part page ≡ Some copy → copy.stamp ≡ get_or versions page 0 → HaveCurrent versions (join first part ∷ rest) page
+  part_current : (page : ℕ) (copy : PageCopy) → copy_at part page ≡ Some copy → copy.stamp ≡ get_or versions page 0
+      → HaveCurrent versions (join first part ∷ rest) page
   part_current page copy there stamp =
       let kept = keeps_second (copy_at first page) copy in
-      at_version page kept.0 (joined_at first part page ∙ ap (later (copy_at first page)) there ∙ kept.1) (let up = kept.2 in omega (arith, stamp, up))
+      at_version page kept.0 (joined_at first part page ∙ ap (later (copy_at first page)) there ∙ kept.1)
+      (let up = kept.2 in omega (arith, stamp, up))
 
-  at_index : (page i : ℕ) (p : GuestPart) → slice_get (part ∷ rest) i ≡ Some p → IsSomeAnd (copy_at p page) (λ copy. copy.stamp ≡ get_or versions page 0)
+  at_index : (page i : ℕ) (p : GuestPart) → slice_get (part ∷ rest) i ≡ Some p
+      → IsSomeAnd (copy_at p page) (λ copy. copy.stamp ≡ get_or versions page 0)
       → HaveCurrent versions (join first part ∷ rest) page
   at_index page zero p there has =
       let found = found_in (λ copy. copy.stamp ≡ get_or versions page 0) (copy_at p page) has in
       part_current page found.0 (ap (λ (q : GuestPart). copy_at q page) (same_Some part p there) ∙ found.1) found.2
   at_index page (suc i) p there has =
-      any_at (λ (p : GuestPart). IsSomeAnd (copy_at p page) (λ copy. copy.stamp ≡ get_or versions page 0)) (join first part ∷ rest) (suc i) p there has
+      any_at (λ (p : GuestPart). IsSomeAnd (copy_at p page) (λ copy. copy.stamp ≡ get_or versions page 0))
+      (join first part ∷ rest) (suc i) p there has
 
-  pub still_current : (page : ℕ) → HaveCurrent versions (part ∷ rest) page → HaveCurrent versions (join first part ∷ rest) page
+  pub still_current : (page : ℕ) → HaveCurrent versions (part ∷ rest) page
+      → HaveCurrent versions (join first part ∷ rest) page
   still_current page has =
-      let found = any_there (λ (p : GuestPart). IsSomeAnd (copy_at p page) (λ copy. copy.stamp ≡ get_or versions page 0)) (part ∷ rest) has in
+      let found = any_there (λ (p : GuestPart). IsSomeAnd (copy_at p page)
+      (λ copy. copy.stamp ≡ get_or versions page 0)) (part ∷ rest) has in
       at_index page found.0 found.1 found.2 found.3
 
 -- what came, with what the destination began with
-base_begun : (trace : GuestTrace) (tick streams : ℕ) (closed : ClosedView) (part : GuestPart) (rest : List GuestPart) → IsTrace trace
-    → AllCame trace (Some tick) streams closed (part ∷ rest) → AllArrived trace streams closed (join (first_part trace (Some tick)) part ∷ rest)
+base_begun : (trace : GuestTrace) (tick streams : ℕ) (closed : ClosedView) (part : GuestPart) (rest : List GuestPart)
+    → IsTrace trace
+    → AllCame trace (Some tick) streams closed (part ∷ rest)
+    → AllArrived trace streams closed (join (first_part trace (Some tick)) part ∷ rest)
 base_begun trace tick streams closed part rest is came =
     let first : GuestPart = first_part trace (Some tick) in
     let is_part = is_first_part trace (Some tick) is in
     let shape : first.shape ≡ shape_of_trace trace = first_shape trace (Some tick) in
     let honest : IsHonest trace first = λ page copy there. (first_had trace (Some tick) page copy is there).4 in
-    let bound : (page : ℕ) → IfSome (copy_at first page) (IsBelow (get_or closed.versions page 0)) = λ page. if_some (copy_at first page) (λ copy there.
+    let bound : (page : ℕ) → IfSome (copy_at first page) (IsBelow (get_or closed.versions page 0)) = λ page. if_some
+    (copy_at first page) (λ copy there.
     let had = first_had trace (Some tick) page copy is there in
     let same : tick ≡ had.0 = same_Some tick had.0 had.1 in
     let low = came.base_low page had.2 in
@@ -150,24 +181,34 @@ base_begun trace tick streams closed part rest is came =
       count = came.count;
       not_beyond = not_beyond_with trace closed.versions first part rest came.not_beyond is_part shape honest bound;
       current = λ page real unmarked. elim (came.current page real unmarked) [
-        | inl has ↦ still_current trace closed.versions first part rest came.not_beyond is_part shape honest bound page has
-        | inr as_base ↦ first_current trace closed.versions first part rest came.not_beyond is_part shape honest bound page _ (first_copy trace tick page is real) (sym as_base)
+        | inl has ↦ still_current trace closed.versions first part rest came.not_beyond is_part shape honest bound page
+            has
+        | inr as_base ↦ first_current trace closed.versions first part rest came.not_beyond is_part shape honest bound
+            page _ (first_copy trace tick page is real) (sym as_base)
       ];
     }
 
-pub all_begun : (trace : GuestTrace) (base : Option ℕ) (streams : ℕ) (closed : ClosedView) (parts : List GuestPart) → IsTrace trace → 1 ≤ streams
-    → AllCame trace base streams closed parts → AllArrived trace streams closed (parts_with (option_map (λ tick. first_part trace (Some tick)) base) parts)
+pub all_begun : (trace : GuestTrace) (base : Option ℕ) (streams : ℕ) (closed : ClosedView) (parts : List GuestPart)
+    → IsTrace trace → 1 ≤ streams
+    → AllCame trace base streams closed parts → AllArrived trace streams closed
+    (parts_with (option_map (λ tick. first_part trace (Some tick)) base) parts)
 all_begun trace None streams closed parts is some came = record {
   fits = came.fits;
   count = came.count;
   not_beyond = came.not_beyond;
-  current = λ page real unmarked. elim (came.current page real unmarked) [ inl has ↦ has | inr as_base ↦ absurd as_base ];
+  current = λ page real unmarked. elim (came.current page real unmarked) [
+    | inl has ↦ has
+    | inr as_base ↦ absurd as_base
+  ];
 }
 all_begun trace (Some tick) streams closed [] is some came = absurd (omega (arith, some, came.count))
-all_begun trace (Some tick) streams closed (part ∷ rest) is some came = base_begun trace tick streams closed part rest is came
+all_begun trace (Some tick) streams closed (part ∷ rest) is some came = base_begun trace tick streams closed part rest
+    is came
 
 -- the shapes that a join asks for
-pub shapes_begun : (trace : GuestTrace) (base : Option ℕ) (parts : List GuestPart) → All (λ (p : GuestPart). p.shape ≡ shape_of_trace trace) parts
-    → IfSome (option_map (λ tick. first_part trace (Some tick)) base) (λ one. All (λ (p : GuestPart). one.shape ≡ p.shape) parts)
+pub shapes_begun : (trace : GuestTrace) (base : Option ℕ) (parts : List GuestPart)
+    → All (λ (p : GuestPart). p.shape ≡ shape_of_trace trace) parts
+    → IfSome (option_map (λ tick. first_part trace (Some tick)) base)
+    (λ one. All (λ (p : GuestPart). one.shape ≡ p.shape) parts)
 shapes_begun trace None parts shapes = tt
 shapes_begun trace (Some tick) parts shapes = λ i d low. sym (shapes i d low)

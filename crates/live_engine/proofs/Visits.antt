@@ -11,14 +11,21 @@ use Rattle.dirty_core.specs.Machine.{Visits, last_visit}
 use Rattle.dirty_core.specs.Runs.{IsVisited, Rises, place_after}
 use Rattle.live_tasks.proofs.Basics.{false_true}
 
-pub last_is_visit : (visits : Visits) (page place : ℕ) → last_visit visits page ≡ Some place → IsVisited visits page place
+pub last_is_visit : (visits : Visits) (page place : ℕ) → last_visit visits page ≡ Some place
+    → IsVisited visits page place
 last_is_visit [] page place is = absurd (none-some place is)
 last_is_visit (v ∷ vs) page place is = elim (cases_eq v.0 page) [
-  | inl e ↦ inl (e, same_Some v.1 place (sym (cond-true (eqb v.0 page) (Some v.1) (last_visit vs page) (eq-eqb v.0 page e)) ∙ is))
-  | inr apart ↦ inr (last_is_visit vs page place (sym (cond-false (eqb v.0 page) (Some v.1) (last_visit vs page) (ne_eqb v.0 page apart)) ∙ is))
+  | inl e ↦ inl (
+    e,
+    same_Some v.1 place (sym (cond-true (eqb v.0 page) (Some v.1) (last_visit vs page)
+        (eq-eqb v.0 page e)) ∙ is),
+  )
+  | inr apart ↦ inr (last_is_visit vs page place (sym
+      (cond-false (eqb v.0 page) (Some v.1) (last_visit vs page) (ne_eqb v.0 page apart)) ∙ is))
 ]
 
-pub visit_has_last : (visits : Visits) (page place : ℕ) → IsVisited visits page place → (last : ℕ) × (last_visit visits page ≡ Some last)
+pub visit_has_last : (visits : Visits) (page place : ℕ) → IsVisited visits page place → (last : ℕ)
+    × (last_visit visits page ≡ Some last)
 visit_has_last [] page place is = absurd is
 visit_has_last (v ∷ vs) page place is = elim (cases_eq v.0 page) [
   | inl e ↦ (v.1, cond-true (eqb v.0 page) (Some v.1) (last_visit vs page) (eq-eqb v.0 page e))
@@ -30,38 +37,46 @@ visit_has_last (v ∷ vs) page place is = elim (cases_eq v.0 page) [
   ]
 ]
 
-some_case : (visits : Visits) (page : ℕ) (o : Option ℕ) → last_visit visits page ≡ o → is_some (last_visit visits page) ≡ true → (place : ℕ) × IsVisited visits page place
+some_case : (visits : Visits) (page : ℕ) (o : Option ℕ) → last_visit visits page ≡ o → is_some (last_visit visits page)
+    ≡ true → (place : ℕ) × IsVisited visits page place
 some_case visits page None e is = absurd (false_true (sym (ap is_some e) ∙ is))
 some_case visits page (Some place) e is = (place, last_is_visit visits page place e)
 
-pub stored_is_visit : (visits : Visits) (page : ℕ) → IsTrue (is_some (last_visit visits page)) → (place : ℕ) × IsVisited visits page place
+pub stored_is_visit : (visits : Visits) (page : ℕ) → IsTrue (is_some (last_visit visits page)) → (place : ℕ)
+    × IsVisited visits page place
 stored_is_visit visits page is = some_case visits page (last_visit visits page) refl is
 
 -- a page's visits are at most at the place after them, which is no less than the place before
-pub rises_to : (before : ℕ) (visits : Visits) (page : ℕ) → Rises before visits page → before ≤ place_after before visits page
+pub rises_to : (before : ℕ) (visits : Visits) (page : ℕ) → Rises before visits page
+    → before ≤ place_after before visits page
 rises_to before [] page up = omega arith
 rises_to before (v ∷ vs) page up = elim (cases_eq v.0 page) [
   | inl e ↦
-      let last : place_after before (v ∷ vs) page ≡ v.1 = ap (λ (o : Option ℕ). unwrap_or o before) (cond-true (eqb v.0 page) (Some v.1) (last_visit vs page) (eq-eqb v.0 page e)) in
+      let last : place_after before (v ∷ vs) page ≡ v.1 = ap (λ (o : Option ℕ). unwrap_or o before)
+      (cond-true (eqb v.0 page) (Some v.1) (last_visit vs page) (eq-eqb v.0 page e)) in
       omega (arith, last, up.0 e, rises_to before vs page up.1)
   | inr apart ↦
       let last : place_after before (v ∷ vs) page ≡ place_after before vs page =
-      ap (λ (o : Option ℕ). unwrap_or o before) (cond-false (eqb v.0 page) (Some v.1) (last_visit vs page) (ne_eqb v.0 page apart)) in
+      ap (λ (o : Option ℕ). unwrap_or o before) (cond-false (eqb v.0 page) (Some v.1) (last_visit vs page)
+      (ne_eqb v.0 page apart)) in
       omega (arith, last, rises_to before vs page up.1)
 ]
 
-pub visits_below : (before : ℕ) (visits : Visits) (page place : ℕ) → Rises before visits page → IsVisited visits page place → place ≤ place_after before visits page
+pub visits_below : (before : ℕ) (visits : Visits) (page place : ℕ) → Rises before visits page
+    → IsVisited visits page place → place ≤ place_after before visits page
 visits_below before [] page place up is = absurd is
 visits_below before (v ∷ vs) page place up is = elim (cases_eq v.0 page) [
   | inl e ↦
-      let last : place_after before (v ∷ vs) page ≡ v.1 = ap (λ (o : Option ℕ). unwrap_or o before) (cond-true (eqb v.0 page) (Some v.1) (last_visit vs page) (eq-eqb v.0 page e)) in
+      let last : place_after before (v ∷ vs) page ≡ v.1 = ap (λ (o : Option ℕ). unwrap_or o before)
+      (cond-true (eqb v.0 page) (Some v.1) (last_visit vs page) (eq-eqb v.0 page e)) in
       elim is [
         | inl same ↦ omega (arith, last, same.1)
         | inr earlier ↦ omega (arith, last, up.0 e, visits_below before vs page place up.1 earlier)
       ]
   | inr apart ↦
       let last : place_after before (v ∷ vs) page ≡ place_after before vs page =
-      ap (λ (o : Option ℕ). unwrap_or o before) (cond-false (eqb v.0 page) (Some v.1) (last_visit vs page) (ne_eqb v.0 page apart)) in
+      ap (λ (o : Option ℕ). unwrap_or o before) (cond-false (eqb v.0 page) (Some v.1) (last_visit vs page)
+      (ne_eqb v.0 page apart)) in
       elim is [
         | inl same ↦ absurd (apart same.0)
         | inr earlier ↦ omega (arith, last, visits_below before vs page place up.1 earlier)
@@ -70,12 +85,19 @@ visits_below before (v ∷ vs) page place up is = elim (cases_eq v.0 page) [
 
 -- ---- writes and places
 
-pub place_is_written : (trace : GuestTrace) (page from to place : ℕ) → IsPlaceOf trace page from to place → IsWritten trace from to page
+pub place_is_written : (trace : GuestTrace) (page from to place : ℕ) → IsPlaceOf trace page from to place
+    → IsWritten trace from to page
 place_is_written trace page from to place is =
-    let low = slice_get_within trace.writes (place - 1) is.write is.there in
-    (place - 1, is.write, low, get_or_from_slice_get trace.writes (place - 1) is.write is.write is.there, (is.page_is, is.low, is.high))
+    let low = slice_get_within trace.writes (place - 1) is.write is.there in (
+      place - 1,
+      is.write,
+      low,
+      get_or_from_slice_get trace.writes (place - 1) is.write is.write is.there,
+      (is.page_is, is.low, is.high),
+    )
 
-pub written_has_place : (trace : GuestTrace) (page from to : ℕ) → IsWritten trace from to page → (place : ℕ) × IsPlaceOf trace page from to place
+pub written_has_place : (trace : GuestTrace) (page from to : ℕ) → IsWritten trace from to page → (place : ℕ)
+    × IsPlaceOf trace page from to place
 written_has_place trace page from to is =
     let index : is.0 + 1 - 1 ≡ is.0 = omega arith in (
       is.0 + 1,
@@ -90,21 +112,37 @@ written_has_place trace page from to is =
     )
 
 -- a page that isn't written between two ticks keeps its version
-pub version_stays : (trace : GuestTrace) (page from to : ℕ) → from ≤ to → (IsWritten trace from to page → ⊥) → version_before trace page to ≡ version_before trace page from
+pub version_stays : (trace : GuestTrace) (page from to : ℕ) → from ≤ to → (IsWritten trace from to page → ⊥)
+    → version_before trace page to ≡ version_before trace page from
 version_stays trace page from to le none = elim (version_is_place trace page to) [
   | inl zero ↦ (let up = version_rises trace page from to le in omega (arith, zero, up))
   | inr is ↦ elim (cases_lt is.write.tick from) [
     | inl before ↦
         let low = version_is_greatest trace page 0 from (version_before trace page to)
-        (record { write = is.write; some = is.some; there = is.there; page_is = is.page_is; low = is.low; high = before }) in
+        (record {
+          write = is.write;
+          some = is.some;
+          there = is.there;
+          page_is = is.page_is;
+          low = is.low;
+          high = before;
+        }) in
         let up = version_rises trace page from to le in
         omega (arith, low, up)
     | inr later ↦ absurd (none (place_is_written trace page from to (version_before trace page to)
-        (record { write = is.write; some = is.some; there = is.there; page_is = is.page_is; low = later; high = is.high })))
+        (record {
+          write = is.write;
+          some = is.some;
+          there = is.there;
+          page_is = is.page_is;
+          low = later;
+          high = is.high;
+        })))
   ]
 ]
 
-last_case : (trace : GuestTrace) (page from to before : ℕ) (stores : Visits) (o : Option ℕ) → from ≤ to → before ≡ version_before trace page from
+last_case : (trace : GuestTrace) (page from to before : ℕ) (stores : Visits) (o : Option ℕ) → from ≤ to → before
+    ≡ version_before trace page from
     → ((place : ℕ) → IsVisited stores page place → IsPlaceOf trace page from to place) → last_visit stores page ≡ o
     → place_after before stores page ≤ version_before trace page to
 last_case trace page from to before stores None le opening stored e =
@@ -117,21 +155,39 @@ last_case trace page from to before stores (Some place) le opening stored e =
     omega (arith, same, low)
 
 -- The place after a guest's stores of a page, which are those of its writes between two ticks, is its version.
-pub version_stored : (trace : GuestTrace) (page from to before : ℕ) (stores : Visits) → from ≤ to → before ≡ version_before trace page from → Rises before stores page
+pub version_stored : (trace : GuestTrace) (page from to before : ℕ) (stores : Visits) → from ≤ to → before
+    ≡ version_before trace page from → Rises before stores page
     → ((place : ℕ) → IsVisited stores page place → IsPlaceOf trace page from to place)
     → ((place : ℕ) → IsPlaceOf trace page from to place → IsVisited stores page place)
     → place_after before stores page ≡ version_before trace page to
 version_stored trace page from to before stores le opening up stored all =
-    let low : place_after before stores page ≤ version_before trace page to = last_case trace page from to before stores (last_visit stores page) le opening stored refl in
+    let low : place_after before stores page ≤ version_before trace page to = last_case trace page from to before stores
+    (last_visit stores page) le opening stored refl in
     let high : version_before trace page to ≤ place_after before stores page = elim (version_is_place trace page to) [
       | inl zero ↦ omega (arith, zero)
       | inr is ↦ elim (cases_lt is.write.tick from) [
         | inl earlier ↦
             let first = version_is_greatest trace page 0 from (version_before trace page to)
-            (record { write = is.write; some = is.some; there = is.there; page_is = is.page_is; low = is.low; high = earlier }) in
+            (record {
+              write = is.write;
+              some = is.some;
+              there = is.there;
+              page_is = is.page_is;
+              low = is.low;
+              high =
+                  earlier;
+            }) in
             omega (arith, first, opening, rises_to before stores page up)
         | inr later ↦ visits_below before stores page (version_before trace page to) up
-            (all (version_before trace page to) (record { write = is.write; some = is.some; there = is.there; page_is = is.page_is; low = later; high = is.high }))
+            (all (version_before trace page to) (record {
+              write = is.write;
+              some = is.some;
+              there = is.there;
+              page_is =
+                  is.page_is;
+              low = later;
+              high = is.high;
+            }))
       ]
     ] in
     omega (arith, low, high)

@@ -23,8 +23,11 @@ pub size_before : (trace : GuestTrace) (tick : ℕ) (memory : GuestMemory) → m
     → (memory.shift ≡ trace.shift) × (memory.pages ≡ trace.pages)
 size_before trace tick memory is =
     let start = zeros trace.shift trace.pages in
-    let writes : List GuestWrite = filter (λ w. nat_lt w.tick tick) trace.writes in
-    (ap (λ (m : GuestMemory). m.shift) is ∙ shift_applied start writes, ap (λ (m : GuestMemory). m.pages) is ∙ pages_applied start writes)
+    let writes : List GuestWrite = filter (λ w. nat_lt w.tick tick) trace.writes in (
+      ap (λ (m : GuestMemory). m.shift) is ∙ shift_applied start writes,
+      ap (λ (m : GuestMemory). m.pages) is
+          ∙ pages_applied start writes,
+    )
 
 module _ (trace : GuestTrace) (tick : ℕ) (versions : List ℕ) (count : length versions ≡ trace.pages)
     (each : (page : ℕ) → page < trace.pages → slice_index versions page ≡ version_before trace page tick) where
@@ -35,7 +38,8 @@ module _ (trace : GuestTrace) (tick : ℕ) (versions : List ℕ) (count : length
       ext_get_or 0 versions (versions_of trace tick) (count ∙ sym len)
       (λ page low.
       let inside : page < trace.pages = omega (arith, low, count) in
-      each page inside ∙ sym (get_or-map-range_with_len (λ p. version_before trace p tick) 0 trace.pages page page 0 inside (omega arith)))
+      each page inside ∙ sym (get_or-map-range_with_len (λ p. version_before trace p tick) 0 trace.pages page page 0
+      inside (omega arith)))
 
   -- and none of them is above the number of writes
   pub versions_low : All (λ version. version ≤ length trace.writes) versions

@@ -7,8 +7,8 @@ ghost use Rattle.migration_model.specs.Live.{IsDue};
 ghost use Rattle.migration_model.specs.Trace.{GuestTrace, IsTrace};
 ghost use Rattle.migration_model.specs.Versions.{IsWritten};
 
-/// The first round owes every page, or, where the destination begins with a base, just those that were written from the
-/// base on and before the round.
+/// The first round owes every page, or, if the destination begins with a base, exactly those written from the base on
+/// and before the round.
 pub fn due_in_the_first_round()
     ensures cold { (trace : GuestTrace) (start page : ℕ) → IsDue trace None start [] page }
     ensures warm { (trace : GuestTrace) (base start page : ℕ) → IsTrace trace → base ≤ start

@@ -18,17 +18,20 @@
 
 mod error;
 mod laws;
+mod live_round;
 mod migration;
 mod opening;
 mod preparation;
 mod receivers;
 mod rounds;
+mod stop_and_copy;
 mod stopped;
 mod threads;
 mod warm;
 
 pub use error::LiveError;
 pub use laws::due_in_the_first_round;
+pub use live_round::LiveRound;
 pub use live_tasks::{Gate, OpenGate, Point};
 pub use migration::{Live, live_run, migrate};
-pub use stopped::{LiveRound, StoppedGuest};
+pub use stopped::StoppedGuest;

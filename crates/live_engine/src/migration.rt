@@ -8,11 +8,13 @@ ghost use Rattle.migration_model.specs.Touches.{touches_of};
 ghost use Rattle.page_versions.specs.Index.{IsIndexOf};
 
 use crate::error::LiveError;
+use crate::live_round::LiveRound;
 use crate::opening::{Team, open_lanes};
 use crate::preparation::{Preparation, prepare};
 use crate::receivers::{Signals, drain_all, start_receivers};
-use crate::rounds::{Migration, Progress, finish};
-use crate::stopped::{LiveRound, StoppedGuest};
+use crate::rounds::{Migration, Progress};
+use crate::stop_and_copy::stop_and_copy;
+use crate::stopped::StoppedGuest;
 use guest_log::WriteLog;
 use image_build::{Image, resume};
 use joined_threads::join_all;
@@ -143,7 +145,7 @@ pub fn migrate<W: WriteLog + Sync, G: Gate, R: Threads + Wait + Sync>(
     } = progress;
     let arrived = drain_all(alloc, team.streams, states, receivers)?;
     let parts = join_first(alloc, first, arrived)?;
-    let memory = finish(rt, alloc, trace, &index, team, &closed, parts)?;
+    let memory = stop_and_copy(rt, alloc, trace, &index, team, &closed, parts)?;
     Ok(StoppedGuest {
         memory,
         stop: plan.stop,

@@ -28,8 +28,8 @@ use stream_receivers::Receiver;
 /// How often a receiver to which nothing came looks again before it sleeps.
 const LOOKS: u32 = 8;
 
-/// How many turns it waits before each of these looks, a few microseconds in all. Each look takes the lane's memory
-/// away from who sends, so that it is cheaper for both to take some frames at a time.
+/// How long it waits before each of these looks: a few microseconds in all. Each look takes the lane's memory away from
+/// the sender, so it is cheaper for both to take several frames at a time.
 const TURNS: u32 = 64;
 
 /// How many microseconds it sleeps then before each look: each look takes time from those who send.
@@ -81,7 +81,7 @@ fn sweep<G: Gate>(gate: &G, stream: usize, receiver: &mut Receiver) -> bool
     came
 }
 
-/// Waits before the next look, where nothing came in so many.
+/// Waits before the next look, after this many in which nothing came.
 fn pause<R: Wait>(rt: &R, looks: u32) {
     if looks < LOOKS {
         for _ in 0..TURNS {

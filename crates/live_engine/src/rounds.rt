@@ -1,31 +1,24 @@
 //! A migration under way, round by round.
 
-ghost use Rattle.std.specs.Prelude.{◌≡◌, ◌&&◌, nat_le, ◌<◌, ◌≤◌, ◌++◌, ◌∷◌, ℕ, [], List, Option, IfOk, IfSome, map};
-ghost use Rattle.std.specs.Prelude.{slice_index_or};
-ghost use Rattle.image_build.specs.Joins.{memory_by};
+ghost use Rattle.std.specs.Prelude.{◌≡◌, ◌&&◌, nat_le, ◌≤◌, ◌++◌, ◌∷◌, ℕ, [], List, Option, IfOk, IfSome, map};
 ghost use Rattle.live_engine.specs.Joining.{AreJoined, HaveCapacity, lanes_of};
 ghost use Rattle.live_engine.specs.Lists.{rows_of};
-ghost use Rattle.live_engine.specs.Runs.{AllArrived, AreDone, AreNewStates, IsStoppedAt, IsTeam, IsUnderWay};
+ghost use Rattle.live_engine.specs.Runs.{AreDone, AreNewStates, IsTeam, IsUnderWay};
 ghost use Rattle.migration_model.specs.Live.{LiveRounds};
-ghost use Rattle.migration_model.specs.Memory.{image_before};
 ghost use Rattle.migration_model.specs.Rounds.{IsPlan, PlannedRound};
 ghost use Rattle.migration_model.specs.Touches.{touches_of};
-ghost use Rattle.migration_model.specs.Versions.{version_before};
 ghost use Rattle.page_versions.specs.Index.{IsIndexOf};
 
 use crate::error::LiveError;
+use crate::live_round::{LiveRound, list};
 use crate::opening::{Team, versions_before};
 use crate::receivers::Signals;
-use crate::stopped::{LiveRound, list};
-use crate::threads::run_threads;
+use crate::threads::{Crew, run_crew};
 use crate::warm::pages_lacking;
-use collector::Part;
 use dirty_core::Opening;
 use dirty_words::{Closed, CopySeat, Opened, RoundTable};
 use guest_log::WriteLog;
-use image_build::JoinedParts;
 use live_tasks::{Copier, CopierState, Gate, Point, Round, Ticks};
-use migration_model::{current_copies_make_memory, final_copy_makes_current};
 use page_versions::PageIndex;
 use rate_limit::Settings;
 use round_planner::Plan;
@@ -34,7 +27,6 @@ use std::collections::VecDeque;
 use std::sync::Wait;
 use std::sync::atomic::Ordering;
 use std::thread::Threads;
-use stop_copy::final_copy;
 
 /// A migration under way: what does not change from round to round.
 #[derive(Drop)]
@@ -176,7 +168,12 @@ impl<'a, W: WriteLog + Sync, G: Gate> Migration<'a, W, G> {
             skip: may_skip(skip, number),
             streams: self.team.streams,
         };
-        let (guests, copiers) = run_threads(rt, alloc, &round, ticks, guests, copiers, states)?;
+        let crew = Crew {
+            guests,
+            copiers,
+            states,
+        };
+        let (guests, copiers) = run_crew(rt, alloc, &round, ticks, crew)?;
         let (seats, states) = take_apart(alloc, copiers)?;
         let closed = table.close(guests, seats);
         self.gate.at(Point::RoundClosed { round: number });
@@ -211,40 +208,4 @@ impl<'a, W: WriteLog + Sync, G: Gate> Migration<'a, W, G> {
         }
         Ok(progress)
     }
-}
-
-/// Sends the pages that are marked still. Returns the parts, which then have all of the guest's memory.
-pub(crate) fn finish<W: WriteLog + Sync, R: Threads + Wait + Sync>(
-    rt: &R,
-    alloc: Global,
-    trace: &W,
-    index: &PageIndex,
-    team: Team,
-    closed: &Closed,
-    parts: Vec<Part>,
-) -> Result<JoinedParts, LiveError>
-    requires index { IsIndexOf index.now (W.trace trace.now) }
-    requires team { IsTeam team }
-    requires arrived { AllArrived (W.trace trace.now) team.streams closed.now parts.items }
-    ensures at_stop { IfOk result (λ memory. (tick : ℕ)
-        → ((page : ℕ) → page < (W.trace trace.now).pages
-        → slice_index_or closed.now.versions page 0 ≡ version_before (W.trace trace.now) page tick)
-        → memory_by memory ≡ image_before (W.trace trace.now) tick) }
-    ensures stopped { IfOk result (λ memory. IsStoppedAt (W.trace trace.now) closed.now.versions index.now
-        (memory_by memory)) }
-{
-    let copied = final_copy(
-        rt,
-        alloc,
-        trace,
-        index,
-        closed,
-        team.copiers,
-        team.streams,
-        parts,
-    )?;
-    final_copy_makes_current();
-    current_copies_make_memory();
-    let memory = JoinedParts::new(trace.shape(), copied)?;
-    Ok(memory)
 }

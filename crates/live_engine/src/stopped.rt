@@ -1,75 +1,14 @@
-//! What a migration leaves: a guest that has stopped, and what was done round by round.
+//! What a migration leaves: a guest that has stopped.
 
-ghost use Rattle.std.specs.Prelude.{◌≡◌, ◌<◌, ◌^◌, ◌++◌, IfOk, OnOk, length};
+ghost use Rattle.std.specs.Prelude.{◌≡◌, ◌<◌, ◌^◌, length};
 ghost use Rattle.image_build.specs.Joins.{memory_by};
-ghost use Rattle.live_engine.specs.Lists.{lists_of};
 ghost use Rattle.live_engine.specs.Runs.{IsStoppedAt};
 ghost use Rattle.migration_model.specs.Memory.{image_of, page_of};
 
-use crate::error::LiveError;
+use crate::live_round::LiveRound;
 use guest_log::WriteLog;
 use image_build::JoinedParts;
-use live_tasks::CopierState;
 use page_versions::{PageIndex, PageProgress};
-use std::alloc::Global;
-use std::collections::VecDeque;
-use std::marker::Model;
-
-/// What was done in one round. The lists go by copier, and then in the order of that copier's steps.
-#[derive(Debug, Drop)]
-pub struct LiveRound {
-    /// The pages that were sent, each with its stamp.
-    pub sent: Vec<(u32, u32)>,
-    /// The pages that were left for a later round, since they were marked again.
-    pub skipped: Vec<u32>,
-    /// The pages that were left for a later round, since the lane that they were to go on was full.
-    pub deferred: Vec<u32>,
-}
-
-impl Model for LiveRound {
-    ghost use Rattle.migration_model.specs.Live.{LiveRound as GuestRound};
-
-    ghost Value = { GuestRound };
-
-    ghost use Rattle.migration_model.specs.Live.{live_round_with};
-
-    ghost view = { λ r. live_round_with r.sent.items r.skipped.items r.deferred.items };
-}
-
-impl LiveRound {
-    /// Adds what one copier did.
-    fn add_state(&mut self, state: &CopierState) -> Result<(), LiveError>
-        ensures sent { OnOk result (self.new.sent ≡ self.old.sent ++ state.now.log.sent) }
-        ensures skipped { OnOk result (self.new.skipped ≡ self.old.skipped ++ state.now.log.skipped) }
-        ensures deferred { OnOk result (self.new.deferred ≡ self.old.deferred ++ state.now.log.deferred) }
-    {
-        self.sent.extend_from_slice(&state.log.sent)?;
-        self.skipped.extend_from_slice(&state.log.skipped)?;
-        self.deferred.extend_from_slice(&state.log.deferred)?;
-        Ok(())
-    }
-}
-
-/// Lists what the copiers did, copier by copier. Returns their states too, for the next round.
-pub(crate) fn list(
-    alloc: Global,
-    states: Vec<CopierState>,
-) -> Result<(LiveRound, VecDeque<CopierState>), LiveError>
-    ensures lists { IfOk result (λ listed. listed.0 ≡ lists_of states.items) }
-    ensures states { IfOk result (λ listed. listed.1.items ≡ states.items) }
-{
-    let mut round = LiveRound {
-        sent: Vec::new(alloc),
-        skipped: Vec::new(alloc),
-        deferred: Vec::new(alloc),
-    };
-    let mut kept = VecDeque::with_capacity(alloc, states.len())?;
-    for state in states {
-        round.add_state(&state)?;
-        kept.push_back(state)?;
-    }
-    Ok((round, kept))
-}
 
 /// A guest that has stopped, and whose memory has come.
 #[derive(Debug, Drop)]

@@ -229,28 +229,39 @@ fn unrefused(
     Ok(copiers)
 }
 
+/// Who takes part in a round: the seats of its replayers and copiers, and each copier's state.
+#[derive(Drop)]
+pub(crate) struct Crew {
+    pub(crate) guests: Vec<GuestSeat>,
+    pub(crate) copiers: Vec<CopySeat>,
+    pub(crate) states: VecDeque<CopierState>,
+}
+
 /// Runs a round's replayers and copiers, each in a thread of its own and all at once. It waits for those that run
 /// before it returns an error; `Thread` comes before `Memory`.
-fn in_round<'s, E, W: WriteLog + Sync, G: Gate, R: Threads>(
+fn run_in_scope<'s, E, W: WriteLog + Sync, G: Gate, R: Threads>(
     rt: &R,
     scope: &'s Scope<'s, E>,
     alloc: Global,
     round: &Round<'s, W, G>,
     ticks: Ticks,
-    guest_seats: Vec<GuestSeat>,
-    copy_seats: Vec<CopySeat>,
-    states: VecDeque<CopierState>,
+    crew: Crew,
 ) -> Result<(Vec<GuestSeat>, Vec<Copier>), LiveError>
     requires opening { OpensAt (W.trace round.now.trace.now) ticks.from round.now.table.now.start }
-    requires guests { guest_seats.items ≡ first_guests round.now.table.now }
-    requires copiers { copy_seats.items ≡ first_copiers round.now.table.now }
-    requires count { length states.items ≡ length copy_seats.items }
-    requires states { All (IsCopierState (W.trace round.now.trace.now) round.now.streams) states.items }
+    requires guests { crew.guests.items ≡ first_guests round.now.table.now }
+    requires copiers { crew.copiers.items ≡ first_copiers round.now.table.now }
+    requires count { length crew.states.items ≡ length crew.copiers.items }
+    requires states { All (IsCopierState (W.trace round.now.trace.now) round.now.streams) crew.states.items }
     ensures guests { IfOk result (λ ended. AreReplayed (W.trace round.now.trace.now) round.now.table.now
         ticks.from ticks.to ended.0.items) }
     ensures copiers { IfOk result (λ ended. AreCopied (W.trace round.now.trace.now) round.now.skip round.now.table.now
-        round.now.streams (rows_of states.items) ended.1.items) }
+        round.now.streams (rows_of crew.states.items) ended.1.items) }
 {
+    let Crew {
+        guests: guest_seats,
+        copiers: copy_seats,
+        states,
+    } = crew;
     let mut guests = Vec::new(alloc);
     let mut copiers = Vec::new(alloc);
     let started = match start_guests(scope, round, ticks, guest_seats, &mut guests) {
@@ -266,24 +277,22 @@ fn in_round<'s, E, W: WriteLog + Sync, G: Gate, R: Threads>(
 }
 
 /// Runs a round's replayers and copiers, each in a thread of its own, and waits until all have ended.
-pub(crate) fn run_threads<W: WriteLog + Sync, G: Gate, R: Threads + Wait + Sync>(
+pub(crate) fn run_crew<W: WriteLog + Sync, G: Gate, R: Threads + Wait + Sync>(
     rt: &R,
     alloc: Global,
     round: &Round<'_, W, G>,
     ticks: Ticks,
-    guests: Vec<GuestSeat>,
-    copiers: Vec<CopySeat>,
-    states: VecDeque<CopierState>,
+    crew: Crew,
 ) -> Result<(Vec<GuestSeat>, Vec<Copier>), LiveError>
     requires opening { OpensAt (W.trace round.now.trace.now) ticks.from round.now.table.now.start }
-    requires guests { guests.items ≡ first_guests round.now.table.now }
-    requires copiers { copiers.items ≡ first_copiers round.now.table.now }
-    requires count { length states.items ≡ length copiers.items }
-    requires states { All (IsCopierState (W.trace round.now.trace.now) round.now.streams) states.items }
+    requires guests { crew.guests.items ≡ first_guests round.now.table.now }
+    requires copiers { crew.copiers.items ≡ first_copiers round.now.table.now }
+    requires count { length crew.states.items ≡ length crew.copiers.items }
+    requires states { All (IsCopierState (W.trace round.now.trace.now) round.now.streams) crew.states.items }
     ensures guests { IfOk result (λ ended. AreReplayed (W.trace round.now.trace.now) round.now.table.now
         ticks.from ticks.to ended.0.items) }
     ensures copiers { IfOk result (λ ended. AreCopied (W.trace round.now.trace.now) round.now.skip round.now.table.now
-        round.now.streams (rows_of states.items) ended.1.items) }
+        round.now.streams (rows_of crew.states.items) ended.1.items) }
 {
     let Round {
         trace,
@@ -299,15 +308,15 @@ pub(crate) fn run_threads<W: WriteLog + Sync, G: Gate, R: Threads + Wait + Sync>
         move |scope| -> Result<(Vec<GuestSeat>, Vec<Copier>), LiveError>
             requires of { IsRoundOf (W.trace trace.now) index.now table.now }
             requires opening { OpensAt (W.trace trace.now) ticks.from table.now.start }
-            requires guests { guests.items ≡ first_guests table.now }
-            requires copiers { copiers.items ≡ first_copiers table.now }
-            requires count { length states.items ≡ length copiers.items }
-            requires states { All (IsCopierState (W.trace trace.now) streams) states.items }
+            requires guests { crew.guests.items ≡ first_guests table.now }
+            requires copiers { crew.copiers.items ≡ first_copiers table.now }
+            requires count { length crew.states.items ≡ length crew.copiers.items }
+            requires states { All (IsCopierState (W.trace trace.now) streams) crew.states.items }
             ensures guests { IfOk result (λ ended. AreReplayed (W.trace trace.entry.now) table.entry.now
                 ticks.from ticks.to
                 ended.0.items) }
             ensures copiers { IfOk result (λ ended. AreCopied (W.trace trace.entry.now) skip table.entry.now streams
-                (rows_of states.items) ended.1.items) }
+                (rows_of crew.states.items) ended.1.items) }
         {
             let round = Round {
                 trace,
@@ -317,7 +326,7 @@ pub(crate) fn run_threads<W: WriteLog + Sync, G: Gate, R: Threads + Wait + Sync>
                 skip,
                 streams,
             };
-            in_round(rt, scope, alloc, &round, ticks, guests, copiers, states)
+            run_in_scope(rt, scope, alloc, &round, ticks, crew)
         },
     )
 }

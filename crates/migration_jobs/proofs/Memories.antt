@@ -1,5 +1,6 @@
 -- Memory that is as large as a trace says.
-use Rattle.std.proofs.Common.{◌≡◌, ℕ, suc, ◌-◌, ◌*◌, ◌^◌, ◌+◌, ◌<◌, ◌≤◌, length, take, drop, replicate, refl, sym, ap, subst, ◌∙◌, arith}
+use Rattle.std.proofs.Common.{◌≡◌, ℕ, suc, ◌-◌, ◌*◌, ◌^◌, ◌+◌, ◌<◌, ◌≤◌, length, take, drop, replicate, refl, sym, ap}
+use Rattle.std.proofs.Common.{subst, ◌∙◌, arith}
 use Rattle.std.proofs.Math.Nat.{mul-le-mul_right}
 use Rattle.std.proofs.lemmas.List.{length-take-le, length-drop, length-replicate}
 use Rattle.migration_model.specs.Trace.{GuestTrace, IsTrace}
@@ -19,19 +20,23 @@ pub record IsAsLarge (trace : GuestTrace) (memory : GuestMemory) : Type 0 where
 pub image_large : (trace : GuestTrace) → IsTrace trace → IsAsLarge trace (image_of trace)
 image_large trace is =
     let none = replicate (trace.pages * 2 ^ trace.shift) 0 in
-    let after = length-applied trace.version trace.shift trace.pages trace.writes none (length-replicate (trace.pages * 2 ^ trace.shift) 0) is.writes.each in
+    let after = length-applied trace.version trace.shift trace.pages trace.writes none
+    (length-replicate (trace.pages * 2 ^ trace.shift) 0) is.writes.each in
     subst (IsAsLarge trace) (sym after.1) (record { shift = refl; pages = refl; len = after.2 })
 
 -- the memory that is shown is as large as the trace says
-pub shown_large : (show : Show) (trace : GuestTrace) (memory : GuestMemory) → IsTrace trace → IsAsLarge trace memory → IsAsLarge trace (memory_shown show trace memory)
+pub shown_large : (show : Show) (trace : GuestTrace) (memory : GuestMemory) → IsTrace trace → IsAsLarge trace memory
+    → IsAsLarge trace (memory_shown show trace memory)
 shown_large shows.Stop trace memory is large = large
 shown_large shows.End trace memory is large = image_large trace is
 
-pub large_memory : (trace : GuestTrace) (memory : GuestMemory) → IsTrace trace → IsAsLarge trace memory → IsMemory memory.shift memory.pages memory.bytes
+pub large_memory : (trace : GuestTrace) (memory : GuestMemory) → IsTrace trace → IsAsLarge trace memory
+    → IsMemory memory.shift memory.pages memory.bytes
 large_memory trace memory is large = record { size = rw (large.shift, large.pages) is.size; len = large.len }
 
 -- a page of memory has the size of a page
-pub length-page : (memory : GuestMemory) (page : ℕ) → length memory.bytes ≡ memory.pages * 2 ^ memory.shift → page < memory.pages
+pub length-page : (memory : GuestMemory) (page : ℕ) → length memory.bytes ≡ memory.pages * 2 ^ memory.shift
+    → page < memory.pages
     → length (page_of memory page) ≡ 2 ^ memory.shift
 length-page memory page len low =
     let n = 2 ^ memory.shift in
@@ -41,5 +46,6 @@ length-page memory page len low =
     ∙ length-take-le n (drop (page * n) memory.bytes) (omega (arith, end, len, length-drop (page * n) memory.bytes))
 
 -- before any write a page is zeros
-pub page_at_first : (trace : GuestTrace) (page : ℕ) → page < trace.pages → page_at trace page 0 ≡ replicate (2 ^ trace.shift) 0
+pub page_at_first : (trace : GuestTrace) (page : ℕ) → page < trace.pages → page_at trace page 0
+    ≡ replicate (2 ^ trace.shift) 0
 page_at_first trace page low = zero_page trace.shift trace.pages page low

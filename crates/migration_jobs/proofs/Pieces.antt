@@ -1,5 +1,6 @@
 -- Bytes that are written piece after piece.
-use Rattle.std.proofs.Common.{◌≡◌, ℕ, ◌+◌, ◌-◌, ◌≤◌, inl, inr, List, ◌++◌, length, take, drop, Option, Some, None, sym, ap, subst, ◌∙◌, arith}
+use Rattle.std.proofs.Common.{◌≡◌, ℕ, ◌+◌, ◌-◌, ◌≤◌, inl, inr, List, ◌++◌, length, take, drop, Option, Some, None, sym}
+use Rattle.std.proofs.Common.{ap, subst, ◌∙◌, arith}
 use Rattle.std.specs.List.{between}
 use Rattle.std.specs.Prelude.{Result, Ok, Err, IfErr, OnErr}
 use Rattle.std.specs.Io.KnownBytes.{Appends, Keeps}
@@ -20,10 +21,12 @@ between_more a b c xs first second =
     ∙ sym (take-add (b - a) (c - b) (drop a xs))
     ∙ ap (λ (n : ℕ). take n (drop a xs)) sum
 
-pub wrote_more : (old mid new : Option (List ℕ)) (a b : ℕ) (xs : List ℕ) → a ≤ b → Appends old mid (between 0 a xs) → Appends mid new (between a b xs)
+pub wrote_more : (old mid new : Option (List ℕ)) (a b : ℕ) (xs : List ℕ) → a ≤ b → Appends old mid (between 0 a xs)
+    → Appends mid new (between a b xs)
     → Appends old new (between 0 b xs)
 wrote_more old mid new a b xs rise before more =
-    subst (Appends old new) (between_more 0 a b xs (omega arith) rise) (Appends-then old mid new (between 0 a xs) (between a b xs) before more)
+    subst (Appends old new) (between_more 0 a b xs (omega arith) rise)
+    (Appends-then old mid new (between 0 a xs) (between a b xs) before more)
 
 -- the first bytes of a piece are the first bytes behind those in front of it
 cut : (j m : ℕ) (ys : List ℕ) → (k : ℕ) × (take j (take m ys) ≡ take k ys)
@@ -33,17 +36,23 @@ cut j m ys = elim (cases_lt j m) [
 ]
 
 -- a part of a piece, behind those in front of it, is a part of all
-pub wrote_part : (old mid new : Option (List ℕ)) (a b : ℕ) (xs : List ℕ) → Appends old mid (between 0 a xs) → AppendsPart mid new (between a b xs) → AppendsPart old new xs
+pub wrote_part : (old mid new : Option (List ℕ)) (a b : ℕ) (xs : List ℕ) → Appends old mid (between 0 a xs)
+    → AppendsPart mid new (between a b xs) → AppendsPart old new xs
 wrote_part old mid new a b xs before part =
-    let short = cut part.0 (b - a) (drop a xs) in
-    (a + short.0, Appends-more old mid new xs a short.0 (subst (Appends old mid) (between_from_start xs a) before) (subst (Appends mid new) short.1 part.1))
+    let short = cut part.0 (b - a) (drop a xs) in (
+      a + short.0,
+      Appends-more old mid new xs a short.0 (subst (Appends old mid) (between_from_start xs a) before)
+          (subst (Appends mid new) short.1 part.1),
+    )
 
 -- all bytes that are written are a part of them
-pub wrote_all : (old mid new : Option (List ℕ)) (xs : List ℕ) → Appends old mid xs → Keeps mid new → AppendsPart old new xs
+pub wrote_all : (old mid new : Option (List ℕ)) (xs : List ℕ) → Appends old mid xs → Keeps mid new
+    → AppendsPart old new xs
 wrote_all None mid new xs before keeps = (length xs, tt)
 wrote_all (Some a) None new xs before keeps = absurd before
 wrote_all (Some a) (Some b) None xs before keeps = absurd keeps
-wrote_all (Some a) (Some b) (Some c) xs before keeps = (length xs, keeps ∙ before ∙ ap (λ (l : List ℕ). a ++ l) (sym (take_all (length xs) xs (omega arith))))
+wrote_all (Some a) (Some b) (Some c) xs before keeps =
+    (length xs, keeps ∙ before ∙ ap (λ (l : List ℕ). a ++ l) (sym (take_all (length xs) xs (omega arith))))
 
 pub whole : (xs : List ℕ) (n : ℕ) → length xs ≤ n → between 0 n xs ≡ xs
 whole xs n all = between_from_start xs n ∙ take_all n xs all

@@ -10,6 +10,7 @@ Appends-then (Some a) (Some b) None xs ys p q = absurd q
 Appends-then (Some a) (Some b) (Some c) xs ys p q = q ∙ ap (λ (x : List ℕ). x ++ ys) p ∙ append_assoc a xs ys
 
 -- the first bytes and then the first of the others
-pub Appends-more : (a b c : Option (List ℕ)) (bytes : List ℕ) (n m : ℕ) → Appends a b (take n bytes) → Appends b c (take m (drop n bytes))
+pub Appends-more : (a b c : Option (List ℕ)) (bytes : List ℕ) (n m : ℕ) → Appends a b (take n bytes)
+    → Appends b c (take m (drop n bytes))
     → Appends a c (take (n + m) bytes)
 Appends-more a b c bytes n m p q = rw take-add (Appends-then a b c (take n bytes) (take m (drop n bytes)) p q)

@@ -68,10 +68,18 @@ IsLiveJob jobs.Image = ⊥
 IsLiveJob (jobs.Report settings) = ⊥
 IsLiveJob (jobs.Sweep cases workers) = ⊥
 
--- A job's errors: that of a live run comes from a live run alone. No job is refused for a missing thread of its own.
+-- A job's errors: only a live run has those of live runs. No job is refused because a thread of its own did not start.
 abbrev pub IsRefusalOf : Job → RunError → Type 0
 IsRefusalOf job (errors.Trace e) = ⊤
 IsRefusalOf job errors.Memory = ⊤
 IsRefusalOf job errors.Write = ⊤
 IsRefusalOf job (errors.Live e) = IsLiveJob job
 IsRefusalOf job errors.Thread = ⊥
+
+-- A job's errors before anything is written: no write has failed, and that of a live run comes from a live run only.
+abbrev pub RefusesOutput : Job → RunError → Type 0
+RefusesOutput job (errors.Trace e) = ⊤
+RefusesOutput job errors.Memory = ⊤
+RefusesOutput job errors.Write = ⊥
+RefusesOutput job (errors.Live e) = IsLiveJob job
+RefusesOutput job errors.Thread = ⊥

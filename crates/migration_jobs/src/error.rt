@@ -16,8 +16,8 @@ pub enum RunError {
     /// Memory ran out.
     #[error("memory")]
     Memory,
-    /// A thread could not be started. No job returns it: a live run has an error of its own. Where a thread cannot be
-    /// started for a report or a sweep, the caller's thread does the work.
+    /// A thread could not be started. No job returns it: a live run has an error of its own, and for a report or a
+    /// sweep the caller's thread does the work.
     #[error("thread")]
     Thread,
     /// The live run gave no memory: memory ran out, or a thread could not be started.

@@ -1,13 +1,12 @@
 //! The memory after all writes of the trace that is read.
 
 ghost use Rattle.std.specs.Io.KnownBytes.{Consumes};
-ghost use Rattle.std.specs.Prelude.{◌≡◌, ◌≢◌, ◌↔◌, ℕ, List, Option, IfErr, IfOk, IfSome, OnOk, Err, Some, false, true};
-ghost use Rattle.migration_model.specs.Trace.{GuestTrace, Spells};
+ghost use Rattle.std.specs.Prelude.{◌≡◌, ◌↔◌, ℕ, List, Option, IfErr, IfOk, IfSome, OnOk, Err, false, true};
 ghost use Rattle.trace_codec.specs.declared.error.TraceError.TheVariants.{ReadFault};
 ghost use Rattle.trace_codec.specs.Source.{IsOutside};
 ghost use Rattle.trace_readers.specs.Visits.{IsHeaderOf};
 ghost use Rattle.migration_jobs.specs.Bytes.{bytes_in};
-ghost use Rattle.migration_jobs.specs.Output.{IsImageOf, IsOutsideRun, IsRefusalOf, RefusesRun};
+ghost use Rattle.migration_jobs.specs.Output.{IsImageOf, RefusesOutput, RefusesRun};
 
 use crate::error::RunError;
 use crate::output::Output;
@@ -19,15 +18,14 @@ use std::thread::Threads;
 use trace_codec::{Header, Source, TraceError};
 use trace_readers::IncomingTrace;
 
-/// Memory of up to so many bytes, `2^20`, is made whole from the first write on.
+/// Up to this many bytes, `2^20`, memory is whole from the first write on.
 const SMALL_MEMORY: usize = 1_048_576;
 
-/// Memory of up to so many bytes, `2^25`, is made whole once a quarter as many bytes of the trace have come: that takes
-/// less time than pages one by one, and little memory.
+/// Up to this many bytes, `2^25`, memory is whole once the trace bytes read equal a quarter of it. That takes less time
+/// than making pages one by one, and little memory.
 const WHOLE_MEMORY: usize = 33_554_432;
 
-/// Reads on until the memory of the trace may be made whole. Returns the trace's header then, or None where the memory
-/// is to be made page by page.
+/// Reads on until memory may be whole. Returns the trace's header then, or None if memory is to be made page by page.
 fn header_for_whole<S: Source>(
     source: &mut S,
     incoming: &mut IncomingTrace,
@@ -82,8 +80,7 @@ fn whole_image<S: Source>(
         → IsImageOf old v.items) }
     ensures refused { IfErr result (λ e. (old : Option (List ℕ)) → Consumes old (S.remaining source.old) incoming
         → RefusesRun old e) }
-    ensures own { IfErr result (λ e. (job : Job) → IsRefusalOf job e) }
-    ensures unwritten { IfErr result (λ e. e ≢ RunError.Write) }
+    ensures own { IfErr result (λ e. (job : Job) → RefusesOutput job e) }
     ensures read_failed { (result ≡ Err (RunError.Trace ReadFault)) ↔ (S.has_failed source.new ≡ true) }
 {
     let Ok(mut memory) = WrittenMemory::blank(alloc, header.shape) else {
@@ -107,8 +104,7 @@ fn paged_image<R: Threads + Sync, S: Source>(
         → IsImageOf old m.bytes) }
     ensures refused { IfErr result (λ e. (old : Option (List ℕ)) → Consumes old (S.remaining source.old) incoming
         → RefusesRun old e) }
-    ensures own { IfErr result (λ e. (job : Job) → IsRefusalOf job e) }
-    ensures unwritten { IfErr result (λ e. e ≢ RunError.Write) }
+    ensures own { IfErr result (λ e. (job : Job) → RefusesOutput job e) }
     ensures read_failed { (result ≡ Err (RunError.Trace ReadFault)) ↔ (S.has_failed source.new ≡ true) }
 {
     match incoming.hold(alloc, source) {
@@ -126,10 +122,7 @@ pub(crate) fn image_output<R: Threads + Sync, S: Source>(
     requires { S.has_failed source.old ≡ false }
     ensures made { IfOk result (λ output. IsImageOf (S.remaining source.old) (bytes_in output)) }
     ensures refused { IfErr result (RefusesRun (S.remaining source.old)) }
-    ensures own { IfErr result (λ e. (job : Job) → IsRefusalOf job e) }
-    ensures unwritten { IfErr result (λ e. e ≢ RunError.Write) }
-    ensures only { (bytes : List ℕ) (trace : GuestTrace) → S.remaining source.old ≡ Some bytes → Spells bytes trace
-        → IfErr result IsOutsideRun }
+    ensures own { IfErr result (λ e. (job : Job) → RefusesOutput job e) }
     ensures read_failed { (result ≡ Err (RunError.Trace ReadFault)) ↔ (S.has_failed source.new ≡ true) }
 {
     let (incoming, header) = match opened(alloc, source) {

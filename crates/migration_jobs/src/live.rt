@@ -1,10 +1,10 @@
 //! A live run over the trace that was read, and the memory of it that is asked for.
 
-ghost use Rattle.std.specs.Prelude.{◌≡◌, ◌≢◌, ◌↔◌, ℕ, List, IfErr, IfOk, Err, Some, false, true};
-ghost use Rattle.migration_model.specs.Trace.{GuestTrace, IsTrace, Spells};
+ghost use Rattle.std.specs.Prelude.{◌≡◌, ◌↔◌, IfErr, IfOk, Err, false, true};
+ghost use Rattle.migration_model.specs.Trace.{GuestTrace, IsTrace};
 ghost use Rattle.trace_codec.specs.Source.{SourceSpells};
 ghost use Rattle.trace_codec.specs.declared.error.TraceError.TheVariants.{ReadFault};
-ghost use Rattle.migration_jobs.specs.Output.{IsOutsideRun, IsLiveJob, IsRefusalOf, IsShown, RefusesRun};
+ghost use Rattle.migration_jobs.specs.Output.{IsLiveJob, IsShown, RefusesOutput, RefusesRun};
 
 use crate::error::RunError;
 use crate::shown::Shown;
@@ -46,10 +46,7 @@ pub(crate) fn live_output<R: Threads + Wait + Sync, S: Source, G: Gate>(
     ensures made { IfOk result (λ m. (trace : GuestTrace) × IsTrace trace × SourceSpells (S.remaining source.old) trace
         × IsShown show trace settings.now m.bytes) }
     ensures refused { IfErr result (RefusesRun (S.remaining source.old)) }
-    ensures own { IfErr result (λ e. (job : Job) → IsLiveJob job → IsRefusalOf job e) }
-    ensures unwritten { IfErr result (λ e. e ≢ RunError.Write) }
-    ensures only { (bytes : List ℕ) (trace : GuestTrace) → S.remaining source.old ≡ Some bytes → Spells bytes trace
-        → IfErr result IsOutsideRun }
+    ensures own { IfErr result (λ e. (job : Job) → IsLiveJob job → RefusesOutput job e) }
     ensures read_failed { (result ≡ Err (RunError.Trace ReadFault)) ↔ (S.has_failed source.new ≡ true) }
 {
     match HeldTrace::read(alloc, source) {

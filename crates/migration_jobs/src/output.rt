@@ -24,7 +24,7 @@ pub(crate) enum Output {
     Replayed(ReplayedMemory),
 }
 
-/// Memory is written in pieces of so many bytes: they stay in the processor's cache between making and writing.
+/// Memory is written in pieces of this many bytes, which stay in the processor's cache between making and writing.
 const PIECE: usize = 1 << 18;
 
 /// Writes all of some bytes.

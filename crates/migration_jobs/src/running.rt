@@ -9,7 +9,7 @@ ghost use Rattle.migration_model.specs.Windows.{working_sets_of};
 ghost use Rattle.trace_codec.specs.declared.error.TraceError.TheVariants.{ReadFault};
 ghost use Rattle.trace_codec.specs.Source.{SourceSpells};
 ghost use Rattle.migration_jobs.specs.Sink.{AppendsPart};
-ghost use Rattle.migration_jobs.specs.Output.{IsOutput, IsOutsideRun, IsRefusalOf, RefusesRun};
+ghost use Rattle.migration_jobs.specs.Output.{IsOutput, IsOutsideRun, IsRefusalOf, RefusesOutput, RefusesRun};
 ghost use Rattle.sweep_report.specs.Reports.{IsReport, IsSweep};
 ghost use Rattle.migration_jobs.specs.Bytes.{bytes_in};
 
@@ -104,10 +104,7 @@ fn report_output<R: Threads + Sync, S: Source>(
     ensures made { IfOk result (λ v. (trace : GuestTrace) × IsTrace trace × SourceSpells (S.remaining source.old) trace
         × IsReport trace settings.now v.items) }
     ensures refused { IfErr result (RefusesRun (S.remaining source.old)) }
-    ensures own { IfErr result (λ e. (job : Job) → IsRefusalOf job e) }
-    ensures unwritten { IfErr result (λ e. e ≢ RunError.Write) }
-    ensures only { (bytes : List ℕ) (trace : GuestTrace) → S.remaining source.old ≡ Some bytes → Spells bytes trace
-        → IfErr result IsOutsideRun }
+    ensures own { IfErr result (λ e. (job : Job) → RefusesOutput job e) }
     ensures read_failed { (result ≡ Err (RunError.Trace ReadFault)) ↔ (S.has_failed source.new ≡ true) }
 {
     match TouchLog::read(alloc, source) {
@@ -144,10 +141,7 @@ fn sweep_output<R: Threads + Sync, S: Source>(
     ensures made { IfOk result (λ v. (trace : GuestTrace) × IsTrace trace × SourceSpells (S.remaining source.old) trace
         × IsSweep trace cases.now v.items) }
     ensures refused { IfErr result (RefusesRun (S.remaining source.old)) }
-    ensures own { IfErr result (λ e. (job : Job) → IsRefusalOf job e) }
-    ensures unwritten { IfErr result (λ e. e ≢ RunError.Write) }
-    ensures only { (bytes : List ℕ) (trace : GuestTrace) → S.remaining source.old ≡ Some bytes → Spells bytes trace
-        → IfErr result IsOutsideRun }
+    ensures own { IfErr result (λ e. (job : Job) → RefusesOutput job e) }
     ensures read_failed { (result ≡ Err (RunError.Trace ReadFault)) ↔ (S.has_failed source.new ≡ true) }
 {
     match TouchLog::read(alloc, source) {
@@ -167,10 +161,7 @@ fn read_output<R: Threads + Wait + Sync, S: Source, G: Gate>(
     requires { S.has_failed source.old ≡ false }
     ensures made { IfOk result (λ output. IsOutput (S.remaining source.old) job.now (bytes_in output)) }
     ensures refused { IfErr result (RefusesRun (S.remaining source.old)) }
-    ensures own { IfErr result (IsRefusalOf job.now) }
-    ensures unwritten { IfErr result (λ e. e ≢ RunError.Write) }
-    ensures only { (bytes : List ℕ) (trace : GuestTrace) → S.remaining source.old ≡ Some bytes → Spells bytes trace
-        → IfErr result IsOutsideRun }
+    ensures own { IfErr result (RefusesOutput job.now) }
     ensures read_failed { (result ≡ Err (RunError.Trace ReadFault)) ↔ (S.has_failed source.new ≡ true) }
 {
     match job {

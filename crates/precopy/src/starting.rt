@@ -17,7 +17,7 @@ use std::sync::Wait;
 use std::thread::Threads;
 use trace_codec::Source;
 
-/// Writes a text of faults. Where that fails nobody can be told.
+/// Writes a text of faults. If that fails, nobody can be told.
 fn show<E: Sink>(faults: &mut E, text: &str)
     requires { E.has_failed faults.old ≡ false }
     ensures { AppendsPart (E.contents faults.old) (E.contents faults.new) text.now }

@@ -16,6 +16,7 @@ IsMisfitOf scale shift pages (errors.PageSize size) = (size ≡ 2 ^ shift) × (s
 IsMisfitOf scale shift pages (errors.TooManyPages count) =
     (count ≡ pages) × (scale.sampled < scale.guest) × (scale.sampled < pages)
 IsMisfitOf scale shift pages (errors.Run e) = ⊥
+IsMisfitOf scale shift pages (errors.View e) = ⊥
 
 abbrev pub IsMisfit : Option TraceScale → ℕ → ℕ → ShowError → Type 0
 IsMisfit None shift pages e = ⊥

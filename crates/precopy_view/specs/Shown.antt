@@ -8,7 +8,8 @@ use Rattle.precopy_view.specs.Fitting.{FitsScale, IsMisfit}
 use Rattle.precopy_view.specs.declared.faults.ShowError.{ShowError}
 use Rattle.precopy_view.specs.declared.faults.ShowError.TheVariants as errors
 use Rattle.trace_readers.specs.Pieces.{IsLogOf}
-use Rattle.trace_views.specs.Views.{IsView}
+use Rattle.trace_views.specs.Views.{IsView, RefusesView}
+use Rattle.trace_views.specs.declared.error.ViewError.{ViewError}
 use Rattle.view_words.specs.declared.command.AskedView.{AskedView}
 
 -- a view of the trace that a source held, and whether its limit is kept
@@ -37,8 +38,17 @@ pub record RefusesScale (known : Option (List ℕ)) (asked : AskedView) (e : Sho
   pub is_log : IsLogOf known log
   pub misfit : IsMisfit asked.scale log.shift log.pages e
 
--- A trace is refused only for a cause in what the source held, or for one outside of it, or for its scale.
+-- the view that is asked for cannot be made of the trace
+pub record RefusesMaking (known : Option (List ℕ)) (asked : AskedView) (e : ViewError) : Type 0 where
+  pub log : GuestTouches
+  pub is_log : IsLogOf known log
+  pub fits : FitsScale asked.scale log.shift log.pages
+  pub refused : RefusesView log asked.view e
+
+-- A trace is refused only for a cause in what the source held, or for one outside of it, or for its scale
+-- or for what the view asks of it.
 abbrev pub RefusesShow : Option (List ℕ) → AskedView → ShowError → Type 0
 RefusesShow known asked (errors.Run e) = RefusesRun known e
 RefusesShow known asked (errors.PageSize size) = RefusesScale known asked (errors.PageSize size)
 RefusesShow known asked (errors.TooManyPages pages) = RefusesScale known asked (errors.TooManyPages pages)
+RefusesShow known asked (errors.View e) = RefusesMaking known asked e

@@ -10,6 +10,7 @@ use std::fmt::Write;
 use thiserror::Error;
 use trace_codec::TraceError;
 use trace_readers::TouchLog;
+use trace_views::ViewError;
 use view_words::{LimitsRefusal, ViewWordsError, WordsError, WordsRefusal};
 
 /// Why a view was not shown. It is written behind `precopy-view: ` in a fault line.
@@ -24,6 +25,9 @@ pub enum ShowError {
     /// The trace has so many pages, which is more than were sampled.
     #[error("the trace has {0} pages, more than --sampled says")]
     TooManyPages(u64),
+    /// A view could not be made.
+    #[error("{0}")]
+    View(ViewError),
 }
 
 /// Tests whether a trace may have a scale: the size of its pages, and how many pages it has.

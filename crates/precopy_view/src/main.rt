@@ -7,6 +7,8 @@ mod faults;
 mod starting;
 #[cfg(test)]
 mod tests;
+#[cfg(test)]
+mod units_tests;
 
 use crate::faults::refuse;
 use crate::starting::start;

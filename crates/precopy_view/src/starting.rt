@@ -11,7 +11,7 @@ use std::alloc::Global;
 use std::thread::Threads;
 use trace_codec::Source;
 use trace_readers::TouchLog;
-use trace_views::{Shown, view_text};
+use trace_views::{Shown, ViewError, view_text};
 use view_words::{AskedView, view_of};
 
 /// Returns a view of the trace that a source holds, or why there is none.
@@ -33,7 +33,8 @@ fn text_of<R: Threads + Sync, S: Source>(
     check_scale(&asked.scale, &log)?;
     match view_text(rt, alloc, &asked.view, &log) {
         Ok(shown) => Ok(shown),
-        Err(_) => Err(ShowError::Run(RunError::Memory)),
+        Err(ViewError::Memory) => Err(ShowError::Run(RunError::Memory)),
+        Err(error) => Err(ShowError::View(error)),
     }
 }
 

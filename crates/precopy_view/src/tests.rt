@@ -28,7 +28,7 @@ fn sink(alloc: Global) -> TestSink
 
 /// What the program does with these words over the first bytes of the trace, so many: its status, its output and its
 /// faults.
-fn told<R: Threads + Sync>(
+pub(crate) fn told<R: Threads + Sync>(
     rt: &R,
     alloc: Global,
     len: usize,
@@ -127,6 +127,7 @@ windows of 1000 ticks; pages: █ again ▓ earlier ░ fresh
 
 hot pages, in 2 windows or more: 1
  1
+ | █  |
 
 rounds, at a rate in pages per 1,000 ticks; pages: █ sent ░ skipped
   round  from    to  rate  pages  sent  dirtied
@@ -222,11 +223,14 @@ fn unknown_words_are_told(rt: HostRuntime) -> Result<(), Fail> {
 }
 
 /// A prediction for a guest of which one page in four was recorded, over a link of 64 pages of the guest in 1,000
-/// ticks: 16 of the trace. The first round sends 4 pages in 250 ticks. The 2 that are left take 125 ticks.
+/// ticks: 16 of the trace. The first round sends 4 pages in 250 ticks. The 2 that are left take 125 ticks. The 4 pages are
+/// sent 2, 2, 1 and 1 times, so the square of the standard error is 16 * 12 * (4 * 10 - 6 * 6) / (4 * 4 * 3) = 16, and
+/// the same for the pages that are left. Such 4 pages of the guest take 62.5 ticks.
 static PREDICTION: &str = "converges: yes, rounds: 1
 total time: 0.385 s
 sent: 0.00 MiB
 downtime: 0.135 s, limit: 0.200 s, kept
+standard errors: sent 0.00 MiB, downtime 0.062 s
 warning: fewer than 100 pages decided the stop; chance moves it
 precopy live --min 16 --max 16 --inc 0 --threshold 4 --rounds 30 --start 0
 QEMU: migrate_set_parameter max-bandwidth 1024B

@@ -2,3 +2,5 @@ pub mod Quantities
 pub mod Predictions
 pub mod Texts
 pub mod Hosts
+pub mod Errors
+pub mod Tallies

@@ -1,6 +1,8 @@
 -- A prediction as lines. This project's own.
 use Rattle.std.specs.Prelude.{ℕ, nat_lt, Bool, true, false, if◌then◌else◌, List, [], ◌∷◌, ◌++◌, codes}
+use Rattle.std.specs.Prelude.{Option, None, Some}
 use Rattle.migration_model.specs.Rates.{StopReason, few_remain, rounds_done, too_fast}
+use Rattle.predictions.specs.Errors.{GuestErrors}
 use Rattle.predictions.specs.Predictions.{GuestPrediction}
 use Rattle.predictions.specs.Quantities.{bytes_text, seconds_text}
 use Rattle.sweep_report.specs.Lines.{field, line}
@@ -16,8 +18,8 @@ verdict is_kept = if is_kept then codes ", kept" else codes ", not kept"
 
 -- the line on the downtime, beside its limit
 abbrev pub downtime_line : ℕ → GuestPrediction → List ℕ
-downtime_line limit p = line (codes "downtime: " ∷ seconds_text p.downtime ∷ codes ", limit: " ∷ seconds_text limit
-    ∷ verdict p.is_kept ∷ [])
+downtime_line limit p = line (codes "downtime: " ∷ seconds_text p.cost.downtime ∷ codes ", limit: " ∷ seconds_text limit
+    ∷ verdict p.cost.is_kept ∷ [])
 
 -- the line on the time of all
 abbrev pub time_line : ℕ → List ℕ
@@ -25,8 +27,8 @@ time_line time = codes "total time: " ++ (seconds_text time ++ 10 ∷ [])
 
 -- what a migration will be
 abbrev pub facts_text : ℕ → GuestPrediction → List ℕ
-facts_text limit p = line (field (ending p.reason) p.rounds ∷ []) ++ (time_line p.time
-    ++ (line (codes "sent: " ∷ bytes_text p.bytes ∷ []) ++ downtime_line limit p))
+facts_text limit p = line (field (ending p.reason) p.cost.rounds ∷ []) ++ (time_line p.cost.time
+    ++ (line (codes "sent: " ∷ bytes_text p.cost.bytes ∷ []) ++ downtime_line limit p))
 
 -- a line where something holds
 abbrev pub line_if : Bool → List ℕ → List ℕ
@@ -45,9 +47,15 @@ reason_words rounds_done = codes "warning: the plan ends with `rounds`, so nothi
 
 -- what speaks against the prediction
 abbrev pub warnings : GuestPrediction → List ℕ
-warnings p = line_if p.is_late (codes "warning: the stop lies behind the end of the trace; record longer")
+warnings p = line_if p.cost.is_late (codes "warning: the stop lies behind the end of the trace; record longer")
     ++ (line_if (nat_lt p.left 100) (codes "warning: fewer than 100 pages decided the stop; chance moves it")
     ++ line_if (ends_early p.reason) (reason_words p.reason))
 
-abbrev pub prediction_text : ℕ → GuestPrediction → List ℕ
-prediction_text limit p = facts_text limit p ++ warnings p
+-- how far chance moves the prediction, where pages were sampled
+abbrev pub errors_line : Option GuestErrors → List ℕ
+errors_line None = []
+errors_line (Some errors) = line (codes "standard errors: sent " ∷ bytes_text errors.bytes ∷ codes ", downtime "
+    ∷ seconds_text errors.downtime ∷ [])
+
+abbrev pub prediction_text : ℕ → GuestPrediction → Option GuestErrors → List ℕ
+prediction_text limit p errors = facts_text limit p ++ (errors_line errors ++ warnings p)

@@ -3,11 +3,12 @@
 ghost use Rattle.std.specs.Prelude.{◌≡◌, ◌++◌, ◌∷◌, ◌<◌, ◌^◌, [], OnOk, codes};
 ghost use Rattle.migration_model.specs.Rates.{StopReason};
 ghost use Rattle.predictions.specs.Quantities.{bytes_text, seconds_text};
-ghost use Rattle.predictions.specs.Texts.{downtime_line, ending, facts_text, ends_early, line_if, prediction_text};
-ghost use Rattle.predictions.specs.Texts.{reason_words, time_line, verdict, warnings};
+ghost use Rattle.predictions.specs.Texts.{downtime_line, ending, ends_early, errors_line, facts_text, line_if};
+ghost use Rattle.predictions.specs.Texts.{prediction_text, reason_words, time_line, verdict, warnings};
 ghost use Rattle.rate_limit.specs.Pacing.{reason_of};
 ghost use Rattle.sweep_report.specs.Lines.{field, line};
 
+use crate::errors::Errors;
 use crate::prediction::Prediction;
 use crate::quantities::{push_bytes, push_seconds};
 use rate_limit::Reason;
@@ -85,10 +86,10 @@ fn push_downtime(
 fn push_facts(text: &mut Vec<u8>, limit: u64, prediction: &Prediction) -> Result<(), AllocError>
     ensures { OnOk result (text.new.items ≡ text.old.items ++ facts_text limit prediction.now) }
 {
-    push_ending(text, &prediction.reason, prediction.rounds)?;
-    push_time(text, prediction.time)?;
-    push_sent(text, prediction.bytes)?;
-    push_downtime(text, prediction.downtime, limit, prediction.is_kept)?;
+    push_ending(text, &prediction.reason, prediction.cost.rounds)?;
+    push_time(text, prediction.cost.time)?;
+    push_sent(text, prediction.cost.bytes)?;
+    push_downtime(text, prediction.cost.downtime, limit, prediction.cost.is_kept)?;
     Ok(())
 }
 
@@ -131,7 +132,7 @@ fn push_warnings(text: &mut Vec<u8>, prediction: &Prediction) -> Result<(), Allo
 {
     push_if(
         text,
-        prediction.is_late,
+        prediction.cost.is_late,
         "warning: the stop lies behind the end of the trace; record longer",
     )?;
     push_if(
@@ -144,15 +145,41 @@ fn push_warnings(text: &mut Vec<u8>, prediction: &Prediction) -> Result<(), Allo
     Ok(())
 }
 
+/// Appends the line on standard errors.
+fn push_both(text: &mut Vec<u8>, bytes: u128, downtime: u128) -> Result<(), AllocError>
+    requires { bytes < 2 ^ 120 }
+    ensures { OnOk result (text.new.items ≡ text.old.items ++ line (codes "standard errors: sent " ∷ bytes_text bytes
+        ∷ codes ", downtime " ∷ seconds_text downtime ∷ [])) }
+{
+    text.extend_from_slice("standard errors: sent ".as_bytes())?;
+    push_bytes(text, bytes)?;
+    text.extend_from_slice(", downtime ".as_bytes())?;
+    push_seconds(text, downtime)?;
+    end_line(text)?;
+    Ok(())
+}
+
+/// Appends the line on standard errors, where they are told.
+fn push_errors(text: &mut Vec<u8>, errors: &Option<Errors>) -> Result<(), AllocError>
+    ensures { OnOk result (text.new.items ≡ text.old.items ++ errors_line errors.now) }
+{
+    match errors {
+        Some(errors) => push_both(text, errors.bytes, errors.downtime),
+        None => Ok(()),
+    }
+}
+
 /// Appends a prediction as lines, in ASCII: how the migration ends, its time, what it sends, its downtime beside the
-/// limit, in microseconds, and what speaks against the prediction.
+/// limit, in microseconds, how far chance moves these, and what speaks against the prediction.
 pub fn push_prediction(
     text: &mut Vec<u8>,
     limit: u64,
     prediction: &Prediction,
+    errors: &Option<Errors>,
 ) -> Result<(), AllocError>
-    ensures { OnOk result (text.new.items ≡ text.old.items ++ prediction_text limit prediction.now) }
+    ensures { OnOk result (text.new.items ≡ text.old.items ++ prediction_text limit prediction.now errors.now) }
 {
     push_facts(text, limit, prediction)?;
+    push_errors(text, errors)?;
     push_warnings(text, prediction)
 }

@@ -1,9 +1,13 @@
-//! The axis of ticks that all parts of a chart share.
+//! The axis of ticks that several panels share.
 
 ghost use Rattle.std.specs.Prelude.{◌≤◌};
 
+use crate::svg::{Area, begin_text, end_text, push_rect, push_text, push_words};
+use guest_units::Scale;
+use predictions::push_wide;
 use rate_limit::Settings;
 use round_planner::Plan;
+use std::alloc::AllocError;
 use working_sets::{Tables, Window};
 
 /// Where plots begin and how wide they are, in the chart's units.
@@ -12,7 +16,7 @@ pub(crate) const LEFT: u64 = 90;
 pub(crate) const SPAN: u64 = 800;
 
 /// The most labels of an axis, beside the last.
-pub(crate) const MOST_LABELS: u64 = 6;
+const MOST_LABELS: u64 = 6;
 
 /// The first and the last tick of a chart.
 #[derive(Clone, Copy)]
@@ -40,16 +44,22 @@ pub(crate) fn window_end(window: &Window, length: u64) -> u64 {
 }
 
 impl Axis {
-    /// Returns the axis that has all windows, all rounds and the downtime.
-    pub(crate) fn new(settings: &Settings, tables: &Tables, plan: &Plan) -> Axis {
-        let asked = settings.asked();
-        let mut first = asked.start;
-        let mut last = plan.stop.saturating_add(plan.down);
+    /// Returns this axis made longer, so that it has all windows.
+    pub(crate) fn with_windows(self, length: u64, tables: &Tables) -> Axis {
+        let mut axis = self;
         for window in &tables.windows {
-            first = window_start(window, asked.window).min(first);
-            last = window_end(window, asked.window).max(last);
+            axis.first = window_start(window, length).min(axis.first);
+            axis.last = window_end(window, length).max(axis.last);
         }
-        Axis { first, last }
+        axis
+    }
+
+    /// Returns the axis that has all rounds and the downtime.
+    pub(crate) fn of_rounds(settings: &Settings, plan: &Plan) -> Axis {
+        Axis {
+            first: settings.asked().start,
+            last: plan.stop.saturating_add(plan.down),
+        }
     }
 
     /// Returns where a tick stands.
@@ -61,7 +71,7 @@ impl Axis {
     }
 
     /// Returns the ticks between two labels: 1, 2 or 5 times a power of 10.
-    pub(crate) fn step(&self) -> u64
+    fn step(&self) -> u64
         ensures { 1 ≤ result }
     {
         let span = self.last.saturating_sub(self.first);
@@ -76,5 +86,66 @@ impl Axis {
             unit = unit.saturating_mul(10);
         }
         u64::MAX
+    }
+
+    /// Appends the numbers of the axis below a panel that ends at this height, and the axis' title: ticks, or times
+    /// where it is known what a tick stands for.
+    pub(crate) fn push_labels(
+        &self,
+        text: &mut Vec<u8>,
+        scale: &Option<Scale>,
+        bottom: u64,
+    ) -> Result<(), AllocError> {
+        let step = self.step();
+        for count in 0..MOST_LABELS + 2 {
+            let tick = (self.first / step)
+                .saturating_add(count)
+                .saturating_mul(step);
+            if self.first <= tick && tick <= self.last {
+                let x = self.place(tick);
+                push_mark(text, x, bottom)?;
+                begin_text(text, "middle", x, bottom.saturating_add(22))?;
+                push_label(text, scale, step, tick)?;
+                end_text(text)?;
+            }
+        }
+        let title = if scale.is_some() { "time" } else { "tick" };
+        let middle = LEFT + SPAN / 2;
+        push_text(text, "middle", middle, bottom.saturating_add(44), title)
+    }
+}
+
+/// Appends the mark of a label.
+fn push_mark(text: &mut Vec<u8>, x: u64, bottom: u64) -> Result<(), AllocError> {
+    let mark = Area {
+        x,
+        y: bottom.saturating_add(1),
+        width: 1,
+        height: 5,
+    };
+    push_rect(text, "line", &mark)
+}
+
+/// Appends a tick as a label: as a number, or as a time in the greatest unit in which the labels are whole numbers.
+fn push_label(
+    text: &mut Vec<u8>,
+    scale: &Option<Scale>,
+    step: u64,
+    tick: u64,
+) -> Result<(), AllocError> {
+    let Some(scale) = scale else {
+        return push_wide(text, tick as u128);
+    };
+    let micros = scale.micros(tick);
+    let between = scale.micros(step);
+    if between % 1_000_000 == 0 {
+        push_wide(text, micros / 1_000_000)?;
+        push_words(text, " s")
+    } else if between % 1000 == 0 {
+        push_wide(text, micros / 1000)?;
+        push_words(text, " ms")
+    } else {
+        push_wide(text, micros)?;
+        push_words(text, " us")
     }
 }

@@ -3,10 +3,17 @@
 
 mod axis;
 mod chart;
+mod hot_pages;
+mod panel;
+mod round_panels;
 mod screen;
+mod start_curves;
 mod svg;
 mod table;
+mod units_screen;
+mod window_panel;
 
 pub use chart::report_chart;
-pub use screen::report_screen;
+pub use screen::{measured_screen, report_screen};
+pub use start_curves::starts_chart;
 pub use table::Style;

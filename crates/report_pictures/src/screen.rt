@@ -1,8 +1,11 @@
 //! A report for a terminal: aligned tables, with bars beside them.
 
-use crate::table::{Part, Style, Table, push_blank, push_part};
+use crate::hot_pages::push_hot;
+use crate::table::{Part, Style, Table, push_blank, push_part, push_words};
+use crate::units_screen;
 use guest_log::Shape;
-use itoa::Buffer;
+use guest_units::Scale;
+use predictions::push_seconds;
 use rate_limit::Settings;
 use round_planner::{Plan, Round};
 use std::alloc::{AllocError, Global};
@@ -21,11 +24,6 @@ const BLUE: &str = "\x1b[34m";
 const CYAN: &str = "\x1b[36m";
 
 const YELLOW: &str = "\x1b[33m";
-
-/// Appends some words.
-fn push_words(text: &mut Vec<u8>, words: &str) -> Result<(), AllocError> {
-    text.extend_from_slice(words.as_bytes())
-}
 
 /// Appends the names of the parts of a bar, each behind its character.
 fn push_legend(
@@ -46,7 +44,7 @@ fn push_trace(text: &mut Vec<u8>, shape: &Shape) -> Result<(), AllocError> {
     push_field(text, "trace: ", shape.pages as u64)?;
     push_field(text, " pages of ", shape.page_size() as u64)?;
     push_field(text, " bytes, ", shape.writes as u64)?;
-    push_words(text, " writes\n\n")
+    push_words(text, " writes\n")
 }
 
 /// Returns the part of a bar for pages that were written in the window before, too.
@@ -109,6 +107,16 @@ fn window_mosts(windows: &[Window]) -> [u64; 5] {
     mosts
 }
 
+/// Appends what the parts of a window's bar mean.
+fn push_window_legend(text: &mut Vec<u8>, style: &Style) -> Result<(), AllocError> {
+    let parts = [
+        (again(0), " again"),
+        (earlier(0), " earlier"),
+        (fresh(0), " fresh"),
+    ];
+    push_legend(text, style, &parts)
+}
+
 /// Appends the table of windows.
 fn push_windows(
     alloc: Global,
@@ -119,12 +127,7 @@ fn push_windows(
 ) -> Result<(), AllocError> {
     push_field(text, "windows of ", length)?;
     push_words(text, " ticks; pages:")?;
-    let parts = [
-        (again(0), " again"),
-        (earlier(0), " earlier"),
-        (fresh(0), " fresh"),
-    ];
-    push_legend(text, style, &parts)?;
+    push_window_legend(text, style)?;
     let mosts = window_mosts(windows);
     let table = Table::new(alloc, style, &WINDOW, &mosts, mosts[2])?;
     table.push_names(text, &WINDOW)?;
@@ -134,31 +137,25 @@ fn push_windows(
     push_blank(text)
 }
 
-/// Appends numbers one after another, in lines that are no wider than the style has it.
-fn push_list(text: &mut Vec<u8>, style: &Style, numbers: &[u32]) -> Result<(), AllocError> {
-    let mut column = 0usize;
-    for number in numbers {
-        let mut digits = Buffer::new();
-        let word = digits.format(*number);
-        let end = column.saturating_add(word.len()).saturating_add(1);
-        if end > style.width {
-            push_blank(text)?;
-            column = 0;
-        }
-        push_words(text, " ")?;
-        push_words(text, word)?;
-        column = column.saturating_add(word.len()).saturating_add(1);
-    }
-    push_blank(text)
-}
-
-/// Appends the hot pages.
-fn push_hot(text: &mut Vec<u8>, style: &Style, hot: u64, pages: &[u32]) -> Result<(), AllocError> {
-    push_field(text, "hot pages, in ", hot)?;
-    push_field(text, " windows or more: ", pages.len() as u64)?;
-    push_blank(text)?;
-    if !pages.is_empty() {
-        push_list(text, style, pages)?;
+/// Appends the windows in times and bytes of the guest.
+fn push_measured_windows(
+    alloc: Global,
+    text: &mut Vec<u8>,
+    style: &Style,
+    scale: &Scale,
+    length: u64,
+    windows: &[Window],
+) -> Result<(), AllocError> {
+    push_words(text, "windows of ")?;
+    push_seconds(text, scale.micros(length))?;
+    push_words(text, "; written:")?;
+    push_window_legend(text, style)?;
+    units_screen::push_window_names(text)?;
+    let most = window_mosts(windows)[2];
+    for window in windows {
+        let from = window.number.saturating_mul(length);
+        let parts = window_bar(window);
+        units_screen::push_window(alloc, text, style, scale, from, window, (&parts, most))?;
     }
     push_blank(text)
 }
@@ -226,6 +223,24 @@ fn push_stop(text: &mut Vec<u8>, plan: &Plan) -> Result<(), AllocError> {
     push_words(text, " pages\n")
 }
 
+/// Appends windows and hot pages, rounds and the end of the plan, in ticks and pages.
+fn push_tables(
+    alloc: Global,
+    text: &mut Vec<u8>,
+    style: &Style,
+    shape: &Shape,
+    settings: &Settings,
+    tables: &Tables,
+    plan: &Plan,
+) -> Result<(), AllocError> {
+    let asked = settings.asked();
+    push_blank(text)?;
+    push_windows(alloc, text, style, asked.window, &tables.windows)?;
+    push_hot(alloc, text, style, asked.hot, shape.pages as u64, &tables.hot)?;
+    push_rounds(alloc, text, style, &plan.rounds)?;
+    push_stop(text, plan)
+}
+
 /// Returns a report for a terminal, in UTF-8: the working sets and the plan of a trace of this shape as tables, with
 /// bars of block characters. It has colors only where the style asks for them.
 pub fn report_screen(
@@ -236,12 +251,29 @@ pub fn report_screen(
     tables: &Tables,
     plan: &Plan,
 ) -> Result<Vec<u8>, AllocError> {
+    let mut text = Vec::new(alloc);
+    push_trace(&mut text, shape)?;
+    push_tables(alloc, &mut text, style, shape, settings, tables, plan)?;
+    Ok(text)
+}
+
+/// Returns the same report in times and bytes of the guest, where it is known what ticks and pages stand for.
+pub fn measured_screen(
+    alloc: Global,
+    style: &Style,
+    scale: &Scale,
+    shape: &Shape,
+    settings: &Settings,
+    tables: &Tables,
+    plan: &Plan,
+) -> Result<Vec<u8>, AllocError> {
     let asked = settings.asked();
     let mut text = Vec::new(alloc);
     push_trace(&mut text, shape)?;
-    push_windows(alloc, &mut text, style, asked.window, &tables.windows)?;
-    push_hot(&mut text, style, asked.hot, &tables.hot)?;
-    push_rounds(alloc, &mut text, style, &plan.rounds)?;
-    push_stop(&mut text, plan)?;
+    units_screen::push_scale(&mut text, scale)?;
+    push_measured_windows(alloc, &mut text, style, scale, asked.window, &tables.windows)?;
+    push_hot(alloc, &mut text, style, asked.hot, shape.pages as u64, &tables.hot)?;
+    units_screen::push_rounds(alloc, &mut text, style, scale, settings, plan)?;
+    units_screen::push_stop(&mut text, scale, plan)?;
     Ok(text)
 }

@@ -12,6 +12,52 @@ pub(crate) struct Area {
     pub(crate) height: u64,
 }
 
+/// What a picture begins with, up to its height.
+const HEAD: &str = "<svg xmlns=\"http://www.w3.org/2000/svg\" width=\"960\" role=\"img\" font-family=\"sans-serif\" \
+font-size=\"13\"";
+
+/// The colors of a picture, in light and in dark.
+const STYLE: &str = "<style>
+.paper { fill: #ffffff } text { fill: #1f2328 } .end { text-anchor: end } .middle { text-anchor: middle }
+.title { font-weight: bold } .line { fill: #8c959f } .grid { fill: #d8dee4 }
+.again { fill: #0969da } .earlier { fill: #54aeff } .fresh { fill: #e3a008 }
+.sent { fill: #0969da } .skipped { fill: #b6bfc9 } .dirtied { fill: #cf222e } .rate { fill: #2da44e }
+.stop { fill: #1f2328 } .down { fill: #cf222e; fill-opacity: 0.35 } .span { fill: #57606a; fill-opacity: 0.22 }
+.limit { fill: #cf222e } .best { fill: #2da44e } .worst { fill: #bc4c00 }
+.known { fill: none; stroke: #0969da; stroke-width: 2 } .late { fill: none; stroke: #b6bfc9; stroke-width: 2 }
+.knownkey { fill: #0969da } .latekey { fill: #b6bfc9 }
+@media (prefers-color-scheme: dark) {
+.paper { fill: #0d1117 } text { fill: #e6edf3 } .line { fill: #6e7681 } .grid { fill: #30363d }
+.again { fill: #388bfd } .earlier { fill: #79c0ff } .fresh { fill: #d29922 }
+.sent { fill: #388bfd } .skipped { fill: #484f58 } .dirtied { fill: #ff7b72 } .rate { fill: #3fb950 }
+.stop { fill: #e6edf3 } .down { fill: #ff7b72 } .span { fill: #8b949e }
+.limit { fill: #ff7b72 } .best { fill: #3fb950 } .worst { fill: #ffa657 }
+.known { stroke: #388bfd } .late { stroke: #484f58 } .knownkey { fill: #388bfd } .latekey { fill: #484f58 }
+}
+</style>
+";
+
+/// Begins a picture of this height.
+pub(crate) fn begin_picture(text: &mut Vec<u8>, height: u64) -> Result<(), AllocError> {
+    push_words(text, HEAD)?;
+    push_field(text, " height=\"", height)?;
+    push_field(text, "\" viewBox=\"0 0 960 ", height)?;
+    push_words(text, "\">\n")?;
+    push_words(text, STYLE)?;
+    let paper = Area {
+        x: 0,
+        y: 0,
+        width: 960,
+        height,
+    };
+    push_rect(text, "paper", &paper)
+}
+
+/// Ends a picture.
+pub(crate) fn end_picture(text: &mut Vec<u8>) -> Result<(), AllocError> {
+    push_words(text, "</svg>\n")
+}
+
 /// Appends some words.
 pub(crate) fn push_words(text: &mut Vec<u8>, words: &str) -> Result<(), AllocError> {
     text.extend_from_slice(words.as_bytes())

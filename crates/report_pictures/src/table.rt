@@ -26,6 +26,11 @@ pub(crate) struct Part {
     pub(crate) count: u64,
 }
 
+/// Appends some words.
+pub(crate) fn push_words(text: &mut Vec<u8>, words: &str) -> Result<(), AllocError> {
+    text.extend_from_slice(words.as_bytes())
+}
+
 /// Appends an empty line.
 pub(crate) fn push_blank(text: &mut Vec<u8>) -> Result<(), AllocError> {
     Ok(text.push(b'\n')?)
@@ -45,8 +50,20 @@ fn column_width(name: &str, most: u64) -> usize {
     digits.format(most).len().max(name.len())
 }
 
+/// Appends words at the right end of a column.
+pub(crate) fn push_right(
+    text: &mut Vec<u8>,
+    width: usize,
+    words: &[u8],
+) -> Result<(), AllocError> {
+    for _ in words.len()..width {
+        text.push(b' ')?;
+    }
+    text.extend_from_slice(words)
+}
+
 /// Returns how many of some cells a part takes of a bar for the greatest number.
-fn part_cells(count: u64, most: u64, cells: usize) -> usize {
+pub(crate) fn part_cells(count: u64, most: u64, cells: usize) -> usize {
     let share = count.saturating_mul(cells as u64) / most.max(1);
     share.min(cells as u64) as usize
 }

@@ -9,6 +9,7 @@ ghost use Rattle.page_versions.specs.Index.{IsIndexOf};
 
 use crate::dealing::{deal_out, know_parts};
 use crate::error::CopyError;
+use crate::frames::CurrentPages;
 use crate::workers::frames_by_workers;
 use collector::Part;
 use dirty_words::Closed;
@@ -47,7 +48,12 @@ pub fn final_copy<R: Threads + Wait + Sync, W: WriteLog + Sync>(
     // For the proof: `shape` promises that a guest has at most 65,536 pages.
     let _ = trace.shape();
     let marked = pages_in(alloc, &closed.dirty)?;
-    let frames = frames_by_workers(rt, alloc, trace, index, &closed.versions, &marked, workers)?;
+    let current = CurrentPages {
+        trace,
+        index,
+        versions: &closed.versions,
+    };
+    let frames = frames_by_workers(rt, alloc, &current, &marked, workers)?;
     let mut parts = parts;
     know_parts(&parts);
     let mut dealer = Dealer::new(streams);

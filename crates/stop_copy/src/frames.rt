@@ -11,44 +11,40 @@ use page_message::{Frame, frame_of};
 use page_versions::PageIndex;
 use std::alloc::Global;
 
-/// Returns the frame of a page at its version.
-fn frame_at<W: WriteLog>(
-    alloc: Global,
-    trace: &W,
-    index: &PageIndex,
-    versions: &[u32],
-    page: u32,
-) -> Result<Frame, CopyError>
-    requires of { IsIndexOf index.now (W.trace trace.now) }
-    requires page { page < (W.trace trace.now).pages }
-    requires versions { length versions.now ≡ (W.trace trace.now).pages }
-    requires low { All (λ version. version ≤ length (W.trace trace.now).writes) versions.now }
-    ensures frame { IfOk result (IsCurrentFrame (W.trace trace.now) versions.now) }
-    ensures own { IfOk result (λ frame. frame.page ≡ page) }
-{
-    let shape = trace.shape();
-    let version = versions[page as usize];
-    let bytes = index.bytes_at(alloc, trace, page, version)?;
-    Ok(frame_of(&shape, page, version, bytes))
+/// The guest's pages, each at a version of its own.
+#[derive(Drop)]
+pub(crate) struct CurrentPages<'a, W: WriteLog> {
+    pub(crate) trace: &'a W,
+    pub(crate) index: &'a PageIndex,
+    pub(crate) versions: &'a [u32],
+    pub(crate) ghost is_index: { IsIndexOf index.now (W.trace trace.now) },
+    pub(crate) ghost count: { length versions.now ≡ (W.trace trace.now).pages },
+    pub(crate) ghost low: { All (λ version. version ≤ length (W.trace trace.now).writes) versions.now },
 }
 
-/// Returns the frames of these pages, in order, each at its version.
-pub(crate) fn frames_of<W: WriteLog>(
-    alloc: Global,
-    trace: &W,
-    index: &PageIndex,
-    versions: &[u32],
-    pages: &[u32],
-) -> Result<Vec<Frame>, CopyError>
-    requires of { IsIndexOf index.now (W.trace trace.now) }
-    requires pages { All (λ page. page < (W.trace trace.now).pages) pages.now }
-    requires versions { length versions.now ≡ (W.trace trace.now).pages }
-    requires low { All (λ version. version ≤ length (W.trace trace.now).writes) versions.now }
-    ensures { IfOk result (λ frames. AreCurrentFrames (W.trace trace.now) versions.now pages.now frames.items) }
-{
-    let mut frames = Vec::with_capacity(alloc, pages.len())?;
-    for page in pages {
-        frames.push(frame_at(alloc, trace, index, versions, *page)?)?;
+impl<'a, W: WriteLog> CurrentPages<'a, W> {
+    /// Returns the frame of a page at its version.
+    fn frame_at(&self, alloc: Global, page: u32) -> Result<Frame, CopyError>
+        requires { page < (W.trace self.now.trace.now).pages }
+        ensures frame { IfOk result (IsCurrentFrame (W.trace self.now.trace.now) self.now.versions.now) }
+        ensures own { IfOk result (λ frame. frame.page ≡ page) }
+    {
+        let shape = self.trace.shape();
+        let version = self.versions[page as usize];
+        let bytes = self.index.bytes_at(alloc, self.trace, page, version)?;
+        Ok(frame_of(&shape, page, version, bytes))
     }
-    Ok(frames)
+
+    /// Returns the frames of these pages, in order, each at its version.
+    pub(crate) fn frames_of(&self, alloc: Global, pages: &[u32]) -> Result<Vec<Frame>, CopyError>
+        requires { All (λ page. page < (W.trace self.now.trace.now).pages) pages.now }
+        ensures { IfOk result (λ frames. AreCurrentFrames (W.trace self.now.trace.now) self.now.versions.now
+            pages.now frames.items) }
+    {
+        let mut frames = Vec::with_capacity(alloc, pages.len())?;
+        for page in pages {
+            frames.push(self.frame_at(alloc, *page)?)?;
+        }
+        Ok(frames)
+    }
 }

@@ -8,7 +8,7 @@ ghost use Rattle.stop_copy.specs.Copies.{AreCurrentFrames};
 ghost use Rattle.stop_copy.specs.Pieces.{AreMadeOf};
 
 use crate::error::CopyError;
-use crate::frames::frames_of;
+use crate::frames::CurrentPages;
 use guest_log::WriteLog;
 use joined_threads::join_all;
 use page_message::Frame;
@@ -18,7 +18,7 @@ use std::sync::Wait;
 use std::thread;
 use std::thread::{Promise, PromisedHandle, Scope, Threads};
 
-/// To make the frames of so many pages takes longer than a thread takes to start.
+/// Making the frames of this many pages takes longer than starting a thread.
 const WORTH_A_THREAD: usize = 512;
 
 /// The frames that a thread made of its piece of the pages, or why it could not.
@@ -41,33 +41,40 @@ impl<'a, W: WriteLog> Promise<Made> for MakesFrames<'a, W> {
 fn start_piece<'s, E, W: WriteLog + Sync>(
     scope: &'s Scope<'s, E>,
     alloc: Global,
-    trace: &'s W,
-    index: &'s PageIndex,
-    versions: &'s [u32],
+    current: &CurrentPages<'s, W>,
     pages: &'s [u32],
 ) -> Result<PromisedHandle<Made, MakesFrames<'s, W>>, CopyError>
-    requires of { IsIndexOf index.now (W.trace trace.now) }
-    requires pages { All (λ page. page < (W.trace trace.now).pages) pages.now }
-    requires versions { length versions.now ≡ (W.trace trace.now).pages }
-    requires low { All (λ version. version ≤ length (W.trace trace.now).writes) versions.now }
+    requires { All (λ page. page < (W.trace current.now.trace.now).pages) pages.now }
     ensures refused { IfErr result (λ e. e ≡ CopyError.Thread) }
-    ensures trace { IfOk result (λ h. W.trace h.promise.trace.now ≡ W.trace trace.now) }
-    ensures versions { IfOk result (λ h. h.promise.versions.now ≡ versions.now) }
+    ensures trace { IfOk result (λ h. W.trace h.promise.trace.now ≡ W.trace current.now.trace.now) }
+    ensures versions { IfOk result (λ h. h.promise.versions.now ≡ current.now.versions.now) }
     ensures pages { IfOk result (λ h. h.promise.pages.now ≡ pages.now) }
 {
+    let CurrentPages {
+        trace,
+        index,
+        versions,
+    } = *current;
     let promise = MakesFrames {
         trace,
         versions,
         pages,
     };
     let run = move || -> Made
-        requires of { IsIndexOf index.now (W.trace trace.now) }
-        requires pages { All (λ page. page < (W.trace trace.now).pages) pages.now }
-        requires versions { length versions.now ≡ (W.trace trace.now).pages }
+        requires is_index { IsIndexOf index.now (W.trace trace.now) }
+        requires count { length versions.now ≡ (W.trace trace.now).pages }
         requires low { All (λ version. version ≤ length (W.trace trace.now).writes) versions.now }
+        requires pages { All (λ page. page < (W.trace trace.now).pages) pages.now }
         ensures { IfOk result (λ frames. AreCurrentFrames (W.trace trace.entry.now) versions.entry.now
             pages.entry.now frames.items) }
-    { frames_of(alloc, trace, index, versions, pages) };
+    {
+        let current = CurrentPages {
+            trace,
+            index,
+            versions,
+        };
+        current.frames_of(alloc, pages)
+    };
     Ok(scope.spawn_with(promise, run)?)
 }
 
@@ -75,28 +82,23 @@ fn start_piece<'s, E, W: WriteLog + Sync>(
 fn start_pieces<'s, E, W: WriteLog + Sync>(
     scope: &'s Scope<'s, E>,
     alloc: Global,
-    trace: &'s W,
-    index: &'s PageIndex,
-    versions: &'s [u32],
+    current: &CurrentPages<'s, W>,
     pages: &'s [u32],
     size: usize,
     handles: &mut Vec<PromisedHandle<Made, MakesFrames<'s, W>>>,
 ) -> Result<(), CopyError>
-    requires of { IsIndexOf index.now (W.trace trace.now) }
-    requires pages { All (λ page. page < (W.trace trace.now).pages) pages.now }
-    requires versions { length versions.now ≡ (W.trace trace.now).pages }
-    requires low { All (λ version. version ≤ length (W.trace trace.now).writes) versions.now }
+    requires pages { All (λ page. page < (W.trace current.now.trace.now).pages) pages.now }
     requires size { 1 ≤ size }
     requires none { handles.old.items ≡ [] }
     ensures pieces { OnOk result (flat_map (λ h. h.promise.pages.now) handles.new.items ≡ pages.now) }
-    ensures same { OnOk result (All (λ h. (W.trace h.promise.trace.now ≡ W.trace trace.now)
-        × (h.promise.versions.now ≡ versions.now)) handles.new.items) }
+    ensures same { OnOk result (All (λ h. (W.trace h.promise.trace.now ≡ W.trace current.now.trace.now)
+        × (h.promise.versions.now ≡ current.now.versions.now)) handles.new.items) }
 {
     let mut rest = pages;
     while !rest.is_empty() {
         let (piece, behind) = rest.split_at(rest.len().min(size));
         handles.reserve(1)?;
-        let handle = start_piece(scope, alloc, trace, index, versions, piece)?;
+        let handle = start_piece(scope, alloc, current, piece)?;
         handles.push_reserved(handle);
         rest = behind;
     }
@@ -108,30 +110,17 @@ fn make_in_scope<'s, E, R: Threads, W: WriteLog + Sync>(
     rt: &R,
     scope: &'s Scope<'s, E>,
     alloc: Global,
-    trace: &'s W,
-    index: &'s PageIndex,
-    versions: &'s [u32],
+    current: &CurrentPages<'s, W>,
     pages: &'s [u32],
     size: usize,
 ) -> Result<Vec<Made>, CopyError>
-    requires of { IsIndexOf index.now (W.trace trace.now) }
-    requires pages { All (λ page. page < (W.trace trace.now).pages) pages.now }
-    requires versions { length versions.now ≡ (W.trace trace.now).pages }
-    requires low { All (λ version. version ≤ length (W.trace trace.now).writes) versions.now }
+    requires pages { All (λ page. page < (W.trace current.now.trace.now).pages) pages.now }
     requires size { 1 ≤ size }
-    ensures { IfOk result (λ made. AreMadeOf (W.trace trace.now) versions.now pages.now made.items) }
+    ensures { IfOk result (λ made. AreMadeOf (W.trace current.now.trace.now) current.now.versions.now
+        pages.now made.items) }
 {
     let mut handles = Vec::new(alloc);
-    let started = start_pieces(
-        scope,
-        alloc,
-        trace,
-        index,
-        versions,
-        pages,
-        size,
-        &mut handles,
-    );
+    let started = start_pieces(scope, alloc, current, pages, size, &mut handles);
     let made = join_all(rt, handles);
     started?;
     Ok(made?)
@@ -156,35 +145,43 @@ fn all_frames(alloc: Global, made: Vec<Made>) -> Result<Vec<Frame>, CopyError>
 pub(crate) fn frames_by_workers<R: Threads + Wait + Sync, W: WriteLog + Sync>(
     rt: &R,
     alloc: Global,
-    trace: &W,
-    index: &PageIndex,
-    versions: &[u32],
+    current: &CurrentPages<'_, W>,
     pages: &[u32],
     workers: usize,
 ) -> Result<Vec<Frame>, CopyError>
-    requires of { IsIndexOf index.now (W.trace trace.now) }
-    requires pages { All (λ page. page < (W.trace trace.now).pages) pages.now }
-    requires versions { length versions.now ≡ (W.trace trace.now).pages }
-    requires low { All (λ version. version ≤ length (W.trace trace.now).writes) versions.now }
+    requires pages { All (λ page. page < (W.trace current.now.trace.now).pages) pages.now }
     requires some { 1 ≤ workers }
-    ensures { IfOk result (λ frames. AreCurrentFrames (W.trace trace.now) versions.now pages.now frames.items) }
+    ensures { IfOk result (λ frames. AreCurrentFrames (W.trace current.now.trace.now) current.now.versions.now
+        pages.now frames.items) }
 {
     let size = (pages.len() / workers + 1).max(WORTH_A_THREAD);
     if pages.len() <= size {
-        return frames_of(alloc, trace, index, versions, pages);
+        return current.frames_of(alloc, pages);
     }
+    let CurrentPages {
+        trace,
+        index,
+        versions,
+    } = *current;
     let made = thread::scope(
         thread::scope_env(),
         rt,
         |scope| -> Result<Vec<Made>, CopyError>
-            requires of { IsIndexOf index.now (W.trace trace.now) }
-            requires pages { All (λ page. page < (W.trace trace.now).pages) pages.now }
-            requires versions { length versions.now ≡ (W.trace trace.now).pages }
+            requires is_index { IsIndexOf index.now (W.trace trace.now) }
+            requires count { length versions.now ≡ (W.trace trace.now).pages }
             requires low { All (λ version. version ≤ length (W.trace trace.now).writes) versions.now }
+            requires pages { All (λ page. page < (W.trace trace.now).pages) pages.now }
             requires size { 1 ≤ size }
             ensures { IfOk result (λ made. AreMadeOf (W.trace trace.entry.now) versions.entry.now
                 pages.entry.now made.items) }
-        { make_in_scope(rt, scope, alloc, trace, index, versions, pages, size) },
+        {
+            let current = CurrentPages {
+                trace,
+                index,
+                versions,
+            };
+            make_in_scope(rt, scope, alloc, &current, pages, size)
+        },
     )?;
     all_frames(alloc, made)
 }

@@ -9,15 +9,18 @@ same_end : (a b : InView) → a.lane ≡ b.lane → a.taken ≡ b.taken → a.se
 same_end a b lane taken seen = λ i. record { lane = lane i; taken = taken i; seen = seen i }
 
 -- an end that took nothing, and saw nothing
-pub unchanged : (ends : List InView) (worker : ℕ) (before after : InView) → before ≡ get_or ends worker before → after.lane ≡ before.lane
+pub unchanged : (ends : List InView) (worker : ℕ) (before after : InView) → before ≡ get_or ends worker before
+    → after.lane ≡ before.lane
     → after.taken ≡ before.taken → before.seen ≡ [] → after.seen ≡ [] → set ends worker after ≡ ends
 unchanged ends worker before after there lane taken seen still =
     ap (set ends worker) (same_end after before lane taken (still ∙ sym seen) ∙ there) ∙ set-get_or ends worker before
 
-pub stood : (ends : List InView) (worker : ℕ) (before : InView) → worker < length ends → before ≡ get_or ends worker before → slice_get ends worker ≡ Some before
+pub stood : (ends : List InView) (worker : ℕ) (before : InView) → worker < length ends → before
+    ≡ get_or ends worker before → slice_get ends worker ≡ Some before
 stood ends worker before low there = slice_get-get_or ends worker before low ∙ ap (λ (e : InView). Some e) (sym there)
 
-pub none_seen : (ends : List InView) (worker : ℕ) (before end : InView) → worker < length ends → before ≡ get_or ends worker before → before.seen ≡ []
+pub none_seen : (ends : List InView) (worker : ℕ) (before end : InView) → worker < length ends → before
+    ≡ get_or ends worker before → before.seen ≡ []
     → slice_get ends worker ≡ Some end → end.seen ≡ []
 none_seen ends worker before end low there seen is =
     ap (λ (e : InView). e.seen) (same_Some end before (sym is ∙ stood ends worker before low there)) ∙ seen

@@ -23,12 +23,16 @@ texts_one old new text takes = record {
   part = takes.part;
 }
 
-pub texts_both : (old mid new : GuestPart) (first second : List (List ℕ)) → TakesTexts old mid first → TakesTexts mid new second → TakesTexts old new (first ++ second)
+pub texts_both : (old mid new : GuestPart) (first second : List (List ℕ)) → TakesTexts old mid first
+    → TakesTexts mid new second → TakesTexts old new (first ++ second)
 texts_both old mid new first second one two =
     let shape : mid.shape ≡ old.shape = ap (λ (p : GuestPart). p.shape) one.part ∙ shape-with_frames old one.frames in
     record {
       frames = one.frames ++ two.frames;
-      are_frames = All-append (IsFrame old.shape) one.frames two.frames one.are_frames (subst (λ (s : GuestShape). All (IsFrame s) two.frames) shape two.are_frames);
-      spelled = ap (λ xs. xs ++ second) one.spelled ∙ ap (λ xs. map frame_text one.frames ++ xs) two.spelled ∙ sym (map-append frame_text one.frames two.frames);
-      part = two.part ∙ ap (λ (p : GuestPart). with_frames p two.frames) one.part ∙ sym (fold-append with_frame old one.frames two.frames);
+      are_frames = All-append (IsFrame old.shape) one.frames two.frames one.are_frames
+          (subst (λ (s : GuestShape). All (IsFrame s) two.frames) shape two.are_frames);
+      spelled = ap (λ xs. xs ++ second) one.spelled ∙ ap (λ xs. map frame_text one.frames ++ xs) two.spelled
+          ∙ sym (map-append frame_text one.frames two.frames);
+      part = two.part ∙ ap (λ (p : GuestPart). with_frames p two.frames) one.part
+          ∙ sym (fold-append with_frame old one.frames two.frames);
     }

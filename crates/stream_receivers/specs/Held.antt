@@ -3,7 +3,8 @@ use Rattle.std.specs.Prelude.{◌≡◌, ℕ, List, ◌++◌, Option, Some, None
 use Rattle.std.specs.List.{All}
 use Rattle.migration_model.specs.Frames.{GuestShape, PageFrame, SpellsFrame}
 use Rattle.migration_model.specs.Parts.{GuestPart}
-use Rattle.stream_receivers.specs.Receivers.{AreFrames, HasFrames}
+use Rattle.stream_lanes.specs.Ends.{IsTakenFrom}
+use Rattle.stream_receivers.specs.Receivers.{AreFrames, HasFrames, ReceiverView}
 use Rattle.stream_receivers.specs.Texts.{TakesTexts}
 use Rattle.stream_receivers.specs.declared.error.ReceiverError.{ReceiverError}
 use Rattle.stream_receivers.specs.declared.error.ReceiverError.TheVariants.{Memory}
@@ -15,6 +16,10 @@ pub record IsHeld (shape : GuestShape) (IsText : List ℕ → Type 0)
   pub frames : refusal ≡ None → AreFrames shape IsText
   pub has : refusal ≡ None → HasFrames shape IsText part
   pub refused : AreFrames shape IsText → IfSome refusal (λ e. e ≡ Memory)
+
+-- what is known of a receiver's part, of all that was taken from its lanes
+abbrev pub IsReceiver : ReceiverView → Type 0
+IsReceiver r = IsHeld r.part.shape (IsTakenFrom r.ends) r.part r.refusal
 
 -- These texts came, with this refusal before and after: they were taken, or one of them is refused, or one was before.
 -- Only memory is refused where they are frames.

@@ -1,19 +1,20 @@
 -- The receiver of a stream: the lanes that it takes frames from, and the part that they come into. This project's own.
-use Rattle.std.specs.Prelude.{◌≡◌, ℕ, ◌≤◌, Bool, false, List, [], ◌∷◌, ◌++◌, Some, length, slice_get, slice_set}
+use Rattle.std.specs.Prelude.{◌≡◌, ℕ, ◌≤◌, List, [], ◌∷◌, ◌++◌, Option, Some, length, slice_get, slice_set}
 use Rattle.std.specs.List.{All}
 use Rattle.migration_model.specs.Frames.{GuestShape, PageFrame, SpellsFrame}
 use Rattle.migration_model.specs.Parts.{GuestPart, PageCopy, IsPart, copy_at, copy_in}
-use Rattle.stream_lanes.specs.Ends.{OutView, InView, Begins, IsLane, IsTakenFrom, SameIn}
+use Rattle.stream_lanes.specs.Ends.{OutView, InView, Begins, IsLane, SameIn}
+use Rattle.stream_receivers.specs.declared.error.ReceiverError.{ReceiverError}
 
 -- the lanes of a stream as their receiver holds them, in order of the workers; what came of the guest's memory; and
--- whether a frame was refused
+-- why a frame was refused, if one was: the first refusal
 pub record ReceiverView : Type 0 where
   pub ends : List InView
   pub part : GuestPart
-  pub is_refused : Bool
+  pub refusal : Option ReceiverError
 
-abbrev pub receiver_with : List InView → GuestPart → Bool → ReceiverView
-receiver_with ends part is_refused = record { ends = ends; part = part; is_refused = is_refused }
+abbrev pub receiver_with : List InView → GuestPart → Option ReceiverError → ReceiverView
+receiver_with ends part refusal = record { ends = ends; part = part; refusal = refusal }
 
 -- each of these byte strings is the encoding of a frame
 abbrev pub AreFrames : GuestShape → (List ℕ → Type 0) → Type 0
@@ -29,11 +30,6 @@ pub record HasFrames (shape : GuestShape) (IsText : List ℕ → Type 0) (part :
       × (copy ≡ copy_in shape frame)
   pub came : (text : List ℕ) (frame : PageFrame) → IsText text → SpellsFrame shape text frame
       → (copy : PageCopy) × (copy_at part frame.page ≡ Some copy) × (frame.stamp ≤ copy.stamp)
-
--- the part has what was taken, where that was frames and none was refused
-abbrev pub IsReceiver : ReceiverView → Type 0
-IsReceiver r = r.is_refused ≡ false → AreFrames r.part.shape (IsTakenFrom r.ends)
-    → HasFrames r.part.shape (IsTakenFrom r.ends) r.part
 
 -- the two ends of each worker's lane
 pub record AreEnds (outs : List OutView) (ends : List InView) : Type 0 where

@@ -1,12 +1,13 @@
 //! The receiver of a stream.
 
-ghost use Rattle.std.specs.Prelude.{◌≡◌, ◌<◌, IfErr, IfOk, IfSome, IsErr, IsTrue, Some, [], false, length, map};
-ghost use Rattle.std.specs.Prelude.{slice_get, true};
+ghost use Rattle.std.specs.Prelude.{◌≡◌, ◌<◌, Err, IfErr, IfOk, IfSome, IsTrue, None, Some, [], false, is_some};
+ghost use Rattle.std.specs.Prelude.{length, map, slice_get};
 ghost use Rattle.std.specs.List.{All};
 ghost use Rattle.migration_model.specs.Parts.{empty_part};
 ghost use Rattle.page_message.specs.Shapes.{shape_of};
 ghost use Rattle.stream_lanes.specs.Ends.{InView, IsSentOn};
-ghost use Rattle.stream_receivers.specs.Receivers.{AreEnds, AreFrames, HasFrames, IsReceiver, TakesOne, receiver_with};
+ghost use Rattle.stream_receivers.specs.Held.{IsReceiver};
+ghost use Rattle.stream_receivers.specs.Receivers.{AreEnds, AreFrames, HasFrames, TakesOne, receiver_with};
 
 use crate::error::ReceiverError;
 use crate::taking::{accept, accept_rests, give_back};
@@ -28,7 +29,6 @@ pub struct Receiver {
 }
 
 impl Model for Receiver {
-    ghost use Rattle.std.specs.Prelude.{is_some};
     ghost use Rattle.stream_receivers.specs.Receivers.{ReceiverView, receiver_with};
 
     ghost Value = { ReceiverView };
@@ -36,7 +36,7 @@ impl Model for Receiver {
     ghost use Rattle.stream_lanes.specs.Ends.{IsTakenFrom};
     ghost use Rattle.stream_receivers.specs.Held.{IsHeld};
 
-    ghost view = { λ r. receiver_with r.ends.items r.part (is_some r.refusal) };
+    ghost view = { λ r. receiver_with r.ends.items r.part r.refusal };
 
     ghost invariant = { λ r. IsHeld r.part.shape (IsTakenFrom r.ends.items) r.part r.refusal };
 }
@@ -46,7 +46,7 @@ impl Receiver {
     /// nothing.
     pub fn new(alloc: Global, shape: Shape, ends: Vec<LaneIn>) -> Receiver
         requires { All (λ end. end.taken ≡ []) ends.items }
-        ensures { result ≡ receiver_with ends.items (empty_part (shape_of shape)) false }
+        ensures { result ≡ receiver_with ends.items (empty_part (shape_of shape)) None }
     {
         Receiver {
             ends,
@@ -65,7 +65,7 @@ impl Receiver {
 
     /// Returns whether a frame was refused.
     pub fn is_refused(&self) -> bool
-        ensures { result ≡ self.now.is_refused }
+        ensures { result ≡ is_some self.now.refusal }
     {
         self.refusal.is_some()
     }
@@ -76,7 +76,7 @@ impl Receiver {
         requires { worker < length self.old.ends }
         ensures lanes { map (λ end. end.lane) self.new.ends ≡ map (λ end. end.lane) self.old.ends }
         ensures shape { self.new.part.shape ≡ self.old.part.shape }
-        ensures refused { self.old.is_refused ≡ true → self.new.is_refused ≡ true }
+        ensures refused { IfSome self.old.refusal (λ e. self.new.refusal ≡ Some e) }
         ensures none { result ≡ false → self.new ≡ self.old }
         ensures seen { result ≡ false → (end : InView) → slice_get self.old.ends worker ≡ Some end → end.seen ≡ [] }
         ensures some { IsTrue result → TakesOne worker self.old.ends self.new.ends }
@@ -97,7 +97,7 @@ impl Receiver {
         ensures received { AreFrames self.part.shape (IsSentOn outs.items)
             → IfOk result (HasFrames self.part.shape (IsSentOn outs.items)) }
         ensures frames { IfOk result (λ _. AreFrames self.part.shape (IsSentOn outs.items)) }
-        ensures refused { self.is_refused ≡ true → IsErr result }
+        ensures refused { IfSome self.refusal (λ e. result ≡ Err e) }
         ensures only { AreFrames self.part.shape (IsSentOn outs.items) → IfErr result (λ e. e ≡ ReceiverError.Memory) }
     {
         let Receiver {

@@ -1,2 +1,3 @@
 pub mod Cheapest
 pub mod Numbered
+pub mod JsonNumbers

@@ -1,7 +1,9 @@
 -- Reports and sweeps as JSON documents: the tokens of each, in order. The names are those of the texts.
-use Rattle.std.specs.Prelude.{ℕ, ◌^◌, Bool, List, [], ◌∷◌, ◌++◌, length, codes}
+use Rattle.std.specs.Prelude.{ℕ, ◌+◌, ◌*◌, ◌/◌, ◌%◌, ◌^◌, Bool, List, [], ◌∷◌, ◌++◌, length, codes}
+use Rattle.std.specs.Prelude.{Option, None, Some}
 use Rattle.std.specs.Fmt.{decimal}
 use Rattle.std.specs.List.{flat_map, enumerate_from}
+use Rattle.guest_units.specs.Scales.{TraceScale, bytes_of, micros_of}
 use Rattle.json.specs.Token.{Token, begin_object, end_object, begin_array, end_array, key, string, number, boolean}
 use Rattle.json.specs.Print.{print}
 use Rattle.migration_model.specs.Rates.{MigrationSettings, word_of}
@@ -23,6 +25,19 @@ text_member name text = key name ∷ string text ∷ []
 unfoldable pub flag_member : List ℕ → Bool → List Token
 flag_member name flag = key name ∷ boolean flag ∷ []
 
+-- the last six decimal digits of a number; 48 is `0`
+unfoldable pub six_digits : ℕ → List ℕ
+six_digits n = (48 + n / 100_000) ∷ (48 + n / 10_000 % 10) ∷ (48 + n / 1_000 % 10) ∷ (48 + n / 100 % 10)
+    ∷ (48 + n / 10 % 10) ∷ (48 + n % 10) ∷ []
+
+-- millionths as a number, with six digits behind the point (46)
+unfoldable pub millionths_text : ℕ → List ℕ
+millionths_text n = decimal (n / 1_000_000) ++ 46 ∷ six_digits (n % 1_000_000)
+
+-- a member whose value is a time in seconds, of so many microseconds, or another number of millionths
+unfoldable pub seconds_member : List ℕ → ℕ → List Token
+seconds_member name micros = key name ∷ number (millionths_text micros) ∷ []
+
 -- an object with these members, and an array of these items
 abbrev pub object_of : List (List Token) → List Token
 object_of members = begin_object ∷ (flat_map (λ m. m) members ++ end_object ∷ [])
@@ -42,11 +57,28 @@ trace_object pages size writes =
     object_of (number_member (codes "pages") pages ∷ number_member (codes "size") size ∷ number_member
     (codes "writes") writes ∷ [])
 
-abbrev pub window_object : WindowRow → List Token
-window_object row =
+-- what ticks, windows of so many ticks, and pages stand for, where that is known
+abbrev pub units_object : TraceScale → ℕ → List Token
+units_object scale length =
+    object_of (seconds_member (codes "tick_seconds") scale.tick ∷ seconds_member
+    (codes "window_seconds") (micros_of scale length)
+    ∷ number_member (codes "page_bytes") scale.page ∷ number_member (codes "sampled_pages") scale.sampled
+    ∷ number_member (codes "guest_pages") scale.guest ∷ [])
+
+abbrev pub units_member : Option TraceScale → ℕ → List Token
+units_member None length = []
+units_member (Some scale) length = member_of (codes "units") (units_object scale length)
+
+-- the bytes of the guest that are written in a window, where they are known
+abbrev pub window_units : Option TraceScale → WindowRow → List (List Token)
+window_units None row = []
+window_units (Some scale) row = number_member (codes "bytes") (bytes_of scale row.pages) ∷ []
+
+abbrev pub window_object : Option TraceScale → WindowRow → List Token
+window_object scale row =
     object_of (number_member (codes "window") row.number ∷ number_member (codes "writes") row.writes ∷ number_member
     (codes "pages") row.pages
-    ∷ number_member (codes "again") row.again ∷ number_member (codes "fresh") row.fresh ∷ [])
+    ∷ number_member (codes "again") row.again ∷ number_member (codes "fresh") row.fresh ∷ window_units scale row)
 
 -- the setting that makes a page hot, and the hot pages
 abbrev pub hot_object : ℕ → List ℕ → List Token
@@ -54,40 +86,67 @@ hot_object hot pages =
     object_of (number_member (codes "windows") hot ∷ member_of (codes "pages")
     (array_of (flat_map (λ page. number_token page ∷ []) pages)) ∷ [])
 
+-- the times, the bytes and the share of the link of a round, where they are known; `max` is the rate of the link
+abbrev pub round_measures : TraceScale → ℕ → PlannedRound → List (List Token)
+round_measures scale max round =
+    seconds_member (codes "from_seconds") (micros_of scale round.from) ∷ seconds_member
+    (codes "to_seconds") (micros_of scale round.to)
+    ∷ number_member (codes "sent_bytes") (bytes_of scale (length round.sent)) ∷ number_member
+    (codes "dirtied_bytes") (bytes_of scale round.dirtied)
+    ∷ seconds_member (codes "link_share") (round.rate * 1_000_000 / max) ∷ []
+
+abbrev pub round_units : Option TraceScale → ℕ → PlannedRound → List (List Token)
+round_units None max round = []
+round_units (Some scale) max round = round_measures scale max round
+
 -- a round of a plan, by its number
-abbrev pub round_object : ℕ → PlannedRound → List Token
-round_object n round =
+abbrev pub round_object : Option TraceScale → ℕ → ℕ → PlannedRound → List Token
+round_object scale max n round =
     object_of (number_member (codes "round") n ∷ number_member (codes "from") round.from ∷ number_member
     (codes "to") round.to
     ∷ number_member (codes "rate") round.rate ∷ number_member (codes "pages") (length round.pages)
-    ∷ number_member (codes "sent") (length round.sent) ∷ number_member (codes "dirtied") round.dirtied ∷ [])
+    ∷ number_member (codes "sent") (length round.sent) ∷ number_member (codes "dirtied") round.dirtied
+    ∷ round_units scale max round)
 
 -- the rounds of a plan, numbered from the first
-abbrev pub round_objects : List PlannedRound → List Token
-round_objects rounds = flat_map (λ at. round_object at.0 at.1) (enumerate_from 0 rounds)
+abbrev pub round_objects : Option TraceScale → ℕ → List PlannedRound → List Token
+round_objects scale max rounds = flat_map (λ at. round_object scale max at.0 at.1) (enumerate_from 0 rounds)
+
+-- the times and the bytes of the end of a plan, where they are known
+abbrev pub stop_measures : TraceScale → MigrationPlan → List (List Token)
+stop_measures scale plan =
+    seconds_member (codes "at_seconds") (micros_of scale plan.stop) ∷ number_member
+    (codes "bytes") (bytes_of scale (length plan.last))
+    ∷ seconds_member (codes "down_seconds") (micros_of scale plan.down) ∷ number_member
+    (codes "total_bytes") (bytes_of scale (total_of plan)) ∷ []
+
+abbrev pub stop_units : Option TraceScale → MigrationPlan → List (List Token)
+stop_units None plan = []
+stop_units (Some scale) plan = stop_measures scale plan
 
 -- the end of a plan
-abbrev pub stop_object : MigrationPlan → List Token
-stop_object plan =
+abbrev pub stop_object : Option TraceScale → MigrationPlan → List Token
+stop_object scale plan =
     object_of (text_member (codes "why") (word_of plan.reason) ∷ number_member (codes "at") plan.stop ∷ number_member
     (codes "pages") (length plan.last)
-    ∷ number_member (codes "down") plan.down ∷ number_member (codes "total") (total_of plan) ∷ [])
+    ∷ number_member (codes "down") plan.down ∷ number_member (codes "total") (total_of plan) ∷ stop_units scale plan)
 
 -- the members of a report on working sets, and on a plan
-abbrev pub sets_members : ℕ → WorkingSets → List Token
-sets_members hot sets =
-    member_of (codes "windows") (array_of (flat_map window_object sets.windows)) ++ member_of (codes "hot")
+abbrev pub sets_members : Option TraceScale → ℕ → WorkingSets → List Token
+sets_members scale hot sets =
+    member_of (codes "windows") (array_of (flat_map (window_object scale) sets.windows)) ++ member_of (codes "hot")
     (hot_object hot sets.hot)
 
-abbrev pub plan_members : MigrationPlan → List Token
-plan_members plan =
-    member_of (codes "rounds") (array_of (round_objects plan.rounds)) ++ member_of (codes "stop") (stop_object plan)
+abbrev pub plan_members : Option TraceScale → ℕ → MigrationPlan → List Token
+plan_members scale max plan =
+    member_of (codes "rounds") (array_of (round_objects scale max plan.rounds)) ++ member_of
+    (codes "stop") (stop_object scale plan)
 
--- the facts of a report
-abbrev pub report_object : ℕ → ℕ → ℕ → ℕ → WorkingSets → MigrationPlan → List Token
-report_object shift pages writes hot sets plan =
-    object_of (member_of (codes "trace") (trace_object pages (2 ^ shift) writes) ∷ sets_members hot sets ∷
-    plan_members plan ∷ [])
+-- the facts of a report, in ticks and pages, and in times and bytes of the guest where they are known
+abbrev pub report_object : ℕ → ℕ → ℕ → MigrationSettings → Option TraceScale → WorkingSets → MigrationPlan → List Token
+report_object shift pages writes s scale sets plan =
+    object_of (member_of (codes "trace") (trace_object pages (2 ^ shift) writes) ∷ units_member scale s.window
+    ∷ sets_members scale s.hot sets ∷ plan_members scale s.max plan ∷ [])
 
 -- ---- the parts of a sweep
 

@@ -1,5 +1,6 @@
 -- What a view of a trace shows.
-use Rattle.std.specs.Prelude.{◌≡◌, ℕ, ◌≤◌, Bool, true, List, length}
+use Rattle.std.specs.Prelude.{◌≡◌, ℕ, ◌≤◌, Bool, true, List, length, Option}
+use Rattle.guest_units.specs.Scales.{TraceScale}
 use Rattle.migration_model.specs.Rates.{MigrationSettings}
 use Rattle.migration_model.specs.Rounds.{IsPlan, MigrationPlan}
 use Rattle.migration_model.specs.Sweeps.{SweepLine, AreLines}
@@ -9,17 +10,22 @@ use Rattle.trace_views.specs.Advice.{IsAdvice}
 use Rattle.trace_views.specs.AdviceText.{EndsWithCase, case_of}
 use Rattle.trace_views.specs.Json.{line_of, report_object, sweep_object}
 use Rattle.trace_views.specs.PredictionViews.{IsPredictionView}
+use Rattle.trace_views.specs.StartViews.{IsStartsView, RefusesStartsView}
 use Rattle.trace_views.specs.declared.budget.Advice.{Advice}
 use Rattle.trace_views.specs.declared.budget.Budget.{Budget}
+use Rattle.trace_views.specs.declared.error.ViewError.{ViewError}
+use Rattle.trace_views.specs.declared.error.ViewError.TheVariants.{Memory}
 use Rattle.trace_views.specs.declared.view.View.{View}
 use Rattle.trace_views.specs.declared.view.View.TheVariants as views
 
--- the facts of a report, as a JSON document: the working sets and the plan
-pub record IsReportView (log : GuestTouches) (settings : MigrationSettings) (text : List ℕ) : Type 0 where
+-- the facts of a report, as a JSON document: the working sets and the plan, in times and bytes too where it is known
+-- what ticks and pages stand for
+pub record IsReportView (log : GuestTouches) (settings : MigrationSettings) (scale : Option TraceScale)
+    (text : List ℕ) : Type 0 where
   pub plan : MigrationPlan
   pub is_plan : IsPlan log.pages log.touches settings plan
   pub text_is : text
-      ≡ line_of (report_object log.shift log.pages (length log.touches) settings.hot
+      ≡ line_of (report_object log.shift log.pages (length log.touches) settings scale
       (working_sets_of log.pages log.touches settings) plan)
 
 -- the facts of a sweep, as a JSON document: the sums of each case's plan, and the best of them
@@ -41,10 +47,21 @@ pub record IsAdviceView (log : GuestTouches) (budget : Budget) (text : List ℕ)
 -- What a view shows of a trace, and whether a limit is kept. Nothing is said of a picture, or of a report for a
 -- terminal.
 abbrev pub IsView : GuestTouches → View → List ℕ → Bool → Type 0
-IsView log (views.JsonReport settings) text is_kept = IsReportView log settings text × (is_kept ≡ true)
+IsView log (views.JsonReport settings scale) text is_kept = IsReportView log settings scale text × (is_kept ≡ true)
 IsView log (views.JsonSweep cases workers) text is_kept = IsSweepView log cases.items text × (is_kept ≡ true)
 IsView log (views.Advise budget settings) text is_kept = IsAdviceView log budget text × (is_kept ≡ true)
-IsView log (views.Show settings style) text is_kept = is_kept ≡ true
-IsView log (views.Chart settings) text is_kept = is_kept ≡ true
+IsView log (views.Show settings scale style) text is_kept = is_kept ≡ true
+IsView log (views.Chart settings scale) text is_kept = is_kept ≡ true
+IsView log (views.When asked) text is_kept = IsStartsView log asked text is_kept
 IsView log (views.Predict settings scale limits) text is_kept =
     IsPredictionView log settings scale limits text is_kept
+
+-- why a view cannot be made: memory ran out, or there are too many starts
+abbrev pub RefusesView : GuestTouches → View → ViewError → Type 0
+RefusesView log (views.JsonReport settings scale) e = e ≡ Memory
+RefusesView log (views.JsonSweep cases workers) e = e ≡ Memory
+RefusesView log (views.Advise budget settings) e = e ≡ Memory
+RefusesView log (views.Show settings scale style) e = e ≡ Memory
+RefusesView log (views.Chart settings scale) e = e ≡ Memory
+RefusesView log (views.Predict settings scale limits) e = e ≡ Memory
+RefusesView log (views.When asked) e = RefusesStartsView log asked.starts e

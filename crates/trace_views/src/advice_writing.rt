@@ -1,6 +1,6 @@
 //! Advice as a text.
 
-ghost use Rattle.std.specs.Prelude.{◌≡◌, ◌<◌, ◌++◌, IfOk, OnOk, if◌then◌else◌, length, codes};
+ghost use Rattle.std.specs.Prelude.{◌≡◌, ◌<◌, ◌++◌, IfErr, IfOk, OnOk, if◌then◌else◌, length, codes};
 ghost use Rattle.std.specs.List.{flat_map};
 ghost use Rattle.trace_views.specs.AdviceText.{EndsWithCase, base_field, case_of, live_fields, live_line};
 
@@ -126,7 +126,8 @@ pub fn advice_text(
     advice: &Advice,
 ) -> Result<Vec<u8>, ViewError>
     requires { case_of advice.now < length lines.now }
-    ensures { IfOk result (λ text. EndsWithCase lines.now (case_of advice.now) text.items) }
+    ensures made { IfOk result (λ text. EndsWithCase lines.now (case_of advice.now) text.items) }
+    ensures refused { IfErr result (λ e. e ≡ ViewError.Memory) }
 {
     let mut text = Vec::new(alloc);
     push_budget(&mut text, budget)?;

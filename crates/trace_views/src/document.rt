@@ -3,8 +3,10 @@
 ghost use Rattle.std.specs.Prelude.{◌≡◌, ◌++◌, ◌∷◌, [], IfOk, OnOk};
 ghost use Rattle.json.specs.Print.{print};
 ghost use Rattle.json.specs.Token.{begin_array, begin_object, end_array, end_object, key};
-ghost use Rattle.trace_views.specs.Json.{flag_member, number_member, number_token, text_member};
+ghost use Rattle.trace_views.specs.Json.{flag_member, number_member, number_token, seconds_member, text_member};
 
+use crate::numbers::millionths;
+use itoa::Buffer;
 use json::Writer;
 use std::alloc::{AllocError, Global};
 use std::marker::Model;
@@ -92,6 +94,33 @@ impl Document {
     {
         self.writer.key(name)?;
         self.writer.u64(n)?;
+        Ok(())
+    }
+
+    /// Writes a member whose value is a great number.
+    #[tactic(auto, unfolding(crate::specs::Json::number_member))]
+    pub(crate) fn wide_member(&mut self, name: &str, n: u128) -> Result<(), AllocError>
+        ensures { OnOk result (self.new ≡ self.old ++ number_member name.now n) }
+    {
+        let mut digits = Buffer::new();
+        self.writer.key(name)?;
+        self.writer.number(digits.format(n))?;
+        Ok(())
+    }
+
+    /// Writes a member whose value is a time in seconds, given in microseconds, or another number of millionths.
+    #[tactic(auto, unfolding(crate::specs::Json::seconds_member))]
+    pub(crate) fn seconds_member(
+        &mut self,
+        alloc: Global,
+        name: &str,
+        micros: u128,
+    ) -> Result<(), AllocError>
+        ensures { OnOk result (self.new ≡ self.old ++ seconds_member name.now micros) }
+    {
+        let text = millionths(alloc, micros)?;
+        self.writer.key(name)?;
+        self.writer.number(text.as_str())?;
         Ok(())
     }
 

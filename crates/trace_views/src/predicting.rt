@@ -1,6 +1,6 @@
 //! Predictions of a log of touches.
 
-ghost use Rattle.std.specs.Prelude.{◌≡◌, ◌++◌, IfOk, OnOk};
+ghost use Rattle.std.specs.Prelude.{◌≡◌, ◌++◌, IfErr, IfOk, OnOk};
 ghost use Rattle.predictions.specs.Predictions.{last_tick_of};
 ghost use Rattle.trace_views.specs.PredictionViews.{IsPredictionView, predicted_text};
 
@@ -9,14 +9,14 @@ use crate::error::ViewError;
 use crate::view::Shown;
 use guest_log::Timeline;
 use guest_units::{Limits, Scale};
-use predictions::{Prediction, push_hosts, push_prediction};
+use predictions::{Errors, Prediction, push_hosts, push_prediction};
 use rate_limit::Settings;
 use round_planner::plan;
 use std::alloc::{AllocError, Global};
 use trace_readers::TouchLog;
 
 /// Returns the tick of the last touch, or 0 where there is none.
-fn last_tick(log: &TouchLog) -> u64
+pub(crate) fn last_tick(log: &TouchLog) -> u64
     ensures { result ≡ last_tick_of log.now.touches }
 {
     match log.touch_count() {
@@ -31,14 +31,22 @@ fn predicted(
     settings: &Settings,
     limits: &Limits,
     prediction: &Prediction,
+    errors: &Option<Errors>,
 ) -> Result<Vec<u8>, AllocError>
-    ensures { IfOk result (λ text. text.items ≡ predicted_text settings.now limits.now prediction.now) }
+    ensures { IfOk result (λ text. text.items ≡ predicted_text settings.now limits.now prediction.now errors.now) }
 {
     let mut text = Vec::new(alloc);
-    push_prediction(&mut text, limits.downtime, prediction)?;
+    push_prediction(&mut text, limits.downtime, prediction, errors)?;
     push_live(&mut text, settings)?;
     push_hosts(&mut text, limits)?;
     Ok(text)
+}
+
+/// Returns whether a prediction is within its limit.
+fn is_kept(prediction: &Prediction) -> bool
+    ensures { result ≡ prediction.now.cost.is_kept }
+{
+    prediction.cost.is_kept
 }
 
 /// Returns what a migration over a log will be, as a text.
@@ -49,14 +57,16 @@ pub(crate) fn prediction_view(
     limits: &Limits,
     log: &TouchLog,
 ) -> Result<Shown, ViewError>
-    ensures { IfOk result (λ shown. IsPredictionView log.now settings.now scale.now limits.now shown.text.items
+    ensures made { IfOk result (λ shown. IsPredictionView log.now settings.now scale.now limits.now shown.text.items
         shown.is_kept) }
+    ensures refused { IfErr result (λ e. e ≡ ViewError.Memory) }
 {
     let plan = plan(alloc, log, settings).or(Err(ViewError::Memory))?;
-    let start = settings.asked().start;
-    let prediction = Prediction::new(scale, limits, start, &plan, last_tick(log));
+    let asked = settings.asked();
+    let prediction = Prediction::new(scale, limits, asked.start, &plan, last_tick(log));
+    let errors = Errors::of_plan(alloc, scale, asked.max, log.page_count(), &plan)?;
     Ok(Shown {
-        text: predicted(alloc, settings, limits, &prediction)?,
-        is_kept: prediction.is_kept,
+        text: predicted(alloc, settings, limits, &prediction, &errors)?,
+        is_kept: is_kept(&prediction),
     })
 }

@@ -1,6 +1,6 @@
 //! A sweep as a JSON document.
 
-ghost use Rattle.std.specs.Prelude.{◌≡◌, ◌++◌, ◌∷◌, [], IfOk, OnOk};
+ghost use Rattle.std.specs.Prelude.{◌≡◌, ◌++◌, ◌∷◌, [], IfErr, IfOk, OnOk};
 ghost use Rattle.std.specs.List.{flat_map};
 ghost use Rattle.trace_views.specs.Json.{best_member, case_object, case_objects, line_of, outcome_members};
 ghost use Rattle.trace_views.specs.Json.{settings_members, sweep_object};
@@ -71,7 +71,8 @@ fn write_best(out: &mut Document, lines: &[Line]) -> Result<(), AllocError>
 
 /// Returns the facts of a sweep as a JSON document, in one line: its cases, and the number of the best of them.
 pub fn json_sweep(alloc: Global, lines: &[Line]) -> Result<Vec<u8>, ViewError>
-    ensures { IfOk result (λ text. text.items ≡ line_of (sweep_object lines.now)) }
+    ensures made { IfOk result (λ text. text.items ≡ line_of (sweep_object lines.now)) }
+    ensures refused { IfErr result (λ e. e ≡ ViewError.Memory) }
 {
     let mut out = Document::new(alloc);
     out.begin_object()?;

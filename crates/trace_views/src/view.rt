@@ -2,14 +2,44 @@
 
 use crate::budget::Budget;
 use guest_units::{Limits, Scale};
+use migration_starts::Starts;
 use rate_limit::Settings;
 use report_pictures::Style;
+
+/// How starts are shown.
+#[derive(Clone, Copy, Debug, PartialEq, Eq)]
+pub enum StartsForm {
+    /// As a table.
+    Table,
+    /// As a JSON document.
+    Json,
+    /// As a picture.
+    Chart,
+}
+
+/// Which migration is begun at which ticks, and how that is shown.
+#[derive(Clone, Copy, Debug)]
+pub struct AskedStarts {
+    /// The settings of the plans. Each start takes the place of theirs.
+    pub settings: Settings,
+    /// What ticks and pages stand for.
+    pub scale: Scale,
+    /// What the migration may take.
+    pub limits: Limits,
+    /// At which ticks it begins.
+    pub starts: Starts,
+    /// How the starts are shown.
+    pub form: StartsForm,
+}
 
 /// One answer about a trace.
 #[derive(Debug, Drop)]
 pub enum View {
     /// The facts of a report, as a JSON document.
-    JsonReport(Settings),
+    JsonReport {
+        settings: Settings,
+        scale: Option<Scale>,
+    },
     /// The facts of a sweep, as a JSON document. Up to so many workers, 1 to 16, plan side by side.
     JsonSweep {
         cases: Vec<Settings>,
@@ -23,16 +53,22 @@ pub enum View {
     /// The report as tables with bars, for a terminal.
     Show {
         settings: Settings,
+        scale: Option<Scale>,
         style: Style,
     },
     /// The report as a picture.
-    Chart(Settings),
+    Chart {
+        settings: Settings,
+        scale: Option<Scale>,
+    },
     /// What a migration will be, in time and bytes, and whether it keeps its limit.
     Predict {
         settings: Settings,
         scale: Scale,
         limits: Limits,
     },
+    /// What the same migration costs from each of some starts, and which is the best.
+    When(AskedStarts),
 }
 
 /// A view as a text.
@@ -40,6 +76,6 @@ pub enum View {
 pub struct Shown {
     /// The text.
     pub text: Vec<u8>,
-    /// Whether the limit of a prediction is kept. Of any other view it is true.
+    /// Whether the limit is kept: that of a prediction, or from the best of some starts. Of any other view it is true.
     pub is_kept: bool,
 }

@@ -1,8 +1,7 @@
 //! Views of a log of touches.
 
-ghost use Rattle.std.specs.Prelude.{◌≡◌, IfOk, Ok, true};
-ghost use Rattle.migration_model.specs.Sweeps.{AreLines};
-ghost use Rattle.trace_views.specs.Views.{IsAdviceView, IsReportView, IsSweepView, IsView};
+ghost use Rattle.std.specs.Prelude.{◌≡◌, Err, IfErr, IfOk, Ok, true};
+ghost use Rattle.trace_views.specs.Views.{IsAdviceView, IsReportView, IsSweepView, IsView, RefusesView};
 
 use crate::advice_writing::advice_text;
 use crate::budget::Budget;
@@ -11,56 +10,66 @@ use crate::error::ViewError;
 use crate::grid::Grid;
 use crate::predicting::prediction_view;
 use crate::report_document::json_report;
+use crate::starting::starts_view;
 use crate::sweep_document::json_sweep;
+use crate::sweeping::planned;
 use crate::view::{Shown, View};
+use guest_units::Scale;
 use rate_limit::Settings;
-use report_pictures::{Style, report_chart, report_screen};
+use report_pictures::{Style, measured_screen, report_chart, report_screen};
 use round_planner::plan;
 use std::alloc::Global;
 use std::thread::Threads;
-use sweep_report::{Line, sweep};
 use trace_readers::TouchLog;
 use working_sets::tables;
 
 /// Returns the report on a log as a JSON document.
-fn report_view(alloc: Global, settings: &Settings, log: &TouchLog) -> Result<Vec<u8>, ViewError>
-    ensures { IfOk result (λ v. IsReportView log.now settings.now v.items) }
+fn report_view(
+    alloc: Global,
+    settings: &Settings,
+    scale: &Option<Scale>,
+    log: &TouchLog,
+) -> Result<Vec<u8>, ViewError>
+    ensures made { IfOk result (λ v. IsReportView log.now settings.now scale.now v.items) }
+    ensures refused { IfErr result (λ e. e ≡ ViewError.Memory) }
 {
     let tables = tables(alloc, log, settings).or(Err(ViewError::Memory))?;
     let plan = plan(alloc, log, settings).or(Err(ViewError::Memory))?;
-    json_report(alloc, &log.shape(), settings, &tables, &plan)
+    json_report(alloc, &log.shape(), settings, scale, &tables, &plan)
 }
 
 /// Returns the report on a log as a picture.
-fn chart_view(alloc: Global, settings: &Settings, log: &TouchLog) -> Result<Vec<u8>, ViewError> {
+fn chart_view(
+    alloc: Global,
+    settings: &Settings,
+    scale: &Option<Scale>,
+    log: &TouchLog,
+) -> Result<Vec<u8>, ViewError>
+    ensures { IfErr result (λ e. e ≡ ViewError.Memory) }
+{
     let tables = tables(alloc, log, settings).or(Err(ViewError::Memory))?;
     let plan = plan(alloc, log, settings).or(Err(ViewError::Memory))?;
-    Ok(report_chart(alloc, &log.shape(), settings, &tables, &plan)?)
+    Ok(report_chart(alloc, &log.shape(), settings, scale, &tables, &plan)?)
 }
 
 /// Returns the report on a log for a terminal.
 fn screen_view(
     alloc: Global,
     settings: &Settings,
+    scale: &Option<Scale>,
     style: &Style,
     log: &TouchLog,
-) -> Result<Vec<u8>, ViewError> {
+) -> Result<Vec<u8>, ViewError>
+    ensures { IfErr result (λ e. e ≡ ViewError.Memory) }
+{
     let tables = tables(alloc, log, settings).or(Err(ViewError::Memory))?;
     let plan = plan(alloc, log, settings).or(Err(ViewError::Memory))?;
-    Ok(report_screen(alloc, style, &log.shape(), settings, &tables, &plan)?)
-}
-
-/// Returns the line of each case, planned by itself.
-fn planned<R: Threads + Sync>(
-    rt: &R,
-    alloc: Global,
-    cases: &[Settings],
-    workers: usize,
-    log: &TouchLog,
-) -> Result<Vec<Line>, ViewError>
-    ensures { IfOk result (λ lines. AreLines log.now.pages log.now.touches cases.now lines.items) }
-{
-    sweep(rt, alloc, log, cases, workers).or(Err(ViewError::Memory))
+    let shape = log.shape();
+    let text = match scale {
+        Some(scale) => measured_screen(alloc, style, scale, &shape, settings, &tables, &plan)?,
+        None => report_screen(alloc, style, &shape, settings, &tables, &plan)?,
+    };
+    Ok(text)
 }
 
 /// Returns the sweep of a log as a JSON document.
@@ -71,7 +80,8 @@ fn sweep_view<R: Threads + Sync>(
     workers: usize,
     log: &TouchLog,
 ) -> Result<Vec<u8>, ViewError>
-    ensures { IfOk result (λ v. IsSweepView log.now cases.now v.items) }
+    ensures made { IfOk result (λ v. IsSweepView log.now cases.now v.items) }
+    ensures refused { IfErr result (λ e. e ≡ ViewError.Memory) }
 {
     let lines = planned(rt, alloc, cases, workers, log)?;
     json_sweep(alloc, &lines)
@@ -85,7 +95,8 @@ fn advice_view<R: Threads + Sync>(
     settings: &Settings,
     log: &TouchLog,
 ) -> Result<Vec<u8>, ViewError>
-    ensures { IfOk result (λ v. IsAdviceView log.now budget.now v.items) }
+    ensures made { IfOk result (λ v. IsAdviceView log.now budget.now v.items) }
+    ensures refused { IfErr result (λ e. e ≡ ViewError.Memory) }
 {
     let grid = Grid::new(settings, budget);
     let cases = grid.cases(alloc)?;
@@ -98,6 +109,7 @@ fn advice_view<R: Threads + Sync>(
 /// Returns the view with this text, which has no limit to keep.
 fn shown(text: Result<Vec<u8>, ViewError>) -> Result<Shown, ViewError>
     ensures made { IfOk result (λ shown. (shown.is_kept ≡ true) × (text ≡ Ok shown.text)) }
+    ensures refused { IfErr result (λ e. text ≡ Err e) }
 {
     Ok(Shown {
         text: text?,
@@ -105,21 +117,27 @@ fn shown(text: Result<Vec<u8>, ViewError>) -> Result<Shown, ViewError>
     })
 }
 
-/// Returns a view of a trace. The error is `Memory`, where memory runs out.
+/// Returns a view of a trace.
 pub fn view_text<R: Threads + Sync>(
     rt: &R,
     alloc: Global,
     view: &View,
     log: &TouchLog,
 ) -> Result<Shown, ViewError>
-    ensures { IfOk result (λ shown. IsView log.now view.now shown.text.items shown.is_kept) }
+    ensures made { IfOk result (λ shown. IsView log.now view.now shown.text.items shown.is_kept) }
+    ensures refused { IfErr result (RefusesView log.now view.now) }
 {
     match view {
-        View::JsonReport(settings) => shown(report_view(alloc, settings, log)),
+        View::JsonReport { settings, scale } => shown(report_view(alloc, settings, scale, log)),
         View::JsonSweep { cases, workers } => shown(sweep_view(rt, alloc, cases, *workers, log)),
         View::Advise { budget, settings } => shown(advice_view(rt, alloc, budget, settings, log)),
-        View::Chart(settings) => shown(chart_view(alloc, settings, log)),
-        View::Show { settings, style } => shown(screen_view(alloc, settings, style, log)),
+        View::Chart { settings, scale } => shown(chart_view(alloc, settings, scale, log)),
+        View::Show {
+            settings,
+            scale,
+            style,
+        } => shown(screen_view(alloc, settings, scale, style, log)),
+        View::When(asked) => starts_view(rt, alloc, asked, log),
         View::Predict {
             settings,
             scale,

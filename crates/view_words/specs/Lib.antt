@@ -1,1 +1,3 @@
+pub mod Lacks
+pub mod Starts
 pub mod Views

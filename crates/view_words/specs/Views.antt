@@ -18,6 +18,8 @@ use Rattle.trace_views.specs.declared.view.View.TheVariants as views
 use Rattle.unit_words.specs.Measures.{AsksForMeasure, RefusesMeasure}
 use Rattle.unit_words.specs.declared.limits.LimitsRefusal.{LimitsRefusal}
 use Rattle.unit_words.specs.declared.limits.LimitsRefusal.TheVariants as refused
+use Rattle.view_words.specs.Lacks.{LacksLimits}
+use Rattle.view_words.specs.Starts.{AsksForStarts}
 use Rattle.view_words.specs.declared.command.ViewWordsError.{ViewWordsError}
 use Rattle.view_words.specs.declared.command.ViewWordsError.TheVariants as asked
 
@@ -61,25 +63,29 @@ AsksToMeasure rows settings scale = (limits : Option Limits) × AsksForMeasure r
 -- A command of this name, with what clap found behind it, asks for this view, and for this scale where it has units.
 -- The documents stand below `json`.
 abbrev pub AsksForView : Text → List Row → View → Option TraceScale → Type 0
-AsksForView name rows (views.JsonReport settings) scale =
-    (name ≡ codes "report") × AsksToMeasure rows settings scale
+AsksForView name rows (views.JsonReport settings shown) scale =
+    (name ≡ codes "report") × AsksToMeasure rows settings scale × (shown ≡ scale)
 AsksForView name rows (views.JsonSweep cases workers) scale =
     (name ≡ codes "sweep") × AsksForCases rows cases.items workers × (scale ≡ None)
 AsksForView name rows (views.Advise budget settings) scale =
     (name ≡ codes "advise") × AsksForBudget rows budget × AsksForGrid rows settings × (scale ≡ None)
-AsksForView name rows (views.Show settings style) scale =
-    (name ≡ codes "show") × AsksToMeasure rows settings scale × AsksForStyle rows style
-AsksForView name rows (views.Chart settings) scale = (name ≡ codes "chart") × AsksToMeasure rows settings scale
+AsksForView name rows (views.Show settings shown style) scale =
+    (name ≡ codes "show") × AsksToMeasure rows settings scale × AsksForStyle rows style × (shown ≡ scale)
+AsksForView name rows (views.Chart settings shown) scale =
+    (name ≡ codes "chart") × AsksToMeasure rows settings scale × (shown ≡ scale)
 AsksForView name rows (views.Predict settings known limits) scale =
     (name ≡ codes "predict") × AsksForMeasure rows settings (Some known) (Some limits) × (scale ≡ Some known)
+AsksForView name rows (views.When asked) scale =
+    (name ≡ codes "when") × AsksForStarts rows asked.form asked × (scale ≡ Some asked.scale)
 
 -- a view of a sweep has at most 256 cases, and a report for a terminal lines of a width that a terminal may have
 abbrev pub IsFairView : View → Type 0
-IsFairView (views.JsonReport settings) = ⊤
+IsFairView (views.JsonReport settings scale) = ⊤
 IsFairView (views.JsonSweep cases workers) = length cases.items ≤ 256
 IsFairView (views.Advise budget settings) = ⊤
-IsFairView (views.Show settings style) = IsWidth style.width
-IsFairView (views.Chart settings) = ⊤
+IsFairView (views.Show settings scale style) = IsWidth style.width
+IsFairView (views.Chart settings scale) = ⊤
+IsFairView (views.When asked) = ⊤
 IsFairView (views.Predict settings scale limits) = ⊤
 
 -- A command of this name is refused for this: settings that are out of range, or the cases of a sweep.
@@ -94,14 +100,6 @@ RefusesView name rows (errors.Refused (refusals.Case place)) =
     (name ≡ codes "sweep") × RefusesSweep rows (refusals.Case place)
 RefusesView name rows (errors.Refused (refusals.CaseSettings place e)) =
     (name ≡ codes "sweep") × RefusesSweep rows (refusals.CaseSettings place e)
-
--- the options make settings without a scale or without limits
-pub record LacksLimits (rows : List Row) : Type 0 where
-  pub settings : MigrationSettings
-  pub scale : Option TraceScale
-  pub limits : Option Limits
-  pub asks : AsksForMeasure rows settings scale limits
-  pub lacks : (scale ≡ None) ⊎ (limits ≡ None)
 
 -- no limits are said, though a prediction needs them
 abbrev pub AreMissing : Text → List Row → LimitsRefusal → Type 0

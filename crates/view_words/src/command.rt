@@ -4,16 +4,18 @@ ghost use Rattle.std.specs.Prelude.{◌≡◌, ◌⊎◌, IfErr, IfNone, IfOk, I
 ghost use Rattle.clap.specs.Words.{found_of, rows_of};
 ghost use Rattle.job_words.specs.declared.command.WordsError.TheVariants.{Memory};
 ghost use Rattle.view_words.specs.Views.{AsksForView, IsFairView, IsUsage, RefusesAsked, RefusesView};
+ghost use Rattle.view_words.specs.Starts.{RefusesStarts};
 ghost use Rattle.view_words.specs.declared.command.ViewWordsError.TheVariants.{Words};
 
 use crate::options::{budget_of, settings_for, style_of, with_budget, with_style};
+use crate::starts::{form_of, starts_of, with_chart, with_starts};
 use clap::{ArgMatches, Command};
 use guest_units::{Limits, Scale};
 use job_words::{
     WordsError, WordsRefusal, cases_of, refusal_of, sweep_options, with_cases, with_report,
 };
 use std::alloc::{AllocError, Global};
-use trace_views::View;
+use trace_views::{StartsForm, View};
 use unit_words::{LimitsRefusal, Measure, measure_of, with_units};
 
 /// Why words make no view.
@@ -45,6 +47,9 @@ pub struct AskedView {
 /// What is told of words without a command. `clap` refuses them itself.
 const NO_COMMAND: &str = "error: a command is required\n";
 
+/// What is told behind the program's name by `--version`: that of all of precopy, as in tools/version.py.
+const VERSION: &str = "(precopy) 0.6.0";
+
 /// Returns the command with the options of a report, in either kind of words.
 fn with_either<'a>(alloc: Global, command: Command<'a>) -> Result<Command<'a>, AllocError> {
     with_units(alloc, with_report(alloc, command)?)
@@ -54,11 +59,13 @@ fn with_either<'a>(alloc: Global, command: Command<'a>) -> Result<Command<'a>, A
 fn json<'a>(alloc: Global) -> Result<Command<'a>, AllocError> {
     let report = Command::new(alloc, "report").about("Writes what `precopy report` tells");
     let sweep = Command::new(alloc, "sweep").about("Writes what `precopy sweep` tells");
+    let when = Command::new(alloc, "when").about("Writes what `precopy-view when` tells");
     Command::new(alloc, "json")
         .about("Writes a JSON document about the trace on standard input")
         .subcommand_required(true)
         .subcommand(with_either(alloc, report)?)?
-        .subcommand(with_cases(alloc, sweep)?)
+        .subcommand(with_cases(alloc, sweep)?)?
+        .subcommand(with_starts(alloc, when)?)
 }
 
 /// Returns the commands that show a report for people.
@@ -79,20 +86,25 @@ fn commands<'a>(alloc: Global) -> Result<Command<'a>, AllocError> {
     let predict = Command::new(alloc, "predict").about(
         "Writes what a migration will be, in time and bytes; status 3 where it misses its limit",
     );
+    let when = Command::new(alloc, "when").about(
+        "Writes what it costs to migrate at many times, and which is the best; status 3 where none keeps the limit",
+    );
     let advise = Command::new(alloc, "advise").about(
         "Writes which settings keep a downtime, over the trace on standard input",
     );
     let command = Command::new(alloc, "precopy-view")
         .about("Shows what precopy tells of a trace, for people and for programs")
+        .version(VERSION)
         .subcommand_required(true)
         .subcommand(with_either(alloc, predict)?)?
+        .subcommand(with_chart(alloc, with_starts(alloc, when)?)?)?
         .subcommand(json(alloc)?)?
         .subcommand(with_budget(alloc, advise)?)?;
     with_pictures(alloc, command)
 }
 
 /// Returns the error for words that the command line does not have, with its text.
-fn usage(alloc: Global, text: &str) -> ViewWordsError
+pub(crate) fn usage(alloc: Global, text: &str) -> ViewWordsError
     ensures { IsUsage result }
 {
     match String::from_str(alloc, text) {
@@ -134,7 +146,10 @@ fn json_report_of(options: &ArgMatches) -> Result<AskedView, ViewWordsError>
 {
     match measure_of(options) {
         Ok(measure) => Ok(AskedView {
-            view: View::JsonReport(measure.settings),
+            view: View::JsonReport {
+                settings: measure.settings,
+                scale: measure.scale,
+            },
             scale: measure.scale,
         }),
         Err(refusal) => Err(ViewWordsError::Limits(refusal)),
@@ -148,6 +163,7 @@ fn json_of(alloc: Global, options: &ArgMatches) -> Result<AskedView, ViewWordsEr
     match options.subcommand() {
         Some(("sweep", options)) => unscaled(json_sweep_of(alloc, options)),
         Some(("report", options)) => json_report_of(options),
+        Some(("when", options)) => when_of(alloc, options, StartsForm::Json),
         _ => Err(usage(alloc, NO_COMMAND)),
     }
 }
@@ -180,6 +196,7 @@ fn show_of(alloc: Global, options: &ArgMatches) -> Result<AskedView, ViewWordsEr
         Some(style) => Ok(AskedView {
             view: View::Show {
                 settings: measure.settings,
+                scale: measure.scale,
                 style,
             },
             scale: measure.scale,
@@ -196,7 +213,10 @@ fn chart_of(options: &ArgMatches) -> Result<AskedView, ViewWordsError>
 {
     match measure_of(options) {
         Ok(measure) => Ok(AskedView {
-            view: View::Chart(measure.settings),
+            view: View::Chart {
+                settings: measure.settings,
+                scale: measure.scale,
+            },
             scale: measure.scale,
         }),
         Err(refusal) => Err(ViewWordsError::Limits(refusal)),
@@ -204,7 +224,7 @@ fn chart_of(options: &ArgMatches) -> Result<AskedView, ViewWordsError>
 }
 
 /// Returns the scale and the limits of what options ask for, where there are both.
-fn limited(measure: &Measure) -> Option<(Scale, Limits)>
+pub(crate) fn limited(measure: &Measure) -> Option<(Scale, Limits)>
     ensures some { IfSome result (λ both. (measure.now.scale ≡ Some both.0) × (measure.now.limits ≡ Some both.1)) }
     ensures none { IfNone result ((measure.now.scale ≡ None) ⊎ (measure.now.limits ≡ None)) }
 {
@@ -236,6 +256,23 @@ fn prediction_of(options: &ArgMatches) -> Result<AskedView, ViewWordsError>
     }
 }
 
+/// Returns the starts that their options ask for, in this form.
+fn when_of(
+    alloc: Global,
+    options: &ArgMatches,
+    form: StartsForm,
+) -> Result<AskedView, ViewWordsError>
+    ensures made { IfOk result (λ asked. AsksForView (codes "when") (rows_of (found_of options.now)) asked.view
+        asked.scale) }
+    ensures refused { IfErr result (RefusesStarts (rows_of (found_of options.now))) }
+{
+    let asked = starts_of(alloc, options, form)?;
+    Ok(AskedView {
+        view: View::When(asked),
+        scale: Some(asked.scale),
+    })
+}
+
 /// Returns the view that the words ask for, the program's name being the first.
 pub fn view_of(alloc: Global, words: &[String]) -> Result<AskedView, ViewWordsError>
     ensures { IfOk result (λ asked. IsFairView asked.view) }
@@ -246,6 +283,7 @@ pub fn view_of(alloc: Global, words: &[String]) -> Result<AskedView, ViewWordsEr
     };
     match matches.subcommand() {
         Some(("predict", options)) => prediction_of(options),
+        Some(("when", options)) => when_of(alloc, options, form_of(options)),
         Some(("advise", options)) => unscaled(advice_of(options)),
         Some(("chart", options)) => chart_of(options),
         Some(("show", options)) => show_of(alloc, options),

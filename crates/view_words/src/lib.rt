@@ -3,6 +3,7 @@
 
 mod command;
 mod options;
+mod starts;
 
 pub use command::{AskedView, ViewWordsError, view_of};
 pub use job_words::{WordsError, WordsRefusal, words};

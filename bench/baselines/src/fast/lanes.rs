@@ -36,7 +36,7 @@ pub struct Taker<T> {
     taken: usize,
 }
 
-/// A lane that holds so many items, which need no drop.
+/// A lane that holds a number of items, which need no drop.
 pub fn lane<T: Copy + Send>(capacity: usize) -> (Giver<T>, Taker<T>) {
     let mut slots = Vec::with_capacity(capacity.next_power_of_two());
     slots.resize_with(capacity.next_power_of_two(), || UnsafeCell::new(MaybeUninit::uninit()));

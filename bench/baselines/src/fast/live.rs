@@ -2,7 +2,7 @@
 //!
 //! Replayers store the version of a page and then set its dirty bit. Copiers take the dirty bits of 64 pages at once,
 //! read the version of each page, make its bytes and hand them to the streams in turn. Each stream has a thread that
-//! keeps the newest version of each page. Bytes change hands by pointer: a body is written by its copier alone, and
+//! keeps the newest version of each page. Bytes change hands by pointer: only its copier writes a body, and
 //! comes back over a lane when a newer version has taken its place.
 
 use crate::lanes::{lane, Giver, Taker};

@@ -1,4 +1,4 @@
-//! The baseline "fast": the four commands of precopy, written for speed alone. What it writes for a valid trace has to
+//! The baseline "fast": the four commands of precopy, written only for speed. What it writes for a valid trace has to
 //! be what precopy writes, byte for byte. Nothing of it is proved, and memory is handled by hand.
 
 mod image;

@@ -1,4 +1,4 @@
-//! Memory straight from the system: zeroed, in large pages where it is large, and kept until the process ends.
+//! Memory straight from the system: zeroed, in large pages if it is large, and kept until the process ends.
 
 use std::ffi::c_void;
 use std::ptr::null_mut;
@@ -37,7 +37,7 @@ impl Plain for u32 {}
 impl Plain for u64 {}
 impl Plain for (u32, u32) {}
 
-/// A list of so many zeros.
+/// A list of a number of zeros.
 pub fn zeros<T: Plain>(count: usize) -> &'static mut [T] {
     unsafe { std::slice::from_raw_parts_mut(zeroed(count * size_of::<T>()) as *mut T, count) }
 }

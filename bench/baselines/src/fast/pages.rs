@@ -6,7 +6,7 @@ use crate::plan::Touches;
 use crate::trace::number;
 use std::ptr::{copy_nonoverlapping, null_mut};
 
-/// The bytes of a page, or nothing where all are zeros. One thread at a time writes them: the copier of the page, and
+/// The bytes of a page, or nothing if all are zeros. One thread at a time writes them: the copier of the page, and
 /// at the end whoever resumes the guest.
 #[derive(Clone, Copy)]
 pub struct Body(pub *mut u8);
@@ -22,10 +22,10 @@ impl Body {
     }
 }
 
-/// Stands for where the bytes of a release are: it has none.
+/// The place of the bytes of a release, which has none.
 pub const RELEASE: u32 = 0;
 
-/// For each page its writes in order: the place of each, from 1, and where its bytes stand in the text.
+/// For each page its writes in order: the place of each, from 1, and where its bytes are in the text.
 pub struct Index {
     starts: Vec<u32>,
     writes: &'static [(u32, u32)],
@@ -96,7 +96,7 @@ impl Rooms {
         (body, true)
     }
 
-    /// The body with more writes on top, in a room of its own. The text has some bytes behind its end that may be read.
+    /// The body with more writes on top, in a room of its own. Some bytes after the end of the text may be read.
     pub fn with_writes(&mut self, text: &[u8], old: Body, writes: &[(u32, u32)]) -> Body {
         let (released, writes) = behind_release(writes);
         let old = if released { ZEROS } else { old };
@@ -125,7 +125,7 @@ impl Rooms {
     }
 }
 
-/// Whether some of these writes is a release, and those behind the last one.
+/// Whether one of these writes is a release, and those after the last one.
 pub fn behind_release(writes: &[(u32, u32)]) -> (bool, &[(u32, u32)]) {
     match writes.iter().rposition(|(_, at)| *at == RELEASE) {
         Some(number) => (true, &writes[number + 1..]),
@@ -159,7 +159,7 @@ unsafe fn place(text: &[u8], at: u32) -> (usize, usize) {
     (both & 0xffff, both >> 16)
 }
 
-/// Puts one write on a body. Up to 16 bytes are mixed into 16 bytes of the page, at its end where there are no more.
+/// Puts one write on a body. Up to 16 bytes are mixed into 16 bytes of the page, at its end if there are no more.
 #[inline(always)]
 unsafe fn put(text: &[u8], at: u32, body: Body, size: usize) {
     let (offset, length) = place(text, at);

@@ -80,7 +80,7 @@ fn count(bits: &[u64]) -> u64 {
 pub struct Planner<'a> {
     touches: &'a Touches,
     index: Option<&'a [u32]>,
-    /// The pages that are due, where that matters, and those written in the round.
+    /// The pages that are due, if that matters, and those written in the round.
     due: Vec<u64>,
     written: Vec<u64>,
 }

@@ -5,7 +5,7 @@ use crate::text::Text;
 use crate::words::Settings;
 use std::sync::atomic::{AtomicUsize, Ordering::Relaxed};
 
-/// From so many cases on that skip nothing the index saves more than it takes.
+/// From this many cases without skipping on, the index saves more than it costs.
 const WORTH_AN_INDEX: usize = 3;
 
 pub fn sweep(touches: &Touches, cases: &[Settings], workers: usize) -> Text {

@@ -26,7 +26,7 @@ impl Text {
         self
     }
 
-    /// Words, each with the number behind it, and the end of the line.
+    /// Words, each followed by its number, and the end of the line.
     pub fn line(&mut self, fields: &[(&str, u64)]) {
         for (word, number) in fields {
             self.word(word).number(*number);

@@ -13,7 +13,7 @@ pub const LONGEST: usize = 1 << 28;
 const HEADER: usize = 16;
 const RECORD: usize = 16;
 const CHUNK: usize = 1 << 18;
-/// Bytes behind a buffer that may be read, and are never looked at.
+/// Bytes after a buffer that may be read, and are never used.
 pub const SLACK: usize = 64;
 
 pub type Refused = String;
@@ -69,7 +69,7 @@ pub unsafe fn number<T: Copy>(bytes: &[u8], at: usize) -> T {
     (bytes.as_ptr().add(at) as *const T).read_unaligned()
 }
 
-/// Where the records stand that are tested so far.
+/// Where the records tested so far are.
 pub struct Reader {
     pub sizes: Sizes,
     done: usize,
@@ -81,7 +81,7 @@ impl Reader {
         Reader { sizes, done: 0, tick: 0 }
     }
 
-    /// Takes records from the front of the bytes, until none is left or the next one is cut. Tells where it ended.
+    /// Takes records from the front of the bytes, until none is left or the next one is cut. Returns where it ended.
     #[inline(always)]
     fn take(&mut self, bytes: &[u8], mut each: impl FnMut(&[u8], Write)) -> Result<usize, Refused> {
         let (size, pages, releases) = (self.sizes.page_size(), self.sizes.pages, self.sizes.releases);
@@ -165,7 +165,7 @@ impl Reader {
     }
 }
 
-/// Fills a buffer behind the bytes that it has, and tells how many it has then.
+/// Fills a buffer after the bytes that it has, and returns how many it has then.
 fn fill(buffer: &mut [u8], mut held: usize) -> Result<usize, Refused> {
     let end = buffer.len() - SLACK;
     while held < end {
@@ -179,7 +179,7 @@ fn fill(buffer: &mut [u8], mut held: usize) -> Result<usize, Refused> {
     Ok(held)
 }
 
-/// All bytes of standard input; some more may be read behind them.
+/// All bytes of standard input; some more may be read after them.
 fn text() -> Result<&'static [u8], Refused> {
     let known = file(0).metadata().map_err(|fault| fault.to_string())?;
     let mut room = if known.is_file() { known.len() as usize + 1 } else { 1 << 20 }.min(LONGEST + 1);

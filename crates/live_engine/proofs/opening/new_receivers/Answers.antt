@@ -15,8 +15,10 @@ ids column = map (λ (end : InView). end.lane) column.items
 
 pub new-requires : goal.new-requires
 new-requires c =
-    next_holds (λ (column : Vec InView Global). All (λ (end : InView). end.taken ≡ []) column.items) c.loop-column.yielded (into_iter_items c.loop-column.column-iterator)
-    (into_iter_items c.next.new.self) c.args.columns.items c.in-Some.column c.in-Some.ensures.steps.0 c.loop-column.invariant.all c.requires
+    next_holds (λ (column : Vec InView Global). All (λ (end : InView). end.taken ≡ []) column.items)
+    c.loop-column.yielded (into_iter_items c.loop-column.column-iterator)
+    (into_iter_items c.next.new.self) c.args.columns.items c.in-Some.column c.in-Some.ensures.steps.0
+    c.loop-column.invariant.all c.requires
 
 pub loop-column-preserved : goal.loop-column-preserved
 loop-column-preserved c =
@@ -28,9 +30,13 @@ loop-column-preserved c =
     record {
       can_next = tt;
       is_finite = tt;
-      all = rest_of front (into_iter_items c.loop-column.column-iterator) (into_iter_items c.next.new.self) c.args.columns.items column c.in-Some.ensures.steps.0 c.loop-column.invariant.all;
-      lanes = ap (map lanes_in) items ∙ map-append lanes_in receivers (receiver ∷ []) ∙ ap (λ (l : List (List LaneId)). l ++ lanes_in receiver ∷ []) c.loop-column.invariant.lanes
-          ∙ ap (λ (r : ReceiverView). map ids front ++ lanes_in r ∷ []) c.new.ensures ∙ sym (map-append ids front (column ∷ []));
+      all = rest_of front (into_iter_items c.loop-column.column-iterator) (into_iter_items c.next.new.self)
+          c.args.columns.items column c.in-Some.ensures.steps.0 c.loop-column.invariant.all;
+      lanes = ap (map lanes_in) items ∙ map-append lanes_in receivers (receiver ∷ [])
+          ∙ ap (λ (l : List (List LaneId)). l ++ lanes_in receiver ∷ []) c.loop-column.invariant.lanes
+          ∙ ap (λ (r : ReceiverView). map ids front ++ lanes_in r ∷ []) c.new.ensures
+          ∙ sym (map-append ids front (column ∷ []));
       shapes = subst (All (λ (r : ReceiverView). r.part.shape ≡ shape_of c.args.shape)) (sym items)
-          (All-push (λ (r : ReceiverView). r.part.shape ≡ shape_of c.args.shape) receivers receiver c.loop-column.invariant.shapes (ap (λ (r : ReceiverView). r.part.shape) c.new.ensures));
+          (All-push (λ (r : ReceiverView). r.part.shape ≡ shape_of c.args.shape) receivers receiver
+          c.loop-column.invariant.shapes (ap (λ (r : ReceiverView). r.part.shape) c.new.ensures));
     }

@@ -11,12 +11,14 @@ use Rattle.live_engine.proofs.opening.new_states.Goals as goal
 
 pub new-requires-clause-some : goal.new-requires-clause-some
 new-requires-clause-some c =
-    next_holds (λ (row : Vec OutView Global). 1 ≤ length row.items) c.loop-row.yielded (into_iter_items c.loop-row.row-iterator) (into_iter_items c.next.new.self) c.args.rows.items c.in-Some.row
+    next_holds (λ (row : Vec OutView Global). 1 ≤ length row.items) c.loop-row.yielded
+    (into_iter_items c.loop-row.row-iterator) (into_iter_items c.next.new.self) c.args.rows.items c.in-Some.row
     c.in-Some.ensures.steps.0 c.loop-row.invariant.all c.requires.some
 
 pub new-requires-clause-few : goal.new-requires-clause-few
 new-requires-clause-few c =
-    next_holds (λ (row : Vec OutView Global). length row.items ≤ 16) c.loop-row.yielded (into_iter_items c.loop-row.row-iterator) (into_iter_items c.next.new.self) c.args.rows.items c.in-Some.row
+    next_holds (λ (row : Vec OutView Global). length row.items ≤ 16) c.loop-row.yielded
+    (into_iter_items c.loop-row.row-iterator) (into_iter_items c.next.new.self) c.args.rows.items c.in-Some.row
     c.in-Some.ensures.steps.0 c.loop-row.invariant.all c.requires.few
 
 pub loop-row-preserved : goal.loop-row-preserved
@@ -32,11 +34,15 @@ loop-row-preserved c =
       can_next = tt;
       is_finite = tt;
       all = rest_of front old rest c.args.rows.items row c.in-Some.ensures.steps.0 c.loop-row.invariant.all;
-      rows = ap rows_of items ∙ map-append (λ (d : CopierStateView). d.outs) states (state ∷ []) ∙ ap (λ (rows : List (List OutView)). rows ++ state.outs ∷ []) c.loop-row.invariant.rows
-          ∙ ap (λ (outs : List OutView). map (λ (r : Vec OutView Global). r.items) front ++ outs ∷ []) c.in_ok-new.ensures.outs
+      rows = ap rows_of items ∙ map-append (λ (d : CopierStateView). d.outs) states (state ∷ [])
+          ∙ ap (λ (rows : List (List OutView)). rows ++ state.outs ∷ []) c.loop-row.invariant.rows
+          ∙ ap (λ (outs : List OutView). map (λ (r : Vec OutView Global). r.items) front ++ outs ∷ [])
+          c.in_ok-new.ensures.outs
           ∙ sym (map-append (λ (r : Vec OutView Global). r.items) front (row ∷ []));
       each = λ trace streams same.
-          let one : IsCopierState trace streams state = subst (λ (n : ℕ). IsCopierState trace n state) (next_holds (λ (r : Vec OutView Global). length r.items ≡ streams) front old rest c.args.rows.items row
+          let one : IsCopierState trace streams state = subst (λ (n : ℕ). IsCopierState trace n state)
+          (next_holds (λ (r : Vec OutView Global). length r.items ≡ streams) front old rest c.args.rows.items row
           c.in-Some.ensures.steps.0 c.loop-row.invariant.all same) (c.in_ok-new.ensures.state trace) in
-          subst (All (IsCopierState trace streams)) (sym items) (All-push (IsCopierState trace streams) states state (c.loop-row.invariant.each trace streams same) one);
+          subst (All (IsCopierState trace streams)) (sym items)
+          (All-push (IsCopierState trace streams) states state (c.loop-row.invariant.each trace streams same) one);
     }

@@ -12,5 +12,6 @@ invariant-loop-row l = record {
   is_finite : goal.iterator-loop-row.is_finite l.row-iterator;
   all : l.yielded ++ into_iter_items l.row-iterator ≡ l.fn.rows.items;
   rows : rows_of l.states.items ≡ map (λ row. row.items) l.yielded;
-  each : (trace : GuestTrace) (streams : ℕ) → All (λ row. length row.items ≡ streams) l.fn.rows.items → All (IsCopierState trace streams) l.states.items;
+  each : (trace : GuestTrace) (streams : ℕ) → All (λ row. length row.items ≡ streams) l.fn.rows.items
+      → All (IsCopierState trace streams) l.states.items;
 }

@@ -16,7 +16,8 @@ use Rattle.live_engine.proofs.opening.open_lanes.Goals as goal
 
 pub new_receivers-requires : goal.new_receivers-requires
 new_receivers-requires g c =
-    nothing_taken c.args.team.copiers c.args.team.streams c.args.team.lane c.in_ok-outs.field-0.outs.items c.in_ok-outs.field-0.ins.items c.in_ok-outs.ensures
+    nothing_taken c.args.team.copiers c.args.team.streams c.args.team.lane c.in_ok-outs.field-0.outs.items
+    c.in_ok-outs.field-0.ins.items c.in_ok-outs.ensures
 
 pub returns : goal.returns
 returns g c =
@@ -28,17 +29,23 @@ returns g c =
     let states = c.in_ok-states.states.items in
     let receivers = c.in_ok-receivers.receivers.items in
     let rows : rows_of states ≡ map (λ r. r.items) outs = c.in_ok-states.ensures.rows in
-    let shape : shape_of c.shape-shape.result ≡ shape_of_trace trace = λ i. shape_with (c.shape-shape.ensures.shift i) (c.shape-shape.ensures.pages i) (c.shape-shape.ensures.writes i) in
+    let shape : shape_of c.shape-shape.result ≡ shape_of_trace trace = λ i. shape_with (c.shape-shape.ensures.shift i)
+    (c.shape-shape.ensures.pages i) (c.shape-shape.ensures.writes i) in
     record {
       states_are = record {
-        count = sym (length-map states (λ (d : CopierStateView). d.outs)) ∙ ap length rows ∙ length-map outs (λ r. r.items) ∙ grid.workers_are;
+        count = sym (length-map states (λ (d : CopierStateView). d.outs)) ∙ ap length rows
+            ∙ length-map outs (λ r. r.items) ∙ grid.workers_are;
         each = c.in_ok-states.ensures.each trace team.streams grid.out_rows;
         new = subst HaveSentNothing (sym rows) (nothing_sent team.copiers team.streams team.lane outs ins grid);
       };
-      crossed = subst (λ (sends : List (List OutView)). AreCrossed team.copiers team.streams (lanes_of sends) (map lanes_in receivers)) (sym rows)
-          (subst (λ (takes : List (List LaneId)). AreCrossed team.copiers team.streams (lanes_of (map (λ r. r.items) outs)) takes) (sym c.in_ok-receivers.ensures.lanes)
+      crossed = subst (λ (sends : List (List OutView)). AreCrossed team.copiers team.streams (lanes_of sends)
+          (map lanes_in receivers)) (sym rows)
+          (subst (λ (takes : List (List LaneId)). AreCrossed team.copiers team.streams
+          (lanes_of (map (λ r. r.items) outs)) takes) (sym c.in_ok-receivers.ensures.lanes)
           (crossed team.copiers team.streams team.lane outs ins grid));
-      capacity = subst (λ (sends : List (List OutView)). HaveCapacity team.lane (lanes_of sends)) (sym rows) (capacities team.copiers team.streams team.lane outs ins grid);
+      capacity = subst (λ (sends : List (List OutView)). HaveCapacity team.lane (lanes_of sends)) (sym rows)
+          (capacities team.copiers team.streams team.lane outs ins grid);
       is_trace = c.shape-shape.ensures.is_trace;
-      shapes = subst (λ (sh : GuestShape). All (λ (r : ReceiverView). r.part.shape ≡ sh) receivers) shape c.in_ok-receivers.ensures.shapes;
+      shapes = subst (λ (sh : GuestShape). All (λ (r : ReceiverView). r.part.shape ≡ sh) receivers) shape
+          c.in_ok-receivers.ensures.shapes;
     }

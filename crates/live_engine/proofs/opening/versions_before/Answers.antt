@@ -12,5 +12,6 @@ returns-then-tick-eq0-clause-each g c =
     IfOk-weaker c.no_versions.result _ _
     (λ v none page low.
     let within : page < pages = omega (arith, low, c.shape-pages.ensures.pages) in
-    ap (λ (xs : List ℕ). slice_index xs page) none ∙ get_or-replicate pages page 0 0 within ∙ sym (version_at_first trace page) ∙ ap (version_before trace page) (sym c.if-tick-eq0.true))
+    ap (λ (xs : List ℕ). slice_index xs page) none ∙ get_or-replicate pages page 0 0 within
+    ∙ sym (version_at_first trace page) ∙ ap (version_before trace page) (sym c.if-tick-eq0.true))
     c.no_versions.ensures

@@ -13,7 +13,9 @@ invariant-loop-seat g l = record {
   count : length l.handles.items ≡ length l.yielded;
   rest : l.yielded ++ into_iter_items l.seat-iterator ≡ l.fn.seats.items;
   count_left : length l.states.items ≡ length (into_iter_items l.seat-iterator);
-  passed : (front : List CopierStateView) × (length front ≡ length l.yielded) × (front ++ l.states.items ≡ l.fn.states.items);
+  passed : (front : List CopierStateView) × (length front ≡ length l.yielded)
+      × (front ++ l.states.items ≡ l.fn.states.items);
   states : All (IsCopierState (g.W.WriteLog.trace l.round.trace.now) l.round.streams) l.states.items;
-  started : EachAt (λ h i. h.promise ≡ copy_task (g.W.WriteLog.trace l.round.trace.now) l.round.skip l.round.table.now l.round.streams i (slice_index_or (rows_of l.fn.states.items) i [])) l.handles.items;
+  started : EachAt (λ h i. h.promise ≡ copy_task (g.W.WriteLog.trace l.round.trace.now) l.round.skip l.round.table.now
+      l.round.streams i (slice_index_or (rows_of l.fn.states.items) i [])) l.handles.items;
 }

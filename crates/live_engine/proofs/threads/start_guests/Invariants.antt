@@ -9,5 +9,6 @@ invariant-loop-seat g l = record {
   is_finite : (goal.iterator-loop-seat g).is_finite l.seat-iterator;
   count : length l.handles.items ≡ length l.yielded;
   rest : l.yielded ++ into_iter_items l.seat-iterator ≡ l.fn.seats.items;
-  started : EachAt (λ h i. h.promise ≡ replay_task (g.W.WriteLog.trace l.round.trace.now) l.round.table.now l.ticks.from l.ticks.to i) l.handles.items;
+  started : EachAt (λ h i. h.promise ≡ replay_task (g.W.WriteLog.trace l.round.trace.now) l.round.table.now l.ticks.from
+      l.ticks.to i) l.handles.items;
 }

@@ -8,5 +8,6 @@ abbrev pub invariant-loop-page : goal.invariant-loop-page
 invariant-loop-page g l = record {
   words : length l.marks.items ≡ word_count l.pages;
   pages : (page : ℕ) → in_words l.marks.items page
-      ≡ (nat_lt page l.page && nat_lt (version_before (g.W.WriteLog.trace l.trace) page l.base) (slice_index l.versions page));
+      ≡ (nat_lt page l.page && nat_lt (version_before (g.W.WriteLog.trace l.trace) page l.base)
+      (slice_index l.versions page));
 }

@@ -3,4 +3,5 @@ use Rattle.migration_jobs.proofs.imaging.whole_image.Goals as goal
 
 pub returns-in-Ok-visit-clause-made : goal.returns-in-Ok-visit-clause-made
 returns-in-Ok-visit-clause-made g c old came =
-    image_made old c.args.header c.in-Ok.memory c.visit.new.visitor c.into_bytes.result.items c.in-Ok.ensures c.into_bytes.ensures (c.in-Ok-visit.ensures.all old came)
+    image_made old c.args.header c.in-Ok.memory c.visit.new.visitor c.into_bytes.result.items c.in-Ok.ensures
+    c.into_bytes.ensures (c.in-Ok-visit.ensures.all old came)

@@ -8,6 +8,7 @@ loop-done-preserved g c =
     let wrote = c.in-Some.ensures.written in
     record {
       within = omega (arith, wrote.0, c.split_at.ensures.back_len);
-      written = Appends-more _ _ _ c.args.bytes.now c.loop-done.done c.in-Some.count before.written (rw c.split_at.ensures.back at wrote.2);
+      written = Appends-more _ _ _ c.args.bytes.now c.loop-done.done c.in-Some.count before.written
+          (rw c.split_at.ensures.back at wrote.2);
       unfailed = c.in-Some.ensures.failed;
     }

@@ -8,7 +8,8 @@ returns-in_err-write_all-clause-part g c =
     let memory = g.M.PagedMemory.memory c.args.memory.now in
     let n = 2 ^ memory.shift in
     let first = c.loop-first.first in
-    on_err c.from_residual.result (wrote_part _ _ _ (first * n) ((first + c.min.result) * n) memory.bytes c.loop-first.invariant.written
+    on_err c.from_residual.result (wrote_part _ _ _ (first * n) ((first + c.min.result) * n) memory.bytes
+    c.loop-first.invariant.written
     (rw (c.deref.ensures.value ∙ c.fill_piece.ensures.filled) at c.in_err-write_all.ensures.part))
 
 pub loop-first-preserved : goal.loop-first-preserved

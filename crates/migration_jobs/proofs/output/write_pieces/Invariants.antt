@@ -9,7 +9,8 @@ invariant-loop-first g l =
     let memory = g.M.PagedMemory.memory l.memory in
     record {
       within : l.first ≤ l.all;
-      written : Appends (g.K.Sink.contents l.fn.sink) (g.K.Sink.contents l.sink) (between 0 (l.first * 2 ^ memory.shift) memory.bytes);
+      written : Appends (g.K.Sink.contents l.fn.sink) (g.K.Sink.contents l.sink)
+          (between 0 (l.first * 2 ^ memory.shift) memory.bytes);
       unfailed : g.K.Sink.has_failed l.sink ≡ false;
       long : length l.buffer.items ≡ 2 ^ memory.shift;
       capacity : l.pages * 2 ^ memory.shift ≤ vec_capacity l.piece;

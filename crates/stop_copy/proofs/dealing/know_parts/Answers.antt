@@ -11,7 +11,8 @@ loop-part-preserved c = λ k d low.
     let part = c.part-item.result in
     elim (cases_eq k i) [
       | inl here ↦ subst IsPart
-          (c.part-item.is ∙ get_or_default parts i part d (omega (arith, c.loop-part-test.true)) ∙ ap (λ n. get_or parts n d) (sym here)) c.shape.ensures.is_part
+          (c.part-item.is ∙ get_or_default parts i part d (omega (arith, c.loop-part-test.true))
+          ∙ ap (λ n. get_or parts n d) (sym here)) c.shape.ensures.is_part
       | inr apart ↦ c.loop-part.invariant k d (omega (arith, low, apart))
     ]
 

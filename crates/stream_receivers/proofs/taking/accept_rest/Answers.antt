@@ -10,15 +10,19 @@ pub loop-text-preserved : goal.loop-text-preserved
 loop-text-preserved c =
     let before = c.loop-text.invariant in
     let text = c.in-Some.text.items in
-    let next : Accepts c.loop-text.part c.accept.new.part c.loop-text.refusal c.accept.new.refusal (text ∷ []) = c.accept.ensures in
+    let next : Accepts c.loop-text.part c.accept.new.part c.loop-text.refusal c.accept.new.refusal (text ∷ []) =
+    c.accept.ensures in
     record {
       texts = before.texts ++ text ∷ [];
-      together = append_assoc before.texts (text ∷ []) c.take.new.self ∙ ap (λ xs. before.texts ++ xs) (sym c.in-Some.ensures.next) ∙ before.together;
-      accepts = accepts_both c.args.part.now c.loop-text.part c.accept.new.part c.args.refusal c.loop-text.refusal c.accept.new.refusal before.texts (text ∷ []) before.accepts next;
+      together = append_assoc before.texts (text ∷ []) c.take.new.self
+          ∙ ap (λ xs. before.texts ++ xs) (sym c.in-Some.ensures.next) ∙ before.together;
+      accepts = accepts_both c.args.part.now c.loop-text.part c.accept.new.part c.args.refusal c.loop-text.refusal
+          c.accept.new.refusal before.texts (text ∷ []) before.accepts next;
     }
 
 pub returns : goal.returns
 returns c =
     let before = c.loop-text.invariant in
     subst (λ (ts : List (List ℕ)). Accepts c.args.part.now c.loop-text.part c.args.refusal c.loop-text.refusal ts)
-    (sym (append-nil before.texts) ∙ ap (λ xs. before.texts ++ xs) (sym c.in_default.ensures.none.0) ∙ before.together) before.accepts
+    (sym (append-nil before.texts) ∙ ap (λ xs. before.texts ++ xs) (sym c.in_default.ensures.none.0) ∙ before.together)
+    before.accepts

@@ -1,4 +1,5 @@
-use Rattle.std.proofs.Common.{◌≡◌, ◌⊎◌, inl, inr, List, [], ◌∷◌, ◌++◌, length, map, refl, sym, ap, subst, ◌∙◌, append_assoc, append-nil, arith}
+use Rattle.std.proofs.Common.{◌≡◌, ◌⊎◌, inl, inr, List, [], ◌∷◌, ◌++◌, length, map, refl, sym, ap, subst, ◌∙◌}
+use Rattle.std.proofs.Common.{append_assoc, append-nil, arith}
 use Rattle.std.specs.Prelude.{Option, Some, None, IfSome}
 use Rattle.std.specs.List.{slice_get}
 use Rattle.std.specs.Iterator.Adapters.{zip_first, zip_second}
@@ -21,23 +22,28 @@ loop-out-init c =
     let is = c.into_iter-out-iterator.ensures.into_iter_gives in
     let first = c.zip-out-items.ensures.first in
     let second = c.zip-out-items.ensures.second in
-    let outs : into_iter_items (zip_first c.into_iter-out-iterator.result) ≡ c.args.outs.items = cc (is, first, c.into_iter.ensures.rest) in
+    let outs : into_iter_items (zip_first c.into_iter-out-iterator.result)
+    ≡ c.args.outs.items = cc (is, first, c.into_iter.ensures.rest) in
     let ends : into_iter_items (zip_second c.into_iter-out-iterator.result) ≡ c.args.ends.items = cc (is, second.0) in
     record {
       all = outs;
-      ends = subst (λ (xs : List OutView). AreEnds xs (into_iter_items (zip_second c.into_iter-out-iterator.result))) (sym outs)
+      ends = subst (λ (xs : List OutView). AreEnds xs (into_iter_items (zip_second c.into_iter-out-iterator.result)))
+          (sym outs)
           (subst (AreEnds c.args.outs.items) (sym ends) c.requires.ends);
       shape = refl;
       kept = kept_first c.args.refusal;
-      held = subst (λ (xs : List InView). IsHeld c.args.part.now.shape (IsCome [] xs) c.args.part.now c.args.refusal) (sym ends)
-          (held_same c.args.part.now.shape (IsTakenFrom c.args.ends.items) (IsCome [] c.args.ends.items) c.args.part.now c.args.refusal (λ t taken. inr taken)
+      held = subst (λ (xs : List InView). IsHeld c.args.part.now.shape (IsCome [] xs) c.args.part.now c.args.refusal)
+          (sym ends)
+          (held_same c.args.part.now.shape (IsTakenFrom c.args.ends.items) (IsCome [] c.args.ends.items) c.args.part.now
+          c.args.refusal (λ t taken. inr taken)
           (λ t come. elim come [ inl none ↦ absurd (omega (arith, none.2)) | inr taken ↦ taken ]) c.requires.held);
     }
 
 pub drain-rest-requires : goal.drain-rest-requires
 drain-rest-requires c =
     c.loop-out.invariant.ends.each 0 c.in-Some.out c.in-Some.end
-    (ap (λ (xs : List OutView). slice_get xs 0) c.in-Some.ensures.steps.0.0) (ap (λ (xs : List InView). slice_get xs 0) c.in-Some.ensures.steps.1.0)
+    (ap (λ (xs : List OutView). slice_get xs 0) c.in-Some.ensures.steps.0.0)
+    (ap (λ (xs : List InView). slice_get xs 0) c.in-Some.ensures.steps.1.0)
 
 pub loop-out-preserved : goal.loop-out-preserved
 loop-out-preserved c =
@@ -53,15 +59,22 @@ loop-out-preserved c =
     let grown : map (λ (p : OutView × InView). p.0) (c.loop-out.yielded ++ (out, end) ∷ []) ≡ front ++ out ∷ [] =
     map-append (λ (p : OutView × InView). p.0) c.loop-out.yielded ((out, end) ∷ []) in
     record {
-      all = ap (λ xs. xs ++ outs) grown ∙ append_assoc front (out ∷ []) outs ∙ ap (λ xs. front ++ xs) (sym outs_are) ∙ before.all;
-      ends = ends_rest (into_iter_items (zip_first c.loop-out.out-iterator)) outs (into_iter_items (zip_second c.loop-out.out-iterator)) ends out end outs_are ends_are before.ends;
+      all = ap (λ xs. xs ++ outs) grown ∙ append_assoc front (out ∷ []) outs ∙ ap (λ xs. front ++ xs) (sym outs_are)
+          ∙ before.all;
+      ends = ends_rest (into_iter_items (zip_first c.loop-out.out-iterator)) outs
+          (into_iter_items (zip_second c.loop-out.out-iterator)) ends out end outs_are ends_are before.ends;
       shape = c.accept_rest-refusal.ensures.shape ∙ before.shape;
-      kept = both_kept c.args.refusal c.loop-out.refusal c.accept_rest-refusal.result before.kept c.accept_rest-refusal.ensures.kept;
-      held = subst (λ (xs : List OutView). IsHeld shape (IsCome xs ends) c.accept_rest-refusal.new.part c.accept_rest-refusal.result) (sym grown)
-          (held_more shape (IsCome front (end ∷ ends)) (IsCome (front ++ out ∷ []) ends) c.loop-out.part c.accept_rest-refusal.new.part c.loop-out.refusal c.accept_rest-refusal.result c.drain-rest.result
-          before.shape (come_before front out end ends c.drain-rest.result c.drain-rest.ensures) (come_cases front out end ends c.drain-rest.result c.drain-rest.ensures)
+      kept = both_kept c.args.refusal c.loop-out.refusal c.accept_rest-refusal.result before.kept
+          c.accept_rest-refusal.ensures.kept;
+      held = subst (λ (xs : List OutView). IsHeld shape (IsCome xs ends) c.accept_rest-refusal.new.part
+          c.accept_rest-refusal.result) (sym grown)
+          (held_more shape (IsCome front (end ∷ ends)) (IsCome (front ++ out ∷ []) ends) c.loop-out.part
+          c.accept_rest-refusal.new.part c.loop-out.refusal c.accept_rest-refusal.result c.drain-rest.result
+          before.shape (come_before front out end ends c.drain-rest.result c.drain-rest.ensures)
+          (come_cases front out end ends c.drain-rest.result c.drain-rest.ensures)
           (come_rest front out end ends c.drain-rest.result c.drain-rest.ensures) c.accept_rest-refusal.ensures
-          (subst (λ (xs : List InView). IsHeld shape (IsCome front xs) c.loop-out.part c.loop-out.refusal) ends_are before.held));
+          (subst (λ (xs : List InView). IsHeld shape (IsCome front xs) c.loop-out.part c.loop-out.refusal) ends_are
+          before.held));
     }
 
 pub returns-clause-held : goal.returns-clause-held
@@ -81,5 +94,6 @@ returns-clause-held c =
     held_same c.args.part.now.shape (IsCome front ends) (IsSentOn c.args.outs.items) c.loop-out.part c.loop-out.refusal
     (λ t come. elim come [
       | inl sent ↦ subst (λ (xs : List OutView). IsSentOn xs t) all sent
-      | inr taken ↦ let none : IsTakenFrom [] t = subst (λ (xs : List InView). IsTakenFrom xs t) done.1 taken in absurd (omega (arith, none.2))
+      | inr taken ↦ let none : IsTakenFrom [] t = subst (λ (xs : List InView). IsTakenFrom xs t) done.1 taken in absurd
+          (omega (arith, none.2))
     ]) (λ t sent. inl (subst (λ (xs : List OutView). IsSentOn xs t) (sym all) sent)) before.held

@@ -13,5 +13,6 @@ invariant-loop-out l = record {
   ends : AreEnds (into_iter_items (zip_first l.out-iterator)) (into_iter_items (zip_second l.out-iterator));
   shape : l.part.shape ≡ l.fn.part.shape;
   kept : IfSome l.fn.refusal (λ e. l.refusal ≡ Some e);
-  held : IsHeld l.fn.part.shape (IsCome (map (λ p. p.0) l.yielded) (into_iter_items (zip_second l.out-iterator))) l.part l.refusal;
+  held : IsHeld l.fn.part.shape (IsCome (map (λ p. p.0) l.yielded) (into_iter_items (zip_second l.out-iterator))) l.part
+      l.refusal;
 }

@@ -17,20 +17,24 @@ use Rattle.live_engine.proofs.Rounding.{idle_guests, idle_copiers, all_states, o
 use Rattle.live_engine.proofs.Running.{law_next, joined_next}
 use Rattle.live_engine.proofs.rounds.Migration.run_round.Goals as goal
 
-pub run_threads-requires-clause-count : goal.run_threads-requires-clause-count
-run_threads-requires-clause-count g c κs within =
+pub run_crew-requires-clause-count : goal.run_crew-requires-clause-count
+run_crew-requires-clause-count g c κs within =
     let table = c.in_ok-table.field-0.table in
     let count : length c.in_ok-table.field-0.copiers.items ≡ table.start.copiers =
-    ap length c.in_ok-table.ensures.copiers ∙ length-map-range_with_len (λ (n : ℕ). copy_view table.id (first_copier table.start n)) 0 table.start.copiers in
-    c.requires.under_way.states_are ∙ sym (count ∙ ap (λ (s : Start). s.copiers) (c.in_ok-table.ensures.table ∙ c.in-Some.ensures.given))
+    ap length c.in_ok-table.ensures.copiers ∙ length-map-range_with_len
+    (λ (n : ℕ). copy_view table.id (first_copier table.start n)) 0 table.start.copiers in
+    c.requires.under_way.states_are ∙ sym (count ∙ ap (λ (s : Start). s.copiers)
+    (c.in_ok-table.ensures.table ∙ c.in-Some.ensures.given))
 
 pub close-closed-requires-clause-guests : goal.close-closed-requires-clause-guests
 close-closed-requires-clause-guests g c =
-    idle_guests (g.W.WriteLog.trace c.args.self.now.trace.now) c.in_ok-table.field-0.table c.planned.inside.from c.planned.inside.to c.in_ok-guests.guests.items c.in_ok-guests.ensures.guests
+    idle_guests (g.W.WriteLog.trace c.args.self.now.trace.now) c.in_ok-table.field-0.table c.planned.inside.from
+    c.planned.inside.to c.in_ok-guests.guests.items c.in_ok-guests.ensures.guests
 
 pub close-closed-requires-clause-copiers : goal.close-closed-requires-clause-copiers
 close-closed-requires-clause-copiers g c =
-    idle_copiers (g.W.WriteLog.trace c.args.self.now.trace.now) c.may_skip.result c.in_ok-table.field-0.table c.args.self.now.team.streams (rows_of c.args.progress.states.items) c.in_ok-guests.copiers.items
+    idle_copiers (g.W.WriteLog.trace c.args.self.now.trace.now) c.may_skip.result c.in_ok-table.field-0.table
+    c.args.self.now.team.streams (rows_of c.args.progress.states.items) c.in_ok-guests.copiers.items
     c.in_ok-seats.seats.items c.in_ok-seats.ensures.seats c.in_ok-guests.ensures.copiers
 
 pub returns : goal.returns
@@ -45,32 +49,54 @@ returns g c =
     let first = c.args.progress.states.items in
     let states = c.in_ok-seats.states.items in
     let start_is : table.start ≡ start_with old.versions old.dirty team.replayers team.copiers =
-    c.in_ok-table.ensures.table ∙ c.in-Some.ensures.given ∙ ap (λ (v : ClosedView). start_with v.versions v.dirty team.replayers team.copiers) c.closed.view_is in
-    let opens : OpensAt trace plan.from table.start = opens_so trace plan.from table.start old team.replayers team.copiers start_is c.requires.under_way.size c.requires.joined.2.versions in
+    c.in_ok-table.ensures.table ∙ c.in-Some.ensures.given
+    ∙ ap (λ (v : ClosedView). start_with v.versions v.dirty team.replayers team.copiers) c.closed.view_is in
+    let opens : OpensAt trace plan.from table.start = opens_so trace plan.from table.start old team.replayers
+    team.copiers start_is c.requires.under_way.size c.requires.joined.2.versions in
     let replayed : AreReplayed trace table plan.from plan.to c.in_ok-guests.guests.items =
-    subst (λ (p : PlannedRound). AreReplayed trace table p.from p.to c.in_ok-guests.guests.items) c.planned.view_is c.in_ok-guests.ensures.guests in
-    let done : IsRound trace skip team.copiers old.dirty plan.from plan.to new (lists_of states) × HavePosted trace team.copiers (lists_of states) (rows_of first) (rows_of states) =
-    round_done trace skip table plan.from plan.to team.streams team.replayers team.copiers first c.in_ok-guests.guests.items c.in_ok-guests.copiers.items
-    c.in_ok-seats.seats.items states old new start_is (subst (λ (s : Start). IsStart s) (sym c.in_ok-table.ensures.table) c.in_ok-table.ensures.start) c.requires.span opens
-    c.requires.under_way.states_are replayed c.in_ok-guests.ensures.copiers c.in_ok-seats.ensures.seats c.in_ok-seats.ensures.states
+    subst (λ (p : PlannedRound). AreReplayed trace table p.from p.to c.in_ok-guests.guests.items) c.planned.view_is
+    c.in_ok-guests.ensures.guests in
+    let done : IsRound trace skip team.copiers old.dirty plan.from plan.to new (lists_of states)
+    × HavePosted trace team.copiers (lists_of states) (rows_of first) (rows_of states) =
+    round_done trace skip table plan.from plan.to team.streams team.replayers team.copiers first
+    c.in_ok-guests.guests.items c.in_ok-guests.copiers.items
+    c.in_ok-seats.seats.items states old new start_is
+    (subst (λ (s : Start). IsStart s) (sym c.in_ok-table.ensures.table) c.in_ok-table.ensures.start) c.requires.span
+    opens
+    c.requires.under_way.states_are replayed c.in_ok-guests.ensures.copiers c.in_ok-seats.ensures.seats
+    c.in_ok-seats.ensures.states
     c.close-closed.ensures.pages c.close-closed.ensures.next in
     let listed : c.push.new.self.items ≡ c.args.progress.rounds.items ++ lists_of states ∷ [] =
-    c.in_ok-push.ensures.items ∙ ap (λ (r : LiveRound). c.args.progress.rounds.items ++ r ∷ []) c.in_ok-listed.ensures.lists in
+    c.in_ok-push.ensures.items ∙ ap (λ (r : LiveRound). c.args.progress.rounds.items ++ r ∷ [])
+    c.in_ok-listed.ensures.lists in
     record {
       under_way = record {
-        next = subst (λ (s : Start). IsStart (start_with new.versions new.dirty s.guests s.copiers)) start_is c.close-closed.ensures.next;
-        size = c.close-closed.ensures.left.left.versions ∙ ap (λ (s : Start). length s.places) start_is ∙ c.requires.under_way.size;
-        states_are = ap length (c.in_ok-listed.ensures.states ∙ c.in_ok-seats.ensures.states) ∙ length-map c.in_ok-guests.copiers.items (λ (c : Copier). c.state)
+        next = subst (λ (s : Start). IsStart (start_with new.versions new.dirty s.guests s.copiers)) start_is
+            c.close-closed.ensures.next;
+        size = c.close-closed.ensures.left.left.versions ∙ ap (λ (s : Start). length s.places) start_is
+            ∙ c.requires.under_way.size;
+        states_are = ap length (c.in_ok-listed.ensures.states ∙ c.in_ok-seats.ensures.states)
+            ∙ length-map c.in_ok-guests.copiers.items (λ (c : Copier). c.state)
             ∙ c.in_ok-guests.ensures.copiers.count ∙ ap (λ (s : Start). s.copiers) start_is;
         each = subst (All (IsCopierState trace team.streams)) (sym c.in_ok-listed.ensures.states)
-            (all_states trace skip table team.streams (rows_of first) c.in_ok-guests.copiers.items states c.in_ok-seats.ensures.states c.in_ok-guests.ensures.copiers);
+            (all_states trace skip table team.streams (rows_of first) c.in_ok-guests.copiers.items states
+            c.in_ok-seats.ensures.states c.in_ok-guests.ensures.copiers);
       };
       lanes = ap (λ (ds : List CopierStateView). lanes_of (rows_of ds)) c.in_ok-listed.ensures.states ∙ done.1.lanes;
-      joined = λ base before joined. subst (λ (rounds : List LiveRound). AreJoined trace base team.copiers plan.to (before ++ plan ∷ []) rounds new (rows_of c.in_ok-listed.states.items)) (sym listed)
-          (subst (λ (ds : List CopierStateView). AreJoined trace base team.copiers plan.to (before ++ plan ∷ []) (c.args.progress.rounds.items ++ lists_of states ∷ []) new (rows_of ds)) (sym c.in_ok-listed.ensures.states)
-          (joined_next trace base skip team.copiers before c.args.progress.rounds.items plan (lists_of states) old new (rows_of first) (rows_of states) c.requires.span joined done.0 done.1));
-      law = λ base lane before capacity joined law. subst (λ (rounds : List LiveRound). LiveRounds trace base c.args.skip team.copiers lane (before ++ plan ∷ []) rounds) (sym listed)
-          (law_next trace base c.args.skip skip team.copiers lane before c.args.progress.rounds.items plan (lists_of states) old new (rows_of first) (rows_of states)
-          (c.may_skip.ensures ∙ ap (λ (n : ℕ). c.args.skip && leb 1 n) (let len : c.len-number.result ≡ length c.args.progress.rounds.items = grind (arith, c.len-number.ensures) in len))
+      joined = λ base before joined. subst (λ (rounds : List LiveRound). AreJoined trace base team.copiers plan.to
+          (before ++ plan ∷ []) rounds new (rows_of c.in_ok-listed.states.items)) (sym listed)
+          (subst (λ (ds : List CopierStateView). AreJoined trace base team.copiers plan.to (before ++ plan ∷ [])
+          (c.args.progress.rounds.items ++ lists_of states ∷ []) new (rows_of ds))
+          (sym c.in_ok-listed.ensures.states)
+          (joined_next trace base skip team.copiers before c.args.progress.rounds.items plan (lists_of states) old new
+          (rows_of first) (rows_of states) c.requires.span joined done.0 done.1));
+      law = λ base lane before capacity joined law. subst
+          (λ (rounds : List LiveRound). LiveRounds trace base c.args.skip team.copiers lane (before ++ plan ∷ [])
+          rounds) (sym listed)
+          (law_next trace base c.args.skip skip team.copiers lane before c.args.progress.rounds.items plan
+          (lists_of states) old new (rows_of first) (rows_of states)
+          (c.may_skip.ensures ∙ ap (λ (n : ℕ). c.args.skip && leb 1 n)
+          (let len : c.len-number.result ≡ length c.args.progress.rounds.items = grind
+          (arith, c.len-number.ensures) in len))
           c.requires.span joined done.0 done.1 capacity law);
     }

@@ -17,4 +17,5 @@ pub returns-clause-is_memory : goal.returns-clause-is_memory
 returns-clause-is_memory c =
     let is = c.shape.ensures.is_trace in
     let large = image_large c.self.inside.trace is in
-    subst (λ (m : GuestMemory). IsMemory m.shift m.pages m.bytes) c.self.view_is (large_memory c.self.inside.trace (image_of c.self.inside.trace) is large)
+    subst (λ (m : GuestMemory). IsMemory m.shift m.pages m.bytes) c.self.view_is
+    (large_memory c.self.inside.trace (image_of c.self.inside.trace) is large)

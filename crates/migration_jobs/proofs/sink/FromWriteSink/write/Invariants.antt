@@ -4,4 +4,7 @@ use Rattle.migration_jobs.proofs.sink.FromWriteSink.write.Given as goal
 
 abbrev pub invariant-loop : goal.invariant-loop
 invariant-loop g l =
-    record { kept : Keeps l.fn.self.contents (g.W.Write.contents l.self-inside.writer); unfailed : l.self-inside.has_failed ≡ false }
+    record {
+      kept : Keeps l.fn.self.contents (g.W.Write.contents l.self-inside.writer);
+      unfailed : l.self-inside.has_failed ≡ false;
+    }

@@ -1,0 +1,337 @@
+"""Cases of checks/view about limits in time and bytes: what precopy-view tells is computed again from precopy's lines."""
+
+import bisect
+import collections
+import math
+import random
+import struct
+
+from view_texts import Failure, document_of, ran, report_facts, sweep_facts, told
+
+TIMES = {"us": 1, "ms": 1_000, "s": 1_000_000}
+RATES = {"Kbit": 125, "Mbit": 125_000, "Gbit": 125_000_000, "KB": 1_000, "MB": 10**6, "GB": 10**9,
+         "KiB": 1 << 10, "MiB": 1 << 20, "GiB": 1 << 30}
+CASES_OF_LIMITS = 600
+CASES_OF_STARTS = 400
+
+
+class Known:
+    """A trace, and what is in it: the bytes of a page, the writes as ticks and pages, and the last tick."""
+
+    def __init__(self, path):
+        self.path = path
+        with open(path, "rb") as file:
+            text = file.read()
+        self.size = 1 << text[5]
+        self.pages, _ = struct.unpack_from("<II", text, 8)
+        self.writes, at = [], 16
+        while at < len(text):
+            tick, page, _, length = struct.unpack_from("<QIHH", text, at)
+            self.writes.append((tick, page))
+            at += 16 + length
+        self.last = self.writes[-1][0]
+
+    def __repr__(self):
+        return self.path
+
+
+class Limits:
+    """What a migration may take, as words and as the settings that the guide's rules make of them."""
+
+    def __init__(self, draw, known):
+        self.tick = draw.choice([1, 10, 100, 1_000, 10_000])
+        self.guest = draw.choice([1, draw.randrange(70_000, 1 << 30), 3 * known.pages])
+        self.sampled = 1 if self.guest == 1 else draw.randrange(known.pages, min(self.guest, 70_000))
+        page = self.page = known.size
+        self.link = self._rate(draw)
+        self.first = draw.choice([None, self._rate(draw)])
+        self.reserve = draw.choice([0, draw.randrange(100_000)])
+        self.downtime = self.reserve + draw.randrange(500_000)
+        self.words = [f"--tick={self.tick}us", f"--page={page}", f"--link={self.link[0]}",
+                      f"--downtime={self.downtime}us", f"--reserve={self.reserve}us"]
+        if self.first:
+            self.words.append(f"--first={self.first[0]}")
+        if self.guest > 1:
+            self.words.append(f"--sampled={self.sampled}/{self.guest}")
+
+    @staticmethod
+    def _rate(draw):
+        unit = draw.choice(list(RATES))
+        count = draw.randrange(1, max(2, 10**10 // RATES[unit]))
+        return f"{count}{unit}", count * RATES[unit]
+
+    def rate(self, size):
+        return size * self.tick * self.sampled // (1_000 * self.page * self.guest)
+
+    def settings(self):
+        """Returns the options of `precopy report`, or None where a limit is out of its range."""
+        most, least = self.rate(self.link[1]), self.rate((self.first or self.link)[1])
+        threshold = (self.downtime - self.reserve) // self.tick * most // 1_000 + 1
+        if not 1 <= most <= 1_000_000 or not 1 <= least <= most or threshold > 65_536:
+            return None
+        return [f"--min={least}", f"--max={most}", f"--inc={(most - least) // 10}", f"--threshold={threshold}"]
+
+    def bytes(self, pages):
+        return pages * self.page * self.guest // self.sampled
+
+
+def seconds(micros):
+    return f"{micros // 1_000_000}.{micros // 1_000 % 1_000:03} s"
+
+
+def size_text(size):
+    unit, name = (1 << 20, "MiB") if size < 1 << 30 else (1 << 30, "GiB")
+    hundredths = size * 100 // unit
+    return f"{hundredths // 100}.{hundredths % 100:02} {name}"
+
+
+def costs_of(limits, start, plan):
+    """Returns the time and the downtime of a plan, in microseconds, and what it sends."""
+    down = plan["down"] * limits.tick + limits.reserve
+    return (plan["at"] - start) * limits.tick + down, down, limits.bytes(plan["total"])
+
+
+def predicted_lines(limits, report, start, last):
+    """Returns the first lines of a prediction and its status, from the facts of a report."""
+    stop = report["stop"]
+    time, down, sent = costs_of(limits, start, stop)
+    kept = down <= limits.downtime
+    ends = {"few": "yes", "fast": "no, the guest writes faster than the link sends",
+            "rounds": "no, all rounds that are allowed are done"}[stop["why"]]
+    if stop["why"] == "few" and not kept:
+        raise Failure("few pages are left, and yet the limit is not kept")
+    separator = "," if stop["why"] == "few" else ";"
+    lines = [f"converges: {ends}{separator} rounds: {len(report['rounds'])}", f"total time: {seconds(time)}",
+             f"sent: {size_text(sent)}",
+             f"downtime: {seconds(down)}, limit: {seconds(limits.downtime)}, {'kept' if kept else 'not kept'}"]
+    warnings = [stop["at"] > last, stop["pages"] < 100, stop["why"] != "few"]
+    return lines, sum(warnings), 0 if kept else 3
+
+
+def root_above(number):
+    return math.isqrt(number - 1) + 1 if number else 0
+
+
+def error_of(limits, total, squares):
+    """A standard error in pages of the guest, rounded up, from the sum of a number of each sampled page."""
+    sampled, guest = limits.sampled, limits.guest
+    spread = guest * (guest - sampled) * (sampled * squares - total * total)
+    return root_above(-(-spread // (sampled * sampled * (sampled - 1))))
+
+
+def pages_sent(report, known):
+    """Returns the pages that each round of a plan without skipping sends, and those that are sent after the stop."""
+    lists = [range(report["trace"]["pages"])]
+    for some in report["rounds"]:
+        low, high = (bisect.bisect_left(known.writes, (some[name], 0)) for name in ("from", "to"))
+        lists.append({page for _, page in known.writes[low:high]})
+    return lists
+
+
+def error_lines(limits, lists):
+    """Returns the line on standard errors, where there is one."""
+    if not 2 <= limits.sampled <= 65_536 or limits.sampled >= limits.guest:
+        return []
+    times = collections.Counter(page for some in lists for page in some)
+    sent = error_of(limits, sum(times.values()), sum(count * count for count in times.values()))
+    left = error_of(limits, len(lists[-1]), len(lists[-1]))
+    time = -(-left * limits.sampled * limits.tick * 1_000 // (limits.guest * limits.rate(limits.link[1])))
+    return [f"standard errors: sent {size_text(sent * limits.page)}, downtime {seconds(time)}"]
+
+
+def check_prediction(view, precopy, limits, start, known):
+    words = [*limits.words, f"--start={start}"]
+    status, text, faults = ran(view, ["predict", *words], known.path)
+    settings = limits.settings()
+    if settings is None:
+        if status != 2 or text or not faults.startswith("precopy-view: --"):
+            raise Failure(f"{words}: status {status}, {faults!r}")
+        return
+    report = report_facts(told(precopy, ["report", *settings, f"--start={start}"], known.path))
+    lines, warnings, wanted = predicted_lines(limits, report, start, known.last)
+    lines += error_lines(limits, pages_sent(report, known))
+    found = text.splitlines()
+    told_warnings = [line for line in found if line.startswith("warning: ")]
+    if status != wanted or found[: len(lines)] != lines or len(told_warnings) != warnings:
+        raise Failure(f"{words}: status {status}, {found} in place of {lines} and {warnings} warnings")
+    live = " ".join(["precopy live", *(" ".join(word.split("=")) for word in settings), f"--rounds 30 --start {start}"])
+    millis = (limits.downtime - limits.reserve) // 1_000
+    hosts = [f"QEMU: migrate_set_parameter max-bandwidth {limits.link[1]}B",
+             f"QEMU: migrate_set_parameter downtime-limit {millis}",
+             f"libvirt: virsh migrate-setspeed DOMAIN {max(1, limits.link[1] >> 20)}",
+             f"libvirt: virsh migrate-setmaxdowntime DOMAIN {millis}"]
+    rest = found[len(lines) + warnings:]
+    if rest != [live, *hosts]:
+        raise Failure(f"{words}: {rest} in place of {[live, *hosts]}")
+
+
+# ---- Reports in times and bytes.
+
+UNITS = {"window": ["bytes"], "round": ["from_seconds", "to_seconds", "sent_bytes", "dirtied_bytes", "link_share"],
+         "stop": ["at_seconds", "bytes", "down_seconds", "total_bytes"]}
+
+
+def without(members, names):
+    return {name: value for name, value in members.items() if name not in names}
+
+
+def check_measured(view, precopy, limits, start, known):
+    """Compares a document that has times and bytes with the report in ticks and pages."""
+    settings = limits.settings()
+    if settings is None:
+        return
+    found = document_of("report", told(view, ["json", "report", *limits.words, f"--start={start}"], known.path))
+    wanted = report_facts(told(precopy, ["report", *settings, f"--start={start}"], known.path))
+    most = limits.rate(limits.link[1])
+    tick = limits.tick / 1e6
+    plain = {"trace": found["trace"], "windows": [without(window, UNITS["window"]) for window in found["windows"]],
+             "hot": found["hot"], "rounds": [without(some, UNITS["round"]) for some in found["rounds"]],
+             "stop": without(found["stop"], UNITS["stop"])}
+    if plain != wanted:
+        raise Failure(f"{plain} in place of {wanted}")
+    pairs = [(found["units"], {"tick_seconds": tick, "window_seconds": 1_000 * tick, "page_bytes": limits.page,
+                               "sampled_pages": limits.sampled, "guest_pages": limits.guest})]
+    pairs += [(window, {"bytes": limits.bytes(window["pages"])}) for window in found["windows"]]
+    for some in found["rounds"]:
+        pairs.append((some, {"from_seconds": some["from"] * tick, "to_seconds": some["to"] * tick,
+                             "sent_bytes": limits.bytes(some["sent"]), "dirtied_bytes": limits.bytes(some["dirtied"]),
+                             "link_share": some["rate"] * 1_000_000 // most / 1e6}))
+    stop = found["stop"]
+    pairs.append((stop, {"at_seconds": stop["at"] * tick, "bytes": limits.bytes(stop["pages"]),
+                         "down_seconds": stop["down"] * tick, "total_bytes": limits.bytes(stop["total"])}))
+    for members, more in pairs:
+        for name, value in more.items():
+            if abs(members[name] - value) > abs(value) * 1e-12:
+                raise Failure(f"{name} is {members[name]} in place of {value}")
+
+
+# ---- Starts.
+
+
+def start_costs(precopy, limits, ticks, known):
+    """Returns what a migration costs from each start, by `precopy sweep`."""
+    settings = [word.split("=")[1] for word in limits.settings()]
+    case = ",".join([*settings[:3], settings[3], "30", "0"])
+    costs = []
+    for tick in ticks:
+        plan = sweep_facts(told(precopy, ["sweep", f"--start={tick}", case], known.path))["cases"][0]
+        time, down, sent = costs_of(limits, tick, plan)
+        costs.append({"start": tick, "rounds": plan["rounds"], "time": time, "sent": sent, "down": down,
+                      "kept": down <= limits.downtime, "known": plan["at"] <= known.last})
+    return costs
+
+
+def preference(cost):
+    """The numbers by which the least of some starts is the best, and the greatest the worst."""
+    prices = (cost["sent"], cost["down"]) if cost["kept"] else (cost["down"], cost["sent"])
+    return not cost["kept"], *prices, cost["time"]
+
+
+def row_of(limits, cost):
+    mark = "ends behind the trace" if not cost["known"] else "kept" if cost["kept"] else "not kept"
+    cells = [str(cost["start"]), seconds(cost["start"] * limits.tick), seconds(cost["time"]), size_text(cost["sent"]),
+             seconds(cost["down"])]
+    return "".join(cell.rjust(14) for cell in cells) + f"  {mark}"
+
+
+def choice_of(limits, name, cost):
+    if cost is None:
+        return f"{name} none, since no migration ends within the trace; record longer"
+    mark = "kept" if cost["kept"] else "not kept"
+    return (f"{name} {seconds(cost['start'] * limits.tick)}, --start {cost['start']}: time {seconds(cost['time'])}, "
+            f"sent {size_text(cost['sent'])}, downtime {seconds(cost['down'])}, {mark}")
+
+
+def object_of(limits, cost):
+    return {"start": cost["start"], "start_seconds": cost["start"] * limits.tick / 1e6, "rounds": cost["rounds"],
+            "time_seconds": cost["time"] / 1e6, "sent_bytes": cost["sent"], "down_seconds": cost["down"] / 1e6,
+            "kept": cost["kept"], "within_trace": cost["known"]}
+
+
+def start_ticks(draw, last):
+    """Draws words of starts, and returns them with the ticks that they ask for."""
+    first = draw.randrange(last + 2)
+    to = draw.choice([None, first + draw.randrange(last + 2)])
+    end = max(first, last if to is None else to)
+    every = max(1, (end - first) // draw.randrange(1, 6))
+    if draw.randrange(8) == 0 and end - first < 20:
+        every = None
+    words = [f"--from={first}"] + ([] if to is None else [f"--to={to}"]) + ([] if every is None else [f"--every={every}"])
+    step = every or max(1, -(-(end - first) // 200))
+    return words, list(range(first, end + 1, step))
+
+
+def check_starts(view, precopy, limits, starts, workers, known):
+    words, ticks = starts
+    words = [*limits.words, *words, f"--workers={workers}"]
+    status, text, faults = ran(view, ["when", *words], known.path)
+    if limits.settings() is None:
+        if status != 2 or text or not faults.startswith("precopy-view: --"):
+            raise Failure(f"{words}: status {status}, {faults!r}")
+        return
+    costs = start_costs(precopy, limits, ticks, known)
+    within = [cost for cost in costs if cost["known"]]
+    best = min(within, key=preference, default=None)
+    worst = max(within, key=preference, default=None)
+    heading = "".join(name.rjust(14) for name in ("tick", "start", "time", "sent", "downtime"))
+    lines = [heading, *(row_of(limits, cost) for cost in costs), choice_of(limits, "best: ", best),
+             choice_of(limits, "worst:", worst)]
+    wanted = 0 if best and best["kept"] else 3
+    if status != wanted or text.splitlines() != lines:
+        raise Failure(f"{words}: status {status}, {text.splitlines()} in place of {lines}")
+    status, text, _ = ran(view, ["json", "when", *words], known.path)
+    document = {"limit_seconds": limits.downtime / 1e6, "starts": [object_of(limits, cost) for cost in costs]}
+    if best:
+        document |= {"best": object_of(limits, best), "worst": object_of(limits, worst)}
+    if status != wanted or document_of("when", text) != document:
+        raise Failure(f"{words}: status {status}, {text} in place of {document}")
+
+
+def start_tries(traces):
+    """Returns the tries of random starts over some traces."""
+    draw = random.Random(480)
+    known = [Known(trace) for trace in traces]
+    for _ in range(CASES_OF_STARTS):
+        some = draw.choice(known)
+        yield check_starts, Limits(draw, some), start_ticks(draw, some.last), draw.choice([1, 4]), some
+
+
+def limit_tries(traces):
+    """Returns the tries of random limits over some traces."""
+    draw = random.Random(48)
+    known = [Known(trace) for trace in traces]
+    for _ in range(CASES_OF_LIMITS):
+        some = draw.choice(known)
+        limits, start = Limits(draw, some), draw.randrange(some.last + 2)
+        yield check_prediction, limits, start, some
+        yield check_measured, limits, start, some
+
+
+def check_words(view, _, words, status, trace):
+    found, text, faults = ran(view, ["show", *words], trace)
+    if found != status or (status == 2) != faults.startswith("precopy-view: --"):
+        raise Failure(f"{words}: status {found}, {faults!r}")
+
+
+WELL_SPELLED = ["--tick=1us", "--tick=1s", "--tick=1000000us", "--tick=+1ms", "--tick=0001ms", "--sampled=1/1",
+                "--sampled=4294967296/4294967296", "--sampled=65536/4294967296", "--page=4096"]
+MISSPELLED = ["--tick=0us", "--tick=1000001us", "--tick=2s", "--tick=1", "--tick=ms", "--tick=1 ms", "--tick=1.5ms",
+              "--tick=-1ms", "--tick=1MS", "--tick=1m", "--tick=1min", "--tick=0x1ms", "--tick=1e3us", "--tick=1,000us",
+              "--tick=", "--tick=++1ms", "--tick=18446744073709551616us", "--tick=18446744073710s", "--tick=1ms ",
+              "--tick=\N{ARABIC-INDIC DIGIT ONE}ms", "--sampled=0/1", "--sampled=2/1", "--sampled=1/4294967297",
+              "--sampled=1", "--sampled=1/", "--sampled=/1", "--sampled=1/2/3", "--sampled=1:2", "--page=15",
+              "--page=4097", "--link=1GB", "--downtime=1s", "--first=1GB", "--reserve=1s"]
+MISSPELLED_LINKS = ["1", "1GBit", "1gbit", "1Gb", "1G", "1 GB", "1.5GB", "10Gbps", "1GB/s", "-1GB", "GB", "", "1TiB",
+                    "18446744073709551615KB"]
+
+
+def word_tries(trace):
+    tries = [(check_words, [word], 0, trace) for word in WELL_SPELLED]
+    tries += [(check_words, [word], 2, trace) for word in MISSPELLED]
+    tries += [(check_words, [f"--link={word}", "--downtime=1ms"], 2, trace) for word in MISSPELLED_LINKS]
+    for link, status in (("3KiB", 2), ("4KiB", 0), ("4000000KiB", 0), ("4000004KiB", 2)):
+        tries.append((check_words, [f"--link={link}", "--downtime=0s"], status, trace))
+    for more, status in (("--reserve=1ms", 0), ("--reserve=2ms", 2), ("--first=1GB", 0), ("--first=2GB", 2),
+                         ("--max=5", 2), ("--min=5", 2), ("--threshold=5", 2), ("--inc=1000000", 0)):
+        tries.append((check_words, ["--link=1GB", "--downtime=1ms", more], status, trace))
+    return tries

@@ -1,0 +1,4 @@
+pub mod Starts
+pub mod Costs
+pub mod Choices
+pub mod Texts

@@ -1,0 +1,14 @@
+//! The same migration begun at many ticks: what it costs from each, and which start is the best and which the worst.
+#![tactic(auto)]
+
+mod choosing;
+mod error;
+mod starting;
+mod starts;
+mod table;
+
+pub use choosing::{best_start, known_starts, worst_start};
+pub use error::StartsError;
+pub use starting::{StartCost, start_costs};
+pub use starts::Starts;
+pub use table::starts_text;

@@ -1,0 +1,96 @@
+//! At which ticks a migration may begin.
+
+ghost use Rattle.std.specs.Prelude.{◌≡◌, ◌≤◌, ◌<◌, ◌+◌, ◌-◌, ◌*◌, ◌/◌, ◌^◌, IfErr, IfOk, Some, max};
+ghost use Rattle.migration_starts.specs.Starts.{RefusesStarts, cases_from, count_of, last_start, spacing_of};
+
+use crate::error::StartsError;
+use rate_limit::{Asked, Settings, SettingsError};
+use std::alloc::Global;
+
+/// Into how many parts a trace is cut by starts, where no spacing is said.
+const PARTS: u64 = 200;
+
+/// The most starts.
+const MOST_STARTS: u64 = 4096;
+
+/// At which ticks a migration may begin: from one tick on to another, so many ticks apart.
+#[derive(Clone, Copy, Debug, PartialEq, Eq)]
+pub struct Starts {
+    /// The first start.
+    pub from: u64,
+    /// The tick after which there is no start; the last of the trace where none is said.
+    pub to: Option<u64>,
+    /// The ticks between two starts; some 200th of all where none are said.
+    pub every: Option<u64>,
+}
+
+impl Starts {
+    /// Returns the tick after which there is no start, over a trace with this last tick.
+    fn last(&self, last_tick: u64) -> u64
+        ensures { result ≡ last_start self.now last_tick }
+    {
+        self.to.unwrap_or(last_tick).max(self.from)
+    }
+
+    /// Returns the ticks between two starts, over a trace with this last tick.
+    fn spacing(&self, last_tick: u64) -> u64
+        ensures { result ≡ spacing_of self.now last_tick }
+    {
+        let span = self.last(last_tick) - self.from;
+        self.every.unwrap_or(span.div_ceil(PARTS)).max(1)
+    }
+
+    /// Returns how many starts there are, over a trace with this last tick.
+    fn count(&self, last_tick: u64) -> u128
+        ensures { result ≡ count_of self.now last_tick }
+    {
+        let span = self.last(last_tick) - self.from;
+        (span / self.spacing(last_tick)) as u128 + 1
+    }
+
+    /// Returns the settings of a migration from each start, in order, over a trace with this last tick.
+    pub fn cases(
+        &self,
+        alloc: Global,
+        settings: &Settings,
+        last_tick: u64,
+    ) -> Result<Vec<Settings>, StartsError>
+        ensures made { IfOk result (λ cases. cases.items ≡ cases_from settings.now self.now last_tick) }
+        ensures refused { IfErr result (RefusesStarts self.now last_tick) }
+    {
+        let count = self.count(last_tick);
+        if count > MOST_STARTS as u128 {
+            return Err(StartsError::TooMany);
+        }
+        let count = count as u64;
+        let last = self.last(last_tick);
+        let every = self.spacing(last_tick);
+        let mut cases = Vec::with_capacity(alloc, count as usize)?;
+        for number in 0..count {
+            let tick = tick_at(self.from, last, every, number);
+            match case_at(settings, tick) {
+                Ok(case) => cases.push(case)?,
+                Err(error) => return Err(StartsError::Settings(error)),
+            }
+        }
+        Ok(cases)
+    }
+}
+
+/// Returns the tick of a start, by its number.
+fn tick_at(from: u64, last: u64, every: u64, number: u64) -> u64
+    requires { from + number * every ≤ last }
+    ensures { result ≡ from + number * every }
+{
+    from + number * every
+}
+
+/// Returns the settings of a migration that begins at a tick.
+fn case_at(settings: &Settings, tick: u64) -> Result<Settings, SettingsError>
+    ensures { IfOk result (λ case. case ≡ record settings.now { start = tick }) }
+{
+    Settings::new(Asked {
+        start: tick,
+        ..*settings.asked()
+    })
+}

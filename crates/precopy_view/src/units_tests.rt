@@ -1,0 +1,165 @@
+//! Worked examples of times and bytes: of reports, and of starts.
+
+use crate::tests::told;
+use std::test::Fail;
+
+/// A link of 64 pages of the guest in 1,000 ticks, and the other words of a guest of which one page in four was
+/// recorded.
+const LIMITS: [&str; 5] = [
+    "--link=1KiB",
+    "--downtime=200ms",
+    "--reserve=10ms",
+    "--page=16",
+    "--sampled=4/16",
+];
+
+/// What the program writes with these words in front of the limits, and some behind them.
+fn with_limits<'a>(
+    alloc: std::alloc::Global,
+    command: &[&'a str],
+    more: &[&'a str],
+) -> Result<Vec<&'a str>, std::alloc::AllocError> {
+    let mut words = Vec::new(alloc);
+    for word in command.iter().chain(&LIMITS).chain(more) {
+        words.push(*word)?;
+    }
+    Ok(words)
+}
+
+/// The report on the trace in times and bytes: 4 pages are sent in 250 ticks, and 2 of them are dirtied meanwhile.
+static SCREEN: &str = "trace: 4 pages of 16 bytes, 5 writes
+a tick is 1000 us; the trace has 4 of the guest's 16 pages
+
+windows of 1.000 s; written: █ again ▓ earlier ░ fresh
+      window        from     written
+           0     0.000 s    0.00 MiB  ░░░░░░░░░░░░░░░░░░░░░░░░░░░░░░░░░░░░░░░░░░
+           1     1.000 s    0.00 MiB  █████████████████████
+           2     2.000 s    0.00 MiB  █████████████████████░░░░░░░░░░░░░░░░░░░░░
+
+hot pages, in 2 windows or more: 1
+ 1
+ | █  |
+
+round  0   0.000 s to 0.250 s   0.00 MiB sent   0.00 MiB dirtied   100% of link
+
+stop: few, at 0.250 s
+left: 0.00 MiB
+downtime: 0.125 s
+sent in all: 0.00 MiB
+";
+
+#[test]
+fn shows_times_and_bytes(rt: HostRuntime) -> Result<(), Fail> {
+    let words = with_limits(rt.alloc(), &["show"], &[])?;
+    let (status, output, _) = told(&rt, rt.alloc(), 102, &words)?;
+    assert!(rt; status == 0 && output.bytes() == SCREEN.as_bytes());
+    Ok(())
+}
+
+/// The same as a document.
+static REPORT: &str = "{\"trace\":{\"pages\":4,\"size\":16,\"writes\":5},\
+\"units\":{\"tick_seconds\":0.001000,\"window_seconds\":1.000000,\"page_bytes\":16,\"sampled_pages\":4,\
+\"guest_pages\":16},\"windows\":[\
+{\"window\":0,\"writes\":2,\"pages\":2,\"again\":0,\"fresh\":2,\"bytes\":128},\
+{\"window\":1,\"writes\":1,\"pages\":1,\"again\":1,\"fresh\":0,\"bytes\":64},\
+{\"window\":2,\"writes\":2,\"pages\":2,\"again\":1,\"fresh\":1,\"bytes\":128}],\
+\"hot\":{\"windows\":2,\"pages\":[1]},\"rounds\":[\
+{\"round\":0,\"from\":0,\"to\":250,\"rate\":16,\"pages\":4,\"sent\":4,\"dirtied\":2,\"from_seconds\":0.000000,\
+\"to_seconds\":0.250000,\"sent_bytes\":256,\"dirtied_bytes\":128,\"link_share\":1.000000}],\
+\"stop\":{\"why\":\"few\",\"at\":250,\"pages\":2,\"down\":125,\"total\":6,\"at_seconds\":0.250000,\"bytes\":128,\
+\"down_seconds\":0.125000,\"total_bytes\":384}}\n";
+
+#[test]
+fn writes_times_and_bytes(rt: HostRuntime) -> Result<(), Fail> {
+    let words = with_limits(rt.alloc(), &["json", "report"], &[])?;
+    let (status, output, _) = told(&rt, rt.alloc(), 102, &words)?;
+    assert!(rt; status == 0 && output.bytes() == REPORT.as_bytes());
+    Ok(())
+}
+
+/// Starts at every 800th tick up to 2400. Only from 0 and from 2400 on are pages written in the 250 ticks of the first
+/// round, 2 of them, which take 125 ticks more. The migration from 2400 on ends after the last tick of the trace, 2500.
+static STARTS: &str = "          tick         start          time          sent      downtime
+             0       0.000 s       0.385 s      0.00 MiB       0.135 s  kept
+           800       0.800 s       0.260 s      0.00 MiB       0.010 s  kept
+          1600       1.600 s       0.260 s      0.00 MiB       0.010 s  kept
+          2400       2.400 s       0.385 s      0.00 MiB       0.135 s  ends behind the trace
+best:  0.800 s, --start 800: time 0.260 s, sent 0.00 MiB, downtime 0.010 s, kept
+worst: 0.000 s, --start 0: time 0.385 s, sent 0.00 MiB, downtime 0.135 s, kept
+";
+
+#[test]
+fn tells_when_to_migrate(rt: HostRuntime) -> Result<(), Fail> {
+    let words = with_limits(rt.alloc(), &["when"], &["--every=800", "--to=2400"])?;
+    let (status, output, _) = told(&rt, rt.alloc(), 102, &words)?;
+    assert!(rt; status == 0 && output.bytes() == STARTS.as_bytes());
+    Ok(())
+}
+
+/// Two starts as a document.
+static DOCUMENT: &str = "{\"limit_seconds\":0.100000,\"starts\":[\
+{\"start\":0,\"start_seconds\":0.000000,\"rounds\":1,\"time_seconds\":0.385000,\"sent_bytes\":384,\
+\"down_seconds\":0.135000,\"kept\":false,\"within_trace\":true},\
+{\"start\":2400,\"start_seconds\":2.400000,\"rounds\":1,\"time_seconds\":0.385000,\"sent_bytes\":384,\
+\"down_seconds\":0.135000,\"kept\":false,\"within_trace\":false}],\
+\"best\":{\"start\":0,\"start_seconds\":0.000000,\"rounds\":1,\"time_seconds\":0.385000,\"sent_bytes\":384,\
+\"down_seconds\":0.135000,\"kept\":false,\"within_trace\":true},\
+\"worst\":{\"start\":0,\"start_seconds\":0.000000,\"rounds\":1,\"time_seconds\":0.385000,\"sent_bytes\":384,\
+\"down_seconds\":0.135000,\"kept\":false,\"within_trace\":true}}\n";
+
+#[test]
+fn a_limit_that_no_start_keeps_has_a_status(rt: HostRuntime) -> Result<(), Fail> {
+    let words = [
+        "json",
+        "when",
+        "--link=1KiB",
+        "--downtime=100ms",
+        "--reserve=10ms",
+        "--page=16",
+        "--sampled=4/16",
+        "--rounds=1",
+        "--every=2400",
+    ];
+    let (status, output, _) = told(&rt, rt.alloc(), 102, &words)?;
+    assert!(rt; status == 3 && output.bytes() == DOCUMENT.as_bytes());
+    Ok(())
+}
+
+#[test]
+fn draws_starts(rt: HostRuntime) -> Result<(), Fail> {
+    let words = with_limits(rt.alloc(), &["when", "--chart"], &[])?;
+    let (status, output, _) = told(&rt, rt.alloc(), 102, &words)?;
+    let picture = output.bytes();
+    assert!(rt; status == 0 && picture.starts_with(b"<svg ") && picture.ends_with(b"</svg>\n"));
+    Ok(())
+}
+
+#[test]
+fn refuses_starts(rt: HostRuntime) -> Result<(), Fail> {
+    let cases: [(&[&str], u8, &str); 3] = [
+        (
+            &["--every=0"],
+            2,
+            "error: --every is at least 1, and --to is not before --from and below 2^40\n",
+        ),
+        (
+            &["--from=5", "--to=4"],
+            2,
+            "error: --every is at least 1, and --to is not before --from and below 2^40\n",
+        ),
+        (
+            &["--every=1", "--to=4096"],
+            1,
+            "precopy-view: --every: more than 4,096 starts; take a greater one\n",
+        ),
+    ];
+    for (more, expected, line) in cases {
+        let words = with_limits(rt.alloc(), &["when"], more)?;
+        let (status, output, faults) = told(&rt, rt.alloc(), 102, &words)?;
+        assert!(rt;
+            status == expected && output.bytes().is_empty() && faults.bytes() == line.as_bytes(),
+            "{line}"
+        );
+    }
+    Ok(())
+}

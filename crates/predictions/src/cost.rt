@@ -1,0 +1,91 @@
+//! What a migration costs, in time and bytes.
+
+use guest_units::{Limits, Scale};
+use round_planner::Outcome;
+use std::marker::Model;
+use sweep_report::Line;
+
+/// What a migration costs: how long it takes, how much it sends, and how long the guest does not run.
+#[derive(Clone, Copy, Debug, PartialEq, Eq)]
+pub struct Cost {
+    /// How many rounds there are.
+    pub rounds: u64,
+    /// From the first round's begin until the guest runs again, in microseconds.
+    pub time: u128,
+    /// How many bytes of the guest are sent, over all rounds and after the stop.
+    pub bytes: u128,
+    /// How long the guest does not run, in microseconds.
+    pub downtime: u128,
+    /// Whether the downtime is within its limit.
+    pub is_kept: bool,
+    /// Whether the stop comes after the trace's last tick.
+    pub is_late: bool,
+}
+
+impl Model for Cost {
+    ghost use Rattle.predictions.specs.Predictions.{MigrationCost};
+    ghost use Rattle.std.specs.Prelude.{◌<◌, ◌^◌};
+
+    ghost Value = { MigrationCost };
+
+    ghost view = { λ c. record {
+      rounds = c.rounds;
+      time = c.time;
+      bytes = c.bytes;
+      downtime = c.downtime;
+      is_kept = c.is_kept;
+      is_late = c.is_late;
+    } };
+
+    ghost invariant = { λ c. c.bytes < 2 ^ 110 };
+
+    ghost inverse = { λ c. record {
+      rounds = c.rounds;
+      time = c.time;
+      bytes = c.bytes;
+      downtime = c.downtime;
+      is_kept = c.is_kept;
+      is_late = c.is_late;
+    } };
+}
+
+impl Cost {
+    ghost use Rattle.std.specs.Prelude.{◌≡◌};
+    ghost use Rattle.predictions.specs.Predictions.{cost_of};
+
+    /// Returns what a migration costs that begins at a tick and whose plan has these sums, over a trace of this scale
+    /// and with this last tick.
+    pub fn new(
+        scale: &Scale,
+        limits: &Limits,
+        start: u64,
+        outcome: &Outcome,
+        last_tick: u64,
+    ) -> Cost
+        ensures { result ≡ cost_of scale.now limits.now start outcome.now last_tick }
+    {
+        let downtime = scale.micros(outcome.down) + limits.reserve as u128;
+        Cost {
+            rounds: outcome.rounds,
+            time: scale.micros(outcome.stop.saturating_sub(start)) + downtime,
+            bytes: scale.bytes(outcome.total),
+            downtime,
+            is_kept: downtime <= limits.downtime as u128,
+            is_late: last_tick < outcome.stop,
+        }
+    }
+
+    /// Returns what the migration of a line of a sweep costs.
+    pub fn of_line(scale: &Scale, limits: &Limits, line: &Line, last_tick: u64) -> Cost
+        ensures { result ≡ cost_of scale.now limits.now line.now.settings.start line.now.outcome last_tick }
+    {
+        let outcome = Outcome {
+            rounds: line.rounds,
+            reason: line.reason,
+            stop: line.stop,
+            down: line.down,
+            total: line.total,
+        };
+        Cost::new(scale, limits, line.settings.asked().start, &outcome, last_tick)
+    }
+}

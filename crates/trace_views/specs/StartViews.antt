@@ -1,0 +1,58 @@
+-- What the same migration costs from each of some starts.
+use Rattle.std.specs.Prelude.{◌≡◌, ℕ, ◌<◌, Bool, false, List, Option, None, Some, ⊤}
+use Rattle.guest_units.specs.Scales.{TraceScale}
+use Rattle.guest_units.specs.declared.limits.Limits.{Limits}
+use Rattle.migration_model.specs.Sweeps.{SweepLine, AreLines}
+use Rattle.migration_model.specs.Touches.{GuestTouches}
+use Rattle.migration_starts.specs.Choices.{IsChosen, is_better_start, is_worse_start, known_of}
+use Rattle.migration_starts.specs.Costs.{CostAtStart, costs_at_starts}
+use Rattle.migration_starts.specs.Starts.{cases_from, count_of}
+use Rattle.migration_starts.specs.Texts.{starts_text_of}
+use Rattle.migration_starts.specs.declared.starts.Starts.{Starts}
+use Rattle.predictions.specs.Predictions.{last_tick_of}
+use Rattle.trace_views.specs.Json.{line_of}
+use Rattle.trace_views.specs.StartsJson.{starts_object}
+use Rattle.trace_views.specs.declared.error.ViewError.{ViewError}
+use Rattle.trace_views.specs.declared.error.ViewError.TheVariants as errors
+use Rattle.trace_views.specs.declared.view.AskedStarts.{AskedStarts}
+use Rattle.trace_views.specs.declared.view.StartsForm.{StartsForm}
+use Rattle.trace_views.specs.declared.view.StartsForm.TheVariants as forms
+
+-- what a migration over a log costs from each start, by a plan of its own, and which start is the best and which the
+-- worst of those that are known
+pub record AreStartsOf (log : GuestTouches) (asked : AskedStarts) (costs : List CostAtStart)
+    (best worst : Option CostAtStart) : Type 0 where
+  pub lines : List SweepLine
+  pub are_lines : AreLines log.pages log.touches
+      (cases_from asked.settings asked.starts (last_tick_of log.touches)) lines
+  pub costs_are : costs ≡ costs_at_starts asked.scale asked.limits (last_tick_of log.touches) lines
+  pub best_is : IsChosen is_better_start (known_of costs) best
+  pub worst_is : IsChosen is_worse_start (known_of costs) worst
+
+-- the starts in some form; nothing is said of a picture
+abbrev pub IsStartsText : StartsForm → TraceScale → Limits → List CostAtStart → Option CostAtStart → Option CostAtStart
+    → List ℕ → Type 0
+IsStartsText forms.Table scale limits costs best worst text = text ≡ starts_text_of scale costs best worst
+IsStartsText forms.Json scale limits costs best worst text =
+    text ≡ line_of (starts_object scale limits.downtime costs best worst)
+IsStartsText forms.Chart scale limits costs best worst text = ⊤
+
+-- whether the best start keeps the limit
+abbrev pub is_limit_kept : Option CostAtStart → Bool
+is_limit_kept None = false
+is_limit_kept (Some at) = at.cost.is_kept
+
+-- the costs of the starts in some form, and whether the best of them keeps the limit
+pub record IsStartsView (log : GuestTouches) (asked : AskedStarts) (text : List ℕ) (is_kept : Bool) : Type 0 where
+  pub costs : List CostAtStart
+  pub best : Option CostAtStart
+  pub worst : Option CostAtStart
+  pub are_starts : AreStartsOf log asked costs best worst
+  pub text_is : IsStartsText asked.form asked.scale asked.limits costs best worst text
+  pub kept : is_kept ≡ is_limit_kept best
+
+-- why the starts cannot be shown
+abbrev pub RefusesStartsView : GuestTouches → Starts → ViewError → Type 0
+RefusesStartsView log starts errors.Memory = ⊤
+RefusesStartsView log starts errors.TooManyStarts = 4_096 < count_of starts (last_tick_of log.touches)
+RefusesStartsView log starts (errors.Settings e) = ⊤

@@ -1,0 +1,31 @@
+-- The costs of starts as a JSON document: its tokens.
+use Rattle.std.specs.Prelude.{ℕ, not, List, [], ◌∷◌, ◌++◌, Option, None, Some, codes}
+use Rattle.std.specs.List.{flat_map}
+use Rattle.guest_units.specs.Scales.{TraceScale, micros_of}
+use Rattle.json.specs.Token.{Token}
+use Rattle.migration_starts.specs.Costs.{CostAtStart}
+use Rattle.predictions.specs.Predictions.{MigrationCost}
+use Rattle.trace_views.specs.Json.{array_of, flag_member, member_of, number_member, object_of, seconds_member}
+
+-- what a migration costs
+abbrev pub cost_members : MigrationCost → List (List Token)
+cost_members cost =
+    number_member (codes "rounds") cost.rounds ∷ seconds_member (codes "time_seconds") cost.time
+    ∷ number_member (codes "sent_bytes") cost.bytes ∷ seconds_member (codes "down_seconds") cost.downtime
+    ∷ flag_member (codes "kept") cost.is_kept ∷ flag_member (codes "within_trace") (not cost.is_late) ∷ []
+
+-- a start, and what the migration costs from there
+abbrev pub start_object : TraceScale → CostAtStart → List Token
+start_object scale at = object_of (number_member (codes "start") at.start
+    ∷ seconds_member (codes "start_seconds") (micros_of scale at.start) ∷ cost_members at.cost)
+
+-- a start that is chosen, where one is
+abbrev pub chosen_member : TraceScale → List ℕ → Option CostAtStart → List Token
+chosen_member scale name None = []
+chosen_member scale name (Some at) = member_of name (start_object scale at)
+
+-- the facts of some starts: the limit, each start, and the best and the worst of them
+abbrev pub starts_object : TraceScale → ℕ → List CostAtStart → Option CostAtStart → Option CostAtStart → List Token
+starts_object scale limit costs best worst = object_of (seconds_member (codes "limit_seconds") limit
+    ∷ member_of (codes "starts") (array_of (flat_map (start_object scale) costs))
+    ∷ chosen_member scale (codes "best") best ∷ chosen_member scale (codes "worst") worst ∷ [])

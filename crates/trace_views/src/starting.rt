@@ -1,0 +1,120 @@
+//! The same migration over a log, begun at many ticks.
+
+ghost use Rattle.std.specs.Prelude.{◌≡◌, IfErr, IfOk};
+ghost use Rattle.migration_model.specs.Sweeps.{AreLines};
+ghost use Rattle.trace_views.specs.StartViews.{AreStartsOf, IsStartsText, IsStartsView, RefusesStartsView};
+ghost use Rattle.trace_views.specs.StartViews.{is_limit_kept};
+
+use crate::error::ViewError;
+use crate::predicting::last_tick;
+use crate::starts_document::json_starts;
+use crate::sweeping::planned;
+use crate::view::{AskedStarts, Shown, StartsForm};
+use migration_starts::{
+    StartCost, best_start, known_starts, start_costs, starts_text, worst_start,
+};
+use report_pictures::starts_chart;
+use std::alloc::Global;
+use std::thread::Threads;
+use trace_readers::TouchLog;
+use working_sets::tables;
+
+/// What a migration costs from each start, and the best and the worst start.
+#[derive(Drop)]
+struct Found {
+    costs: Vec<StartCost>,
+    best: Option<StartCost>,
+    worst: Option<StartCost>,
+}
+
+/// Returns whether the best start keeps the limit.
+fn is_kept(best: &Option<StartCost>) -> bool
+    ensures { result ≡ is_limit_kept best.now }
+{
+    match best {
+        Some(at) => at.cost.is_kept,
+        None => false,
+    }
+}
+
+/// Returns what a migration over a log costs from each start.
+fn starts_found<R: Threads + Sync>(
+    rt: &R,
+    alloc: Global,
+    asked: &AskedStarts,
+    log: &TouchLog,
+) -> Result<Found, ViewError>
+    ensures made { IfOk result (λ found. AreStartsOf log.now asked.now found.costs.items found.best found.worst) }
+    ensures refused { IfErr result (RefusesStartsView log.now asked.now.starts) }
+{
+    let last = last_tick(log);
+    let cases = asked.starts.cases(alloc, &asked.settings, last)?;
+    let workers = asked.settings.asked().workers as usize;
+    let lines = planned(rt, alloc, &cases, workers, log)?;
+    let costs = start_costs(alloc, &asked.scale, &asked.limits, &lines, last)?;
+    let known = known_starts(alloc, &costs)?;
+    let best = best_start(&known);
+    let worst = worst_start(&known);
+    Ok(Found { costs, best, worst })
+}
+
+/// Returns the starts as a picture.
+fn chart(
+    alloc: Global,
+    asked: &AskedStarts,
+    found: &Found,
+    log: &TouchLog,
+) -> Result<Vec<u8>, ViewError>
+    ensures { IfErr result (λ e. e ≡ ViewError.Memory) }
+{
+    let AskedStarts {
+        settings,
+        scale,
+        limits,
+        ..
+    } = asked;
+    let tables = tables(alloc, log, settings).or(Err(ViewError::Memory))?;
+    let chosen = (&found.best, &found.worst);
+    Ok(starts_chart(alloc, settings, scale, limits, &tables, &found.costs, chosen)?)
+}
+
+/// Returns the starts in the form that is asked for.
+fn formed(
+    alloc: Global,
+    asked: &AskedStarts,
+    found: &Found,
+    log: &TouchLog,
+) -> Result<Vec<u8>, ViewError>
+    ensures made { IfOk result (λ text. IsStartsText asked.now.form asked.now.scale asked.now.limits
+        found.now.costs.items found.now.best found.now.worst text.items) }
+    ensures refused { IfErr result (λ e. e ≡ ViewError.Memory) }
+{
+    let Found { costs, best, worst } = found;
+    let scale = &asked.scale;
+    match asked.form {
+        StartsForm::Table => Ok(starts_text(alloc, scale, costs, best, worst)?),
+        StartsForm::Json => {
+            let limit = asked.limits.downtime;
+            Ok(json_starts(alloc, scale, limit, costs, best, worst)?)
+        }
+        StartsForm::Chart => chart(alloc, asked, found, log),
+    }
+}
+
+/// Returns what a migration over a log costs from each start, in some form, and whether the best start keeps the limit.
+pub(crate) fn starts_view<R: Threads + Sync>(
+    rt: &R,
+    alloc: Global,
+    asked: &AskedStarts,
+    log: &TouchLog,
+) -> Result<Shown, ViewError>
+    ensures made { IfOk result (λ shown. IsStartsView log.now asked.now shown.text.items shown.is_kept) }
+    ensures refused { IfErr result (RefusesStartsView log.now asked.now.starts) }
+{
+    let found = starts_found(rt, alloc, asked, log)?;
+    let text = formed(alloc, asked, &found, log)?;
+    Ok(Shown {
+        text,
+        is_kept: is_kept(&found.best),
+    })
+}

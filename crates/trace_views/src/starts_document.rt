@@ -1,0 +1,117 @@
+//! The costs of starts as a JSON document.
+
+ghost use Rattle.std.specs.Prelude.{◌≡◌, ◌<◌, ◌^◌, ◌++◌, IfOk, OnOk};
+ghost use Rattle.std.specs.List.{flat_map};
+ghost use Rattle.trace_views.specs.Json.{array_of, line_of};
+ghost use Rattle.trace_views.specs.StartsJson.{chosen_member, cost_members, start_object, starts_object};
+
+use crate::document::Document;
+use guest_units::Scale;
+use migration_starts::StartCost;
+use predictions::Cost;
+use std::alloc::{AllocError, Global};
+
+/// Writes what a migration costs as members.
+fn write_cost(alloc: Global, out: &mut Document, cost: &Cost) -> Result<(), AllocError>
+    ensures { OnOk result (out.new ≡ out.old ++ flat_map (λ m. m) (cost_members cost.now)) }
+{
+    out.number_member("rounds", cost.rounds)?;
+    out.seconds_member(alloc, "time_seconds", cost.time)?;
+    out.wide_member("sent_bytes", cost.bytes)?;
+    out.seconds_member(alloc, "down_seconds", cost.downtime)?;
+    out.flag_member("kept", cost.is_kept)?;
+    out.flag_member("within_trace", !cost.is_late)?;
+    Ok(())
+}
+
+/// Writes a start.
+fn write_start(
+    alloc: Global,
+    out: &mut Document,
+    scale: &Scale,
+    at: &StartCost,
+) -> Result<(), AllocError>
+    ensures { OnOk result (out.new ≡ out.old ++ start_object scale.now at.now) }
+{
+    out.begin_object()?;
+    out.number_member("start", at.start)?;
+    out.seconds_member(alloc, "start_seconds", scale.micros(at.start))?;
+    write_cost(alloc, out, &at.cost)?;
+    out.end_object()?;
+    Ok(())
+}
+
+/// Writes the items of an array of starts.
+fn write_starts(
+    alloc: Global,
+    out: &mut Document,
+    scale: &Scale,
+    costs: &[StartCost],
+) -> Result<(), AllocError>
+    ensures { OnOk result (out.new ≡ out.old ++ flat_map (start_object scale.now) costs.now) }
+{
+    for at in costs {
+        write_start(alloc, out, scale, at)?;
+    }
+    Ok(())
+}
+
+/// Writes a start that is chosen as a member, where one is.
+fn write_chosen(
+    alloc: Global,
+    out: &mut Document,
+    scale: &Scale,
+    name: &str,
+    chosen: &Option<StartCost>,
+) -> Result<(), AllocError>
+    ensures { OnOk result (out.new ≡ out.old ++ chosen_member scale.now name.now chosen.now) }
+{
+    match chosen {
+        Some(at) => {
+            out.key(name)?;
+            write_start(alloc, out, scale, at)
+        }
+        None => Ok(()),
+    }
+}
+
+/// Writes the facts of some starts.
+fn write_facts(
+    alloc: Global,
+    out: &mut Document,
+    scale: &Scale,
+    limit: u64,
+    costs: &[StartCost],
+    best: &Option<StartCost>,
+    worst: &Option<StartCost>,
+) -> Result<(), AllocError>
+    ensures { OnOk result (out.new ≡ out.old ++ starts_object scale.now limit costs.now best.now worst.now) }
+{
+    out.begin_object()?;
+    out.seconds_member(alloc, "limit_seconds", limit as u128)?;
+    out.key("starts")?;
+    out.begin_array()?;
+    write_starts(alloc, out, scale, costs)?;
+    out.end_array()?;
+    write_chosen(alloc, out, scale, "best", best)?;
+    write_chosen(alloc, out, scale, "worst", worst)?;
+    out.end_object()?;
+    Ok(())
+}
+
+/// Returns the costs of starts as a JSON document, in one line: the limit, each start, and the best and the worst.
+pub fn json_starts(
+    alloc: Global,
+    scale: &Scale,
+    limit: u64,
+    costs: &[StartCost],
+    best: &Option<StartCost>,
+    worst: &Option<StartCost>,
+) -> Result<Vec<u8>, AllocError>
+    ensures { IfOk result (λ text. text.items
+        ≡ line_of (starts_object scale.now limit costs.now best.now worst.now)) }
+{
+    let mut out = Document::new(alloc);
+    write_facts(alloc, &mut out, scale, limit, costs, best, worst)?;
+    out.into_line()
+}

@@ -1,0 +1,15 @@
+-- Limits that are not said.
+use Rattle.std.specs.Prelude.{◌≡◌, ◌⊎◌, List, Option, None}
+use Rattle.clap.specs.Walk.{Row}
+use Rattle.guest_units.specs.Scales.{TraceScale}
+use Rattle.guest_units.specs.declared.limits.Limits.{Limits}
+use Rattle.migration_model.specs.Rates.{MigrationSettings}
+use Rattle.unit_words.specs.Measures.{AsksForMeasure}
+
+-- the options make settings without a scale or without limits
+pub record LacksLimits (rows : List Row) : Type 0 where
+  pub settings : MigrationSettings
+  pub scale : Option TraceScale
+  pub limits : Option Limits
+  pub asks : AsksForMeasure rows settings scale limits
+  pub lacks : (scale ≡ None) ⊎ (limits ≡ None)

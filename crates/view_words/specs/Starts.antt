@@ -1,0 +1,66 @@
+-- What the options of starts ask for, and why they are refused. The first start has the place of `start`.
+use Rattle.std.specs.Prelude.{◌≡◌, ◌⊎◌, ℕ, ◌<◌, ◌≤◌, ◌^◌, true, false, ⊤, List, Option, Some, None, codes, unwrap_or}
+use Rattle.clap.specs.Walk.{Row}
+use Rattle.guest_units.specs.Scales.{TraceScale}
+use Rattle.guest_units.specs.declared.limits.Limits.{Limits}
+use Rattle.job_words.specs.Options.{IsFlag, Says}
+use Rattle.job_words.specs.declared.command.WordsError.TheVariants as errors
+use Rattle.migration_model.specs.Rates.{MigrationSettings}
+use Rattle.migration_starts.specs.declared.starts.Starts.{Starts}
+use Rattle.trace_views.specs.declared.view.AskedStarts.{AskedStarts}
+use Rattle.trace_views.specs.declared.view.StartsForm.{StartsForm}
+use Rattle.trace_views.specs.declared.view.StartsForm.TheVariants as forms
+use Rattle.unit_words.specs.Measures.{AsksForMeasure, RefusesMeasure}
+use Rattle.unit_words.specs.declared.limits.LimitsRefusal.TheVariants as refused
+use Rattle.view_words.specs.Lacks.{LacksLimits}
+use Rattle.view_words.specs.declared.command.ViewWordsError.{ViewWordsError}
+use Rattle.view_words.specs.declared.command.ViewWordsError.TheVariants as asked
+
+-- the spacing is a tick at least, and the last start is neither before the first nor at tick 2^40 or later
+pub record AreInRange (starts : Starts) : Type 0 where
+  pub spaced : 1 ≤ unwrap_or starts.every 1
+  pub order : starts.from ≤ unwrap_or starts.to starts.from
+  pub high : unwrap_or starts.to starts.from < 2 ^ 40
+
+-- the options ask for these starts, of which this is the first
+pub record AsksForTicks (rows : List Row) (from : ℕ) (starts : Starts) : Type 0 where
+  pub from_is : starts.from ≡ from
+  pub to : Says rows (codes "to") starts.to
+  pub every : Says rows (codes "every") starts.every
+  pub in_range : AreInRange starts
+
+-- the options ask for starts that are out of range
+pub record AreTicksRefused (rows : List Row) (from : ℕ) : Type 0 where
+  pub to : Option ℕ
+  pub every : Option ℕ
+  pub says_to : Says rows (codes "to") to
+  pub says_every : Says rows (codes "every") every
+  pub out_of_range : (unwrap_or every 1 < 1) ⊎ ((unwrap_or to from < from) ⊎ (2 ^ 40 ≤ unwrap_or to from))
+
+-- how starts are shown for people: as a picture where the flag for it is there
+abbrev pub AsksForForm : List Row → StartsForm → Type 0
+AsksForForm rows forms.Chart = IsFlag rows (codes "chart") true
+AsksForForm rows forms.Table = IsFlag rows (codes "chart") false
+AsksForForm rows forms.Json = ⊥
+
+-- the options ask for starts of a migration with limits, in this form
+pub record AsksForStarts (rows : List Row) (form : StartsForm) (asked : AskedStarts) : Type 0 where
+  pub measured : AsksForMeasure rows asked.settings (Some asked.scale) (Some asked.limits)
+  pub ticks : AsksForTicks rows asked.settings.start asked.starts
+  pub form_is : asked.form ≡ form
+
+-- the options make settings whose starts are out of range
+pub record RefusesTicks (rows : List Row) : Type 0 where
+  pub settings : MigrationSettings
+  pub scale : Option TraceScale
+  pub limits : Option Limits
+  pub measured : AsksForMeasure rows settings scale limits
+  pub refused : AreTicksRefused rows settings.start
+
+-- the options of starts are refused for this
+abbrev pub RefusesStarts : List Row → ViewWordsError → Type 0
+RefusesStarts rows (asked.Words errors.Memory) = ⊤
+RefusesStarts rows (asked.Words (errors.Usage text)) = RefusesTicks rows
+RefusesStarts rows (asked.Words (errors.Help text)) = ⊥
+RefusesStarts rows (asked.Words (errors.Refused refusal)) = ⊥
+RefusesStarts rows (asked.Limits e) = RefusesMeasure rows e ⊎ ((e ≡ refused.Missing) × LacksLimits rows)

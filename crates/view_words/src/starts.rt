@@ -1,0 +1,152 @@
+//! The options of starts, and what they ask for.
+
+ghost use Rattle.std.specs.Prelude.{◌≡◌, IfErr, IfNone, IfOk, IfSome, Some};
+ghost use Rattle.clap.specs.Words.{found_of, rows_of};
+ghost use Rattle.unit_words.specs.Measures.{AsksForMeasure};
+ghost use Rattle.view_words.specs.Starts.{AreTicksRefused, AsksForForm, AsksForStarts, AsksForTicks, RefusesStarts};
+
+use crate::command::{ViewWordsError, limited, usage};
+use clap::{Arg, ArgAction, ArgMatches, Command};
+use guest_units::{Limits, Scale};
+use job_words::{flag, is_flag, number, said};
+use migration_starts::Starts;
+use std::alloc::{AllocError, Global};
+use trace_views::{AskedStarts, StartsForm};
+use unit_words::{LimitsRefusal, Measure, measure_of, with_units};
+
+/// The first tick that is no start any more, `2^40`.
+const START_LIMIT: u64 = 1 << 40;
+
+/// An option that takes a whole number: its name, and its help.
+type Number<'a> = (&'a str, &'a str);
+
+/// At which ticks a migration begins, and how it is paced.
+const NUMBERS: [Number<'static>; 7] = [
+    ("to", "No start comes after this tick [default: the last]"),
+    (
+        "every",
+        "Ticks from one start to the next [default: some 200th of all]",
+    ),
+    (
+        "inc",
+        "Added to a round's dirtying rate, in pages per 1,000 ticks",
+    ),
+    ("rounds", "Most rounds [default: 30]"),
+    (
+        "base",
+        "Tick before which the destination has the guest's memory [default: none]",
+    ),
+    (
+        "window",
+        "Length of a window of the picture, in ticks [default: 1000]",
+    ),
+    ("workers", "Threads that work side by side [default: 1]"),
+];
+
+/// Returns the option of the first start. It has the place of `--start`.
+fn from<'a>(alloc: Global) -> Arg<'a> {
+    Arg::new(alloc, "start")
+        .long("from")
+        .help("Tick of the first start [default: 0]")
+        .value_name("N")
+        .action(ArgAction::Set)
+        .value_parser(clap::value_parser!(u64))
+}
+
+/// Returns the command with the options of starts.
+pub(crate) fn with_starts<'a>(
+    alloc: Global,
+    command: Command<'a>,
+) -> Result<Command<'a>, AllocError> {
+    let mut command = command.arg(from(alloc))?;
+    for (name, help) in &NUMBERS {
+        command = command.arg(number(alloc, name, help))?;
+    }
+    let command = command.arg(flag(
+        alloc,
+        "skip",
+        "Skip pages that are written again while a round sends its pages",
+    ))?;
+    with_units(alloc, command)
+}
+
+/// Returns the command with the flag for a picture.
+pub(crate) fn with_chart<'a>(
+    alloc: Global,
+    command: Command<'a>,
+) -> Result<Command<'a>, AllocError> {
+    command.arg(flag(alloc, "chart", "Write a picture, in SVG"))
+}
+
+/// Returns how starts are shown for people: as a picture where the flag for it is there.
+pub(crate) fn form_of(options: &ArgMatches) -> StartsForm
+    ensures { AsksForForm (rows_of (found_of options.now)) result }
+{
+    if is_flag(options, "chart") {
+        StartsForm::Chart
+    } else {
+        StartsForm::Table
+    }
+}
+
+/// Returns at which ticks the options ask for starts, from this one on, where they are in range.
+fn ticks_of(options: &ArgMatches, from: u64) -> Option<Starts>
+    ensures made { IfSome result (λ starts. AsksForTicks (rows_of (found_of options.now)) from starts) }
+    ensures refused { IfNone result (AreTicksRefused (rows_of (found_of options.now)) from) }
+{
+    let to = said(options, "to");
+    let every = said(options, "every");
+    let last = to.unwrap_or(from);
+    if every.unwrap_or(1) < 1 || last < from || last >= START_LIMIT {
+        return None;
+    }
+    Some(Starts { from, to, every })
+}
+
+/// What is told of starts that are out of range.
+const OUT_OF_RANGE: &str =
+    "error: --every is at least 1, and --to is not before --from and below 2^40\n";
+
+/// Returns the starts that the options ask for, of a migration with these limits.
+fn starts_with(
+    alloc: Global,
+    options: &ArgMatches,
+    measure: &Measure,
+    both: (Scale, Limits),
+    form: StartsForm,
+) -> Result<AskedStarts, ViewWordsError>
+    requires { AsksForMeasure (rows_of (found_of options.now)) measure.now.settings (Some both.0) (Some both.1) }
+    ensures made { IfOk result (AsksForStarts (rows_of (found_of options.now)) form) }
+    ensures refused { IfErr result (RefusesStarts (rows_of (found_of options.now))) }
+{
+    let (scale, limits) = both;
+    match ticks_of(options, measure.settings.asked().start) {
+        Some(starts) => Ok(AskedStarts {
+            settings: measure.settings,
+            scale,
+            limits,
+            starts,
+            form,
+        }),
+        None => Err(usage(alloc, OUT_OF_RANGE)),
+    }
+}
+
+/// Returns the starts that the options ask for, in this form. They need limits.
+pub(crate) fn starts_of(
+    alloc: Global,
+    options: &ArgMatches,
+    form: StartsForm,
+) -> Result<AskedStarts, ViewWordsError>
+    ensures made { IfOk result (AsksForStarts (rows_of (found_of options.now)) form) }
+    ensures refused { IfErr result (RefusesStarts (rows_of (found_of options.now))) }
+{
+    let measure = match measure_of(options) {
+        Ok(measure) => measure,
+        Err(refusal) => return Err(ViewWordsError::Limits(refusal)),
+    };
+    match limited(&measure) {
+        Some(both) => starts_with(alloc, options, &measure, both, form),
+        None => Err(ViewWordsError::Limits(LimitsRefusal::Missing)),
+    }
+}
