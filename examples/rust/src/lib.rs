@@ -135,7 +135,14 @@ fn filled(call: impl Fn(&mut [u8], &mut usize) -> u32) -> Result<Vec<u8>, Refuse
 pub fn report(trace: &[u8], settings: &Settings) -> Result<String, Refused> {
     let settings = settings.as_c();
     let text = filled(|room, needed| unsafe {
-        calls::precopy_report(trace.as_ptr(), trace.len(), &settings, room.as_mut_ptr(), room.len(), needed)
+        calls::precopy_report(
+            trace.as_ptr(),
+            trace.len(),
+            &settings,
+            room.as_mut_ptr(),
+            room.len(),
+            needed,
+        )
     })?;
     Ok(String::from_utf8_lossy(&text).into_owned())
 }
