@@ -3,28 +3,7 @@
 use crate::tests::told;
 use std::test::Fail;
 
-/// A link of 64 pages of the guest in 1,000 ticks, and the other words of a guest of which one page in four was
-/// recorded.
-const LIMITS: [&str; 5] = [
-    "--link=1KiB",
-    "--downtime=200ms",
-    "--reserve=10ms",
-    "--page=16",
-    "--sampled=4/16",
-];
-
-/// What the program writes with these words in front of the limits, and some behind them.
-fn with_limits<'a>(
-    alloc: std::alloc::Global,
-    command: &[&'a str],
-    more: &[&'a str],
-) -> Result<Vec<&'a str>, std::alloc::AllocError> {
-    let mut words = Vec::new(alloc);
-    for word in command.iter().chain(&LIMITS).chain(more) {
-        words.push(*word)?;
-    }
-    Ok(words)
-}
+// The limits below: a link of 64 pages of the guest in 1,000 ticks, and a guest of which one page in four was recorded.
 
 /// The report on the trace in times and bytes: 4 pages are sent in 250 ticks, and 2 of them are dirtied meanwhile.
 static SCREEN: &str = "trace: 4 pages of 16 bytes, 5 writes
@@ -50,7 +29,14 @@ sent in all: 0.00 MiB
 
 #[test]
 fn shows_times_and_bytes(rt: HostRuntime) -> Result<(), Fail> {
-    let words = with_limits(rt.alloc(), &["show"], &[])?;
+    let words = [
+        "show",
+        "--link=1KiB",
+        "--downtime=200ms",
+        "--reserve=10ms",
+        "--page=16",
+        "--sampled=4/16",
+    ];
     let (status, output, _) = told(&rt, rt.alloc(), 102, &words)?;
     assert!(rt; status == 0 && output.bytes() == SCREEN.as_bytes());
     Ok(())
@@ -71,7 +57,15 @@ static REPORT: &str = "{\"trace\":{\"pages\":4,\"size\":16,\"writes\":5},\
 
 #[test]
 fn writes_times_and_bytes(rt: HostRuntime) -> Result<(), Fail> {
-    let words = with_limits(rt.alloc(), &["json", "report"], &[])?;
+    let words = [
+        "json",
+        "report",
+        "--link=1KiB",
+        "--downtime=200ms",
+        "--reserve=10ms",
+        "--page=16",
+        "--sampled=4/16",
+    ];
     let (status, output, _) = told(&rt, rt.alloc(), 102, &words)?;
     assert!(rt; status == 0 && output.bytes() == REPORT.as_bytes());
     Ok(())
@@ -90,7 +84,16 @@ worst: 0.000 s, --start 0: time 0.385 s, sent 0.00 MiB, downtime 0.135 s, kept
 
 #[test]
 fn tells_when_to_migrate(rt: HostRuntime) -> Result<(), Fail> {
-    let words = with_limits(rt.alloc(), &["when"], &["--every=800", "--to=2400"])?;
+    let words = [
+        "when",
+        "--link=1KiB",
+        "--downtime=200ms",
+        "--reserve=10ms",
+        "--page=16",
+        "--sampled=4/16",
+        "--every=800",
+        "--to=2400",
+    ];
     let (status, output, _) = told(&rt, rt.alloc(), 102, &words)?;
     assert!(rt; status == 0 && output.bytes() == STARTS.as_bytes());
     Ok(())
@@ -127,7 +130,15 @@ fn a_limit_that_no_start_keeps_has_a_status(rt: HostRuntime) -> Result<(), Fail>
 
 #[test]
 fn draws_starts(rt: HostRuntime) -> Result<(), Fail> {
-    let words = with_limits(rt.alloc(), &["when", "--chart"], &[])?;
+    let words = [
+        "when",
+        "--chart",
+        "--link=1KiB",
+        "--downtime=200ms",
+        "--reserve=10ms",
+        "--page=16",
+        "--sampled=4/16",
+    ];
     let (status, output, _) = told(&rt, rt.alloc(), 102, &words)?;
     let picture = output.bytes();
     assert!(rt; status == 0 && picture.starts_with(b"<svg ") && picture.ends_with(b"</svg>\n"));
@@ -136,25 +147,34 @@ fn draws_starts(rt: HostRuntime) -> Result<(), Fail> {
 
 #[test]
 fn refuses_starts(rt: HostRuntime) -> Result<(), Fail> {
-    let cases: [(&[&str], u8, &str); 3] = [
+    let cases = [
         (
-            &["--every=0"],
+            ["--every=0", "--to=4"],
             2,
             "error: --every is at least 1, and --to is not before --from and below 2^40\n",
         ),
         (
-            &["--from=5", "--to=4"],
+            ["--from=5", "--to=4"],
             2,
             "error: --every is at least 1, and --to is not before --from and below 2^40\n",
         ),
         (
-            &["--every=1", "--to=4096"],
+            ["--every=1", "--to=4096"],
             1,
             "precopy-view: --every: more than 4,096 starts; take a greater one\n",
         ),
     ];
-    for (more, expected, line) in cases {
-        let words = with_limits(rt.alloc(), &["when"], more)?;
+    for ([first, second], expected, line) in cases {
+        let words = [
+            "when",
+            "--link=1KiB",
+            "--downtime=200ms",
+            "--reserve=10ms",
+            "--page=16",
+            "--sampled=4/16",
+            first,
+            second,
+        ];
         let (status, output, faults) = told(&rt, rt.alloc(), 102, &words)?;
         assert!(rt;
             status == expected && output.bytes().is_empty() && faults.bytes() == line.as_bytes(),
