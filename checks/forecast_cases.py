@@ -195,13 +195,18 @@ def expect_prediction(printed, plan, weight, factor=1):
     expect(abs(seconds - (factor * plan.tick - 1000 + downtime) / 1000) < 0.06, printed)
 
 
+def thinned(folder, one_in):
+    """A part of the recorded trace: its path, the trace, how many of the pages each stands for, and its prediction."""
+    path = os.path.join(folder, "guest.light.pcwt")
+    run_thin(RECORDED, path, "--one-in", str(one_in), "--start", "1000")
+    trace = read_trace(path)
+    printed, _ = run_predict(path, *LINK)
+    return path, trace, 26_715 / trace.pages, printed
+
+
 def predicted(program, folder):
     """The answers are those of `precopy report` times the weight; the status says whether the limit is kept."""
-    path = os.path.join(folder, "guest.light.pcwt")
-    run_thin(RECORDED, path, "--one-in", "4", "--start", "1000")
-    trace = read_trace(path)
-    weight = 26_715 / trace.pages
-    printed, _ = run_predict(path, *LINK)
+    path, trace, weight, printed = thinned(folder, 4)
     expect_prediction(printed, reported(program, trace, weight), weight)
     expect("converges: yes; 20 of 20" in printed and "at half the link: " in printed, printed)
     hosts = ["max-bandwidth 33554432B", "downtime-limit 100", "migrate-setspeed DOMAIN 32", "setmaxdowntime DOMAIN 100"]
@@ -226,12 +231,8 @@ def predicted(program, folder):
 
 
 def longer_ticks(program, folder):
-    """Where so few pages are drawn that their rate would be 128, ticks are five times as long."""
-    path = os.path.join(folder, "guest.light.pcwt")
-    run_thin(RECORDED, path, "--one-in", "64", "--start", "1000")
-    trace = read_trace(path)
-    weight = 26_715 / trace.pages
-    printed, _ = run_predict(path, *LINK)
+    """If so few pages are drawn that their rate would be 128, ticks are five times as long."""
+    _, trace, weight, printed = thinned(folder, 64)
     expect_prediction(printed, reported(program, trace, weight, 5), weight, 5)
     expect("100 ms" in printed and "decide the stop" in printed, printed)
 
