@@ -1,4 +1,4 @@
--- Words that `precopy` takes name one of its commands, and not clap's own `help`.
+-- Words that a command line takes name one of its commands, and not clap's own `help`.
 use Rattle.std.proofs.Common.{◌≡◌, ℕ, Bool, true, false, ◌||◌, ◌&&◌, not, cond, List, [], ◌∷◌, Option, Some, None, inl, inr, refl, sym, ap, subst, codes}
 use Rattle.std.specs.Prelude.{◌≢◌, ◌⊎◌, ⊤, IfSome, is_some, find, fold, if◌then◌else◌, option_and_then, option_map}
 use Rattle.std.specs.Str.{bytes_eq}
@@ -7,7 +7,7 @@ use Rattle.clap.proofs.OnLiterals.{clap_on_literals}
 use Rattle.clap.specs.Faults.{fault_of, other_fault, turn_fault, walk_fault, word_fault}
 use Rattle.clap.specs.Kinds.{Kinds, or_else}
 use Rattle.clap.specs.Lexer.{long_of, short_of}
-use Rattle.clap.specs.Simple.{Shape, argument_words, built, label_of, names_of, rows_at}
+use Rattle.clap.specs.Simple.{App, Shape, argument_words, built, label_of, names_of, rows_at, subcommand_of}
 use Rattle.clap.specs.Walk.{Held, Names, Outcome, Row, Rule, Step, Text, Waiting, Walk, after_flag, after_step, answers_to, arg_by_index, done, idle, long_or_other, next, nothing_held, option, plain, plain_word, positional, refused, short_or_plain}
 use Rattle.clap.specs.Walk.{subcommand, subcommand_met, subcommand_or_other, to_positional, trailing, value, waits, walk_from, walked, walked_from, word_met}
 use Rattle.job_words.specs.Commands.{command_in, precopy_line}
@@ -97,12 +97,67 @@ walk_out s names (word ∷ rest) w on none out =
     walk_out s names rest (walked_from s.rules names w.stopped w word) on (second_of (turn_fault s names w word) _ none)
     (turn_out s names w word w.stopped _ on refl (first_of (turn_fault s names w word) _ none) out)
 
--- each has the name of a command, or is `help`, and no other name
-abbrev pub AreNamed : List Shape → Type 0
-AreNamed [] = ⊤
-AreNamed (s ∷ rest) = (s.aliases ≡ []) × ((s.name ≡ codes "help") ⊎ IsCommand s.name) × AreNamed rest
+module _ (Known : Text → Type 0) where
+  -- each has the name of a command, or is `help`, and no other name
+  abbrev pub AreNamed : List Shape → Type 0
+  AreNamed [] = ⊤
+  AreNamed (s ∷ rest) = (s.aliases ≡ []) × ((s.name ≡ codes "help") ⊎ Known s.name) × AreNamed rest
 
-line_is_named : AreNamed (built precopy_line).subs
+  first_named : (test : Shape → Bool) (b : Bool) (s : Shape) (rest : Option Shape) (found : Shape) → test s ≡ b → cond b (Some s) rest ≡ Some found → ((s ≡ found) × (test s ≡ true)) ⊎ (rest ≡ Some found)
+  first_named test true s rest found is here = inl (cc, is)
+  first_named test false s rest found is here = inr here
+
+  found_named : (test : Shape → Bool) (subs : List Shape) (found : Shape) → AreNamed subs → find test subs ≡ Some found → (test found ≡ true) × (found.aliases ≡ []) × ((found.name ≡ codes "help") ⊎ Known found.name)
+  found_named test [] found named is = absurd cc
+  found_named test (s ∷ rest) found named is =
+      let P : Shape → Type 0 = λ x. (test x ≡ true) × (x.aliases ≡ []) × ((x.name ≡ codes "help") ⊎ Known x.name) in
+      elim (first_named test (test s) s (find test rest) found refl is) [
+        | inl here ↦ subst P here.0 (here.1, named.0, named.1)
+        | inr later ↦ found_named test rest found named.2 later
+      ]
+
+  plain_name : (b : Bool) → (b || false) ≡ true → b ≡ true
+  plain_name true is = refl
+  plain_name false is = is
+
+  -- a command that answers to a word that is not `help` is not `help`
+  not_named_help : (word name : Text) (aliases : List Text) → word ≢ codes "help" → aliases ≡ [] → name ≡ codes "help" → answers_to word (name, aliases) ≡ true → ⊥
+  not_named_help word name aliases other none is answers =
+      let P : Text × List Text → Type 0 = λ s. answers_to word s ≡ true in
+      let plain = subst P (λ i. (is i, none i)) answers in
+      other (sym ((bytes_eq-Decides (codes "help") word).0 (plain_name (bytes_eq (codes "help") word) plain)))
+
+  same_first : (a b : Text) (x y : List Row) → ◌≡◌ {A = Option (Text × List Row)} (Some (a, x)) (Some (b, y)) → a ≡ b
+  same_first a b x y is =
+      let pairs : ◌≡◌ {A = Text × List Row} (a, x) (b, y) = cc in
+      ap (λ (p : Text × List Row). p.0) pairs
+
+  found_known : (subs : List Shape) (p : Text × List Text) (found : Option Shape) (name : Text) (rows : List Row) → AreNamed subs → p.0 ≢ codes "help" → find (λ s. answers_to p.0 (label_of s)) subs ≡ found
+      → option_map (λ s. rows_at s p.1) found ≡ Some (name, rows) → Known name
+  found_known subs p None name rows named other is here = absurd cc
+  found_known subs p (Some s) name rows named other is here =
+      let f = found_named (λ x. answers_to p.0 (label_of x)) subs s named is in
+      let same = same_first s.name name _ rows here in
+      subst Known same (elim f.2 [
+        | inl help ↦ absurd (not_named_help p.0 s.name s.aliases other f.1 help f.0)
+        | inr known ↦ known
+      ])
+
+  entered_known : (subs : List Shape) (stop : Option (Text × List Text)) (name : Text) (rows : List Row) → AreNamed subs → NoHelp stop
+      → option_and_then (λ p. option_map (λ s. rows_at s p.1) (find (λ s. answers_to p.0 (label_of s)) subs)) stop ≡ Some (name, rows) → Known name
+  entered_known subs None name rows named out is = absurd cc
+  entered_known subs (Some p) name rows named out is = found_known subs p _ name rows named out refl is
+
+  -- words that a line takes name a command of it
+  pub command_is_known_on : (line : App) → AreNamed (built line).subs → (built line).top.disable_help_subcommand ≡ false → (words : List Text) (name : Text) (rows : List Row)
+      → fault_of line words ≡ [] → subcommand_of line words ≡ Some (name, rows) → Known name
+  command_is_known_on line named able words name rows taken is =
+      let all = built line in
+      let args = argument_words line words in
+      let walked_well : walk_fault all.top (names_of all) (walk_from nothing_held) args ≡ [] = first_of _ _ taken in
+      entered_known all.subs _ name rows named (walk_out all.top (names_of all) args (walk_from nothing_held) able walked_well tt) is
+
+line_is_named : AreNamed IsCommand (built precopy_line).subs
 unfolding precopy_line clap_on_literals
 line_is_named = (refl, inr (inl refl), (refl, inr (inr (inl refl)), (refl, inr (inr (inr (inl refl))), (refl, inr (inr (inr (inr refl))), (refl, inl refl, tt)))))
 
@@ -110,55 +165,6 @@ line_has_help : (built precopy_line).top.disable_help_subcommand ≡ false
 unfolding precopy_line clap_on_literals
 line_has_help = refl
 
-first_named : (test : Shape → Bool) (b : Bool) (s : Shape) (rest : Option Shape) (found : Shape) → test s ≡ b → cond b (Some s) rest ≡ Some found → ((s ≡ found) × (test s ≡ true)) ⊎ (rest ≡ Some found)
-first_named test true s rest found is here = inl (cc, is)
-first_named test false s rest found is here = inr here
-
-found_named : (test : Shape → Bool) (subs : List Shape) (found : Shape) → AreNamed subs → find test subs ≡ Some found → (test found ≡ true) × (found.aliases ≡ []) × ((found.name ≡ codes "help") ⊎ IsCommand found.name)
-found_named test [] found named is = absurd cc
-found_named test (s ∷ rest) found named is =
-    let P : Shape → Type 0 = λ x. (test x ≡ true) × (x.aliases ≡ []) × ((x.name ≡ codes "help") ⊎ IsCommand x.name) in
-    elim (first_named test (test s) s (find test rest) found refl is) [
-      | inl here ↦ subst P here.0 (here.1, named.0, named.1)
-      | inr later ↦ found_named test rest found named.2 later
-    ]
-
-plain_name : (b : Bool) → (b || false) ≡ true → b ≡ true
-plain_name true is = refl
-plain_name false is = is
-
--- a command that answers to a word that is not `help` is not `help`
-not_named_help : (word name : Text) (aliases : List Text) → word ≢ codes "help" → aliases ≡ [] → name ≡ codes "help" → answers_to word (name, aliases) ≡ true → ⊥
-not_named_help word name aliases other none is answers =
-    let P : Text × List Text → Type 0 = λ s. answers_to word s ≡ true in
-    let plain = subst P (λ i. (is i, none i)) answers in
-    other (sym ((bytes_eq-Decides (codes "help") word).0 (plain_name (bytes_eq (codes "help") word) plain)))
-
-same_first : (a b : Text) (x y : List Row) → ◌≡◌ {A = Option (Text × List Row)} (Some (a, x)) (Some (b, y)) → a ≡ b
-same_first a b x y is =
-    let pairs : ◌≡◌ {A = Text × List Row} (a, x) (b, y) = cc in
-    ap (λ (p : Text × List Row). p.0) pairs
-
-found_known : (subs : List Shape) (p : Text × List Text) (found : Option Shape) (name : Text) (rows : List Row) → AreNamed subs → p.0 ≢ codes "help" → find (λ s. answers_to p.0 (label_of s)) subs ≡ found
-    → option_map (λ s. rows_at s p.1) found ≡ Some (name, rows) → IsCommand name
-found_known subs p None name rows named other is here = absurd cc
-found_known subs p (Some s) name rows named other is here =
-    let f = found_named (λ x. answers_to p.0 (label_of x)) subs s named is in
-    let same = same_first s.name name _ rows here in
-    subst IsCommand same (elim f.2 [
-      | inl help ↦ absurd (not_named_help p.0 s.name s.aliases other f.1 help f.0)
-      | inr known ↦ known
-    ])
-
-entered_known : (subs : List Shape) (stop : Option (Text × List Text)) (name : Text) (rows : List Row) → AreNamed subs → NoHelp stop
-    → option_and_then (λ p. option_map (λ s. rows_at s p.1) (find (λ s. answers_to p.0 (label_of s)) subs)) stop ≡ Some (name, rows) → IsCommand name
-entered_known subs None name rows named out is = absurd cc
-entered_known subs (Some p) name rows named out is = found_known subs p _ name rows named out refl is
-
 -- words that are taken name a command of `precopy`
 pub command_is_known : (words : List Text) (name : Text) (rows : List Row) → fault_of precopy_line words ≡ [] → command_in words ≡ Some (name, rows) → IsCommand name
-command_is_known words name rows taken is =
-    let line = built precopy_line in
-    let args = argument_words precopy_line words in
-    let walked_well : walk_fault line.top (names_of line) (walk_from nothing_held) args ≡ [] = first_of _ _ taken in
-    entered_known line.subs _ name rows line_is_named (walk_out line.top (names_of line) args (walk_from nothing_held) line_has_help walked_well tt) is
+command_is_known = command_is_known_on IsCommand precopy_line line_is_named line_has_help

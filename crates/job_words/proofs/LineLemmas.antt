@@ -1,4 +1,4 @@
--- What `precopy` makes of words.
+-- What a command line makes of words, and what `precopy` does.
 use Rattle.std.proofs.Common.{◌≡◌, Bool, true, false, List, [], ◌∷◌, Option, Some, None, inl, inr, refl, sym, ap, ◌∙◌}
 use Rattle.std.specs.Prelude.{Result, Ok, Err, IfErr, IfOk, is_some, option_map}
 use Rattle.clap.proofs.OnLiterals.{clap_on_literals}
@@ -30,13 +30,13 @@ unfolding precopy_line clap_on_literals
 line_requires = refl
 
 -- an error of clap's is told as what it is
-pub fails_by_kind : (words : List Text) (e : Error) (r : WordsError) → HasKind (fault_of precopy_line words) e → TellsError (kind_of e) r → FailsByKind words r
-fails_by_kind words e Memory kinds tells = tt
-fails_by_kind words e (Help text) (inl memory) tells = absurd (tells.0 memory)
-fails_by_kind words e (Help text) (inr among) tells = (kind_of e, among, tells.1)
-fails_by_kind words e (Usage text) (inl memory) tells = absurd (tells.0 memory)
-fails_by_kind words e (Usage text) (inr among) tells = (kind_of e, among, tells.1)
-fails_by_kind words e (Refused refusal) kinds tells = absurd tells
+pub fails_by_kind : (line : App) (words : List Text) (e : Error) (r : WordsError) → HasKind (fault_of line words) e → TellsError (kind_of e) r → FailsByKind line words r
+fails_by_kind line words e Memory kinds tells = tt
+fails_by_kind line words e (Help text) (inl memory) tells = absurd (tells.0 memory)
+fails_by_kind line words e (Help text) (inr among) tells = (kind_of e, among, tells.1)
+fails_by_kind line words e (Usage text) (inl memory) tells = absurd (tells.0 memory)
+fails_by_kind line words e (Usage text) (inr among) tells = (kind_of e, among, tells.1)
+fails_by_kind line words e (Refused refusal) kinds tells = absurd tells
 
 named_rows : {B : Type 0} (f : B → Text) (g : B → List Row) (x : Option B) (name : Text) (rows : List Row) → Some name ≡ option_map f x
     → Some rows ≡ option_map {T = Text × List Row} {U = List Row} (λ p. p.1) (option_map {T = B} {U = Text × List Row} (λ b. (f b, g b)) x) → option_map {T = B} {U = Text × List Row} (λ b. (f b, g b)) x ≡ Some (name, rows)
@@ -66,16 +66,32 @@ required_there s names h words false below required none =
     absurd (wants_command _ s.subcommand_required _ required
     (last_of (walk_fault s names (walk_from h) words) below (settle_fault s.rules s.args_override_self end) (defaults_fault (settled s.rules end).rows s.rules) (check_fault s (finished s.rules end) false) none))
 
--- words that are taken name a command
-pub taken_enters : (words : List Text) → fault_of precopy_line words ≡ [] → is_some (command_in words) ≡ true
-taken_enters words none = required_there (built precopy_line).top _ _ _ _ _ line_requires none
+mapped : {A B : Type 0} (f : A → B) (x : Option A) → is_some (option_map f x) ≡ is_some x
+mapped f None = refl
+mapped f (Some a) = refl
 
--- the command that was met, and what was found behind it
-pub command_met : (line : App) (words : List Text) (m : ArgMatches) (name : Text) (rows : List Row) → line ≡ precopy_line → HasMatchesOf line words m → Some name ≡ subcommand_name_of m
+module _ (line : App) (simple : is_simple line ≡ true) where
+  -- the command that was met, and what was found behind it
+  pub command_met_on : (made : App) (words : List Text) (m : ArgMatches) (name : Text) (rows : List Row) → made ≡ line → HasMatchesOf made words m → Some name ≡ subcommand_name_of m
+      → Some rows ≡ option_map {T = Text × List Row} {U = List Row} (λ p. p.1) (subcommand_rows_of m) → subcommand_of line words ≡ Some (name, rows)
+  command_met_on made words m name rows is has named rowed =
+      ap (λ (a : App). subcommand_of a words) (sym is) ∙ sym (has (ap is_simple is ∙ simple)).1
+      ∙ named_rows _ _ (out-ArgMatches m).subcommand name rows named rowed
+
+  -- where a command is wanted, words without one are not taken
+  pub not_taken_on : (built line).top.subcommand_required ≡ true → (made : App) (words : List Text) (m : ArgMatches) → made ≡ line → HasMatchesOf made words m → false ≡ has_subcommand m → fault_of line words ≡ [] → ⊥
+  not_taken_on required made words m is has none taken =
+      let entered : is_some (subcommand_of line words) ≡ true = required_there (built line).top _ _ _ _ _ required taken in
+      let same : subcommand_of line words ≡ subcommand_rows_of m = ap (λ (a : App). subcommand_of a words) (sym is) ∙ sym (has (ap is_simple is ∙ simple)).1 in
+      let all = sym entered ∙ ap (λ (x : Option (Text × List Row)). is_some x) same ∙ mapped _ (out-ArgMatches m).subcommand ∙ sym none in
+      cc
+
+pub command_met : (made : App) (words : List Text) (m : ArgMatches) (name : Text) (rows : List Row) → made ≡ precopy_line → HasMatchesOf made words m → Some name ≡ subcommand_name_of m
     → Some rows ≡ option_map {T = Text × List Row} {U = List Row} (λ p. p.1) (subcommand_rows_of m) → command_in words ≡ Some (name, rows)
-command_met line words m name rows is has named rowed =
-    ap (λ (a : App). subcommand_of a words) (sym is) ∙ sym (has (ap is_simple is ∙ line_is_simple)).1
-    ∙ named_rows _ _ (out-ArgMatches m).subcommand name rows named rowed
+command_met = command_met_on precopy_line line_is_simple
+
+pub not_taken : (made : App) (words : List Text) (m : ArgMatches) → made ≡ precopy_line → HasMatchesOf made words m → false ≡ has_subcommand m → fault_of precopy_line words ≡ [] → ⊥
+not_taken = not_taken_on precopy_line line_is_simple line_requires
 
 pub asks : (words : List Text) (r : Result Job WordsError) (name : Text) (rows : List Row) → fault_of precopy_line words ≡ [] → command_in words ≡ Some (name, rows) → IfOk r (λ job. AsksForJob name rows job)
     → IfOk r (λ job. WordsAsk words job)
@@ -92,14 +108,3 @@ pub refuses : (words : List Text) (r : Result Job WordsError) (name : Text) (row
     → IfErr r (λ e. WordsFail words e)
 refuses words (Ok job) name rows taken command refused = tt
 refuses words (Err e) name rows taken command refused = fails words e name rows taken command refused
-
-mapped : {A B : Type 0} (f : A → B) (x : Option A) → is_some (option_map f x) ≡ is_some x
-mapped f None = refl
-mapped f (Some a) = refl
-
-pub not_taken : (line : App) (words : List Text) (m : ArgMatches) → line ≡ precopy_line → HasMatchesOf line words m → false ≡ has_subcommand m → fault_of precopy_line words ≡ [] → ⊥
-not_taken line words m is has none taken =
-    let entered = taken_enters words taken in
-    let same : command_in words ≡ subcommand_rows_of m = ap (λ (a : App). subcommand_of a words) (sym is) ∙ sym (has (ap is_simple is ∙ line_is_simple)).1 in
-    let all = sym entered ∙ ap (λ (x : Option (Text × List Row)). is_some x) same ∙ mapped _ (out-ArgMatches m).subcommand ∙ sym none in
-    cc

@@ -135,14 +135,12 @@ abbrev pub AreNotTaken : List Text → Type 0
 AreNotTaken words = MatchOption (help_names words)
     ((kind : ErrorKind) × IsAmong kind (fault_of precopy_line words) × ¬ IsRequest kind) (λ names. ¬ AreHelpNames names)
 
--- what a refusal by clap says of the words: it has one of the kinds that clap finds in them
-abbrev pub FailsByKind : List Text → WordsError → Type 0
-FailsByKind words errors.Memory = ⊤
-FailsByKind words (errors.Help text) =
-    (kind : ErrorKind) × IsAmong kind (fault_of precopy_line words) × IsRequest kind
-FailsByKind words (errors.Usage text) =
-    (kind : ErrorKind) × IsAmong kind (fault_of precopy_line words) × ¬ IsRequest kind
-FailsByKind words (errors.Refused refusal) = ⊥
+-- what a refusal by clap says of the words of a command line: it has one of the kinds that clap finds in them
+abbrev pub FailsByKind : App → List Text → WordsError → Type 0
+FailsByKind app words errors.Memory = ⊤
+FailsByKind app words (errors.Help text) = (kind : ErrorKind) × IsAmong kind (fault_of app words) × IsRequest kind
+FailsByKind app words (errors.Usage text) = (kind : ErrorKind) × IsAmong kind (fault_of app words) × ¬ IsRequest kind
+FailsByKind app words (errors.Refused refusal) = ⊥
 
 -- Why words make no job: memory ran out, they ask for help, `precopy` does not take them, or their command is refused.
 abbrev pub WordsFail : List Text → WordsError → Type 0

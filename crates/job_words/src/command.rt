@@ -172,7 +172,7 @@ fn are_help_names(names: &[String]) -> bool
 /// Returns a refusal by `clap` as what the words are told. Of `help` the contract of `clap` says only that it is a
 /// request or a wrong word, so what stands behind it decides.
 fn told(words: &[String], refusal: WordsError) -> WordsError
-    requires { FailsByKind (map string_bytes words.now) refusal }
+    requires { FailsByKind precopy_line (map string_bytes words.now) refusal }
     ensures { WordsFail (map string_bytes words.now) result }
 {
     let Some(names) = help_names(words) else {

@@ -1,6 +1,7 @@
 //! What is told on standard error, and the statuses that go with it.
 
 ghost use Rattle.std.specs.Prelude.{◌≡◌, ◌≤◌, IfErr, OnOk, false, true};
+ghost use Rattle.precopy_view.specs.Ends.{IsHelp, IsRefusal};
 ghost use Rattle.precopy_view.specs.Fitting.{FitsScale, IsMisfit};
 
 use arrayvec::ArrayString;
@@ -137,7 +138,8 @@ pub fn refuse<K: Sink, E: Sink>(error: ViewWordsError, sink: &mut K, faults: &mu
     requires untold { E.has_failed faults.old ≡ false }
     ensures status { result ≤ 2 }
     ensures flushed { result ≡ 0 → K.is_flushed sink.new ≡ true }
-    ensures refused { result ≡ 2 → sink.new ≡ sink.old }
+    ensures help { result ≡ 0 → IsHelp error }
+    ensures refused { result ≡ 2 → IsRefusal error × (sink.new ≡ sink.old) }
 {
     match error {
         ViewWordsError::Words(WordsError::Help(text)) => run_help(text.as_str(), sink, faults),

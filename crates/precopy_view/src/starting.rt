@@ -1,9 +1,11 @@
 //! The program over words, a source and two sinks.
 
-ghost use Rattle.std.specs.Prelude.{◌≡◌, ◌≢◌, ◌≤◌, ◌⊎◌, Bool, List, ℕ, IfErr, IfOk, OnOk, false, true};
+ghost use Rattle.std.specs.Prelude.{◌≡◌, ◌≢◌, ◌≤◌, ◌⊎◌, Bool, List, ℕ, IfErr, IfOk, OnOk, false, map, string_bytes, true};
 ghost use Rattle.std.specs.Io.KnownBytes.{Appends};
 ghost use Rattle.migration_jobs.specs.Sink.{AppendsPart};
+ghost use Rattle.precopy_view.specs.Ends.{FailsAs, IsHelp, IsRefusal};
 ghost use Rattle.precopy_view.specs.Shown.{IsShown, RefusesShow, ShowsBy, ShowsPartBy};
+ghost use Rattle.view_words.specs.Views.{WordsAsk};
 
 use crate::faults::{ShowError, check_scale, fault, refuse};
 use migration_jobs::{RunError, Sink, write_out};
@@ -110,18 +112,22 @@ pub fn start<R: Threads + Sync, S: Source, K: Sink, E: Sink>(
     ensures status { result ≤ 3 }
     // Nothing that was written is kept back.
     ensures flushed { (result ≡ 0) ⊎ (result ≡ 3) → K.is_flushed sink.new ≡ true }
-    // What was written is a view of what was read, whose limit is kept; or else, as after a request for help, nothing
-    // was read.
-    ensures written { result ≡ 0 → ((asked : AskedView) × ShowsBy (S.remaining source.old) asked true
-        (K.contents sink.old) (K.contents sink.new)) ⊎ (source.new ≡ source.old) }
-    // What was written is a view of what was read, whose limit is not kept.
-    ensures missed { result ≡ 3 → (asked : AskedView) × ShowsBy (S.remaining source.old) asked false
-        (K.contents sink.old) (K.contents sink.new) }
+    // What was written is the view of what was read that the words ask for, and its limit is kept; or else they ask for
+    // help, and nothing was read.
+    ensures written { result ≡ 0 → ((asked : AskedView) × WordsAsk (map string_bytes words.items) asked
+        × ShowsBy (S.remaining source.old) asked true (K.contents sink.old) (K.contents sink.new))
+        ⊎ (FailsAs IsHelp (map string_bytes words.items) × (source.new ≡ source.old)) }
+    // What was written is the view of what was read that the words ask for, and its limit is not kept.
+    ensures missed { result ≡ 3 → (asked : AskedView) × WordsAsk (map string_bytes words.items) asked
+        × ShowsBy (S.remaining source.old) asked false (K.contents sink.old) (K.contents sink.new) }
     // Words are refused before any byte of the trace is read, and nothing is written then.
-    ensures refused { result ≡ 2 → (source.new ≡ source.old) × (sink.new ≡ sink.old) }
-    // Nothing was written, or a beginning of a view of what was read, or else of a text of help, and nothing was read.
-    ensures part { result ≡ 1 → ((sink.new ≡ sink.old) ⊎ ((asked : AskedView) × ShowsPartBy (S.remaining source.old)
-        asked (K.contents sink.old) (K.contents sink.new))) ⊎ (source.new ≡ source.old) }
+    ensures refused { result ≡ 2 → FailsAs IsRefusal (map string_bytes words.items) × (source.new ≡ source.old)
+        × (sink.new ≡ sink.old) }
+    // Nothing was written, or a beginning of the view of what was read that the words ask for, or else of a text of
+    // help, and nothing was read.
+    ensures part { result ≡ 1 → ((sink.new ≡ sink.old) ⊎ ((asked : AskedView) × WordsAsk
+        (map string_bytes words.items) asked × ShowsPartBy (S.remaining source.old) asked (K.contents sink.old)
+        (K.contents sink.new))) ⊎ (source.new ≡ source.old) }
 {
     match view_of(alloc, &words) {
         Ok(asked) => show(rt, alloc, &asked, source, sink, faults),

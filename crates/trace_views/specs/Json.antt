@@ -57,13 +57,17 @@ trace_object pages size writes =
     object_of (number_member (codes "pages") pages ∷ number_member (codes "size") size ∷ number_member
     (codes "writes") writes ∷ [])
 
+-- what pages stand for
+abbrev pub page_members : TraceScale → List (List Token)
+page_members scale =
+    number_member (codes "page_bytes") scale.page ∷ number_member (codes "sampled_pages") scale.sampled
+    ∷ number_member (codes "guest_pages") scale.guest ∷ []
+
 -- what ticks, windows of so many ticks, and pages stand for, where that is known
 abbrev pub units_object : TraceScale → ℕ → List Token
 units_object scale length =
     object_of (seconds_member (codes "tick_seconds") scale.tick ∷ seconds_member
-    (codes "window_seconds") (micros_of scale length)
-    ∷ number_member (codes "page_bytes") scale.page ∷ number_member (codes "sampled_pages") scale.sampled
-    ∷ number_member (codes "guest_pages") scale.guest ∷ [])
+    (codes "window_seconds") (micros_of scale length) ∷ page_members scale)
 
 abbrev pub units_member : Option TraceScale → ℕ → List Token
 units_member None length = []
@@ -164,14 +168,30 @@ outcome_members outcome =
     (codes "at") outcome.stop
     ∷ number_member (codes "down") outcome.down ∷ number_member (codes "total") outcome.total ∷ []
 
+-- the times and the bytes of a case's plan, where they are known
+abbrev pub outcome_units : Option TraceScale → PlanOutcome → List (List Token)
+outcome_units None outcome = []
+outcome_units (Some scale) outcome =
+    seconds_member (codes "at_seconds") (micros_of scale outcome.stop) ∷ seconds_member
+    (codes "down_seconds") (micros_of scale outcome.down)
+    ∷ number_member (codes "total_bytes") (bytes_of scale outcome.total) ∷ []
+
 -- a case, by its number
-abbrev pub case_object : ℕ → SweepLine → List Token
-case_object n line = object_of (number_member (codes "case") n ∷
-    (settings_members line.settings ++ outcome_members line.outcome))
+abbrev pub case_object : Option TraceScale → ℕ → SweepLine → List Token
+case_object scale n line = object_of (number_member (codes "case") n ∷
+    (settings_members line.settings ++ (outcome_members line.outcome ++ outcome_units scale line.outcome)))
 
 -- the cases of a sweep, numbered from the first
-abbrev pub case_objects : List SweepLine → List Token
-case_objects lines = flat_map (λ at. case_object at.0 at.1) (enumerate_from 0 lines)
+abbrev pub case_objects : Option TraceScale → List SweepLine → List Token
+case_objects scale lines = flat_map (λ at. case_object scale at.0 at.1) (enumerate_from 0 lines)
+
+-- what ticks and pages stand for, where that is known
+abbrev pub scale_object : TraceScale → List Token
+scale_object scale = object_of (seconds_member (codes "tick_seconds") scale.tick ∷ page_members scale)
+
+abbrev pub scale_member : Option TraceScale → List Token
+scale_member None = []
+scale_member (Some scale) = member_of (codes "units") (scale_object scale)
 
 -- the number of the best case, where there is a case
 abbrev pub best_member : List SweepLine → List Token
@@ -179,8 +199,9 @@ best_member [] = []
 best_member (first ∷ others) = number_member (codes "best") (best_of (first ∷ others))
 
 -- the facts of a sweep: its cases, and the best of them
-abbrev pub sweep_object : List SweepLine → List Token
-sweep_object lines = object_of (member_of (codes "cases") (array_of (case_objects lines)) ∷ best_member lines ∷ [])
+abbrev pub sweep_object : Option TraceScale → List SweepLine → List Token
+sweep_object scale lines = object_of (scale_member scale ∷ member_of (codes "cases")
+    (array_of (case_objects scale lines)) ∷ best_member lines ∷ [])
 
 -- ---- documents
 

@@ -6,3 +6,4 @@ pub mod PredictionViews
 pub mod StartsJson
 pub mod StartViews
 pub mod Refusals
+pub mod Grid

@@ -1,13 +1,15 @@
 -- What a view of a trace shows.
-use Rattle.std.specs.Prelude.{◌≡◌, ℕ, ◌≤◌, Bool, true, List, length, Option}
+use Rattle.std.specs.Prelude.{◌≡◌, ℕ, Bool, true, List, ◌++◌, length, slice_index_or, Option}
 use Rattle.guest_units.specs.Scales.{TraceScale}
 use Rattle.migration_model.specs.Rates.{MigrationSettings}
 use Rattle.migration_model.specs.Rounds.{IsPlan, MigrationPlan}
 use Rattle.migration_model.specs.Sweeps.{SweepLine, AreLines}
 use Rattle.migration_model.specs.Touches.{GuestTouches}
 use Rattle.migration_model.specs.Windows.{working_sets_of}
+use Rattle.predictions.specs.Predictions.{last_tick_of}
 use Rattle.trace_views.specs.Advice.{IsAdvice}
-use Rattle.trace_views.specs.AdviceText.{EndsWithCase, case_of}
+use Rattle.trace_views.specs.AdviceText.{case_of, choice_text, known_cost}
+use Rattle.trace_views.specs.Grid.{cases_for}
 use Rattle.trace_views.specs.Json.{line_of, report_object, sweep_object}
 use Rattle.trace_views.specs.PredictionViews.{IsPredictionView}
 use Rattle.trace_views.specs.StartViews.{IsStartsView, RefusesStartsView}
@@ -15,6 +17,7 @@ use Rattle.trace_views.specs.declared.budget.Advice.{Advice}
 use Rattle.trace_views.specs.declared.budget.Budget.{Budget}
 use Rattle.trace_views.specs.declared.error.ViewError.{ViewError}
 use Rattle.trace_views.specs.declared.error.ViewError.TheVariants.{Memory}
+use Rattle.trace_views.specs.declared.view.Measured.{Measured}
 use Rattle.trace_views.specs.declared.view.View.{View}
 use Rattle.trace_views.specs.declared.view.View.TheVariants as views
 
@@ -28,28 +31,35 @@ pub record IsReportView (log : GuestTouches) (settings : MigrationSettings) (sca
       ≡ line_of (report_object log.shift log.pages (length log.touches) settings scale
       (working_sets_of log.pages log.touches settings) plan)
 
--- the facts of a sweep, as a JSON document: the sums of each case's plan, and the best of them
-pub record IsSweepView (log : GuestTouches) (cases : List MigrationSettings) (text : List ℕ) : Type 0 where
+-- the facts of a sweep, as a JSON document: the sums of each case's plan, in times and bytes too where it is known
+-- what ticks and pages stand for, and the best of them
+pub record IsSweepView (log : GuestTouches) (cases : List MigrationSettings) (scale : Option TraceScale)
+    (text : List ℕ) : Type 0 where
   pub lines : List SweepLine
   pub are_lines : AreLines log.pages log.touches cases lines
-  pub text_is : text ≡ line_of (sweep_object lines)
+  pub text_is : text ≡ line_of (sweep_object scale lines)
 
--- a text of advice for a budget: it ends with the case to take of some cases, each planned by itself
-pub record IsAdviceView (log : GuestTouches) (budget : Budget) (text : List ℕ) : Type 0 where
-  pub cases : List MigrationSettings
-  pub few : length cases ≤ 256
+-- a text of advice for a budget: it ends with the case to take of those round some settings, each planned by itself
+pub record IsAdviceView (log : GuestTouches) (settings : MigrationSettings) (budget : Budget)
+    (measured : Option Measured) (text : List ℕ) : Type 0 where
   pub lines : List SweepLine
-  pub are_lines : AreLines log.pages log.touches cases lines
+  pub are_lines : AreLines log.pages log.touches (cases_for settings budget) lines
   pub advice : Advice
   pub is_advice : IsAdvice budget lines advice
-  pub text_ends : EndsWithCase lines (case_of advice) text
+  pub chosen : SweepLine
+  pub is_chosen : chosen ≡ slice_index_or lines (case_of advice) chosen
+  pub front : List ℕ
+  pub text_is : text
+      ≡ front ++ choice_text (case_of advice) chosen (known_cost measured chosen (last_tick_of log.touches))
 
 -- What a view shows of a trace, and whether a limit is kept. Nothing is said of a picture, or of a report for a
 -- terminal.
 abbrev pub IsView : GuestTouches → View → List ℕ → Bool → Type 0
 IsView log (views.JsonReport settings scale) text is_kept = IsReportView log settings scale text × (is_kept ≡ true)
-IsView log (views.JsonSweep cases workers) text is_kept = IsSweepView log cases.items text × (is_kept ≡ true)
-IsView log (views.Advise budget settings) text is_kept = IsAdviceView log budget text × (is_kept ≡ true)
+IsView log (views.JsonSweep cases workers scale) text is_kept =
+    IsSweepView log cases.items scale text × (is_kept ≡ true)
+IsView log (views.Advise budget settings measured) text is_kept =
+    IsAdviceView log settings budget measured text × (is_kept ≡ true)
 IsView log (views.Show settings scale style) text is_kept = is_kept ≡ true
 IsView log (views.Chart settings scale) text is_kept = is_kept ≡ true
 IsView log (views.When asked) text is_kept = IsStartsView log asked text is_kept
@@ -59,8 +69,8 @@ IsView log (views.Predict settings scale limits) text is_kept =
 -- why a view cannot be made: memory ran out, or there are too many starts
 abbrev pub RefusesView : GuestTouches → View → ViewError → Type 0
 RefusesView log (views.JsonReport settings scale) e = e ≡ Memory
-RefusesView log (views.JsonSweep cases workers) e = e ≡ Memory
-RefusesView log (views.Advise budget settings) e = e ≡ Memory
+RefusesView log (views.JsonSweep cases workers scale) e = e ≡ Memory
+RefusesView log (views.Advise budget settings measured) e = e ≡ Memory
 RefusesView log (views.Show settings scale style) e = e ≡ Memory
 RefusesView log (views.Chart settings scale) e = e ≡ Memory
 RefusesView log (views.Predict settings scale limits) e = e ≡ Memory

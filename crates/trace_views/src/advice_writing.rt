@@ -1,12 +1,11 @@
 //! Advice as a text.
 
-ghost use Rattle.std.specs.Prelude.{◌≡◌, ◌<◌, ◌++◌, IfErr, IfOk, OnOk, if◌then◌else◌, length, codes};
-ghost use Rattle.std.specs.List.{flat_map};
-ghost use Rattle.trace_views.specs.AdviceText.{EndsWithCase, base_field, case_of, live_fields, live_line};
+ghost use Rattle.std.specs.Prelude.{◌≡◌, ◌++◌, OnOk, if◌then◌else◌, codes};
+ghost use Rattle.trace_views.specs.AdviceText.{base_field, choice_text, cost_line, live_line, measures_line};
 
 use crate::budget::{Advice, Budget};
-use crate::error::ViewError;
 use crate::grid::Grid;
+use predictions::{Cost, push_bytes, push_seconds};
 use rate_limit::Settings;
 use std::alloc::{AllocError, Global};
 use sweep_report::{Line, end_line, push_case, push_field};
@@ -45,10 +44,10 @@ fn push_grid(text: &mut Vec<u8>, settings: &Settings, grid: &Grid) -> Result<(),
 fn push_reason(
     text: &mut Vec<u8>,
     budget: &Budget,
-    lines: &[Line],
+    cases: usize,
     advice: &Advice,
 ) -> Result<(), AllocError> {
-    push_field(text, "cases ", lines.len() as u64)?;
+    push_field(text, "cases ", cases as u64)?;
     match advice {
         Advice::Fits(case) => push_field(text, " fits ", *case as u64)?,
         Advice::OverDown(nearest) => {
@@ -104,35 +103,57 @@ fn push_skip(text: &mut Vec<u8>, skip: bool) -> Result<(), AllocError>
     text.extend_from_slice(word.as_bytes())
 }
 
-/// Appends the line of a case, and the words that run it.
-fn push_choice(text: &mut Vec<u8>, lines: &[Line], case: usize) -> Result<(), AllocError>
-    requires { case < length lines.now }
-    ensures { OnOk result (EndsWithCase lines.now case text.new.items) }
+/// Appends what a case costs in time and bytes, where that is known.
+fn push_cost(text: &mut Vec<u8>, cost: &Option<Cost>) -> Result<(), AllocError>
+    ensures { OnOk result (text.new.items ≡ text.old.items ++ cost_line cost.now) }
 {
-    let line = &lines[case];
+    match cost {
+        Some(cost) => push_measures(text, cost),
+        None => Ok(()),
+    }
+}
+
+/// Appends the line of what a migration costs in time and bytes.
+fn push_measures(text: &mut Vec<u8>, cost: &Cost) -> Result<(), AllocError>
+    ensures { OnOk result (text.new.items ≡ text.old.items ++ measures_line cost.now) }
+{
+    text.extend_from_slice("time ".as_bytes())?;
+    push_seconds(text, cost.time)?;
+    text.extend_from_slice(", sent ".as_bytes())?;
+    push_bytes(text, cost.bytes)?;
+    text.extend_from_slice(", downtime ".as_bytes())?;
+    push_seconds(text, cost.downtime)?;
+    end_line(text)
+}
+
+/// Appends a case: what it costs in time and bytes where that is known, its line, and the words that run it.
+pub(crate) fn push_choice(
+    text: &mut Vec<u8>,
+    case: usize,
+    line: &Line,
+    cost: &Option<Cost>,
+) -> Result<(), AllocError>
+    ensures { OnOk result (text.new.items ≡ text.old.items ++ choice_text case line.now cost.now) }
+{
+    push_cost(text, cost)?;
     push_case(text, case, line)?;
     push_live(text, &line.settings)?;
     Ok(())
 }
 
-/// Returns advice as a text, in ASCII: the budget, the grid, whether a case keeps the budget or why none does, the line
-/// of the advised case, and the words that run a live migration so.
-pub fn advice_text(
+/// Returns what stands before the advised case: the budget, the grid, and whether a case keeps the budget or why none
+/// does. The text is ASCII.
+pub(crate) fn advice_head(
     alloc: Global,
     budget: &Budget,
     settings: &Settings,
     grid: &Grid,
-    lines: &[Line],
+    cases: usize,
     advice: &Advice,
-) -> Result<Vec<u8>, ViewError>
-    requires { case_of advice.now < length lines.now }
-    ensures made { IfOk result (λ text. EndsWithCase lines.now (case_of advice.now) text.items) }
-    ensures refused { IfErr result (λ e. e ≡ ViewError.Memory) }
-{
+) -> Result<Vec<u8>, AllocError> {
     let mut text = Vec::new(alloc);
     push_budget(&mut text, budget)?;
     push_grid(&mut text, settings, grid)?;
-    push_reason(&mut text, budget, lines, advice)?;
-    push_choice(&mut text, lines, advice.case())?;
+    push_reason(&mut text, budget, cases, advice)?;
     Ok(text)
 }

@@ -1,21 +1,23 @@
 //! The cases that advice is chosen from.
 
-ghost use Rattle.std.specs.Prelude.{◌≤◌, ◌<◌, IfOk, length};
+ghost use Rattle.std.specs.Prelude.{◌≡◌, ◌≤◌, ◌++◌, IfOk, OnOk};
+ghost use Rattle.trace_views.specs.Grid.{cases_on, grid_of, kept, part, threshold_within, with_increments};
+ghost use Rattle.trace_views.specs.Grid.{with_minima, with_rounds, with_skips, with_thresholds};
 
 use crate::budget::Budget;
 use rate_limit::{Asked, Settings};
 use std::alloc::{AllocError, Global};
 
-/// The greatest threshold that settings may have, in pages.
-const MAX_THRESHOLD: u64 = 65_536;
+/// One less than the greatest threshold that settings may have, in pages.
+const BELOW_MAX_THRESHOLD: u128 = 65_535;
 
-/// How many cases the axes of a grid make: each value of an axis with each of the others.
-const CASES: usize = 240;
+/// How many cases there are at most: the settings that were asked for, and each value of an axis with each of the
+/// others, with and without skipping.
+const MOST_CASES: usize = 1 + 4 * 2 * 5 * 3 * 2;
 
 /// The values that are tried with one another, beside the settings that were asked for.
 #[derive(Clone, Copy, Debug)]
 pub struct Grid {
-    settings: Settings,
     /// Least rates, in pages per 1,000 ticks: the greatest rate and parts of it.
     pub min: [u64; 4],
     /// Increments, in pages per 1,000 ticks: parts of the greatest rate.
@@ -29,59 +31,142 @@ pub struct Grid {
 /// Returns the least threshold above the number of pages that can be sent within some ticks at a rate. Where a round
 /// dirties fewer pages than that, they are sent within the ticks.
 fn threshold_for(ticks: u64, rate: u64) -> u64
-    ensures low { 1 ≤ result }
-    ensures high { result ≤ 65_536 }
+    ensures { result ≡ threshold_within ticks rate }
 {
-    let pages = ticks.saturating_mul(rate) / 1000;
-    pages.min(MAX_THRESHOLD - 1) + 1
+    let pages = ticks as u128 * rate as u128 / 1000;
+    pages.min(BELOW_MAX_THRESHOLD) as u64 + 1
+}
+
+/// Returns a part of a number, and 1 at least.
+fn part_of(whole: u64, n: u64) -> u64
+    requires { 1 ≤ n }
+    ensures { result ≡ part whole n }
+{
+    (whole / n).max(1)
 }
 
 impl Grid {
     /// Returns the grid round some settings, for a budget. Its greatest rate and its first tick are theirs.
-    pub fn new(settings: &Settings, budget: &Budget) -> Grid {
+    pub fn new(settings: &Settings, budget: &Budget) -> Grid
+        ensures { result ≡ grid_of settings.now budget.now }
+    {
         let max = settings.asked().max;
         let threshold = threshold_for(budget.down, max);
         Grid {
-            settings: *settings,
-            min: [max, (max / 2).max(1), (max / 4).max(1), (max / 8).max(1)],
+            min: [max, part_of(max, 2), part_of(max, 4), part_of(max, 8)],
             increment: [max / 20, max / 5],
             threshold: [
                 threshold,
-                (threshold / 2).max(1),
-                (threshold / 4).max(1),
-                (threshold / 8).max(1),
+                part_of(threshold, 2),
+                part_of(threshold, 4),
+                part_of(threshold, 8),
                 1,
             ],
             rounds: [2, 8, 30],
         }
     }
 
-    /// Returns what the case of the axes with this number asks for.
-    fn asked_at(&self, number: usize) -> Asked
-        requires { number < 240 }
-    {
-        Asked {
-            min: self.min[number / 60],
-            increment: self.increment[number / 30 % 2],
-            threshold: self.threshold[number / 6 % 5],
-            rounds: self.rounds[number / 2 % 3],
-            skip: number % 2 == 1,
-            ..*self.settings.asked()
-        }
-    }
-
     /// Returns the cases: the settings that were asked for, and then each that the axes make.
-    pub fn cases(&self, alloc: Global) -> Result<Vec<Settings>, AllocError>
-        ensures some { IfOk result (λ cases. 1 ≤ length cases.items) }
-        ensures few { IfOk result (λ cases. length cases.items ≤ 256) }
+    pub fn cases(&self, alloc: Global, settings: &Settings) -> Result<Vec<Settings>, AllocError>
+        ensures { IfOk result (λ cases. cases.items ≡ cases_on self.now settings.now) }
     {
-        let mut cases = Vec::with_capacity(alloc, 1 + CASES)?;
-        cases.push(self.settings)?;
-        for number in 0..CASES {
-            if let Ok(settings) = Settings::new(self.asked_at(number)) {
-                cases.push(settings)?;
-            }
-        }
+        let mut cases = Vec::with_capacity(alloc, MOST_CASES)?;
+        cases.push(*settings)?;
+        self.push_minima(&mut cases, settings.asked())?;
         Ok(cases)
     }
+
+    /// Appends settings with each least rate.
+    fn push_minima(&self, cases: &mut Vec<Settings>, asked: &Asked) -> Result<(), AllocError>
+        ensures { OnOk result (cases.new.items ≡ cases.old.items ++ with_minima self.now asked.now) }
+    {
+        for min in &self.min {
+            self.push_increments(
+                cases,
+                &Asked {
+                    min: *min,
+                    ..*asked
+                },
+            )?;
+        }
+        Ok(())
+    }
+
+    /// Appends settings with each increment.
+    fn push_increments(&self, cases: &mut Vec<Settings>, asked: &Asked) -> Result<(), AllocError>
+        ensures { OnOk result (cases.new.items ≡ cases.old.items ++ with_increments self.now asked.now) }
+    {
+        for increment in &self.increment {
+            self.push_thresholds(
+                cases,
+                &Asked {
+                    increment: *increment,
+                    ..*asked
+                },
+            )?;
+        }
+        Ok(())
+    }
+
+    /// Appends settings with each threshold.
+    fn push_thresholds(&self, cases: &mut Vec<Settings>, asked: &Asked) -> Result<(), AllocError>
+        ensures { OnOk result (cases.new.items ≡ cases.old.items ++ with_thresholds self.now asked.now) }
+    {
+        for threshold in &self.threshold {
+            self.push_rounds(
+                cases,
+                &Asked {
+                    threshold: *threshold,
+                    ..*asked
+                },
+            )?;
+        }
+        Ok(())
+    }
+
+    /// Appends settings with each number of rounds.
+    fn push_rounds(&self, cases: &mut Vec<Settings>, asked: &Asked) -> Result<(), AllocError>
+        ensures { OnOk result (cases.new.items ≡ cases.old.items ++ with_rounds self.now asked.now) }
+    {
+        for rounds in &self.rounds {
+            push_skips(
+                cases,
+                &Asked {
+                    rounds: *rounds,
+                    ..*asked
+                },
+            )?;
+        }
+        Ok(())
+    }
+}
+
+/// Appends settings without and with skipping.
+fn push_skips(cases: &mut Vec<Settings>, asked: &Asked) -> Result<(), AllocError>
+    ensures { OnOk result (cases.new.items ≡ cases.old.items ++ with_skips asked.now) }
+{
+    push_kept(
+        cases,
+        Asked {
+            skip: false,
+            ..*asked
+        },
+    )?;
+    push_kept(
+        cases,
+        Asked {
+            skip: true,
+            ..*asked
+        },
+    )
+}
+
+/// Appends settings, if none of them is out of range.
+fn push_kept(cases: &mut Vec<Settings>, asked: Asked) -> Result<(), AllocError>
+    ensures { OnOk result (cases.new.items ≡ cases.old.items ++ kept asked) }
+{
+    if let Ok(settings) = Settings::new(asked) {
+        cases.push(settings)?;
+    }
+    Ok(())
 }

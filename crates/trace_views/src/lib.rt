@@ -18,7 +18,6 @@ mod sweeping;
 mod view;
 mod viewing;
 
-pub use advice_writing::advice_text;
 pub use budget::{Advice, Budget};
 pub use choosing::advise;
 pub use error::ViewError;
@@ -26,5 +25,5 @@ pub use grid::Grid;
 pub use report_document::json_report;
 pub use starts_document::json_starts;
 pub use sweep_document::json_sweep;
-pub use view::{AskedStarts, Shown, StartsForm, View};
+pub use view::{AskedStarts, Measured, Shown, StartsForm, View};
 pub use viewing::view_text;

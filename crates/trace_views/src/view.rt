@@ -32,6 +32,15 @@ pub struct AskedStarts {
     pub form: StartsForm,
 }
 
+/// What ticks and pages of a trace stand for, and what the migration may take.
+#[derive(Clone, Copy, Debug, PartialEq, Eq)]
+pub struct Measured {
+    /// What ticks and pages stand for.
+    pub scale: Scale,
+    /// What the migration may take.
+    pub limits: Limits,
+}
+
 /// One answer about a trace.
 #[derive(Debug, Drop)]
 pub enum View {
@@ -44,11 +53,14 @@ pub enum View {
     JsonSweep {
         cases: Vec<Settings>,
         workers: usize,
+        scale: Option<Scale>,
     },
-    /// The case to take for a budget, of a grid round some settings.
+    /// The case to take for a budget, of a grid round some settings. Where limits are known, it also says what that
+    /// case costs in time and bytes.
     Advise {
         budget: Budget,
         settings: Settings,
+        measured: Option<Measured>,
     },
     /// The report as tables with bars, for a terminal.
     Show {

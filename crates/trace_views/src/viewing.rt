@@ -1,25 +1,28 @@
 //! Views of a log of touches.
 
 ghost use Rattle.std.specs.Prelude.{◌≡◌, Err, IfErr, IfOk, Ok, true};
+ghost use Rattle.trace_views.specs.AdviceText.{known_cost};
 ghost use Rattle.trace_views.specs.Views.{IsAdviceView, IsReportView, IsSweepView, IsView, RefusesView};
 
-use crate::advice_writing::advice_text;
+use crate::advice_writing::{advice_head, push_choice};
 use crate::budget::Budget;
 use crate::choosing::advise;
 use crate::error::ViewError;
 use crate::grid::Grid;
-use crate::predicting::prediction_view;
+use crate::predicting::{last_tick, prediction_view};
 use crate::report_document::json_report;
 use crate::starting::starts_view;
 use crate::sweep_document::json_sweep;
 use crate::sweeping::planned;
-use crate::view::{Shown, View};
+use crate::view::{Measured, Shown, View};
 use guest_units::Scale;
+use predictions::Cost;
 use rate_limit::Settings;
 use report_pictures::{Style, measured_screen, report_chart, report_screen};
 use round_planner::plan;
 use std::alloc::Global;
 use std::thread::Threads;
+use sweep_report::Line;
 use trace_readers::TouchLog;
 use working_sets::tables;
 
@@ -78,13 +81,24 @@ fn sweep_view<R: Threads + Sync>(
     alloc: Global,
     cases: &[Settings],
     workers: usize,
+    scale: &Option<Scale>,
     log: &TouchLog,
 ) -> Result<Vec<u8>, ViewError>
-    ensures made { IfOk result (λ v. IsSweepView log.now cases.now v.items) }
+    ensures made { IfOk result (λ v. IsSweepView log.now cases.now scale.now v.items) }
     ensures refused { IfErr result (λ e. e ≡ ViewError.Memory) }
 {
     let lines = planned(rt, alloc, cases, workers, log)?;
-    json_sweep(alloc, &lines)
+    json_sweep(alloc, scale, &lines)
+}
+
+/// Returns what a case costs, where it is known what ticks and pages stand for.
+fn cost_of(measured: &Option<Measured>, line: &Line, last_tick: u64) -> Option<Cost>
+    ensures { result ≡ known_cost measured.now line.now last_tick }
+{
+    match measured {
+        Some(Measured { scale, limits }) => Some(Cost::of_line(scale, limits, line, last_tick)),
+        None => None,
+    }
 }
 
 /// Returns the advice for a budget, as a text.
@@ -93,17 +107,22 @@ fn advice_view<R: Threads + Sync>(
     alloc: Global,
     budget: &Budget,
     settings: &Settings,
+    measured: &Option<Measured>,
     log: &TouchLog,
 ) -> Result<Vec<u8>, ViewError>
-    ensures made { IfOk result (λ v. IsAdviceView log.now budget.now v.items) }
+    ensures made { IfOk result (λ v. IsAdviceView log.now settings.now budget.now measured.now v.items) }
     ensures refused { IfErr result (λ e. e ≡ ViewError.Memory) }
 {
     let grid = Grid::new(settings, budget);
-    let cases = grid.cases(alloc)?;
+    let cases = grid.cases(alloc, settings)?;
     let workers = settings.asked().workers as usize;
     let lines = planned(rt, alloc, &cases, workers, log)?;
     let advice = advise(&lines, budget);
-    advice_text(alloc, budget, settings, &grid, &lines, &advice)
+    let line = &lines[advice.case()];
+    let cost = cost_of(measured, line, last_tick(log));
+    let mut text = advice_head(alloc, budget, settings, &grid, lines.len(), &advice)?;
+    push_choice(&mut text, advice.case(), line, &cost)?;
+    Ok(text)
 }
 
 /// Returns the view with this text, which has no limit to keep.
@@ -129,8 +148,16 @@ pub fn view_text<R: Threads + Sync>(
 {
     match view {
         View::JsonReport { settings, scale } => shown(report_view(alloc, settings, scale, log)),
-        View::JsonSweep { cases, workers } => shown(sweep_view(rt, alloc, cases, *workers, log)),
-        View::Advise { budget, settings } => shown(advice_view(rt, alloc, budget, settings, log)),
+        View::JsonSweep {
+            cases,
+            workers,
+            scale,
+        } => shown(sweep_view(rt, alloc, cases, *workers, scale, log)),
+        View::Advise {
+            budget,
+            settings,
+            measured,
+        } => shown(advice_view(rt, alloc, budget, settings, measured, log)),
         View::Chart { settings, scale } => shown(chart_view(alloc, settings, scale, log)),
         View::Show {
             settings,

@@ -70,6 +70,18 @@ RefusesSaid rows e said =
     ⊎ (((e ≡ refusals.Incomplete) × (is_incomplete said ≡ true))
     ⊎ ((limits : Option Limits) × AreLimitsSaid said limits × RefusesSettings rows said limits e))
 
+-- the options ask for this scale, where one of them says something of it
+abbrev pub AsksForScale : List Row → Option TraceScale → Type 0
+AsksForScale rows scale = SaysWhat rows (λ said. scale ≡ (if has_units said then Some (scale_in said) else None))
+
+-- the scale that the options say is refused
+abbrev pub RefusesScale : LimitsRefusal → Said → Type 0
+RefusesScale e said =
+    (error : UnitsError) × (e ≡ refusals.Units error) × (scale_refusal (scale_in said) ≡ Some error)
+
+abbrev pub RefusesScaleWords : List Row → LimitsRefusal → Type 0
+RefusesScaleWords rows e = RefusesWord rows e ⊎ SaysWhat rows (RefusesScale e)
+
 -- why the options are refused: for the word of one of them, or for what they say
 abbrev pub RefusesMeasure : List Row → LimitsRefusal → Type 0
 RefusesMeasure rows e = RefusesWord rows e ⊎ SaysWhat rows (RefusesSaid rows e)

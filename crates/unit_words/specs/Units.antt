@@ -17,11 +17,13 @@ use Rattle.unit_words.specs.declared.limits.Said.{Said}
 abbrev pub quantity_rule : Text → Rule
 quantity_rule name = record (new_rule name) { long = Some name; action = Some Set; value_names = 1 }
 
--- the options of limits
+-- the options of what ticks and pages stand for, and those of limits with them
+abbrev pub scale_rules : List Rule
+scale_rules = quantity_rule (codes "tick") ∷ quantity_rule (codes "sampled") ∷ number_rule (codes "page") ∷ []
+
 abbrev pub unit_rules : List Rule
 unit_rules = quantity_rule (codes "link") ∷ quantity_rule (codes "first") ∷ quantity_rule (codes "downtime")
-    ∷ quantity_rule (codes "reserve") ∷ quantity_rule (codes "tick") ∷ quantity_rule (codes "sampled")
-    ∷ number_rule (codes "page") ∷ []
+    ∷ quantity_rule (codes "reserve") ∷ scale_rules
 
 -- what an option says whose word stands for a number, where it is given
 abbrev pub SaysBy : (List ℕ → ℕ → Type 0) → List Row → Text → Option ℕ → Type 0
@@ -50,6 +52,16 @@ pub record IsSaid (rows : List Row) (said : Said) : Type 0 where
   pub first : SaysBy IsRate rows (codes "first") said.first
   pub downtime : SaysBy IsTime rows (codes "downtime") said.downtime
   pub reserve : SaysBy IsTime rows (codes "reserve") said.reserve
+
+-- no option of limits, or of what ticks and pages stand for, is given
+pub record HasNoUnits (rows : List Row) : Type 0 where
+  pub link : first_of (codes "link") rows ≡ None
+  pub first : first_of (codes "first") rows ≡ None
+  pub downtime : first_of (codes "downtime") rows ≡ None
+  pub reserve : first_of (codes "reserve") rows ≡ None
+  pub tick : first_of (codes "tick") rows ≡ None
+  pub sampled : first_of (codes "sampled") rows ≡ None
+  pub page : Says rows (codes "page") None
 
 -- some option of limits is given
 abbrev pub has_units : Said → Bool
@@ -89,5 +101,7 @@ RefusesWord rows refusals.Sampled = IsNoSample rows
 RefusesWord rows refusals.Incomplete = ⊥
 RefusesWord rows refusals.Missing = ⊥
 RefusesWord rows refusals.Mixed = ⊥
+RefusesWord rows refusals.NoBudget = ⊥
+RefusesWord rows refusals.TwoBudgets = ⊥
 RefusesWord rows (refusals.Settings e) = ⊥
 RefusesWord rows (refusals.Units e) = ⊥

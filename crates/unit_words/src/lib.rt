@@ -5,6 +5,6 @@ mod limits;
 mod measures;
 mod quantities;
 
-pub use limits::{LimitsRefusal, with_units};
-pub use measures::{Measure, measure_of};
+pub use limits::{LimitsRefusal, says_units, with_scale, with_units};
+pub use measures::{Measure, measure_of, scale_said};
 pub use quantities::{link_rate_of, sample_of, time_of};

@@ -7,8 +7,8 @@ ghost use Rattle.clap.specs.Words.{found_of, rows_of, rule_of};
 ghost use Rattle.job_words.specs.Commands.{AddsRules};
 ghost use Rattle.guest_units.specs.Scales.{scale_refusal};
 ghost use Rattle.unit_words.specs.Quantities.{IsRate, IsTime};
-ghost use Rattle.unit_words.specs.Units.{AreLimitsSaid, IsNo, IsNoSample, IsSaid, RefusesWord, SaysBy};
-ghost use Rattle.unit_words.specs.Units.{SaysSample, has_units, is_incomplete, quantity_rule, scale_in, unit_rules};
+ghost use Rattle.unit_words.specs.Units.{AreLimitsSaid, HasNoUnits, IsNo, IsNoSample, IsSaid, RefusesWord, SaysBy};
+ghost use Rattle.unit_words.specs.Units.{SaysSample, has_units, is_incomplete, quantity_rule, scale_in, scale_rules, unit_rules};
 
 use crate::quantities::{link_rate_of, sample_of, time_of};
 use clap::{Arg, ArgAction, ArgMatches, Command};
@@ -48,6 +48,12 @@ pub enum LimitsRefusal {
     /// Rates or a threshold stand there in both kinds of words.
     #[error("--min, --max and --threshold do not stand beside --link and --downtime")]
     Mixed,
+    /// No downtime stands there, where one is needed in either kind of words.
+    #[error("--down is needed, or --link and --downtime, as --link 10Gbit --downtime 300ms")]
+    NoBudget,
+    /// A downtime stands there in both kinds of words.
+    #[error("--down does not stand beside --link and --downtime")]
+    TwoBudgets,
     /// A limit is out of its range.
     #[error("{0}")]
     Units(UnitsError),
@@ -59,8 +65,8 @@ pub enum LimitsRefusal {
 /// An option of a quantity: its name, what its value is called, and its help.
 type Quantity<'a> = (&'a str, &'a str, &'a str);
 
-/// What a migration may take, and what ticks and pages stand for.
-const QUANTITIES: [Quantity<'static>; 6] = [
+/// What a migration may take.
+const LIMITS: [Quantity<'static>; 4] = [
     (
         "link",
         "RATE",
@@ -77,6 +83,10 @@ const QUANTITIES: [Quantity<'static>; 6] = [
         "TIME",
         "What of it goes to switching over and to devices [default: 0s]",
     ),
+];
+
+/// What ticks and pages stand for.
+const SCALE: [Quantity<'static>; 2] = [
     (
         "tick",
         "TIME",
@@ -120,7 +130,15 @@ fn with_quantities<'a>(
 pub fn with_units<'a>(alloc: Global, command: Command<'a>) -> Result<Command<'a>, AllocError>
     ensures { IfOk result (λ new. AddsRules command.entry unit_rules new) }
 {
-    let command = with_quantities(alloc, command, &QUANTITIES)?;
+    let command = with_quantities(alloc, command, &LIMITS)?;
+    with_scale(alloc, command)
+}
+
+/// Returns the command with the options of what ticks and pages stand for.
+pub fn with_scale<'a>(alloc: Global, command: Command<'a>) -> Result<Command<'a>, AllocError>
+    ensures { IfOk result (λ new. AddsRules command.entry scale_rules new) }
+{
+    let command = with_quantities(alloc, command, &SCALE)?;
     command.arg(number(
         alloc,
         "page",
@@ -146,6 +164,26 @@ fn word_of<'a>(options: &ArgMatches<'a>, name: &str) -> Option<&'a str>
     ensures missing { IfNone result (first_of name.now (rows_of (found_of options.now)) ≡ None) }
 {
     options.get_str(name)
+}
+
+/// Returns whether an option has a word.
+fn has_word(options: &ArgMatches, name: &str) -> bool
+    ensures none { result ≡ false → first_of name.now (rows_of (found_of options.now)) ≡ None }
+{
+    word_of(options, name).is_some()
+}
+
+/// Returns whether some option of limits, or of what ticks and pages stand for, is given.
+pub fn says_units(options: &ArgMatches) -> bool
+    ensures none { result ≡ false → HasNoUnits (rows_of (found_of options.now)) }
+{
+    has_word(options, "link")
+        || has_word(options, "first")
+        || has_word(options, "downtime")
+        || has_word(options, "reserve")
+        || has_word(options, "tick")
+        || has_word(options, "sampled")
+        || said(options, "page").is_some()
 }
 
 /// Returns the time that an option has, where it is given, or a refusal where its word is no time.

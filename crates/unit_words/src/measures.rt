@@ -2,7 +2,8 @@
 
 ghost use Rattle.std.specs.Prelude.{◌≡◌, IfErr, IfOk, Some, false, true};
 ghost use Rattle.clap.specs.Words.{found_of, rows_of};
-ghost use Rattle.unit_words.specs.Measures.{AreUnsaid, AsksForLimited, AsksForMeasure, AsksForSettings, IsMixed};
+ghost use Rattle.unit_words.specs.Measures.{AreUnsaid, AsksForLimited, AsksForMeasure, AsksForScale, AsksForSettings};
+ghost use Rattle.unit_words.specs.Measures.{IsMixed, RefusesScaleWords};
 ghost use Rattle.unit_words.specs.Measures.{RefusesMeasure, RefusesSaid, RefusesSettings};
 ghost use Rattle.unit_words.specs.Units.{IsSaid, scale_in};
 
@@ -105,4 +106,16 @@ pub fn measure_of(options: &ArgMatches) -> Result<Measure, LimitsRefusal>
 {
     let said = said_of(options)?;
     measure_said(options, &said)
+}
+
+/// Returns what ticks and pages stand for, where an option says so, or why that is refused.
+pub fn scale_said(options: &ArgMatches) -> Result<Option<Scale>, LimitsRefusal>
+    ensures made { IfOk result (AsksForScale (rows_of (found_of options.now))) }
+    ensures refused { IfErr result (RefusesScaleWords (rows_of (found_of options.now))) }
+{
+    let said = said_of(options)?;
+    match scale_of(&said) {
+        Ok(scale) => Ok(is_measured(&said).then_some(scale)),
+        Err(error) => Err(LimitsRefusal::Units(error)),
+    }
 }

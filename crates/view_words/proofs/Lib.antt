@@ -1,1 +1,3 @@
+pub mod LineFacts
+pub mod Parsing
 pub mod ViewLemmas

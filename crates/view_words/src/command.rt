@@ -1,22 +1,31 @@
 //! The command line: words in, a view or a refusal out.
 
-ghost use Rattle.std.specs.Prelude.{◌≡◌, ◌⊎◌, IfErr, IfNone, IfOk, IfSome, IsErrAnd, None, Ok, Some, codes};
-ghost use Rattle.clap.specs.Words.{found_of, rows_of};
+ghost use Rattle.std.specs.Prelude.{◌≡◌, ◌⊎◌, ◌++◌, ◌∷◌, [], IfErr, IfNone, IfOk, IfSome, MatchOption, None, Some};
+ghost use Rattle.std.specs.Prelude.{codes, map, option_map, string_bytes, true};
+ghost use Rattle.clap.specs.Words.{app_of, found_of, rows_of};
+ghost use Rattle.job_words.specs.Commands.{AddsRules, IsLeaf, case_rule, flag_rule, report_rules, sweep_rules};
+ghost use Rattle.job_words.specs.Jobs.{AsksForCases};
+ghost use Rattle.unit_words.specs.Units.{scale_rules, unit_rules};
+ghost use Rattle.view_words.specs.Styles.{IsWidthRefused};
+ghost use Rattle.view_words.specs.Views.{IsOutOfMemory};
 ghost use Rattle.job_words.specs.declared.command.WordsError.TheVariants.{Memory};
-ghost use Rattle.view_words.specs.Views.{AsksForView, IsFairView, IsUsage, RefusesAsked, RefusesView};
-ghost use Rattle.view_words.specs.Starts.{RefusesStarts};
+ghost use Rattle.view_words.specs.Commands.{IsCommand, IsDocument, json_line, json_words, start_rules, view_line};
+ghost use Rattle.view_words.specs.Starts.{AsksForStarts, RefusesStarts};
+ghost use Rattle.view_words.specs.Views.{AreMissing, AsksForDocument, AsksForView, FailsOn, IsUsage, Names, RefusesCases};
+ghost use Rattle.view_words.specs.Views.{RefusesDocument, RefusesSettings, RefusesSweepWords, RefusesView, WordsAsk};
+ghost use Rattle.view_words.specs.Views.{WordsFail};
 ghost use Rattle.view_words.specs.declared.command.ViewWordsError.TheVariants.{Words};
 
-use crate::options::{budget_of, settings_for, style_of, with_budget, with_style};
+use crate::advice::advice_of;
+use crate::options::{style_of, with_budget, with_style};
 use crate::starts::{form_of, starts_of, with_chart, with_starts};
 use clap::{ArgMatches, Command};
 use guest_units::{Limits, Scale};
-use job_words::{
-    WordsError, WordsRefusal, cases_of, refusal_of, sweep_options, with_cases, with_report,
-};
+use job_words::{WordsError, cases_of, refusal_of, sweep_options, with_cases, with_report};
+use rate_limit::Settings;
 use std::alloc::{AllocError, Global};
-use trace_views::{StartsForm, View};
-use unit_words::{LimitsRefusal, Measure, measure_of, with_units};
+use trace_views::{AskedStarts, StartsForm, View};
+use unit_words::{LimitsRefusal, Measure, measure_of, scale_said, with_scale, with_units};
 
 /// Why words make no view.
 #[derive(Debug, Drop)]
@@ -50,57 +59,113 @@ const NO_COMMAND: &str = "error: a command is required\n";
 /// What is told behind the program's name by `--version`: that of all of precopy, as in tools/version.py.
 const VERSION: &str = "(precopy) 0.6.0";
 
+/// What is told of the commands below `json` behind its help.
+const JSON_COMMANDS: &str = "Commands: report, sweep, when. `precopy-view json --help` tells more.";
+
+/// Returns a command with no options yet.
+fn command<'a>(alloc: Global, name: &'a str, about: &'a str) -> Command<'a>
+    ensures { IsLeaf result name.entry.now [] }
+{
+    Command::new(alloc, name).about(about)
+}
+
 /// Returns the command with the options of a report, in either kind of words.
-fn with_either<'a>(alloc: Global, command: Command<'a>) -> Result<Command<'a>, AllocError> {
-    with_units(alloc, with_report(alloc, command)?)
+fn with_either<'a>(alloc: Global, command: Command<'a>) -> Result<Command<'a>, AllocError>
+    ensures { IfOk result (λ new. AddsRules command.entry (report_rules ++ unit_rules) new) }
+{
+    let command = with_report(alloc, command)?;
+    with_units(alloc, command)
 }
 
-/// Returns the command that writes JSON documents.
-fn json<'a>(alloc: Global) -> Result<Command<'a>, AllocError> {
-    let report = Command::new(alloc, "report").about("Writes what `precopy report` tells");
-    let sweep = Command::new(alloc, "sweep").about("Writes what `precopy sweep` tells");
-    let when = Command::new(alloc, "when").about("Writes what `precopy-view when` tells");
-    Command::new(alloc, "json")
-        .about("Writes a JSON document about the trace on standard input")
-        .subcommand_required(true)
-        .subcommand(with_either(alloc, report)?)?
-        .subcommand(with_cases(alloc, sweep)?)?
-        .subcommand(with_starts(alloc, when)?)
+/// Returns the command with the cases of a sweep, and with the options of what ticks and pages stand for.
+fn with_scaled_cases<'a>(alloc: Global, command: Command<'a>) -> Result<Command<'a>, AllocError>
+    ensures { IfOk result (λ new. AddsRules command.entry ((sweep_rules ++ case_rule ∷ []) ++ scale_rules) new) }
+{
+    let command = with_cases(alloc, command)?;
+    with_scale(alloc, command)
 }
 
-/// Returns the commands that show a report for people.
-fn with_pictures<'a>(alloc: Global, command: Command<'a>) -> Result<Command<'a>, AllocError> {
-    let show = Command::new(alloc, "show").about(
-        "Writes what `precopy report` tells as tables with bars, for a terminal",
-    );
-    let chart = Command::new(alloc, "chart").about(
-        "Writes what `precopy report` tells as a picture, in SVG",
-    );
-    command
-        .subcommand(with_units(alloc, with_style(alloc, show)?)?)?
-        .subcommand(with_either(alloc, chart)?)
+/// Returns the commands below `json`.
+fn json_commands<'a>(alloc: Global) -> Result<Command<'a>, AllocError>
+    ensures { IfOk result (λ line. app_of line ≡ json_line) }
+{
+    let report = command(alloc, "report", "Writes what `precopy report` tells");
+    let sweep = command(alloc, "sweep", "Writes what `precopy sweep` tells");
+    let when = command(alloc, "when", "Writes what `precopy-view when` tells");
+    command(
+        alloc,
+        "json",
+        "Writes a JSON document about the trace on standard input",
+    )
+    .bin_name("precopy-view json")?
+    .subcommand_required(true)
+    .subcommand(with_either(alloc, report)?)?
+    .subcommand(with_scaled_cases(alloc, sweep)?)?
+    .subcommand(with_starts(alloc, when)?)
 }
 
-/// Returns the program's commands.
-fn commands<'a>(alloc: Global) -> Result<Command<'a>, AllocError> {
-    let predict = Command::new(alloc, "predict").about(
-        "Writes what a migration will be, in time and bytes; status 3 where it misses its limit",
-    );
-    let when = Command::new(alloc, "when").about(
+/// Returns the command of starts, for people.
+fn when_command<'a>(alloc: Global) -> Result<Command<'a>, AllocError>
+    ensures { IfOk result (λ new. IsLeaf new (codes "when") (start_rules ++ flag_rule (codes "chart") ∷ [])) }
+{
+    let when = command(
+        alloc,
+        "when",
         "Writes what it costs to migrate at many times, and which is the best; status 3 where none keeps the limit",
     );
-    let advise = Command::new(alloc, "advise").about(
+    with_chart(alloc, with_starts(alloc, when)?)
+}
+
+/// Returns the command of documents, as help lists it.
+fn json_command<'a>(alloc: Global) -> Command<'a>
+    ensures { IsLeaf result (codes "json") [] }
+{
+    let json = command(
+        alloc,
+        "json",
+        "Writes a JSON document about the trace on standard input",
+    );
+    json.after_help(JSON_COMMANDS)
+}
+
+/// Returns the program's commands. Those below `json` stand in a line of their own.
+fn commands<'a>(alloc: Global) -> Result<Command<'a>, AllocError>
+    ensures { IfOk result (λ line. app_of line ≡ view_line) }
+{
+    let predict = command(
+        alloc,
+        "predict",
+        "Writes what a migration will be, in time and bytes; status 3 where it misses its limit",
+    );
+    let json = json_command(alloc);
+    let advise = command(
+        alloc,
+        "advise",
         "Writes which settings keep a downtime, over the trace on standard input",
     );
-    let command = Command::new(alloc, "precopy-view")
-        .about("Shows what precopy tells of a trace, for people and for programs")
-        .version(VERSION)
-        .subcommand_required(true)
-        .subcommand(with_either(alloc, predict)?)?
-        .subcommand(with_chart(alloc, with_starts(alloc, when)?)?)?
-        .subcommand(json(alloc)?)?
-        .subcommand(with_budget(alloc, advise)?)?;
-    with_pictures(alloc, command)
+    let show = command(
+        alloc,
+        "show",
+        "Writes what `precopy report` tells as tables with bars, for a terminal",
+    );
+    let chart = command(
+        alloc,
+        "chart",
+        "Writes what `precopy report` tells as a picture, in SVG",
+    );
+    command(
+        alloc,
+        "precopy-view",
+        "Shows what precopy tells of a trace, for people and for programs",
+    )
+    .version(VERSION)
+    .subcommand_required(true)
+    .subcommand(with_either(alloc, predict)?)?
+    .subcommand(when_command(alloc)?)?
+    .subcommand(json)?
+    .subcommand(with_budget(alloc, advise)?)?
+    .subcommand(with_style(alloc, show)?)?
+    .subcommand(with_either(alloc, chart)?)
 }
 
 /// Returns the error for words that the command line does not have, with its text.
@@ -113,36 +178,45 @@ pub(crate) fn usage(alloc: Global, text: &str) -> ViewWordsError
     }
 }
 
-/// Returns the JSON document of a sweep that its options and cases ask for.
-fn json_sweep_of(alloc: Global, options: &ArgMatches) -> Result<View, WordsError>
-    ensures made { IfOk result (λ view. AsksForView (codes "sweep") (rows_of (found_of options.now)) view None) }
-    ensures refused { IfErr result (λ e. RefusesView (codes "sweep") (rows_of (found_of options.now)) e) }
+/// Returns the cases of a sweep that its options ask for, and how many workers plan them.
+fn sweep_cases(alloc: Global, options: &ArgMatches) -> Result<(Vec<Settings>, usize), WordsError>
+    ensures made { IfOk result (λ both. AsksForCases (rows_of (found_of options.now)) both.0.items both.1) }
+    ensures refused { IfErr result (λ e. RefusesCases (rows_of (found_of options.now)) e) }
 {
     let asked = sweep_options(options);
     let words = options.get_strs("case").unwrap_or(&[]);
     let cases = cases_of(alloc, &asked, words)?;
-    Ok(View::JsonSweep {
-        cases,
-        workers: asked.workers as usize,
-    })
+    Ok((cases, asked.workers as usize))
 }
 
-/// Returns the view of a sweep, which has no units, or why there is none.
-fn unscaled(view: Result<View, WordsError>) -> Result<AskedView, ViewWordsError>
-    ensures made { IfOk result (λ asked. (asked.scale ≡ None) × (view ≡ Ok asked.view)) }
-    ensures refused { IfErr result (λ e. IsErrAnd view (λ w. e ≡ ViewWordsError.Words w)) }
+/// Returns the JSON document of a sweep that its options and cases ask for.
+fn json_sweep_of(alloc: Global, options: &ArgMatches) -> Result<AskedView, ViewWordsError>
+    ensures made { IfOk result (λ asked. AsksForDocument (codes "sweep") (rows_of (found_of options.now)) asked.view
+        asked.scale) }
+    ensures refused { IfErr result (RefusesSweepWords (rows_of (found_of options.now))) }
 {
-    match view {
-        Ok(view) => Ok(AskedView { view, scale: None }),
+    let scale = match scale_said(options) {
+        Ok(scale) => scale,
+        Err(refusal) => return Err(ViewWordsError::Limits(refusal)),
+    };
+    match sweep_cases(alloc, options) {
+        Ok((cases, workers)) => Ok(AskedView {
+            view: View::JsonSweep {
+                cases,
+                workers,
+                scale,
+            },
+            scale,
+        }),
         Err(error) => Err(ViewWordsError::Words(error)),
     }
 }
 
 /// Returns the JSON document of a report that its options ask for.
 fn json_report_of(options: &ArgMatches) -> Result<AskedView, ViewWordsError>
-    ensures made { IfOk result (λ asked. AsksForView (codes "report") (rows_of (found_of options.now)) asked.view
+    ensures made { IfOk result (λ asked. AsksForDocument (codes "report") (rows_of (found_of options.now)) asked.view
         asked.scale) }
-    ensures refused { IfErr result (RefusesAsked (codes "report") (rows_of (found_of options.now))) }
+    ensures refused { IfErr result (RefusesSettings (rows_of (found_of options.now))) }
 {
     match measure_of(options) {
         Ok(measure) => Ok(AskedView {
@@ -156,29 +230,23 @@ fn json_report_of(options: &ArgMatches) -> Result<AskedView, ViewWordsError>
     }
 }
 
-/// Returns the JSON document that the words behind `json` ask for.
-fn json_of(alloc: Global, options: &ArgMatches) -> Result<AskedView, ViewWordsError>
-    ensures { IfOk result (λ asked. IsFairView asked.view) }
+/// Returns the JSON document of starts that their options ask for.
+fn json_when_of(alloc: Global, options: &ArgMatches) -> Result<AskedView, ViewWordsError>
+    ensures made { IfOk result (λ asked. AsksForDocument (codes "when") (rows_of (found_of options.now)) asked.view
+        asked.scale) }
+    ensures refused { IfErr result (RefusesStarts (rows_of (found_of options.now))) }
 {
-    match options.subcommand() {
-        Some(("sweep", options)) => unscaled(json_sweep_of(alloc, options)),
-        Some(("report", options)) => json_report_of(options),
-        Some(("when", options)) => when_of(alloc, options, StartsForm::Json),
-        _ => Err(usage(alloc, NO_COMMAND)),
-    }
+    let asked = starts_of(alloc, options, StartsForm::Json)?;
+    Ok(started(asked))
 }
 
-/// Returns the advice that its options ask for.
-fn advice_of(options: &ArgMatches) -> Result<View, WordsError>
-    ensures made { IfOk result (λ view. AsksForView (codes "advise") (rows_of (found_of options.now)) view None) }
-    ensures refused { IfErr result (λ e. RefusesView (codes "advise") (rows_of (found_of options.now)) e) }
+/// Returns the view of starts.
+fn started(asked: AskedStarts) -> AskedView
+    ensures { (result.view ≡ View.When asked) × (result.scale ≡ Some asked.scale) }
 {
-    match settings_for(options) {
-        Ok(settings) => Ok(View::Advise {
-            budget: budget_of(options),
-            settings,
-        }),
-        Err(error) => Err(WordsError::Refused(WordsRefusal::Settings(error))),
+    AskedView {
+        view: View::When(asked),
+        scale: Some(asked.scale),
     }
 }
 
@@ -186,7 +254,8 @@ fn advice_of(options: &ArgMatches) -> Result<View, WordsError>
 fn show_of(alloc: Global, options: &ArgMatches) -> Result<AskedView, ViewWordsError>
     ensures made { IfOk result (λ asked. AsksForView (codes "show") (rows_of (found_of options.now)) asked.view
         asked.scale) }
-    ensures refused { IfErr result (RefusesAsked (codes "show") (rows_of (found_of options.now))) }
+    ensures refused { IfErr result (λ e. RefusesSettings (rows_of (found_of options.now)) e
+        ⊎ (IsUsage e × IsWidthRefused (rows_of (found_of options.now)))) }
 {
     let measure = match measure_of(options) {
         Ok(measure) => measure,
@@ -209,7 +278,7 @@ fn show_of(alloc: Global, options: &ArgMatches) -> Result<AskedView, ViewWordsEr
 fn chart_of(options: &ArgMatches) -> Result<AskedView, ViewWordsError>
     ensures made { IfOk result (λ asked. AsksForView (codes "chart") (rows_of (found_of options.now)) asked.view
         asked.scale) }
-    ensures refused { IfErr result (RefusesAsked (codes "chart") (rows_of (found_of options.now))) }
+    ensures refused { IfErr result (RefusesSettings (rows_of (found_of options.now))) }
 {
     match measure_of(options) {
         Ok(measure) => Ok(AskedView {
@@ -237,7 +306,8 @@ pub(crate) fn limited(measure: &Measure) -> Option<(Scale, Limits)>
 fn prediction_of(options: &ArgMatches) -> Result<AskedView, ViewWordsError>
     ensures made { IfOk result (λ asked. AsksForView (codes "predict") (rows_of (found_of options.now)) asked.view
         asked.scale) }
-    ensures refused { IfErr result (RefusesAsked (codes "predict") (rows_of (found_of options.now))) }
+    ensures refused { IfErr result (λ e. RefusesSettings (rows_of (found_of options.now)) e
+        ⊎ AreMissing (rows_of (found_of options.now)) e) }
 {
     let measure = match measure_of(options) {
         Ok(measure) => measure,
@@ -256,39 +326,102 @@ fn prediction_of(options: &ArgMatches) -> Result<AskedView, ViewWordsError>
     }
 }
 
-/// Returns the starts that their options ask for, in this form.
-fn when_of(
-    alloc: Global,
-    options: &ArgMatches,
-    form: StartsForm,
-) -> Result<AskedView, ViewWordsError>
+/// Returns the starts that their options ask for, for people.
+fn when_of(alloc: Global, options: &ArgMatches) -> Result<AskedView, ViewWordsError>
     ensures made { IfOk result (λ asked. AsksForView (codes "when") (rows_of (found_of options.now)) asked.view
         asked.scale) }
     ensures refused { IfErr result (RefusesStarts (rows_of (found_of options.now))) }
 {
-    let asked = starts_of(alloc, options, form)?;
-    let scale = asked.scale;
-    Ok(AskedView {
-        view: View::When(asked),
-        scale: Some(scale),
-    })
+    let asked = starts_of(alloc, options, form_of(options))?;
+    Ok(started(asked))
 }
 
-/// Returns the view that the words ask for, the program's name being the first.
-pub fn view_of(alloc: Global, words: &[String]) -> Result<AskedView, ViewWordsError>
-    ensures { IfOk result (λ asked. IsFairView asked.view) }
+/// Returns the view that the command of this name asks for.
+fn command_view(alloc: Global, name: &str, options: &ArgMatches) -> Result<AskedView, ViewWordsError>
+    requires { IsCommand name.now }
+    ensures made { IfOk result (λ asked. AsksForView name.now (rows_of (found_of options.now)) asked.view
+        asked.scale) }
+    ensures refused { IfErr result (RefusesView name.now (rows_of (found_of options.now))) }
+{
+    match name {
+        "predict" => prediction_of(options),
+        "when" => when_of(alloc, options),
+        "advise" => advice_of(options),
+        "show" => show_of(alloc, options),
+        "chart" => chart_of(options),
+        _ => Err(usage(alloc, NO_COMMAND)),
+    }
+}
+
+/// Returns the document that the command of this name below `json` asks for.
+fn command_document(
+    alloc: Global,
+    name: &str,
+    options: &ArgMatches,
+) -> Result<AskedView, ViewWordsError>
+    requires { IsDocument name.now }
+    ensures made { IfOk result (λ asked. AsksForDocument name.now (rows_of (found_of options.now)) asked.view
+        asked.scale) }
+    ensures refused { IfErr result (RefusesDocument name.now (rows_of (found_of options.now))) }
+{
+    match name {
+        "report" => json_report_of(options),
+        "sweep" => json_sweep_of(alloc, options),
+        _ => json_when_of(alloc, options),
+    }
+}
+
+/// Returns the document that the words ask for, `json` being the first.
+fn document_of(alloc: Global, words: &[String]) -> Result<AskedView, ViewWordsError>
+    ensures made { IfOk result (λ asked. Names json_line (map string_bytes words.now)
+        (λ name rows. AsksForDocument name rows asked.view asked.scale)) }
+    ensures failed { IfErr result (λ e. IsOutOfMemory e ⊎ (FailsOn json_line (map string_bytes words.now) e
+        ⊎ Names json_line (map string_bytes words.now) (λ name rows. RefusesDocument name rows e))) }
+{
+    let matches = match json_commands(alloc)?.try_get_matches_from(words) {
+        Ok(matches) => matches,
+        Err(error) => return Err(ViewWordsError::Words(refusal_of(alloc, &error))),
+    };
+    match matches.subcommand() {
+        Some((name, options)) => command_document(alloc, name, options),
+        None => Err(usage(alloc, NO_COMMAND)),
+    }
+}
+
+/// Returns the view that the words ask for, the program's name being the first, if `json` is not the second.
+fn shown_of(alloc: Global, words: &[String]) -> Result<AskedView, ViewWordsError>
+    ensures made { IfOk result (λ asked. Names view_line (map string_bytes words.now)
+        (λ name rows. AsksForView name rows asked.view asked.scale)) }
+    ensures failed { IfErr result (λ e. IsOutOfMemory e ⊎ (FailsOn view_line (map string_bytes words.now) e
+        ⊎ Names view_line (map string_bytes words.now) (λ name rows. RefusesView name rows e))) }
 {
     let matches = match commands(alloc)?.try_get_matches_from(words) {
         Ok(matches) => matches,
         Err(error) => return Err(ViewWordsError::Words(refusal_of(alloc, &error))),
     };
     match matches.subcommand() {
-        Some(("predict", options)) => prediction_of(options),
-        Some(("when", options)) => when_of(alloc, options, form_of(options)),
-        Some(("advise", options)) => unscaled(advice_of(options)),
-        Some(("chart", options)) => chart_of(options),
-        Some(("show", options)) => show_of(alloc, options),
-        Some(("json", options)) => json_of(alloc, options),
-        _ => Err(usage(alloc, NO_COMMAND)),
+        Some((name, options)) => command_view(alloc, name, options),
+        None => Err(usage(alloc, NO_COMMAND)),
+    }
+}
+
+/// Returns the words from `json` on, where that stands behind the program's name.
+fn json_words(words: &[String]) -> Option<&[String]>
+    ensures { option_map (λ below. map string_bytes below.now) result ≡ json_words (map string_bytes words.now) }
+{
+    match words {
+        [_, word, ..] if word.as_str() == "json" => Some(&words[1..]),
+        _ => None,
+    }
+}
+
+/// Returns the view that the words ask for, the program's name being the first.
+pub fn view_of(alloc: Global, words: &[String]) -> Result<AskedView, ViewWordsError>
+    ensures made { IfOk result (λ asked. WordsAsk (map string_bytes words.now) asked) }
+    ensures failed { IfErr result (λ e. WordsFail (map string_bytes words.now) e) }
+{
+    match json_words(words) {
+        Some(below) => document_of(alloc, below),
+        None => shown_of(alloc, words),
     }
 }

@@ -1,6 +1,7 @@
 //! The words of precopy-view's command line: words in, a view or a refusal out.
 #![tactic(auto)]
 
+mod advice;
 mod command;
 mod options;
 mod starts;

@@ -1,21 +1,26 @@
-//! The options of advice and of reports for a terminal, and what they make.
+//! The options of reports for a terminal and of advice in ticks and pages, and what they make.
 
-ghost use Rattle.std.specs.Prelude.{IfErr, IfNone, IfOk, IfSome};
+ghost use Rattle.std.specs.Prelude.{◌++◌, IfErr, IfNone, IfOk, IfSome};
 ghost use Rattle.clap.specs.Words.{found_of, rows_of};
-ghost use Rattle.view_words.specs.Views.{AsksForBudget, AsksForGrid, AsksForStyle, IsGridRefused, IsWidthRefused};
+ghost use Rattle.job_words.specs.Commands.{AddsRules, report_rules};
+ghost use Rattle.view_words.specs.Advice.{AsksForGrid, IsGridRefused};
+ghost use Rattle.view_words.specs.Commands.{budget_rules, style_rules};
+ghost use Rattle.view_words.specs.Styles.{AsksForStyle, IsWidthRefused};
 
 use clap::{ArgMatches, Command};
 use job_words::{flag, given, is_flag, number, said, sweep_options, with_report, with_sweep};
 use rate_limit::{Asked, Settings, SettingsError};
 use report_pictures::Style;
 use std::alloc::{AllocError, Global};
-use trace_views::Budget;
+use unit_words::with_units;
 
 /// Returns the command with the options of advice.
 pub(crate) fn with_budget<'a>(
     alloc: Global,
     command: Command<'a>,
-) -> Result<Command<'a>, AllocError> {
+) -> Result<Command<'a>, AllocError>
+    ensures { IfOk result (λ new. AddsRules command.entry budget_rules new) }
+{
     let command = with_sweep(alloc, command)?;
     let command = command.arg(number(
         alloc,
@@ -25,19 +30,10 @@ pub(crate) fn with_budget<'a>(
     let command = command.arg(number(
         alloc,
         "total",
-        "Most pages sent, over all rounds and after the stop",
+        "Most pages of the trace sent, over all rounds and after the stop",
     ))?;
-    command.arg(number(alloc, "down", "Most downtime, in ticks").required(true))
-}
-
-/// Returns what the options allow a migration to cost.
-pub(crate) fn budget_of(options: &ArgMatches) -> Budget
-    ensures { AsksForBudget (rows_of (found_of options.now)) result }
-{
-    Budget {
-        down: given(options, "down", 0),
-        total: said(options, "total"),
-    }
+    let command = command.arg(number(alloc, "down", "Most downtime, in ticks"))?;
+    with_units(alloc, command)
 }
 
 /// Returns what the options of advice ask for. The least rate is no greater than the greatest.
@@ -72,14 +68,17 @@ const MAX_WIDTH: u64 = 512;
 pub(crate) fn with_style<'a>(
     alloc: Global,
     command: Command<'a>,
-) -> Result<Command<'a>, AllocError> {
+) -> Result<Command<'a>, AllocError>
+    ensures { IfOk result (λ new. AddsRules command.entry style_rules new) }
+{
     let command = with_report(alloc, command)?;
     let command = command.arg(number(
         alloc,
         "width",
         "Most characters of a line, 72 to 512 [default: 80]",
     ))?;
-    command.arg(flag(alloc, "color", "Color the bars"))
+    let command = command.arg(flag(alloc, "color", "Color the bars"))?;
+    with_units(alloc, command)
 }
 
 /// Returns how a report is shown, where its width is in range.

@@ -1,8 +1,10 @@
 //! The options of starts, and what they ask for.
 
-ghost use Rattle.std.specs.Prelude.{◌≡◌, IfErr, IfNone, IfOk, IfSome, Some};
-ghost use Rattle.clap.specs.Words.{found_of, rows_of};
+ghost use Rattle.std.specs.Prelude.{[], ◌∷◌, ◌≡◌, IfErr, IfNone, IfOk, IfSome, Some, codes, false, map};
+ghost use Rattle.clap.specs.Words.{found_of, rows_of, rule_of};
+ghost use Rattle.job_words.specs.Commands.{AddsRules, flag_rule, number_rule};
 ghost use Rattle.unit_words.specs.Measures.{AsksForMeasure};
+ghost use Rattle.view_words.specs.Commands.{from_rule, start_rules};
 ghost use Rattle.view_words.specs.Starts.{AreTicksRefused, AsksForForm, AsksForStarts, AsksForTicks, RefusesStarts};
 
 use crate::command::{ViewWordsError, limited, usage};
@@ -44,7 +46,10 @@ const NUMBERS: [Number<'static>; 7] = [
 ];
 
 /// Returns the option of the first start. It has the place of `--start`.
-fn from<'a>(alloc: Global) -> Arg<'a> {
+fn from<'a>(alloc: Global) -> Arg<'a>
+    ensures rule { rule_of result ≡ from_rule }
+    ensures local { result.global ≡ false }
+{
     Arg::new(alloc, "start")
         .long("from")
         .help("Tick of the first start [default: 0]")
@@ -53,15 +58,30 @@ fn from<'a>(alloc: Global) -> Arg<'a> {
         .value_parser(clap::value_parser!(u64))
 }
 
+/// Returns the command with options that take whole numbers.
+fn with_numbers<'a>(
+    alloc: Global,
+    command: Command<'a>,
+    numbers: &[Number<'a>],
+) -> Result<Command<'a>, AllocError>
+    ensures { IfOk result (λ new. AddsRules command.entry (map (λ n. number_rule n.0.now) numbers.now) new) }
+{
+    let mut command = command;
+    for (name, help) in numbers {
+        command = command.arg(number(alloc, name, help))?;
+    }
+    Ok(command)
+}
+
 /// Returns the command with the options of starts.
 pub(crate) fn with_starts<'a>(
     alloc: Global,
     command: Command<'a>,
-) -> Result<Command<'a>, AllocError> {
-    let mut command = command.arg(from(alloc))?;
-    for (name, help) in &NUMBERS {
-        command = command.arg(number(alloc, name, help))?;
-    }
+) -> Result<Command<'a>, AllocError>
+    ensures { IfOk result (λ new. AddsRules command.entry start_rules new) }
+{
+    let command = command.arg(from(alloc))?;
+    let command = with_numbers(alloc, command, &NUMBERS)?;
     let command = command.arg(flag(
         alloc,
         "skip",
@@ -74,7 +94,9 @@ pub(crate) fn with_starts<'a>(
 pub(crate) fn with_chart<'a>(
     alloc: Global,
     command: Command<'a>,
-) -> Result<Command<'a>, AllocError> {
+) -> Result<Command<'a>, AllocError>
+    ensures { IfOk result (λ new. AddsRules command.entry (flag_rule (codes "chart") ∷ []) new) }
+{
     command.arg(flag(alloc, "chart", "Write a picture, in SVG"))
 }
 

@@ -14,7 +14,7 @@ told-requires c =
     let words : List Text = map string_bytes c.args.words.now in
     let P : App → Type 0 = λ line. HasKind (fault_of line words) c.in-Err.error in
     let is = c.in_ok-commands.ensures in
-    fails_by_kind words c.in-Err.error c.refusal_of.result (subst P is (c.in-Err.ensures.kinds (ap is_simple_and_free is ∙ line_is_free))) c.refusal_of.ensures
+    fails_by_kind precopy_line words c.in-Err.error c.refusal_of.result (subst P is (c.in-Err.ensures.kinds (ap is_simple_and_free is ∙ line_is_free))) c.refusal_of.ensures
 
 pub command_job-requires : goal.command_job-requires
 command_job-requires c =

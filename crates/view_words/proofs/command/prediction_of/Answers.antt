@@ -4,7 +4,6 @@ use Rattle.view_words.proofs.command.prediction_of.Goals as goal
 pub returns-in-None-clause-refused : goal.returns-in-None-clause-refused
 returns-in-None-clause-refused c = inr (
   refl,
-  refl,
   record {
     settings = c.in-Ok.measure.settings;
     scale = c.in-Ok.measure.scale;

@@ -1,0 +1,95 @@
+//! Advice as words: a budget and the settings round it, in either kind of words.
+
+ghost use Rattle.std.specs.Prelude.{◌≡◌, IfErr, IfOk, codes};
+ghost use Rattle.clap.specs.Words.{found_of, rows_of};
+ghost use Rattle.guest_units.specs.Limits.{ticks_for_pages};
+ghost use Rattle.unit_words.specs.Units.{HasNoUnits};
+ghost use Rattle.view_words.specs.Advice.{RefusesAdvice};
+ghost use Rattle.view_words.specs.Views.{AsksForView};
+
+use crate::command::{AskedView, ViewWordsError, limited};
+use crate::options::settings_for;
+use clap::ArgMatches;
+use guest_units::{Limits, Scale};
+use job_words::{WordsError, WordsRefusal, said};
+use trace_views::{Budget, Measured, View};
+use unit_words::{LimitsRefusal, measure_of, says_units};
+
+/// Returns the advice that options in ticks and pages ask for.
+fn advice_in_ticks(options: &ArgMatches) -> Result<AskedView, ViewWordsError>
+    requires { HasNoUnits (rows_of (found_of options.now)) }
+    ensures made { IfOk result (λ asked. AsksForView (codes "advise") (rows_of (found_of options.now)) asked.view
+        asked.scale) }
+    ensures refused { IfErr result (RefusesAdvice (rows_of (found_of options.now))) }
+{
+    let Some(down) = said(options, "down") else {
+        return Err(ViewWordsError::Limits(LimitsRefusal::NoBudget));
+    };
+    let settings = match settings_for(options) {
+        Ok(settings) => settings,
+        Err(error) => {
+            let refusal = WordsRefusal::Settings(error);
+            return Err(ViewWordsError::Words(WordsError::Refused(refusal)));
+        }
+    };
+    Ok(AskedView {
+        view: View::Advise {
+            budget: Budget {
+                down,
+                total: said(options, "total"),
+            },
+            settings,
+            measured: None,
+        },
+        scale: None,
+    })
+}
+
+/// Returns the ticks that the downtime of limits leaves for pages.
+fn ticks_of(scale: &Scale, limits: &Limits) -> u64
+    ensures { result ≡ ticks_for_pages scale.now limits.now }
+{
+    scale.ticks(limits.downtime.saturating_sub(limits.reserve))
+}
+
+/// Returns the advice that options in time and bytes ask for.
+fn advice_in_units(options: &ArgMatches) -> Result<AskedView, ViewWordsError>
+    ensures made { IfOk result (λ asked. AsksForView (codes "advise") (rows_of (found_of options.now)) asked.view
+        asked.scale) }
+    ensures refused { IfErr result (RefusesAdvice (rows_of (found_of options.now))) }
+{
+    if said(options, "down").is_some() {
+        return Err(ViewWordsError::Limits(LimitsRefusal::TwoBudgets));
+    }
+    let measure = match measure_of(options) {
+        Ok(measure) => measure,
+        Err(refusal) => return Err(ViewWordsError::Limits(refusal)),
+    };
+    let Some((scale, limits)) = limited(&measure) else {
+        return Err(ViewWordsError::Limits(LimitsRefusal::Missing));
+    };
+    Ok(AskedView {
+        view: View::Advise {
+            budget: Budget {
+                down: ticks_of(&scale, &limits),
+                total: said(options, "total"),
+            },
+            settings: measure.settings,
+            measured: Some(Measured { scale, limits }),
+        },
+        scale: Some(scale),
+    })
+}
+
+/// Returns the advice that its options ask for.
+pub(crate) fn advice_of(options: &ArgMatches) -> Result<AskedView, ViewWordsError>
+    ensures made { IfOk result (λ asked. AsksForView (codes "advise") (rows_of (found_of options.now)) asked.view
+        asked.scale) }
+    ensures refused { IfErr result (RefusesAdvice (rows_of (found_of options.now))) }
+{
+    if says_units(options) {
+        advice_in_units(options)
+    } else {
+        advice_in_ticks(options)
+    }
+}
