@@ -45,22 +45,22 @@ abbrev pub Failed : List Text → ViewWordsError → Option (List Text) → Type
 Failed words e o = MatchOption o (FailsOn view_line words e ⊎ Names view_line words (λ name rows. RefusesView name rows e))
     (λ below. FailsOn json_line below e ⊎ Names json_line below (λ name rows. RefusesDocument name rows e))
 
-pub asked_below : (words below : List Text) (r : Result AskedView ViewWordsError) → Some below ≡ json_words words → IfOk r (λ asked. Names json_line below (λ name rows. AsksForDocument name rows asked.view asked.scale))
+pub asked_below : (words below : List Text) (r : Result AskedView ViewWordsError) → json_words words ≡ Some below → IfOk r (λ asked. Names json_line below (λ name rows. AsksForDocument name rows asked.view asked.scale))
     → IfOk r (λ asked. WordsAsk words asked)
-asked_below words below (Ok asked) is holds = let P : Option (List Text) → Type 0 = λ o. Asked words asked o in subst P is holds
+asked_below words below (Ok asked) is holds = let P : Option (List Text) → Type 0 = λ o. Asked words asked o in subst P (sym is) holds
 asked_below words below (Err e) is holds = tt
 
-pub failed_below : (words below : List Text) (r : Result AskedView ViewWordsError) → Some below ≡ json_words words → IfErr r (λ e. Fails json_line below RefusesDocument e) → IfErr r (λ e. WordsFail words e)
+pub failed_below : (words below : List Text) (r : Result AskedView ViewWordsError) → json_words words ≡ Some below → IfErr r (λ e. Fails json_line below RefusesDocument e) → IfErr r (λ e. WordsFail words e)
 failed_below words below (Ok asked) is holds = tt
 failed_below words below (Err e) is (inl memory) = inl memory
-failed_below words below (Err e) is (inr cause) = let P : Option (List Text) → Type 0 = λ o. Failed words e o in inr (subst P is cause)
+failed_below words below (Err e) is (inr cause) = let P : Option (List Text) → Type 0 = λ o. Failed words e o in inr (subst P (sym is) cause)
 
-pub asked_above : (words : List Text) (r : Result AskedView ViewWordsError) → None ≡ json_words words → IfOk r (λ asked. Names view_line words (λ name rows. AsksForView name rows asked.view asked.scale))
+pub asked_above : (words : List Text) (r : Result AskedView ViewWordsError) → json_words words ≡ None → IfOk r (λ asked. Names view_line words (λ name rows. AsksForView name rows asked.view asked.scale))
     → IfOk r (λ asked. WordsAsk words asked)
-asked_above words (Ok asked) is holds = let P : Option (List Text) → Type 0 = λ o. Asked words asked o in subst P is holds
+asked_above words (Ok asked) is holds = let P : Option (List Text) → Type 0 = λ o. Asked words asked o in subst P (sym is) holds
 asked_above words (Err e) is holds = tt
 
-pub failed_above : (words : List Text) (r : Result AskedView ViewWordsError) → None ≡ json_words words → IfErr r (λ e. Fails view_line words RefusesView e) → IfErr r (λ e. WordsFail words e)
+pub failed_above : (words : List Text) (r : Result AskedView ViewWordsError) → json_words words ≡ None → IfErr r (λ e. Fails view_line words RefusesView e) → IfErr r (λ e. WordsFail words e)
 failed_above words (Ok asked) is holds = tt
 failed_above words (Err e) is (inl memory) = inl memory
-failed_above words (Err e) is (inr cause) = let P : Option (List Text) → Type 0 = λ o. Failed words e o in inr (subst P is cause)
+failed_above words (Err e) is (inr cause) = let P : Option (List Text) → Type 0 = λ o. Failed words e o in inr (subst P (sym is) cause)

@@ -40,11 +40,11 @@ pub record AsksInTicks (rows : List Row) (budget : Budget) (settings : Migration
 
 -- the options ask for this budget and these settings, in time and bytes
 pub record AsksInUnits (rows : List Row) (budget : Budget) (settings : MigrationSettings) (known : Measured) : Type 0
-    where
-  pub unsaid : Says rows (codes "down") None
-  pub measured : AsksForMeasure rows settings (Some known.scale) (Some known.limits)
-  pub down : budget.down ≡ ticks_for_pages known.scale known.limits
-  pub total : Says rows (codes "total") budget.total
+  where
+    pub unsaid : Says rows (codes "down") None
+    pub measured : AsksForMeasure rows settings (Some known.scale) (Some known.limits)
+    pub down : budget.down ≡ ticks_for_pages known.scale known.limits
+    pub total : Says rows (codes "total") budget.total
 
 -- the options of advice ask for this, in either kind of words, and for this scale where they have units
 abbrev pub AsksForAdvice : List Row → Budget → MigrationSettings → Option Measured → Option TraceScale → Type 0

@@ -1,8 +1,10 @@
 //! Advice as words: a budget and the settings round it, in either kind of words.
 
-ghost use Rattle.std.specs.Prelude.{◌≡◌, IfErr, IfOk, codes};
+ghost use Rattle.std.specs.Prelude.{◌≡◌, IfErr, IfOk, None, Some, codes, false, true};
 ghost use Rattle.clap.specs.Words.{found_of, rows_of};
 ghost use Rattle.guest_units.specs.Limits.{ticks_for_pages};
+ghost use Rattle.job_words.specs.Options.{Says};
+ghost use Rattle.unit_words.specs.Measures.{AsksForMeasure, IsThere};
 ghost use Rattle.unit_words.specs.Units.{HasNoUnits};
 ghost use Rattle.view_words.specs.Advice.{RefusesAdvice};
 ghost use Rattle.view_words.specs.Views.{AsksForView};
@@ -12,6 +14,7 @@ use crate::options::settings_for;
 use clap::ArgMatches;
 use guest_units::{Limits, Scale};
 use job_words::{WordsError, WordsRefusal, said};
+use rate_limit::Settings;
 use trace_views::{Budget, Measured, View};
 use unit_words::{LimitsRefusal, measure_of, says_units};
 
@@ -52,33 +55,55 @@ fn ticks_of(scale: &Scale, limits: &Limits) -> u64
     scale.ticks(limits.downtime.saturating_sub(limits.reserve))
 }
 
+/// Returns whether a downtime in ticks is said.
+fn is_down_said(options: &ArgMatches) -> bool
+    ensures there { result ≡ true → IsThere (rows_of (found_of options.now)) (codes "down") }
+    ensures unsaid { result ≡ false → Says (rows_of (found_of options.now)) (codes "down") None }
+{
+    said(options, "down").is_some()
+}
+
+/// Returns the advice for limits, with these settings.
+fn measured_advice(options: &ArgMatches, settings: &Settings, measured: Measured) -> AskedView
+    requires unsaid { Says (rows_of (found_of options.now)) (codes "down") None }
+    requires measured { AsksForMeasure (rows_of (found_of options.now)) settings.now (Some measured.scale)
+        (Some measured.limits) }
+    ensures { AsksForView (codes "advise") (rows_of (found_of options.now)) result.view result.scale }
+{
+    AskedView {
+        view: View::Advise {
+            budget: Budget {
+                down: ticks_of(&measured.scale, &measured.limits),
+                total: said(options, "total"),
+            },
+            settings: *settings,
+            measured: Some(measured),
+        },
+        scale: Some(measured.scale),
+    }
+}
+
 /// Returns the advice that options in time and bytes ask for.
 fn advice_in_units(options: &ArgMatches) -> Result<AskedView, ViewWordsError>
     ensures made { IfOk result (λ asked. AsksForView (codes "advise") (rows_of (found_of options.now)) asked.view
         asked.scale) }
     ensures refused { IfErr result (RefusesAdvice (rows_of (found_of options.now))) }
 {
-    if said(options, "down").is_some() {
+    if is_down_said(options) {
         return Err(ViewWordsError::Limits(LimitsRefusal::TwoBudgets));
     }
     let measure = match measure_of(options) {
         Ok(measure) => measure,
         Err(refusal) => return Err(ViewWordsError::Limits(refusal)),
     };
-    let Some((scale, limits)) = limited(&measure) else {
-        return Err(ViewWordsError::Limits(LimitsRefusal::Missing));
-    };
-    Ok(AskedView {
-        view: View::Advise {
-            budget: Budget {
-                down: ticks_of(&scale, &limits),
-                total: said(options, "total"),
-            },
-            settings: measure.settings,
-            measured: Some(Measured { scale, limits }),
-        },
-        scale: Some(scale),
-    })
+    match limited(&measure) {
+        Some((scale, limits)) => Ok(measured_advice(
+            options,
+            &measure.settings,
+            Measured { scale, limits },
+        )),
+        None => Err(ViewWordsError::Limits(LimitsRefusal::Missing)),
+    }
 }
 
 /// Returns the advice that its options ask for.

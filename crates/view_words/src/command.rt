@@ -1,10 +1,10 @@
 //! The command line: words in, a view or a refusal out.
 
-ghost use Rattle.std.specs.Prelude.{◌≡◌, ◌⊎◌, ◌++◌, ◌∷◌, [], IfErr, IfNone, IfOk, IfSome, MatchOption, None, Some};
-ghost use Rattle.std.specs.Prelude.{codes, map, option_map, string_bytes, true};
+ghost use Rattle.std.specs.Prelude.{◌≡◌, ◌⊎◌, ◌++◌, ◌∷◌, [], IfErr, IfNone, IfOk, IfSome, IsErrAnd, MatchOption, None, Ok, Some};
+ghost use Rattle.std.specs.Prelude.{codes, map, string_bytes, true};
 ghost use Rattle.clap.specs.Words.{app_of, found_of, rows_of};
 ghost use Rattle.job_words.specs.Commands.{AddsRules, IsLeaf, case_rule, flag_rule, report_rules, sweep_rules};
-ghost use Rattle.job_words.specs.Jobs.{AsksForCases};
+ghost use Rattle.unit_words.specs.Measures.{AsksForScale};
 ghost use Rattle.unit_words.specs.Units.{scale_rules, unit_rules};
 ghost use Rattle.view_words.specs.Styles.{IsWidthRefused};
 ghost use Rattle.view_words.specs.Views.{IsOutOfMemory};
@@ -22,7 +22,6 @@ use crate::starts::{form_of, starts_of, with_chart, with_starts};
 use clap::{ArgMatches, Command};
 use guest_units::{Limits, Scale};
 use job_words::{WordsError, cases_of, refusal_of, sweep_options, with_cases, with_report};
-use rate_limit::Settings;
 use std::alloc::{AllocError, Global};
 use trace_views::{AskedStarts, StartsForm, View};
 use unit_words::{LimitsRefusal, Measure, measure_of, scale_said, with_scale, with_units};
@@ -178,15 +177,42 @@ pub(crate) fn usage(alloc: Global, text: &str) -> ViewWordsError
     }
 }
 
-/// Returns the cases of a sweep that its options ask for, and how many workers plan them.
-fn sweep_cases(alloc: Global, options: &ArgMatches) -> Result<(Vec<Settings>, usize), WordsError>
-    ensures made { IfOk result (λ both. AsksForCases (rows_of (found_of options.now)) both.0.items both.1) }
+/// Returns the sweep that its options and cases ask for, as a document with this scale.
+fn sweep_view(
+    alloc: Global,
+    options: &ArgMatches,
+    scale: &Option<Scale>,
+) -> Result<View, WordsError>
+    requires { AsksForScale (rows_of (found_of options.now)) scale.now }
+    ensures made { IfOk result (λ view. AsksForDocument (codes "sweep") (rows_of (found_of options.now)) view
+        scale.now) }
     ensures refused { IfErr result (λ e. RefusesCases (rows_of (found_of options.now)) e) }
 {
     let asked = sweep_options(options);
     let words = options.get_strs("case").unwrap_or(&[]);
     let cases = cases_of(alloc, &asked, words)?;
-    Ok((cases, asked.workers as usize))
+    Ok(View::JsonSweep {
+        cases,
+        workers: asked.workers as usize,
+        scale: *scale,
+    })
+}
+
+/// Returns a view with its scale, or why there is none.
+fn scaled(
+    view: Result<View, WordsError>,
+    scale: &Option<Scale>,
+) -> Result<AskedView, ViewWordsError>
+    ensures made { IfOk result (λ asked. (asked.scale ≡ scale.now) × (view ≡ Ok asked.view)) }
+    ensures refused { IfErr result (λ e. IsErrAnd view (λ w. e ≡ ViewWordsError.Words w)) }
+{
+    match view {
+        Ok(view) => Ok(AskedView {
+            view,
+            scale: *scale,
+        }),
+        Err(error) => Err(ViewWordsError::Words(error)),
+    }
 }
 
 /// Returns the JSON document of a sweep that its options and cases ask for.
@@ -195,20 +221,9 @@ fn json_sweep_of(alloc: Global, options: &ArgMatches) -> Result<AskedView, ViewW
         asked.scale) }
     ensures refused { IfErr result (RefusesSweepWords (rows_of (found_of options.now))) }
 {
-    let scale = match scale_said(options) {
-        Ok(scale) => scale,
-        Err(refusal) => return Err(ViewWordsError::Limits(refusal)),
-    };
-    match sweep_cases(alloc, options) {
-        Ok((cases, workers)) => Ok(AskedView {
-            view: View::JsonSweep {
-                cases,
-                workers,
-                scale,
-            },
-            scale,
-        }),
-        Err(error) => Err(ViewWordsError::Words(error)),
+    match scale_said(options) {
+        Ok(scale) => scaled(sweep_view(alloc, options, &scale), &scale),
+        Err(refusal) => Err(ViewWordsError::Limits(refusal)),
     }
 }
 
@@ -244,9 +259,10 @@ fn json_when_of(alloc: Global, options: &ArgMatches) -> Result<AskedView, ViewWo
 fn started(asked: AskedStarts) -> AskedView
     ensures { (result.view ≡ View.When asked) × (result.scale ≡ Some asked.scale) }
 {
+    let scale = Some(asked.scale);
     AskedView {
         view: View::When(asked),
-        scale: Some(asked.scale),
+        scale,
     }
 }
 
@@ -337,7 +353,11 @@ fn when_of(alloc: Global, options: &ArgMatches) -> Result<AskedView, ViewWordsEr
 }
 
 /// Returns the view that the command of this name asks for.
-fn command_view(alloc: Global, name: &str, options: &ArgMatches) -> Result<AskedView, ViewWordsError>
+fn command_view(
+    alloc: Global,
+    name: &str,
+    options: &ArgMatches,
+) -> Result<AskedView, ViewWordsError>
     requires { IsCommand name.now }
     ensures made { IfOk result (λ asked. AsksForView name.now (rows_of (found_of options.now)) asked.view
         asked.scale) }
@@ -407,7 +427,9 @@ fn shown_of(alloc: Global, words: &[String]) -> Result<AskedView, ViewWordsError
 
 /// Returns the words from `json` on, where that stands behind the program's name.
 fn json_words(words: &[String]) -> Option<&[String]>
-    ensures { option_map (λ below. map string_bytes below.now) result ≡ json_words (map string_bytes words.now) }
+    ensures some { IfSome result (λ below. json_words (map string_bytes words.now)
+        ≡ Some (map string_bytes below.now)) }
+    ensures none { IfNone result (json_words (map string_bytes words.now) ≡ None) }
 {
     match words {
         [_, word, ..] if word.as_str() == "json" => Some(&words[1..]),

@@ -65,10 +65,7 @@ const MIN_WIDTH: u64 = 72;
 const MAX_WIDTH: u64 = 512;
 
 /// Returns the command with the options of a report for a terminal.
-pub(crate) fn with_style<'a>(
-    alloc: Global,
-    command: Command<'a>,
-) -> Result<Command<'a>, AllocError>
+pub(crate) fn with_style<'a>(alloc: Global, command: Command<'a>) -> Result<Command<'a>, AllocError>
     ensures { IfOk result (λ new. AddsRules command.entry style_rules new) }
 {
     let command = with_report(alloc, command)?;

@@ -91,10 +91,7 @@ pub(crate) fn with_starts<'a>(
 }
 
 /// Returns the command with the flag for a picture.
-pub(crate) fn with_chart<'a>(
-    alloc: Global,
-    command: Command<'a>,
-) -> Result<Command<'a>, AllocError>
+pub(crate) fn with_chart<'a>(alloc: Global, command: Command<'a>) -> Result<Command<'a>, AllocError>
     ensures { IfOk result (λ new. AddsRules command.entry (flag_rule (codes "chart") ∷ []) new) }
 {
     command.arg(flag(alloc, "chart", "Write a picture, in SVG"))

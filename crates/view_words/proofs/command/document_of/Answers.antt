@@ -43,8 +43,8 @@ returns-in-Some-clause-failed c =
     let command = command_met_on json_line json_is_simple _ words c.in-Ok.matches c.in-Some.name.now (rows_of (found_of c.in-Some.options.now)) is c.in-Ok.ensures.matches c.in-Some.ensures.name c.in-Some.ensures.rows in
     refused_by json_line words c.in-Some.name.now _ taken command RefusesDocument c.command_document.result c.command_document.ensures.refused
 
-pub returns-in-None-clause-failed : goal.returns-in-None-clause-failed
-returns-in-None-clause-failed c =
+pub returns-clause-failed : goal.returns-clause-failed
+returns-clause-failed c =
     let words : List Text = map string_bytes c.args.words.now in
     let is = c.in_ok-json_commands.ensures in
     let taken : fault_of json_line words ≡ [] = ap (λ (line : App). fault_of line words) (sym is) ∙ c.in-Ok.ensures.kinds (ap is_simple_and_free is ∙ json_is_free) in

@@ -6,19 +6,23 @@ use Rattle.job_words.proofs.OptionLemmas.{case_words_from_found, on_error}
 use Rattle.migration_model.specs.Rates.{MigrationSettings}
 use Rattle.view_words.specs.Views.{RefusesCases}
 use Rattle.view_words.proofs.ViewLemmas.{refuses_cases}
-use Rattle.view_words.proofs.command.sweep_cases.Goals as goal
+use Rattle.view_words.proofs.command.sweep_view.Goals as goal
 
 pub returns-clause-made : goal.returns-clause-made
 returns-clause-made c =
     let words = case_words_from_found (found_of c.args.options.now) c.get_strs.result _ c.unwrap_or-words.result c.unwrap_or-words.ensures refl c.get_strs.ensures in
-    let P : List (List ℕ) → Type 0 = λ l. AreCases c.sweep_options-asked.result l c.in_ok-cases.cases.items in
-    record {
-      options = c.sweep_options-asked.result;
-      asked = c.sweep_options-asked.ensures;
-      are_cases = subst P words c.in_ok-cases.ensures.each;
-      few = c.in_ok-cases.ensures.few;
-      workers_are = ap (λ (s : MigrationSettings). s.workers) c.asked.view_is;
-    }
+    let P : List (List ℕ) → Type 0 = λ l. AreCases c.sweep_options-asked.result l c.in_ok-cases.cases.items in (
+      refl,
+      record {
+        options = c.sweep_options-asked.result;
+        asked = c.sweep_options-asked.ensures;
+        are_cases = subst P words c.in_ok-cases.ensures.each;
+        few = c.in_ok-cases.ensures.few;
+        workers_are = ap (λ (s : MigrationSettings). s.workers) c.asked.view_is;
+      },
+      c.requires,
+      refl,
+    )
 
 pub returns-in_err-cases-clause-refused : goal.returns-in_err-cases-clause-refused
 returns-in_err-cases-clause-refused c =
