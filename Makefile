@@ -5,7 +5,7 @@
 #     make install PREFIX=/usr        installs below PREFIX: programs, tools, manuals, completions, documents, examples,
 #                                     the library with its header, and precopy.pc for pkg-config
 #     make uninstall PREFIX=/usr      removes the same files
-#     make deb                        makes a package for Debian in out/
+#     make deb                        makes packages for Debian in out/: the programs, the library, its header
 #     make dist                       makes a tarball for other systems in out/, and its checksum
 #
 # DESTDIR stands in front of each path of an installation. BINDIR, LIBDIR, MANDIR, DOCDIR, BASHDIR, ZSHDIR, LIBRARYDIR
@@ -30,7 +30,7 @@ install: all lib
 uninstall:
 	$(PACK) uninstall $(WHERE)
 
-deb dist: all
+deb dist: all lib
 	$(PACK) $@ $(if $(MAINTAINER),--maintainer "$(MAINTAINER)")
 
 .PHONY: all lib install uninstall deb dist

@@ -1,6 +1,7 @@
 """Trials of the packages: two builds are equal, lintian finds nothing, and they work in a fresh Debian tree."""
 
 import contextlib
+import glob
 import os
 import shlex
 import shutil
@@ -109,14 +110,41 @@ def in_tree(tree, line):
     return run("chroot", tree, "sh", "-c", line, env=environment)
 
 
-def try_fresh_tree(tally, tree, package):
-    shutil.copy(package, f"{tree}/tmp/precopy.deb")
+def try_library(tally, folder, files):
+    """Links the example in C with the library as it is unpacked, and runs it."""
+    tree = os.path.join(folder, "library")
+    for package in files:
+        run("dpkg-deb", "-x", package, tree)
+    (where,) = glob.glob(f"{tree}/usr/lib/*/libprecopy.a")
+    lib, plan = os.path.dirname(where), os.path.join(folder, "plan")
+    source = os.path.join(TOP, "examples", "c", "plan.c")
+    ran = run("cc", "-I", f"{tree}/usr/include", source, "-L", lib, "-lprecopy", "-o", plan)
+    if tally.add(ran.returncode == 0, f"linking with the packed library: {ran.stdout}"):
+        words = ("report", "--min", "500", "--max", "4000", "--threshold", "10")
+        with open(os.path.join(TOP, "examples", "gzip.pcwt"), "rb") as trace:
+            report = run(contents.program_file("precopy"), *words, stdin=trace).stdout.splitlines()
+            trace.seek(0)
+            ran = run(plan, "500", "4000", "10", stdin=trace, env={"LD_LIBRARY_PATH": lib})
+        wanted = [line for line in report if line.startswith(("round ", "stop "))]
+        tally.add(wanted and ran.stdout.splitlines() == wanted, f"the example over the packed library: {ran.stdout}")
+
+
+def try_loaded(tally, tree):
+    line = "import ctypes; it = ctypes.CDLL('libprecopy.so.1').precopy_version; it.restype = ctypes.c_char_p"
+    ran = in_tree(tree, f'python3 -c "{line}; print(it().decode())"')
+    tally.add(ran.stdout == f"{contents.version.VERSION}\n", f"in a fresh tree: the library loaded: {ran.stdout}")
+
+
+def try_fresh_tree(tally, tree, files):
+    for package in files:
+        shutil.copy(package, f"{tree}/tmp")
+    names = [os.path.basename(package).partition("_")[0] for package in files]
     ran = in_tree(tree, "apt-get update 2>&1")
     if ran.returncode:
         left_out("the package in a fresh Debian tree", f"apt-get update fails there: {ran.stdout[-200:]}")
         return
     before = files_of(tree)
-    ran = in_tree(tree, "apt-get install -y --no-install-recommends /tmp/precopy.deb 2>&1")
+    ran = in_tree(tree, "apt-get install -y --no-install-recommends /tmp/*.deb 2>&1")
     if not tally.add(ran.returncode == 0, f"apt-get install of the package in a fresh tree: {ran.stdout[-600:]}"):
         return
     go_there = "mkdir -p /tmp/here && cd /tmp/here && ln -sfn /usr/share/doc/precopy/examples ."
@@ -132,7 +160,9 @@ def try_fresh_tree(tally, tree, package):
     tally.add(ran.stdout == "equal\n", f"in a fresh tree: precopy-export and precopy-import: {ran.stdout}")
     ran = in_tree(tree, "dpkg --verify precopy && dpkg -L precopy | grep -c /man1/")
     tally.add(ran.stdout == f"{2 + len(contents.TOOLS)}\n", f"in a fresh tree: the manuals: {ran.stdout}")
-    ran = in_tree(tree, "apt-get purge -y precopy 2>&1 && apt-get autoremove --purge -y 2>&1")
+    try_loaded(tally, tree)
+    purge = f"apt-get purge -y {' '.join(names)} 2>&1 && apt-get autoremove --purge -y 2>&1"
+    ran = in_tree(tree, purge)
     left = files_of(tree) - before
     tally.add(ran.returncode == 0 and not left, f"removing the package leaves {sorted(left)[:5]}: {ran.stdout[-300:]}")
 
@@ -163,7 +193,9 @@ def check(tally, folder):
     for package in files:
         print(f"  {os.path.basename(package)}: {os.path.getsize(package):,} bytes", flush=True)
         try_lintian(tally, package)
+    if has("cc", "gcc", "the packed library, linked"):
+        try_library(tally, folder, files)
     if files and has("debootstrap", "debootstrap", "the package in a fresh Debian tree"):
         with fresh_debian(folder) as tree:
             if tree:
-                try_fresh_tree(tally, tree, files[0])
+                try_fresh_tree(tally, tree, files)

@@ -9,6 +9,7 @@ import tarfile
 
 import contents
 import debian
+import library
 
 INSTALL = """\
 precopy {version}, for Linux on {machine} with the C library glibc {libc} or later.
@@ -16,7 +17,7 @@ The tools need Python {python} or later.
 
 It runs in place: bin/precopy, bin/precopy-view and bin/precopy-record, .. To install it for all users:
 
-    cp -R bin lib share /usr/local/
+    cp -R bin include lib share /usr/local/
 
 share/doc/precopy/README.md says what it does.
 """
@@ -35,7 +36,8 @@ def add(tar, name, entry, moment):
 def build(folder):
     """Writes the tarball and its checksum into a folder, and returns their paths."""
     version, machine = contents.version.VERSION, platform.machine()
-    entries = list(contents.contents(contents.places_below("")))
+    told = library.config("${pcfiledir}/../..", "${prefix}/lib", "${prefix}/include")
+    entries = [*contents.contents(contents.places_below("")), *library.entries("lib", "include", told)]
     libc = debian.needed_by_programs(entries).partition("(>= ")[2].partition(")")[0]
     text = INSTALL.format(version=version, machine=machine, libc=libc, python=debian.LEAST_PYTHON)
     entries.append(contents.Entry("INSTALL", text.encode()))

@@ -10,10 +10,11 @@ import shutil
 import subprocess
 import tempfile
 import textwrap
-from dataclasses import dataclass
-from typing import Callable, List
+from dataclasses import dataclass, field
+from typing import Callable, Dict, List
 
 import contents
+import library
 
 PLACES = contents.places_below("usr")._replace(zsh="usr/share/zsh/vendor-completions")
 PYTHON = "/usr/bin/python3"
@@ -30,14 +31,34 @@ class Package:
     suggests: str
     summary: str
     text: str
+    # Further files for dpkg itself, by their names.
+    parts: Dict[str, str] = field(default_factory=dict)
 
 
-def needed_by_programs(entries):
-    """What the programs and tools need: the C library of the symbols that the programs name, and Python."""
+def needed_by_code(entries):
+    """What machine code needs: the C library of the symbols that it names."""
     programs = [entry.data for entry in entries if entry.data.startswith(b"\x7fELF")]
     versions = [version for data in programs for version in re.findall(rb"\0GLIBC_(\d+)\.(\d+)", data)]
     major, minor = max((int(major), int(minor)) for major, minor in versions)
-    return f"libc6 (>= {major}.{minor}), python3 (>= {LEAST_PYTHON})"
+    return f"libc6 (>= {major}.{minor})"
+
+
+def needed_by_programs(entries):
+    """What the programs and tools need: the C library, and Python."""
+    return f"{needed_by_code(entries)}, python3 (>= {LEAST_PYTHON})"
+
+
+def needed_by_builders(_):
+    """What those need who link programs with the library: the same version of it."""
+    return f"{library.RUNTIME} (= {contents.version.VERSION})"
+
+
+OF_THE_LIBRARY = """\
+ The library plans pre-copy live migrations, and tells the memory of
+ recorded guests and the frames of a migration, for code in C, Rust and
+ Python. Its functions are written in Rattle, and proved.
+ .
+"""
 
 
 PACKAGES = [
@@ -59,6 +80,24 @@ PACKAGES = [
  The programs are written in Rattle, and what they write is proved to be
  what one plain definition says.
 """,
+    ),
+    Package(
+        name=library.RUNTIME,
+        section="libs",
+        depends=needed_by_code,
+        suggests="precopy",
+        summary="plans and memory of recorded guests, as a library",
+        text=f"{OF_THE_LIBRARY} This package has what a program needs that is linked with it.\n",
+        parts={"shlibs": f"libprecopy 1 {library.RUNTIME}\n", "triggers": "activate-noawait ldconfig\n"},
+    ),
+    Package(
+        name=library.DEVELOPMENT,
+        section="libdevel",
+        depends=needed_by_builders,
+        suggests="pkg-config, precopy",
+        summary="plans and memory of recorded guests, for building",
+        text=f"{OF_THE_LIBRARY} This package has the header, the archive, and the file for pkg-config.\n"
+        " The documents are in the package precopy.\n",
     ),
 ]
 
@@ -116,18 +155,27 @@ def of_debian(entries, package, maintainer):
         yield contents.Entry(f"usr/share/lintian/overrides/{package.name}", contents.read(overrides))
 
 
+def architecture():
+    return subprocess.run(["dpkg", "--print-architecture"], capture_output=True, text=True, check=True).stdout.strip()
+
+
+def multiarch():
+    """The name of the folder for libraries of this architecture."""
+    return {"amd64": "x86_64-linux-gnu"}[architecture()]
+
+
 def control(package, entries, maintainer):
     size = sum(-(-len(entry.data) // 1024) for entry in entries) + len({os.path.dirname(it.place) for it in entries})
-    architecture = subprocess.run(["dpkg", "--print-architecture"], capture_output=True, text=True, check=True).stdout
     return f"""\
 Package: {package.name}
 Version: {contents.version.VERSION}
-Architecture: {architecture.strip()}
+Architecture: {architecture()}
 Maintainer: {maintainer}
 Installed-Size: {size}
 Depends: {package.depends(entries)}
 Suggests: {package.suggests}
 Section: {package.section}
+Multi-Arch: {"same" if package.section.startswith("lib") else "foreign"}
 Priority: optional
 Description: {package.summary}
 {package.text}"""
@@ -156,6 +204,7 @@ def build(package, entries, maintainer, folder):
         put(tree, entries)
         put(f"{tree}/DEBIAN", [contents.Entry("control", control(package, entries, maintainer).encode())])
         put(f"{tree}/DEBIAN", [contents.Entry("md5sums", sums.encode())])
+        put(f"{tree}/DEBIAN", [contents.Entry(name, text.encode()) for name, text in package.parts.items()])
         os.umask(old)
         command = ["dpkg-deb", "--root-owner-group", "-Zgzip", "-z9", "--build", tree, folder]
         environment = {**os.environ, "SOURCE_DATE_EPOCH": str(moment(contents.version.DATE))}
@@ -168,6 +217,8 @@ def build(package, entries, maintainer, folder):
 def build_all(folder, maintainer):
     if not shutil.which("dpkg-deb"):
         raise OSError(0, "it is not on the path, and makes the package", "dpkg-deb")
-    all_of_it = list(contents.contents(PLACES, PYTHON))
+    folders = f"usr/lib/{multiarch()}", "usr/include"
+    told = library.config("/usr", *(f"/{place}" for place in folders))
+    all_of_it = [*contents.contents(PLACES, PYTHON), *library.entries(*folders, told)]
     for package in PACKAGES:
         yield build(package, [entry for entry in all_of_it if entry.package == package.name], maintainer, folder)

@@ -13,6 +13,8 @@ import contents
 ARCHIVE = os.path.join(contents.TOP, "crates", "precopy_c", "out", "libprecopy_c.a")
 FOLDER = os.path.join(contents.TOP, "out", "library")
 NAME = "libprecopy.so.1"
+# The packages that it goes into: for programs that are linked with it, and for those who link them.
+RUNTIME, DEVELOPMENT = "libprecopy1", "libprecopy-dev"
 # What it is made of beside the archive.
 PARTS = ("include/precopy.h", "packaging/messages.c", "packaging/library.map", "tools/version.py")
 CONFIG = """\
@@ -106,14 +108,20 @@ def pack(room, whole, versions):
     return made
 
 
-def entries(prefix, lib, include):
-    """Yields what an installation has of the library, of which `make lib` made both forms."""
-    for name, mode in (("libprecopy.a", 0o644), (NAME, 0o644)):
+def config(prefix, lib, include):
+    """The text for pkg-config, with folders as a compiler is told them."""
+    return CONFIG.format(prefix=prefix, lib=lib, include=include, version=contents.version.VERSION)
+
+
+def entries(lib, include, told):
+    """Yields what an installation has of the library, of which `make lib` made both forms, with this text for
+    pkg-config."""
+    for name, package in (("libprecopy.a", DEVELOPMENT), (NAME, RUNTIME)):
         path = os.path.join(FOLDER, name)
         if not os.path.isfile(path):
             raise contents.NotBuilt("the library is not built: make lib builds it")
-        yield contents.Entry(os.path.join(lib, name), contents.read(path), mode)
-    yield contents.Entry(os.path.join(lib, "libprecopy.so"), link=NAME)
-    yield contents.Entry(os.path.join(include, "precopy.h"), contents.read("include/precopy.h"))
-    config = CONFIG.format(prefix=prefix, lib=lib, include=include, version=contents.version.VERSION)
-    yield contents.Entry(os.path.join(lib, "pkgconfig", "precopy.pc"), config.encode())
+        yield contents.Entry(os.path.join(lib, name), contents.read(path), package=package)
+    header = contents.read("include/precopy.h")
+    yield contents.Entry(os.path.join(lib, "libprecopy.so"), link=NAME, package=DEVELOPMENT)
+    yield contents.Entry(os.path.join(include, "precopy.h"), header, package=DEVELOPMENT)
+    yield contents.Entry(os.path.join(lib, "pkgconfig", "precopy.pc"), told.encode(), package=DEVELOPMENT)
