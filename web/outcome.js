@@ -71,7 +71,8 @@ export function roundsTable({ plan }) {
   const rows = plan.rounds.map((round, place) => html("tr", {}, html("th", { scope: "row" }, String(place)),
     ...ROUND_COLUMNS.slice(1).map((name) => html("td", {}, counted(round[name])))));
   const caption = html("caption", { class: "hidden" }, "Rounds; rates in pages per 1,000 ticks");
-  return html("table", { class: "numbers" }, caption, html("thead", {}, html("tr", {}, ...head)), html("tbody", {}, ...rows));
+  return html("table", { class: "numbers" }, caption,
+    html("thead", {}, html("tr", {}, ...head)), html("tbody", {}, ...rows));
 }
 
 const WINDOW_COLUMNS = ["window", "writes", "pages", "again", "fresh"];

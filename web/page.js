@@ -65,7 +65,13 @@ class Page {
     byId("exchange").addEventListener("click", () => this.exchange());
     this.listenToDrops();
     addEventListener("hashchange", () => this.follow());
-    new ResizeObserver(this.drawSoon).observe(byId("results"));
+    let width = 0;
+    new ResizeObserver(([{ contentRect }]) => {
+      if (contentRect.width !== width) {
+        width = contentRect.width;
+        this.drawSoon();
+      }
+    }).observe(byId("results"));
   }
 
   listenToDrops() {
@@ -87,6 +93,8 @@ class Page {
     const example = this.state.example ?? (this.isGiven ? null : FIRST_EXAMPLE);
     if (example) {
       await this.takeExample(example, this.isGiven);
+    } else {
+      byId("trace-state").textContent = "This address has settings. Choose the trace that they are for, or an example.";
     }
   }
 
@@ -184,6 +192,7 @@ class Page {
     }
     this.controls.show(this.state.settings);
     this.drawSoon();
+    this.settle();
   }
 
   /** The kept plan over this trace. */
@@ -223,8 +232,11 @@ class Page {
     const tick = amountOf(settings.tick, TIME_UNITS);
     const size = bytesOf({ page: BigInt(pageBytes), oneIn: BigInt(Math.max(1, settings.oneIn)) }, pages);
     const ofGuest = settings.oneIn > 1 ? `, one in ${counted(settings.oneIn)} of the guest's: ` : ": ";
-    byId("trace-state").textContent = `${this.source.name}: ${countOf(pages, "page")} of ${counted(pageBytes)} bytes`
+    const words = `${this.source.name}: ${countOf(pages, "page")} of ${counted(pageBytes)} bytes`
       + `${ofGuest}${bytesText(size)}; ${countOf(writes, "write")} in ${secondsText(microsOf({ tick }, last))}`;
+    if (byId("trace-state").textContent !== words) {
+      byId("trace-state").textContent = words;
+    }
   }
 
   drawCommands(prediction) {

@@ -85,8 +85,8 @@ export function pictureOf(width, height, parts) {
 
 /**
  * Lets the user look at the items of a picture, one at a time. `look` has `count` items, `find`s an item by its place
- * in pixels, has `words` of an item and its `span` in pixels, and may have `choose`, which Enter and a click call; a click
- * gives its place too.
+ * in pixels, has `words` of an item and its `span` in pixels, and may have `choose`, which Enter and a click call; a
+ * click gives its place too.
  */
 export class Inspector {
   constructor(plot, readout, name) {
