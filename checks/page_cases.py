@@ -187,8 +187,8 @@ def comparison(asked, report):
     time = (stop["at"] - asked.start) * asked.tick + down
     kept = "kept" if down <= limit else "not kept"
     return {
-        "downtime": [spaced(seconds(down)), f"{kept}; pages: {plural(stop['down'], 'tick')}"],
-        "time": [spaced(seconds(time)), f"pre-copy: {plural(stop['at'] - asked.start, 'tick')}"],
+        "downtime": [spaced(seconds(down)), f"{kept}; {plural(stop['down'], 'tick')} for pages"],
+        "time": [spaced(seconds(time)), f"{plural(stop['at'] - asked.start, 'tick')} of pre-copy"],
         "sent": [spaced(size_text(asked.bytes(stop["total"]))), plural(stop["total"], "page")],
         "rounds": [f"{len(report['rounds']):,}", f"ends with \u201c{stop['why']}\u201d"],
         "left": [plural(stop["pages"], "page"), f"threshold {asked.settings()[3]:,}"],

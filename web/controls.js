@@ -11,16 +11,16 @@ const GROUPS = [
   {
     title: "Link",
     controls: [
-      { name: "link", isDerived: true, label: "Share of the link", ...RATE },
-      { name: "first", isDerived: true, label: "First round", unit: "% of the link", low: 1, high: 100 },
-      { name: "increase", isDerived: true, label: "Increment", unit: "% of the rest", low: 0, high: 100 },
+      { name: "link", isDerived: true, label: "Link for the migration", ...RATE },
+      { name: "first", isDerived: true, label: "First round", unit: "% of the link", low: 1, high: 100, most: 100 },
+      { name: "increase", isDerived: true, label: "Increment", unit: "% of the rest", low: 0, high: 100, most: 100 },
     ],
   },
   {
     title: "Stop of the guest",
     controls: [
       { name: "downtime", isDerived: true, label: "Downtime limit", units: TIME_UNITS, low: 1_000, high: 10_000_000 },
-      { name: "reserve", isDerived: true, label: "Of it for devices and the switch", units: TIME_UNITS, low: 1_000,
+      { name: "reserve", isDerived: true, label: "Reserve for devices and switching", units: TIME_UNITS, low: 1_000,
         high: 1_000_000, hasZero: true },
     ],
   },
@@ -38,7 +38,7 @@ const GROUPS = [
     title: "Trace",
     controls: [
       { name: "tick", label: "Length of a tick", units: TIME_UNITS, low: 1, high: 1_000_000 },
-      { name: "oneIn", label: "Pages of the guest in the trace: one in", unit: "pages", low: 1, high: 4096,
+      { name: "oneIn", label: "Sampled: one page in", unit: "pages", low: 1, high: 4096,
         isLog: true },
       { name: "window", isDerived: true, label: "Window", unit: "ticks", low: 1, high: 1000, isLog: true },
     ],
@@ -47,9 +47,9 @@ const GROUPS = [
 
 const UNIT_NAMES = { us: "\u00b5s" };
 
-/** A whole number that a field says, or null. */
-function wholeNumber(field) {
-  return /^\d{1,15}$/.test(field.value) ? Number(field.value) : null;
+/** A whole number that a field says, no greater than `most`, or null. */
+function wholeNumber(field, most = Infinity) {
+  return /^\d{1,15}$/.test(field.value) && Number(field.value) <= most ? Number(field.value) : null;
 }
 
 /** The controls of the page. `change` is called with the settings after each change. */
@@ -97,7 +97,7 @@ export class Controls {
   }
 
   typed(part) {
-    const count = wholeNumber(part.field);
+    const count = wholeNumber(part.field, part.control.most);
     part.field.setAttribute("aria-invalid", String(count === null));
     if (count !== null) {
       const { name, units } = part.control;

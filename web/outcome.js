@@ -9,9 +9,9 @@ import { refusalWords } from "./refusals.js";
 /** The rows of the comparison: of a prediction, a number, its text, and more words. */
 const ROWS = [
   { name: "downtime", title: "Downtime", number: ({ cost }) => cost.downtime, text: secondsText,
-    more: ({ cost, plan }) => `${cost.isKept ? "kept" : "not kept"}; pages: ${countOf(plan.down, "tick")}` },
-  { name: "time", title: "Time of all", number: ({ cost }) => cost.time, text: secondsText,
-    more: ({ plan, settings }) => `pre-copy: ${countOf(plan.stop - settings.start, "tick")}` },
+    more: ({ cost, plan }) => `${cost.isKept ? "kept" : "not kept"}; ${countOf(plan.down, "tick")} for pages` },
+  { name: "time", title: "Total time", number: ({ cost }) => cost.time, text: secondsText,
+    more: ({ plan, settings }) => `${countOf(plan.stop - settings.start, "tick")} of pre-copy` },
   { name: "sent", title: "Sent", number: ({ cost }) => cost.bytes, text: bytesText,
     more: ({ plan }) => countOf(plan.total, "page") },
   { name: "rounds", title: "Rounds", number: ({ plan }) => plan.rounds.length, text: counted,

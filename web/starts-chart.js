@@ -12,7 +12,7 @@ const CURVE_STEP = 126;
 /** The curves: what each shows of a start, as a number. */
 const CURVES = [
   { title: "Downtime by start, in ms", number: ({ cost }) => Number(cost.downtime) / 1e3 },
-  { title: "Time of all by start, in ms", number: ({ cost }) => Number(cost.time) / 1e3 },
+  { title: "Total time by start, in ms", number: ({ cost }) => Number(cost.time) / 1e3 },
   { title: "Sent by start, in MiB", number: ({ cost }) => Number(cost.bytes) / 2 ** 20 },
 ];
 

@@ -44,7 +44,7 @@ export class WindowsView {
   /** Draws the windows, and on them a prediction if there is one. Windows out of range are refused by the plan too. */
   draw(planner, settings, prediction) {
     const width = this.plot.clientWidth;
-    const tick = Number(amountOf(settings.tick, TIME_UNITS));
+    const tick = Number(amountOf(settings.tick, TIME_UNITS)) || 1;
     try {
       const { axis, panel, drawn, parts, windows } = this.partsOf(planner, settings, width, tick);
       const marks = prediction ? planMarks(axis, panel, prediction.settings, prediction.plan) : [];
