@@ -47,6 +47,18 @@ function alignedUp(address) {
   return Math.ceil(address / 8) * 8;
 }
 
+/** Makes a memory longer by so many of its pages. Node 20 takes a number where others take a BigInt. */
+function grow(memory, pages) {
+  try {
+    memory.grow(BigInt(pages));
+  } catch (error) {
+    if (!(error instanceof TypeError)) {
+      throw error;
+    }
+    memory.grow(pages);
+  }
+}
+
 /** Where each buffer lies that does not depend on the trace. */
 function placesFrom(base) {
   const lengths = {
@@ -94,9 +106,9 @@ export class Planner {
       return;
     }
     try {
-      this.calls.memory.grow(BigInt(Math.ceil(missing / MEMORY_PAGE)));
-    } catch {
-      throw new Refusal(NO_MEMORY);
+      grow(this.calls.memory, Math.ceil(missing / MEMORY_PAGE));
+    } catch (error) {
+      throw error instanceof RangeError ? new Refusal(NO_MEMORY) : error;
     }
   }
 
