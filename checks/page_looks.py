@@ -1,7 +1,8 @@
 """What checks/page tests of the page besides its numbers: looks, the keyboard, the address, and that it is silent."""
 
-import json
+import http.server
 import os
+import threading
 
 from page_cases import example
 from view_texts import Failure
@@ -190,21 +191,58 @@ def check_looks(tally, page, tried, folder):
         tried(tally, words, check, page)
 
 
+# ---- Silence.
+
+
+class Listener(http.server.BaseHTTPRequestHandler):
+    """Answers whatever is asked, and keeps it."""
+
+    heard = []
+
+    def do_GET(self):
+        Listener.heard.append(self.path)
+        self.send_response(204)
+        self.end_headers()
+
+    do_POST = do_GET
+
+    def log_message(self, *_):
+        pass
+
+
+# Ways to send something, each as an expression that ends when it was tried.
+ATTEMPTS = {
+    "fetch": "fetch('URL', { mode: 'no-cors' })",
+    "beacon": "Promise.resolve(navigator.sendBeacon('URL', 'trace'))",
+    "socket": "new Promise((end) => { new WebSocket('URL'.replace('http', 'ws')).onerror = end; })",
+    "image": """new Promise((end) => {
+        const image = new Image(); image.onerror = end; image.onload = end; image.src = 'URL'; })""",
+    "frame": """new Promise((end) => {
+        const frame = document.createElement('iframe'); frame.onload = end; frame.src = 'URL';
+        document.body.append(frame); setTimeout(end, 300); })""",
+    "form": """new Promise((end) => {
+        const form = document.createElement('form'); form.action = 'URL'; form.target = 'other';
+        document.body.append(form); form.submit(); setTimeout(end, 300); })""",
+    "worker": """new Promise((end) => {
+        const code = new Blob([`fetch('URL', { mode: 'no-cors' }).then(() => postMessage(1), () => postMessage(0))`]);
+        const worker = new Worker(URL.createObjectURL(code)); worker.onmessage = end; worker.onerror = end; })""",
+}
+
+
+def heard_of(page, url):
+    """Tries all ways to send something, and returns those that came through."""
+    Listener.heard.clear()
+    for name, code in ATTEMPTS.items():
+        act = code.replace("'URL", f"'{url}/{name}")
+        page.browser.value(f"Promise.race([(async () => {act})().catch(() => 0),"
+                           " new Promise((end) => setTimeout(end, 1000))]).then(() => 0, () => 0)")
+    return sorted({path.strip("/") for path in Listener.heard})
+
+
 def check_silence(tally, page):
-    """No request has left the page, none can, and nothing was thrown."""
+    """No request has left the page and none can; and nothing was thrown."""
     browser = page.browser
     page.open()
-    attempts = {
-        "fetch": "fetch('http://127.0.0.1:9/').then(() => 'sent', () => 'refused')",
-        "socket": "new Promise((end) => { try { new WebSocket('ws://127.0.0.1:9/').onerror = () => end('refused'); }"
-                  " catch { end('refused'); } })",
-        "image": "new Promise((end) => { const image = new Image(); image.onerror = () => end('refused');"
-                 " image.onload = () => end('sent'); image.src = 'http://127.0.0.1:9/x.png'; })",
-        "script": "new Promise((end) => { const script = document.createElement('script'); script.textContent ="
-                  " 'window.ran = 1'; document.body.append(script); end(window.ran ? 'sent' : 'refused'); })",
-    }
-    browser.value("window.refused = []; addEventListener('securitypolicyviolation',"
-                  " (event) => refused.push(event.effectiveDirective)); 0")
     thrown = [event["params"]["exceptionDetails"].get("exception", {}).get("description", "?")
               for event in browser.events if event["method"] == "Runtime.exceptionThrown"]
     tally.add(not thrown, f"thrown: {thrown[:3]}")
@@ -212,8 +250,12 @@ def check_silence(tally, page):
              if event["method"] == "Network.requestWillBeSent"]
     loud = [url for url in asked if not url.startswith(("file:", "blob:", "data:", "about:"))]
     tally.add(asked and not loud, f"requests: {loud}")
-    for name, code in attempts.items():
-        tally.add(browser.value(code) == "refused", f"{name} was not refused")
-    browser.value("new Promise((resume) => setTimeout(resume, 100))")
-    directives = json.dumps(browser.value("refused"))
-    tally.add(all(name in directives for name in ("connect-src", "img-src", "script-src")), f"refused by {directives}")
+    with http.server.ThreadingHTTPServer(("127.0.0.1", 0), Listener) as server:
+        threading.Thread(target=server.serve_forever, daemon=True).start()
+        url = f"http://127.0.0.1:{server.server_address[1]}"
+        heard = heard_of(page, url)
+        tally.add(not heard, f"sent from the page: {heard}")
+        browser.call("Page.navigate", url="about:blank")
+        heard = heard_of(page, url)
+        tally.add(len(heard) >= 5, f"without the page's policy only {heard} were sent, so the trial says little")
+        server.shutdown()
