@@ -88,7 +88,7 @@ class Page {
   }
 
   async open() {
-    this.module = await WebAssembly.compile(await embeddedBytes("planner-module"));
+    this.module = embeddedBytes("planner-module").then((bytes) => WebAssembly.compile(bytes));
     this.listen();
     const example = this.state.example ?? (this.isGiven ? null : FIRST_EXAMPLE);
     if (example) {
@@ -120,7 +120,7 @@ class Page {
     const { loading } = this;
     this.forget(`Reading ${source.name} \u2026`);
     try {
-      const planner = await Planner.open(this.module, source.blob.size, piecesOf(source.blob));
+      const planner = await Planner.open(await this.module, source.blob.size, piecesOf(source.blob));
       if (loading !== this.loading) {
         return;
       }
