@@ -121,6 +121,14 @@ def check_keyboard(page):
         browser.press("ArrowRight", 39)
         browser.wait(f"Number(document.querySelector('{selector}').value) === {before + 1}", 5)
         require(browser.value(f"location.hash.includes('{name}=')"), f"{name} is not in the address")
+    for selector in ("#control-link", "#control-downtime", "#control-tick"):
+        browser.value(f"document.querySelector('{selector}').closest('.control').querySelector('[type=range]').focus()")
+        before = browser.value("Number(document.activeElement.value)")
+        for _ in range(10):
+            browser.press("ArrowRight", 39)
+        after = browser.value("Number(document.activeElement.value)")
+        require(after == before + 10, f"ten steps of {selector} lead from {before} to {after}")
+    open_example(page)
     browser.value("document.getElementById('windows-plot').focus()")
     browser.press("End", 35)
     words = browser.value("textOf('windows-readout')")

@@ -111,19 +111,19 @@ export class Controls {
     if (units) {
       const isZero = hasZero && place === 0;
       const { unit } = this.settings[name];
-      this.set(name, isZero ? { count: 0, unit } : quantityNear(amountAt(place, low, high), unit, units));
+      this.set(name, isZero ? { count: 0, unit } : quantityNear(amountAt(place, low, high), unit, units), part.slider);
     } else {
-      this.set(name, isLog ? countAt(place, low, high) : place);
+      this.set(name, isLog ? countAt(place, low, high) : place, part.slider);
     }
   }
 
   /** Changes a setting; the copy of a warm start is never from after the start. */
-  set(name, value, field = null) {
+  set(name, value, source = null) {
     const settings = { ...this.settings, [name]: value };
     if (settings.base !== null && settings.base > settings.start && name === "start") {
       settings.base = settings.start;
     }
-    this.show(settings, field);
+    this.show(settings, source);
     this.change(settings);
   }
 
@@ -142,8 +142,11 @@ export class Controls {
     this.show(this.settings);
   }
 
-  /** Shows settings. The field in which the user types stays as it is. */
-  show(settings, typedIn = null) {
+  /**
+   * Shows settings. The field or slider that the user changes stays as it is: one step of a slider may come to the same
+   * round number, and has to lead on.
+   */
+  show(settings, source = null) {
     this.settings = settings;
     this.parts.base.control.high = Math.max(1, settings.start);
     this.parts.skip.field.checked = settings.skip;
@@ -151,14 +154,14 @@ export class Controls {
     this.parts.base.whole.hidden = settings.base === null;
     for (const part of Object.values(this.parts)) {
       if (part.slider) {
-        this.showPart(part, settings[part.control.name] ?? 0, typedIn);
+        this.showPart(part, settings[part.control.name] ?? 0, source);
       }
     }
   }
 
-  showPart(part, value, typedIn) {
+  showPart(part, value, source) {
     const { units, low, high, isLog } = part.control;
-    if (part.field !== typedIn) {
+    if (part.field !== source) {
       part.field.value = units ? value.count : value;
       part.field.setAttribute("aria-invalid", "false");
     }
@@ -168,7 +171,9 @@ export class Controls {
     const amount = units ? Number(amountOf(value, units)) : value;
     part.slider.max = units || isLog ? PLACES : high;
     part.slider.min = units || isLog ? 0 : low;
-    part.slider.value = units || isLog ? placeOf(amount, low, high) : amount;
+    if (part.slider !== source) {
+      part.slider.value = units || isLog ? placeOf(amount, low, high) : amount;
+    }
     part.slider.setAttribute("aria-valuetext", units ? quantityWords(value, units)
       : `${value} ${part.control.unit}`);
   }
