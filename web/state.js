@@ -46,7 +46,7 @@ function readPercent(word) {
   return count <= 100 ? count : undefined;
 }
 
-/** How each part of the state is read from a word. What cannot be read keeps its default. */
+/** How each part of the state is read from a word. What cannot be read is passed over. */
 const READERS = {
   link: (word) => readQuantity(word, RATE_UNITS),
   first: readPercent,
@@ -78,10 +78,10 @@ function queryOf(settings) {
   return words.toString();
 }
 
-/** The settings that the words of a query say. */
-function settingsIn(query) {
+/** The settings that the words of a query say; what they do not say is as in others. */
+function settingsIn(query, others) {
   const words = new URLSearchParams(query);
-  const settings = structuredClone(DEFAULTS);
+  const settings = structuredClone(others);
   for (const [name, read] of Object.entries(READERS)) {
     const value = words.has(name) ? read(words.get(name)) : undefined;
     if (value !== undefined) {
@@ -103,14 +103,15 @@ export function fragmentOf({ settings, kept, example }) {
   return words.toString();
 }
 
-/** What a fragment says. */
+/** What a fragment says. An example has settings of its own, but for those that the fragment says. */
 export function stateIn(fragment) {
-  const words = new URLSearchParams(fragment.replace(/^#/, ""));
-  const example = words.get("trace");
+  const query = fragment.replace(/^#/, "");
+  const words = new URLSearchParams(query);
+  const example = Object.hasOwn(PRESETS, words.get("trace") ?? "") ? words.get("trace") : null;
   return {
-    settings: settingsIn(fragment.replace(/^#/, "")),
-    kept: words.has("kept") ? settingsIn(words.get("kept")) : null,
-    example: Object.hasOwn(PRESETS, example ?? "") ? example : null,
+    settings: settingsIn(query, example ? presetOf(example) : DEFAULTS),
+    kept: words.has("kept") ? settingsIn(words.get("kept"), DEFAULTS) : null,
+    example,
   };
 }
 
