@@ -1,0 +1,127 @@
+"""Drives a headless Chromium by the DevTools protocol, over a pipe."""
+
+import base64
+import json
+import os
+import select
+import shutil
+import subprocess
+import tempfile
+import time
+
+SECONDS = 60
+WORDS = ["--headless=new", "--remote-debugging-pipe", "--no-first-run", "--no-default-browser-check", "--disable-gpu",
+         "--disable-background-networking", "--disable-component-update", "--disable-sync", "--hide-scrollbars",
+         "--force-color-profile=srgb", "about:blank"]
+
+
+class BrowserError(Exception):
+    """The browser did not do what it was asked."""
+
+
+class Browser:
+    """A browser of its own profile, with one tab. Its low priority leaves processors to others."""
+
+    def __init__(self, command):
+        self.profile = tempfile.mkdtemp()
+        (their_in, self.to), (self.back, their_out) = os.pipe(), os.pipe()
+        words = ["nice", "-n", "19", "sh", "-c", f'exec "$@" 3<&{their_in} 4>&{their_out}', "sh", command]
+        words += [f"--user-data-dir={self.profile}", *(["--no-sandbox"] if os.geteuid() == 0 else []), *WORDS]
+        quiet = {"stdin": subprocess.DEVNULL, "stdout": subprocess.DEVNULL, "stderr": subprocess.DEVNULL}
+        self.process = subprocess.Popen(words, pass_fds=(their_in, their_out), **quiet)
+        os.close(their_in)
+        os.close(their_out)
+        self.count, self.rest, self.events = 0, b"", []
+        self.session = None
+        target = self.call("Target.getTargets")["targetInfos"][0]["targetId"]
+        self.session = self.call("Target.attachToTarget", targetId=target, flatten=True)["sessionId"]
+        for name in ("Page", "Runtime", "Network", "Log", "DOM"):
+            self.call(f"{name}.enable")
+
+    def close(self):
+        os.close(self.to)
+        try:
+            self.process.wait(10)
+        except subprocess.TimeoutExpired:
+            self.process.kill()
+            self.process.wait()
+        os.close(self.back)
+        shutil.rmtree(self.profile, ignore_errors=True)
+
+    def __enter__(self):
+        return self
+
+    def __exit__(self, *_):
+        self.close()
+
+    def _next(self, until):
+        """The next message of the browser."""
+        while b"\0" not in self.rest:
+            ready, _, _ = select.select([self.back], [], [], max(0, until - time.monotonic()))
+            piece = os.read(self.back, 1 << 20) if ready else b""
+            if not piece:
+                raise BrowserError("the browser ended" if ready else "the browser does not answer")
+            self.rest += piece
+        message, _, self.rest = self.rest.partition(b"\0")
+        return json.loads(message)
+
+    def call(self, method, seconds=SECONDS, **parameters):
+        """Calls a method of the protocol. Events that come meanwhile are kept."""
+        self.count += 1
+        message = {"id": self.count, "method": method, "params": parameters}
+        if self.session:
+            message["sessionId"] = self.session
+        os.write(self.to, json.dumps(message).encode() + b"\0")
+        until = time.monotonic() + seconds
+        while True:
+            found = self._next(until)
+            if found.get("id") == self.count:
+                if "error" in found:
+                    raise BrowserError(f"{method}: {found['error']['message']}")
+                return found["result"]
+            if "method" in found:
+                self.events.append(found)
+
+    def value(self, expression, seconds=SECONDS):
+        """The value of an expression of JavaScript, waited for if it is a promise."""
+        found = self.call("Runtime.evaluate", seconds, expression=expression, returnByValue=True, awaitPromise=True)
+        if "exceptionDetails" in found:
+            details = found["exceptionDetails"]
+            raise BrowserError(details.get("exception", {}).get("description", details["text"]))
+        return found["result"].get("value")
+
+    def wait(self, expression, seconds=SECONDS):
+        """Waits until an expression is true, and returns its value."""
+        until = time.monotonic() + seconds
+        while time.monotonic() < until:
+            if found := self.value(expression, seconds):
+                return found
+            time.sleep(0.02)
+        raise BrowserError(f"after {seconds} s there is no {expression}")
+
+    def open(self, path):
+        self.call("Page.navigate", url=f"file://{path}")
+
+    def choose(self, selector, path):
+        """Chooses a file as a user does."""
+        root = self.call("DOM.getDocument")["root"]["nodeId"]
+        node = self.call("DOM.querySelector", nodeId=root, selector=selector)["nodeId"]
+        self.call("DOM.setFileInputFiles", nodeId=node, files=[path])
+
+    def press(self, key, code):
+        for kind in ("rawKeyDown", "keyUp"):
+            self.call("Input.dispatchKeyEvent", type=kind, key=key, code=key, windowsVirtualKeyCode=code)
+
+    def dress(self, width, height, is_dark=False, is_still=False):
+        """Sets the size of the page, and what the user prefers."""
+        sizes = {"width": width, "height": height, "deviceScaleFactor": 1, "mobile": False}
+        self.call("Emulation.setDeviceMetricsOverride", **sizes)
+        features = [{"name": "prefers-color-scheme", "value": "dark" if is_dark else "light"},
+                    {"name": "prefers-reduced-motion", "value": "reduce" if is_still else "no-preference"}]
+        self.call("Emulation.setEmulatedMedia", features=features)
+
+    def picture(self, path, is_whole=True):
+        """Writes a picture of the page."""
+        found = self.call("Page.captureScreenshot", format="png", captureBeyondViewport=is_whole)
+        with open(path, "wb") as file:
+            file.write(base64.b64decode(found["data"]))

@@ -1,0 +1,160 @@
+// What pictures share: panels with their frame, an axis of ticks with times as labels, and looking at a part of a
+// picture by pointer or by keyboard.
+
+import { area, label, svg } from "./elements.js";
+import { counted } from "./numbers.js";
+
+/** Room for numbers at the left of a plot, and at its right, in pixels. */
+const LEFT = 64;
+const RIGHT = 12;
+
+/** The least pixels between two labels of an axis. */
+const LABEL_ROOM = 84;
+
+/** An axis of ticks over a picture of some width: it has the ticks [first, last). */
+export function axisOf(width, first, last) {
+  const span = Math.max(1, last - first);
+  const room = Math.max(1, width - LEFT - RIGHT);
+  return {
+    first, last: first + span, width, room,
+    place: (tick) => LEFT + ((Math.min(Math.max(tick, first), first + span) - first) / span) * room,
+    tickAt: (x) => Math.round(first + (Math.min(Math.max(x - LEFT, 0), room) / room) * span),
+  };
+}
+
+/** The least step of 1, 2 or 5 times a power of ten that parts a span into no more than so many. */
+function stepFor(span, most) {
+  const least = Math.max(span / Math.max(1, most), 1e-9);
+  const power = 10 ** Math.floor(Math.log10(least));
+  return [1, 2, 5, 10].map((factor) => factor * power).find((step) => step >= least * 0.999);
+}
+
+/** A time in microseconds as a label, if labels are `step` microseconds apart. */
+function timeLabel(micros, step) {
+  const [unit, name] = step >= 1e5 ? [1e6, "s"] : step >= 100 ? [1e3, "ms"] : [1, "\u00b5s"];
+  const digits = Math.max(0, Math.ceil(-Math.log10(step / unit) - 1e-9));
+  return `${counted((micros / unit).toFixed(Math.min(digits, 6)))} ${name}`;
+}
+
+/** The marks and labels below a plot that ends at `bottom`. A tick has `tick` microseconds. */
+export function axisLabels(axis, tick, bottom) {
+  const step = stepFor((axis.last - axis.first) * tick, Math.max(1, axis.room / LABEL_ROOM));
+  const marks = [];
+  for (let at = Math.ceil((axis.first * tick) / step) * step; at <= axis.last * tick; at += step) {
+    const x = axis.place(at / tick);
+    const anchor = x > axis.width - RIGHT - 20 ? "end" : "middle";
+    marks.push(area("line", x, bottom + 1, 1, 5), label(anchor, anchor === "end" ? x + RIGHT - 2 : x, bottom + 19,
+      timeLabel(at, step)));
+  }
+  return marks;
+}
+
+/** A panel from `top` down with numbers from 0 to `most`. */
+export function panelOf(top, height, most) {
+  const greatest = Math.max(most, 1e-9);
+  const bottom = top + height;
+  const rise = (number) => (Math.min(number, greatest) / greatest) * height;
+  return { top, height, bottom, most: greatest, rise, level: (number) => bottom - rise(number) };
+}
+
+/** The title of a panel, its lines at the top, in the middle and at the bottom, and their numbers. */
+export function frameOf(axis, panel, title, text = counted) {
+  const parts = [label("title", LEFT, panel.top - 9, title)];
+  for (const [className, number] of [["grid", panel.most], ["grid", panel.most / 2], ["line", 0]]) {
+    const y = panel.level(number);
+    parts.push(area(className, LEFT, y, axis.room, 1));
+    if (number !== panel.most / 2) {
+      parts.push(label("end", LEFT - 8, y + 4.5, text(number)));
+    }
+  }
+  return parts;
+}
+
+/** A bar of at least one pixel, as left and right, with a gap after it if there is room for one. */
+export function barOf(axis, from, to) {
+  const left = axis.place(from);
+  const right = Math.max(axis.place(to), left + 1);
+  return [left, right - left > 3 ? right - 1 : right];
+}
+
+/** A picture of this size in which `parts` are drawn. */
+export function pictureOf(width, height, parts) {
+  const attributes = { width, height, viewBox: `0 0 ${width} ${height}`, "aria-hidden": "true" };
+  return svg("svg", attributes, ...parts);
+}
+
+/**
+ * Lets the user look at the items of a picture, one at a time. `look` has `count` items, `find`s an item by its place
+ * in pixels, has `words` of an item and its `span` in pixels, and may have `choose`, which Enter and a click call; a
+ * click gives its place too.
+ */
+export class Inspector {
+  constructor(plot, readout, name) {
+    this.plot = plot;
+    this.readout = readout;
+    this.at = null;
+    this.look = null;
+    const values = { "aria-valuemin": "0", "aria-valuenow": "0", "aria-valuetext": "none" };
+    const attributes = { tabindex: "0", role: "slider", "aria-label": name, ...values };
+    Object.entries(attributes).forEach(([key, value]) => plot.setAttribute(key, value));
+    plot.addEventListener("pointermove", (event) => this.point(event));
+    plot.addEventListener("pointerleave", () => this.show(null));
+    plot.addEventListener("click", (event) => this.choose(event));
+    plot.addEventListener("keydown", (event) => this.press(event));
+  }
+
+  /** Takes the items of a picture that has just been drawn. */
+  take(look) {
+    this.look = look;
+    this.plot.setAttribute("aria-valuemax", String(Math.max(0, look.count - 1)));
+    this.show(this.at !== null && this.at < look.count ? this.at : null);
+  }
+
+  placeOf(event) {
+    return event.clientX - this.plot.getBoundingClientRect().left;
+  }
+
+  point(event) {
+    if (this.look && this.look.count > 0) {
+      this.show(this.look.find(this.placeOf(event)));
+    }
+  }
+
+  choose(event) {
+    if (this.look?.choose && this.look.count > 0) {
+      const place = this.placeOf(event);
+      this.look.choose(this.look.find(place), place);
+    }
+  }
+
+  press(event) {
+    const last = (this.look?.count ?? 0) - 1;
+    const at = this.at ?? -1;
+    const big = Math.max(1, Math.round(last / 10));
+    const steps = {
+      ArrowRight: at + 1, ArrowUp: at + 1, ArrowLeft: at - 1, ArrowDown: at - 1, PageUp: at + big, PageDown: at - big,
+      Home: 0, End: last,
+    };
+    if (last >= 0 && event.key in steps) {
+      event.preventDefault();
+      this.show(Math.min(Math.max(steps[event.key], 0), last));
+    } else if (event.key === "Enter" && this.at !== null && this.look.choose) {
+      this.look.choose(this.at);
+    }
+  }
+
+  /** Marks an item, and tells it. */
+  show(at) {
+    this.at = at;
+    this.plot.querySelector(".looked")?.remove();
+    const words = at === null ? "" : this.look.words(at);
+    this.readout.textContent = words || this.readout.dataset.hint;
+    if (at !== null) {
+      const [left, right] = this.look.span(at);
+      const picture = this.plot.querySelector("svg");
+      picture.prepend(area("looked", left, 0, Math.max(2, right - left), Number(picture.getAttribute("height"))));
+      this.plot.setAttribute("aria-valuenow", String(at));
+      this.plot.setAttribute("aria-valuetext", words);
+    }
+  }
+}

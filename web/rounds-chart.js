@@ -1,0 +1,88 @@
+// The picture of a plan: the pages of each round and its rate, the stop and the downtime, by the time since the start.
+
+import { area, label } from "./elements.js";
+import { counted, countOf, secondsText } from "./numbers.js";
+import { axisOf, axisLabels, barOf, frameOf, panelOf, pictureOf } from "./plot.js";
+import { microsOf } from "./units.js";
+
+const PAGES_TOP = 26;
+const PAGES_HEIGHT = 130;
+const RATES_TOP = 196;
+const RATES_HEIGHT = 64;
+
+/** What a picture of plans has to reach: their ticks, pages and rates. Two plans side by side share one. */
+export function reachOf(predictions) {
+  const reach = { ticks: 1, pages: 1, rate: 1 };
+  for (const { plan, settings } of predictions) {
+    reach.ticks = Math.max(reach.ticks, plan.stop + plan.down - settings.start);
+    reach.pages = Math.max(reach.pages, ...plan.rounds.map((round) => Math.max(round.pages, round.dirtied)));
+    reach.rate = Math.max(reach.rate, settings.max);
+  }
+  return reach;
+}
+
+function roundParts(axis, pages, rates, round, start) {
+  const [left, right] = barOf(axis, round.from - start, round.to - start);
+  const width = right - left;
+  const skipped = round.pages - round.sent;
+  return [
+    area("sent", left, pages.level(round.sent), width, pages.rise(round.sent)),
+    area("skipped", left, pages.level(round.pages), width, pages.rise(skipped)),
+    area("dirtied", left, pages.level(round.dirtied) - 1, Math.max(2, width), 2),
+    area("rate", left, rates.level(round.rate), width, rates.rise(round.rate)),
+  ];
+}
+
+function stopParts(axis, panel, stop, down) {
+  const at = axis.place(stop);
+  return [
+    area("down", at, panel.top, axis.place(stop + down) - at, panel.height),
+    area("stop", at - 1, panel.top, 2, panel.height),
+  ];
+}
+
+/** The picture of a plan within a reach. */
+export function roundsPicture(width, { plan, settings, scale }, reach) {
+  const axis = axisOf(width, 0, reach.ticks);
+  const pages = panelOf(PAGES_TOP, PAGES_HEIGHT, reach.pages);
+  const rates = panelOf(RATES_TOP, RATES_HEIGHT, reach.rate);
+  const stop = plan.stop - settings.start;
+  const parts = [
+    ...frameOf(axis, pages, "Pages of a round"),
+    ...frameOf(axis, rates, "Rate, in pages per 1,000 ticks"),
+    ...plan.rounds.flatMap((round) => roundParts(axis, pages, rates, round, settings.start)),
+    area("link", axis.place(0), rates.level(settings.max) - 0.5, axis.room, 1),
+    ...stopParts(axis, pages, stop, plan.down), ...stopParts(axis, rates, stop, plan.down),
+    ...axisLabels(axis, Number(scale.tick), rates.bottom),
+    label("middle title", axis.place(0) + axis.room / 2, rates.bottom + 40, "time since the start"),
+  ];
+  return { axis, picture: pictureOf(width, RATES_TOP + RATES_HEIGHT + 50, parts) };
+}
+
+/** What a round has, in words; the item after the last round is the stop. */
+function wordsOf({ plan, settings, scale }, at) {
+  const since = (tick) => secondsText(microsOf(scale, tick - settings.start));
+  if (at === plan.rounds.length) {
+    return `Stop (${plan.reason}) at ${since(plan.stop)}: ${countOf(plan.left, "page")} left, `
+      + `sent in ${secondsText(microsOf(scale, plan.down))}`;
+  }
+  const round = plan.rounds[at];
+  return `Round ${at}, ${since(round.from)} to ${since(round.to)}, at ${counted(round.rate)} pages per 1,000 ticks: `
+    + `${countOf(round.pages, "page")}, ${counted(round.sent)} sent, ${counted(round.dirtied)} dirtied meanwhile`;
+}
+
+/** How the rounds of a picture are looked at. */
+export function roundsLook(axis, prediction) {
+  const { plan, settings } = prediction;
+  const ends = [...plan.rounds.map((round) => round.to - settings.start), plan.stop + plan.down - settings.start];
+  const begins = [...plan.rounds.map((round) => round.from - settings.start), plan.stop - settings.start];
+  return {
+    count: ends.length,
+    find: (place) => {
+      const found = ends.findIndex((end) => place <= axis.place(end));
+      return found === -1 ? ends.length - 1 : found;
+    },
+    words: (at) => wordsOf(prediction, at),
+    span: (at) => [axis.place(begins[at]), axis.place(ends[at])],
+  };
+}
