@@ -42,6 +42,83 @@ fn shows_times_and_bytes(rt: HostRuntime) -> Result<(), Fail> {
     Ok(())
 }
 
+/// Advice for a downtime of 200 ticks: the rate is 16 pages in 1,000 ticks, at which 3 pages take less than that. Case 7
+/// sends 4 pages until tick 250, then 2 until tick 375, while none is dirtied.
+static ADVICE: &str = "budget down 200
+grid start 0
+grid max 16
+grid min 16 8 4 2
+grid inc 0 3
+grid threshold 4 2 1 1 1
+grid limit 2 8 30
+grid skip 0 1
+cases 241 fits 7
+time 0.375 s, sent 0.00 MiB, downtime 0.000 s
+case 7 min 16 max 16 inc 0 threshold 2 limit 2 skip 0 rounds 2 stop few at 375 down 0 total 6
+precopy live --min 16 --max 16 --inc 0 --threshold 2 --rounds 2 --start 0
+";
+
+#[test]
+fn advises_for_a_downtime_in_time(rt: HostRuntime) -> Result<(), Fail> {
+    let words = [
+        "advise",
+        "--link=1KiB",
+        "--downtime=200ms",
+        "--page=16",
+        "--sampled=4/16",
+    ];
+    let (status, output, _) = told(&rt, rt.alloc(), 102, &words)?;
+    assert!(rt; status == 0 && output.bytes() == ADVICE.as_bytes());
+    Ok(())
+}
+
+/// The worked sweep of one case as a document: a page of the trace stands for 64 bytes of the guest.
+static SWEEP: &str = "{\"units\":{\"tick_seconds\":0.001000,\"page_bytes\":16,\"sampled_pages\":4,\
+\"guest_pages\":16},\"cases\":[{\"case\":0,\"min\":2,\"max\":4,\"inc\":1,\"threshold\":1,\"limit\":8,\
+\"skip\":false,\"rounds\":3,\"stop\":\"few\",\"at\":3667,\"down\":0,\"total\":8,\"at_seconds\":3.667000,\
+\"down_seconds\":0.000000,\"total_bytes\":512}],\"best\":0}\n";
+
+#[test]
+fn writes_a_sweep_in_times_and_bytes(rt: HostRuntime) -> Result<(), Fail> {
+    let words = [
+        "json",
+        "sweep",
+        "--page=16",
+        "--sampled=4/16",
+        "2,4,1,1,8,0",
+    ];
+    let (status, output, _) = told(&rt, rt.alloc(), 102, &words)?;
+    assert!(rt; status == 0 && output.bytes() == SWEEP.as_bytes());
+    Ok(())
+}
+
+#[test]
+fn refuses_two_budgets_and_none(rt: HostRuntime) -> Result<(), Fail> {
+    let alloc = rt.alloc();
+    let cases: [(&[&str], &str); 3] = [
+        (
+            &["advise", "--max=4"],
+            "precopy-view: --down is needed, or --link and --downtime, as --link 10Gbit --downtime 300ms\n",
+        ),
+        (
+            &["advise", "--down=3", "--link=1KiB", "--downtime=1s"],
+            "precopy-view: --down does not stand beside --link and --downtime\n",
+        ),
+        (
+            &["json", "sweep", "--tick=0s", "2,4,1,1,8,0"],
+            "precopy-view: --tick: a tick is 1us to 1s\n",
+        ),
+    ];
+    for (words, line) in cases {
+        let (status, output, faults) = told(&rt, alloc, 102, words)?;
+        assert!(rt;
+            status == 2 && output.bytes().is_empty() && faults.bytes() == line.as_bytes(),
+            "{line}"
+        );
+    }
+    Ok(())
+}
+
 /// The same as a document.
 static REPORT: &str = "{\"trace\":{\"pages\":4,\"size\":16,\"writes\":5},\
 \"units\":{\"tick_seconds\":0.001000,\"window_seconds\":1.000000,\"page_bytes\":16,\"sampled_pages\":4,\
