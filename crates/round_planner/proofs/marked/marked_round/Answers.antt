@@ -5,28 +5,28 @@ use Rattle.migration_model.specs.Touches.{pages_written}
 use Rattle.round_planner.specs.Indexing.{IsTurned}
 use Rattle.round_planner.proofs.Plans.{ran}
 use Rattle.round_planner.proofs.Scans.{marked_few, marked_pages, walked_on}
-use Rattle.round_planner.proofs.tally.Marks.marked_round.Goals as goal
+use Rattle.round_planner.proofs.marked.marked_round.Goals as goal
 
-pub advance-requires : goal.advance-requires
-advance-requires g c =
-    let has = c.count_sent-sent.ensures.sent c.requires.marks.coming c.requires.marks.is in
+pub mark_until-next-requires : goal.mark_until-next-requires
+mark_until-next-requires g c =
+    let has = c.sent_pages-sent.ensures c.requires.marks.coming c.requires.marks.is in
     record { marks_len = has.within.scan.met.len; next_high = has.within.scan.bound }
 
 pub turn-dirtied-requires-clause-marks : goal.turn-dirtied-requires-clause-marks
-turn-dirtied-requires-clause-marks g c = omega (arith, c.advance.ensures.room.marks_len, c.requires.marks.is.at.can.list.few)
+turn-dirtied-requires-clause-marks g c = omega (arith, c.mark_until-next.ensures.room.marks_len, c.requires.marks.is.at.can.list.few)
 
 pub turn-dirtied-requires-clause-room : goal.turn-dirtied-requires-clause-room
 turn-dirtied-requires-clause-room g c =
     let coming = c.requires.marks.coming in
     let is = c.requires.marks.is in
-    let has = c.count_sent-sent.ensures.sent coming is in
+    let has = c.sent_pages-sent.ensures coming is in
     let scan =
-    walked_on (g.T.Timeline.pages c.args.timeline.now) (g.T.Timeline.touches c.args.timeline.now) coming.from coming.rate c.count_sent-sent.result c.duration.result
-    (c.args.now.now.step.from + c.duration.result) _ _ _ _ (ap (λ t. t + c.duration.result) is.at.from_is) (rw (is.at.rate_is) at c.duration.ensures.enough) has.within c.advance.ensures.walked in
-    omega (arith, marked_few _ _ coming.from _ _ _ scan, c.count_sent-sent.ensures.room, is.room)
+    walked_on (g.T.Timeline.pages c.args.timeline.now) (g.T.Timeline.touches c.args.timeline.now) coming.from coming.rate c.sent_pages-sent.result.0 c.duration.result
+    (c.args.now.now.step.from + c.duration.result) _ _ _ _ (ap (λ t. t + c.duration.result) is.at.from_is) (rw (is.at.rate_is) at c.duration.ensures.enough) has.within c.mark_until-next.ensures.walked in
+    omega (arith, marked_few _ _ coming.from _ _ _ scan, is.room_len)
 
 pub returns-clause-room : goal.returns-clause-room
-returns-clause-room g c = omega (arith, c.turn-dirtied.ensures.room, c.count_sent-sent.ensures.room, c.requires.marks.is.room)
+returns-clause-room g c = omega (arith, c.turn-dirtied.ensures.room, c.requires.marks.is.room_len)
 
 pub returns-clause-turned : goal.returns-clause-turned
 returns-clause-turned g c =
@@ -34,12 +34,14 @@ returns-clause-turned g c =
     let touches = g.T.Timeline.touches c.args.timeline.now in
     let coming = c.requires.marks.coming in
     let at = c.requires.marks.is.at in
-    let has = c.count_sent-sent.ensures.sent coming c.requires.marks.is in
+    let has = c.sent_pages-sent.ensures coming c.requires.marks.is in
     let to = c.args.now.now.step.from + c.duration.result in
+    let next = c.mark_until-next.result in
     let scan =
-    walked_on pages touches coming.from coming.rate c.count_sent-sent.result c.duration.result to _ _ _ _ (ap (λ t. t + c.duration.result) at.from_is)
-    (rw (at.rate_is) at c.duration.ensures.enough) has.within c.advance.ensures.walked in
-    subst (λ (from : ℕ). IsTurned pages touches from to c.turn-dirtied.result c.turn-dirtied.new.self) (sym at.from_is) (c.turn-dirtied.ensures.turned pages coming.from to touches scan)
+    walked_on pages touches coming.from coming.rate c.sent_pages-sent.result.0 c.duration.result to _ _ _ _ (ap (λ t. t + c.duration.result) at.from_is)
+    (rw (at.rate_is) at c.duration.ensures.enough) has.within c.mark_until-next.ensures.walked in
+    subst (λ (from : ℕ). IsTurned pages touches from to c.turn-dirtied.result next c.turn-dirtied.new.marks c.turn-dirtied.new.room) (sym at.from_is)
+    (c.turn-dirtied.ensures.turned pages coming.from to next touches scan)
 
 pub returns-clause-ran : goal.returns-clause-ran
 returns-clause-ran g c coming is =
@@ -47,13 +49,13 @@ returns-clause-ran g c coming is =
     let touches = g.T.Timeline.touches c.args.timeline.now in
     let at = is.at in
     let ticks = c.duration.result in
-    let has = c.count_sent-sent.ensures.sent coming is in
+    let has = c.sent_pages-sent.ensures coming is in
     let to = coming.from + ticks in
     let to_is : c.args.now.now.step.from + ticks ≡ to = ap (λ a. a + ticks) at.from_is in
-    let next = c.advance.new.self.next in
-    let marks = c.advance.new.self.marks.items in
+    let next = c.mark_until-next.result in
+    let marks = c.mark_until-next.new.marks in
     let scan =
-    walked_on pages touches coming.from coming.rate c.count_sent-sent.result ticks to _ _ _ _ refl (rw (at.rate_is) at c.duration.ensures.enough) has.within (rw to_is at c.advance.ensures.walked) in
+    walked_on pages touches coming.from coming.rate c.sent_pages-sent.result.0 ticks to _ _ _ _ refl (rw (at.rate_is) at c.duration.ensures.enough) has.within (rw to_is at c.mark_until-next.ensures.walked) in
     let dirtied = pages_written pages touches coming.from to in
     let round : PlannedRound = record { from = coming.from; to = to; rate = coming.rate; pages = coming.pages; sent = has.list; dirtied = length dirtied } in
     let ticks_are : ticks ≡ duration_of (length has.list) coming.rate = c.duration.ensures.value ∙ (λ i. duration_of (has.count_is i) (at.rate_is i)) in
