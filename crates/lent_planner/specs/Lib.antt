@@ -1,0 +1,5 @@
+pub mod Answers
+pub mod Settings
+pub mod Touches
+pub mod Traces
+pub mod Plans
