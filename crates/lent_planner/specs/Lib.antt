@@ -3,3 +3,4 @@ pub mod Settings
 pub mod Touches
 pub mod Traces
 pub mod Plans
+pub mod Windows

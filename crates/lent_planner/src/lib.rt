@@ -13,3 +13,4 @@ mod plans;
 mod settings;
 mod touches;
 mod traces;
+mod windows;
