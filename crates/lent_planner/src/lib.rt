@@ -11,6 +11,8 @@
 mod answers;
 mod plans;
 mod settings;
+#[cfg(test)]
+mod tests;
 mod touches;
 mod traces;
 mod windows;
