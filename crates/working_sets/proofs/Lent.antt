@@ -1,6 +1,6 @@
 -- A pass over a timeline whose rows and marks are in memory that is lent.
-use Rattle.std.proofs.Common.{◌≡◌, ℕ, zero, suc, ◌+◌, ◌*◌, ◌/◌, ◌^◌, ◌<◌, ◌≤◌, ◌⊎◌, inl, inr, Bool, true, false, cond, ltb, leb, List, [], ◌∷◌, ◌++◌, length, get_or, set, drop, map, replicate, refl, sym, ap, subst, ◌∙◌, arith}
-use Rattle.std.specs.List.{count_by, filter, range_with_len}
+use Rattle.std.proofs.Common.{◌≡◌, ℕ, zero, suc, ◌+◌, ◌*◌, ◌/◌, ◌^◌, ◌<◌, ◌≤◌, inl, inr, Bool, true, false, cond, ltb, leb, List, [], ◌∷◌, ◌++◌, length, get_or, set, drop, map, replicate, refl, sym, ap, ◌∙◌, arith}
+use Rattle.std.specs.List.{filter, range_with_len}
 use Rattle.std.specs.List.Sorted.{IsNonDecreasingBy}
 use Rattle.std.proofs.lemmas.Bool.{le-leb, leb-true}
 use Rattle.std.proofs.Math.Nat.{mul-le-mul_left}
@@ -14,12 +14,12 @@ use Rattle.migration_model.specs.Touches.{GuestTouch, AreTouches}
 use Rattle.migration_model.specs.Windows.{WindowRow, WorkingSets, rows_of, row_of, windows_of, working_sets_of}
 use Rattle.migration_model.proofs.Order.{in_order-front, last_by-le, last_by-push}
 use Rattle.working_sets.specs.Counting.{CanAdd, Counting, HasRoom, PageMark, blank, counted, finished, marked, mark_of, one_if, started, turned, unmarked, with_row, written}
-use Rattle.working_sets.specs.Lending.{CanTurn, HasRows, count_after, mark_in, numbers_of, rows_after, rows_over, rows_turned, turned_open, unseen}
+use Rattle.working_sets.specs.Lending.{HasRows, count_after, mark_in, numbers_of, rows_after, rows_over, rows_turned, turned_open, unseen}
 use Rattle.working_sets.specs.declared.lending.OpenWindow.{OpenWindow}
 use Rattle.working_sets.specs.declared.lending.PageSeen.{PageSeen}
 use Rattle.working_sets.specs.declared.lending.WindowNumbers.{WindowNumbers}
 use Rattle.working_sets.proofs.Shown.{has_write, quotient_low}
-use Rattle.working_sets.proofs.Whole.{PassesTo, start_of_pass, ready_to_add, one_more_added, end_of_pass}
+use Rattle.working_sets.proofs.Whole.{PassesTo, start_of_pass, one_more_added, end_of_pass}
 
 -- ---- the buffer of rows
 

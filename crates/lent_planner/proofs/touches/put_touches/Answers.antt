@@ -1,4 +1,4 @@
-use Rattle.std.proofs.Common.{◌≡◌, ◌∷◌, List, subst, refl}
+use Rattle.std.proofs.Common.{◌∷◌, List, subst, refl}
 use Rattle.migration_model.specs.Trace.{GuestWrite}
 use Rattle.guest_log.specs.Writes.{shown}
 use Rattle.lent_planner.proofs.Puts.{ArePut, put_low, put_more}

@@ -1,5 +1,3 @@
-use Rattle.std.proofs.Common.{◌≡◌, ◌++◌, length, map, take}
-use Rattle.migration_model.specs.Touches.{touch_of}
 use Rattle.lent_planner.proofs.Puts.{ArePut}
 use Rattle.lent_planner.proofs.touches.put_touches.Given as goal
 

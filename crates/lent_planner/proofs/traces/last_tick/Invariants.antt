@@ -1,5 +1,4 @@
 use Rattle.std.proofs.Common.{◌≡◌}
-use Rattle.migration_model.specs.Trace.{last_by}
 use Rattle.std.specs.List.{fold}
 use Rattle.lent_planner.proofs.traces.last_tick.Given as goal
 

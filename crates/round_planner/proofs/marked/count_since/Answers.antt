@@ -1,5 +1,4 @@
 use Rattle.std.proofs.Common.{rules, ◌≡◌, ◌∙◌, ap, arith, length, replicate}
-use Rattle.page_bitmap.specs.Listing.{word_count}
 use Rattle.round_planner.proofs.Scans.{begun, marked_few, marked_pages}
 use Rattle.round_planner.proofs.marked.count_since.Goals as goal
 

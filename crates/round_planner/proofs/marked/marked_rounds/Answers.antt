@@ -1,4 +1,4 @@
-use Rattle.std.proofs.Common.{rules, ◌≡◌, ◌∙◌, ap, arith, length, refl, replicate}
+use Rattle.std.proofs.Common.{rules, ◌≡◌, ◌∙◌, ap, length, refl, replicate}
 use Rattle.std.proofs.lemmas.List.{length-set}
 use Rattle.rate_limit.specs.Pacing.{reason_of}
 use Rattle.round_planner.proofs.MarkedWays.{marks_start, marks_end, marks_go_on}

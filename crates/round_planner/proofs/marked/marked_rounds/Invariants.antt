@@ -1,5 +1,4 @@
 use Rattle.std.proofs.Common.{◌≡◌, ◌-◌, length}
-use Rattle.page_bitmap.specs.Listing.{word_count}
 use Rattle.round_planner.proofs.MarkedWays.{IsMarkedWay}
 use Rattle.round_planner.proofs.marked.marked_rounds.Given as goal
 

@@ -1,4 +1,4 @@
-use Rattle.std.proofs.Common.{◌≡◌, ◌≤◌, ◌∙◌, ◌&&◌, ℕ, List, length, take, true, false, not, leb, refl, sym, ap, subst, arith}
+use Rattle.std.proofs.Common.{◌≡◌, ◌≤◌, ◌∙◌, ◌&&◌, ℕ, List, length, true, false, leb, refl, sym, ap, subst, arith}
 use Rattle.migration_model.specs.Rounds.{IsSent}
 use Rattle.round_planner.specs.Indexing.{HasSent}
 use Rattle.round_planner.specs.Scanning.{IsPageList}

@@ -1,4 +1,4 @@
-use Rattle.std.proofs.Common.{rules, ◌≡◌, ◌≤◌, ◌*◌, ◌∙◌, ℕ, List, ap, arith, length, replicate}
+use Rattle.std.proofs.Common.{rules, ◌≡◌, ◌*◌, ◌∙◌, arith, length, replicate}
 use Rattle.page_bitmap.specs.Pages.{in_words}
 use Rattle.page_bitmap.proofs.Listed.{few_pages}
 use Rattle.round_planner.proofs.Scans.{begun_again, marked_pages}

@@ -1,6 +1,5 @@
-use Rattle.std.proofs.Common.{◌≡◌, ◌∙◌, ℕ, ap, length, sym, subst}
+use Rattle.std.proofs.Common.{◌≡◌, ◌∙◌, ap, subst}
 use Rattle.migration_model.specs.Rates.{MigrationSettings}
-use Rattle.migration_model.specs.Rounds.{pages_lacking}
 use Rattle.round_planner.specs.Indexing.{IsPoint}
 use Rattle.round_planner.proofs.Outcomes.{first_is}
 use Rattle.round_planner.proofs.tally.first_counted.Goals as goal

@@ -1,6 +1,6 @@
-use Rattle.std.proofs.Common.{rules, ◌≡◌, ◌≤◌, ◌<◌, ◌∙◌, ℕ, ap, arith, length, replicate}
+use Rattle.std.proofs.Common.{rules, ◌≡◌, ◌≤◌, ◌<◌, ◌∙◌, ap, arith, length, replicate}
 use Rattle.migration_model.specs.Rates.{MigrationSettings}
-use Rattle.working_sets.specs.Lending.{CanTurn, unseen}
+use Rattle.working_sets.specs.Lending.{unseen}
 use Rattle.working_sets.proofs.Lent.{can_count, lent_end, lent_start, lent_step, lent_turn, slot_low}
 use Rattle.working_sets.proofs.Whole.{ready_to_add}
 use Rattle.working_sets.proofs.lending.window_rows.Goals as goal

@@ -1,7 +1,6 @@
-use Rattle.std.proofs.Common.{rules, of_calls, ◌≡◌, ◌∙◌, ltb, ap, map}
+use Rattle.std.proofs.Common.{rules, of_calls, ◌≡◌, ltb, ap, map}
 use Rattle.std.specs.List.Sorted.{IsNonDecreasingBy}
 use Rattle.std.proofs.lemmas.List.Sorted.{IsPartitionPoint-from_clause, IsPartitionedBy-ltb}
-use Rattle.migration_model.specs.Touches.{GuestTouch}
 use Rattle.lent_planner.specs.Touches.{touch_in}
 use Rattle.lent_planner.specs.declared.touches.LentTouch.{LentTouch}
 use Rattle.lent_planner.proofs.Puts.{order_in, point_in}
