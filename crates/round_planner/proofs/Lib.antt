@@ -6,3 +6,4 @@ pub mod Columns
 pub mod Paces
 pub mod Counted
 pub mod Outcomes
+pub mod MarkedWays

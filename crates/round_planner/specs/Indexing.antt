@@ -3,15 +3,13 @@
 use Rattle.std.specs.Prelude.{◌≡◌, ℕ, ◌+◌, ◌*◌, ◌/◌, ◌&&◌, ◌<◌, ◌≤◌, nat_lt, nat_le, not, true, false, List, length}
 use Rattle.std.specs.Prelude.{slice_index_or, take}
 use Rattle.std.specs.List.Sorted.{IsPartitionPoint}
-use Rattle.migration_model.specs.Rates.{MigrationSettings}
-use Rattle.migration_model.specs.Rounds.{NextRound, PlannedRound, IsSent}
+use Rattle.migration_model.specs.Rates.{AreSettings, MigrationSettings}
+use Rattle.migration_model.specs.Rounds.{NextRound, PlannedRound, IsSent, first_round}
 use Rattle.migration_model.specs.Touches.{GuestTouch, AreTouches, no_touch, pages_written}
 use Rattle.page_bitmap.specs.Listing.{word_count}
 use Rattle.round_planner.specs.Scanning.{is_met, CanCome, HasRun, IsScan, IsScanWithin}
-use Rattle.round_planner.specs.declared.scan.Scan.{Scan}
-use Rattle.round_planner.specs.declared.tally.Marks.{Marks}
-use Rattle.round_planner.specs.declared.tally.RoundNumbers.{RoundNumbers}
-use Rattle.round_planner.specs.declared.tally.RoundSums.{RoundSums}
+use Rattle.round_planner.specs.declared.numbers.RoundNumbers.{RoundNumbers}
+use Rattle.round_planner.specs.declared.numbers.RoundSums.{RoundSums}
 
 -- so many touches are before a tick
 abbrev pub IsPoint : List GuestTouch → ℕ → ℕ → Type 0
@@ -71,50 +69,47 @@ pub record RanTo (pages : ℕ) (touches : List GuestTouch)
   pub bound : ran.next ≤ length touches
   pub point : IsPoint touches round.to ran.next
 
+-- the numbers of the first round
+pub record IsFirst (pages : ℕ) (touches : List GuestTouch) (s : MigrationSettings) (now : RoundNumbers) : Type 0 where
+  pub at : StandsAt pages touches s (first_round pages touches s) now
+  pub done : now.step.done ≡ 0
+  pub total : now.total ≡ 0
+  pub in_range : AreSettings s
+
+-- ---- a plan whose rounds are found by marks, on its way
+
 -- marks for the pages of a guest of so many, and a buffer for a list of them
-pub record AreMarksOf (pages : ℕ) (marks : Marks) : Type 0 where
-  pub marks_len : length marks.scan.marks.items ≡ word_count pages
-  pub room_len : length marks.room.items ≡ pages
+pub record AreMarksOf (pages : ℕ) (marks room : List ℕ) : Type 0 where
+  pub marks_len : length marks ≡ word_count pages
+  pub room_len : length room ≡ pages
 
 -- a round that may come, by its numbers and, behind the first one, the list of its pages; the walk stands at its first
 -- tick
 pub record IsMarkedAt (pages : ℕ) (touches : List GuestTouch)
-    (s : MigrationSettings) (coming : NextRound) (now : RoundNumbers) (marks : Marks) : Type 0 where
+    (s : MigrationSettings) (coming : NextRound) (now : RoundNumbers) (marks room : List ℕ) : Type 0 where
   pub at : StandsAt pages touches s coming now
-  pub list : 1 ≤ coming.done → coming.pages ≡ take now.listed marks.room.items
-  pub room : length marks.room.items ≡ pages
-  pub scan : IsScan pages touches coming.from coming.from marks.scan.next marks.scan.marks.items
+  pub list : 1 ≤ coming.done → coming.pages ≡ take now.listed room
+  pub room_len : length room ≡ pages
+  pub scan : IsScan pages touches coming.from coming.from now.next marks
 
 -- a round that may come, of which these are the numbers and the marks
 pub record CanMark (pages : ℕ) (touches : List GuestTouch)
-    (s : MigrationSettings) (now : RoundNumbers) (marks : Marks) : Type 0 where
+    (s : MigrationSettings) (now : RoundNumbers) (marks room : List ℕ) : Type 0 where
   pub coming : NextRound
-  pub is : IsMarkedAt pages touches s coming now marks
-
--- a round that may come, and its marks where pages may be skipped
-pub record IsReady (pages : ℕ) (touches : List GuestTouch)
-    (s : MigrationSettings) (coming : NextRound) (now : RoundNumbers) (marks : Marks) : Type 0 where
-  pub at : StandsAt pages touches s coming now
-  pub kept : AreMarksOf pages marks
-  pub marked : s.skip ≡ true → IsMarkedAt pages touches s coming now marks
-
--- a round that may come, of which these are the numbers, with its marks where pages may be skipped
-pub record CanRun (pages : ℕ) (touches : List GuestTouch)
-    (s : MigrationSettings) (now : RoundNumbers) (marks : Marks) : Type 0 where
-  pub coming : NextRound
-  pub ready : IsReady pages touches s coming now marks
+  pub is : IsMarkedAt pages touches s coming now marks room
 
 -- the first slots of the buffer, so many, list the pages that were written in these ticks, and the walk begins anew at
 -- the last of them
-pub record IsTurned (pages : ℕ) (touches : List GuestTouch) (from tick count : ℕ) (marks : Marks) : Type 0 where
-  pub list : take count marks.room.items ≡ pages_written pages touches from tick
-  pub scan : IsScan pages touches tick tick marks.scan.next marks.scan.marks.items
+pub record IsTurned (pages : ℕ) (touches : List GuestTouch)
+    (from tick count next : ℕ) (marks room : List ℕ) : Type 0 where
+  pub list : take count room ≡ pages_written pages touches from tick
+  pub scan : IsScan pages touches tick tick next marks
 
 -- so many of a round's pages are sent, and the walk is not past their ticks
 pub record HasSentOf (pages : ℕ) (touches : List GuestTouch)
-    (s : MigrationSettings) (coming : NextRound) (count : ℕ) (scan : Scan) : Type 0 where
+    (s : MigrationSettings) (coming : NextRound) (count next : ℕ) (marks : List ℕ) : Type 0 where
   pub list : List ℕ
   pub sent : IsSent (s.skip && nat_le 1 coming.done) touches coming.from coming.rate coming.pages list
   pub count_is : count ≡ length list
   pub within : IsScanWithin pages touches coming.from
-      (coming.from + 1_000 * count / coming.rate) scan.next scan.marks.items
+      (coming.from + 1_000 * count / coming.rate) next marks

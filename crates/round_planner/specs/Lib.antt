@@ -1,4 +1,5 @@
 pub mod Sizes
 pub mod Steps
 pub mod Scanning
+pub mod Rows
 pub mod Indexing

@@ -20,6 +20,8 @@
 mod error;
 mod index;
 mod laws;
+mod marked;
+mod numbers;
 mod pace;
 mod parts;
 mod planner;
@@ -31,6 +33,7 @@ mod tally;
 pub use error::PlanError;
 pub use index::RoundIndex;
 pub use laws::one_plan;
-pub use parts::{Outcome, Plan, Round};
+pub use marked::plan_rows;
+pub use parts::{Outcome, Plan, Round, RoundRow};
 pub use planner::Planner;
 pub use planning::{par_plan, plan};

@@ -70,6 +70,36 @@ impl Model for Plan {
     ghost invariant = { λ p. IsSmallPlan p.rounds.items p.last.items };
 }
 
+/// The numbers of one round of a plan.
+#[derive(Clone, Copy, Debug, PartialEq, Eq)]
+#[repr(C)]
+pub struct RoundRow {
+    /// The round's first tick.
+    pub from: u64,
+    /// The first tick behind it.
+    pub to: u64,
+    /// Its rate, in pages per 1,000 ticks.
+    pub rate: u64,
+    /// How many pages it has.
+    pub pages: u64,
+    /// How many of them it sends.
+    pub sent: u64,
+    /// How many pages are written while it lasts.
+    pub dirtied: u64,
+}
+
+impl RoundRow {
+    /// A row of no round.
+    pub(crate) const NONE: RoundRow = RoundRow {
+        from: 0,
+        to: 0,
+        rate: 0,
+        pages: 0,
+        sent: 0,
+        dirtied: 0,
+    };
+}
+
 /// The sums of a plan.
 #[derive(Debug, Drop)]
 pub struct Outcome {

@@ -6,9 +6,11 @@ ghost use Rattle.round_planner.specs.Indexing.{IsRoundIndexOf};
 
 use crate::error::PlanError;
 use crate::index::RoundIndex;
-use crate::parts::Outcome;
-use crate::tally::Marks;
+use crate::marked::marked_rounds;
+use crate::parts::{Outcome, RoundRow};
+use crate::tally::{counted_rounds, first_counted};
 use guest_log::Timeline;
+use page_bitmap::word_count;
 use rate_limit::Settings;
 use std::alloc::Global;
 use std::marker::Model;
@@ -17,28 +19,38 @@ use std::marker::Model;
 /// number of pages.
 #[derive(Drop)]
 pub struct Planner {
-    marks: Marks,
+    marks: Vec<u64>,
+    /// A buffer for the list of a round's pages.
+    room: Vec<u32>,
+    /// The rounds of the last plan in which pages may be skipped.
+    rows: Vec<RoundRow>,
 }
 
 impl Model for Planner {
-    ghost use Rattle.std.specs.Prelude.{ℕ, length};
+    ghost use Rattle.std.specs.Prelude.{◌≡◌, ℕ, length};
     ghost use Rattle.round_planner.specs.Indexing.{AreMarksOf};
 
     ghost Value = { ℕ };
 
-    ghost view = { λ p. length p.marks.room.items };
+    ghost view = { λ p. length p.room.items };
 
-    ghost invariant = { λ p. AreMarksOf (length p.marks.room.items) p.marks };
+    ghost invariant = { λ p. AreMarksOf (length p.room.items) p.marks.items p.room.items
+        × (length p.rows.items ≡ 64) };
 }
 
 impl Planner {
-    /// Returns a planner for a guest. The error is `Memory`, where memory runs out for its buffers of 33 bits a page.
+    /// Returns a planner for a guest. The error is `Memory`, where memory runs out for its buffers of 33 bits a page
+    /// and of 64 rounds.
     pub fn new<T: Timeline>(alloc: Global, timeline: &T) -> Result<Planner, PlanError>
         ensures pages { IfOk result (λ planner. planner ≡ T.pages timeline.now) }
         ensures refusal { IfErr result (λ e. e ≡ PlanError.Memory) }
     {
-        let marks = Marks::new(alloc, timeline)?;
-        Ok(Planner { marks })
+        let pages = timeline.page_count() as usize;
+        Ok(Planner {
+            marks: Vec::from_elem(alloc, 0, word_count(pages))?,
+            room: Vec::from_elem(alloc, 0, pages)?,
+            rows: Vec::from_elem(alloc, RoundRow::NONE, 64)?,
+        })
     }
 
     /// Returns the sums of the plan of some settings: as many rounds, the same end and as many pages sent as the plan
@@ -58,6 +70,17 @@ impl Planner {
         ensures outcome { IsOutcome (T.pages timeline.now) (T.touches timeline.now) settings.now result }
         ensures pages { self.new ≡ self.old }
     {
-        self.marks.outcome(timeline, index, settings)
+        let first = first_counted(timeline, index, settings);
+        if !settings.asked().skip {
+            return counted_rounds(timeline, index, settings, first);
+        }
+        marked_rounds(
+            timeline,
+            settings,
+            first,
+            &mut self.marks,
+            &mut self.room,
+            &mut self.rows,
+        )
     }
 }

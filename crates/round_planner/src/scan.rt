@@ -52,7 +52,12 @@ fn page_before<T: Timeline>(timeline: &T, next: usize, tick: u64) -> Option<u32>
 
 /// Marks the pages of the touches from index `next` on and before a tick. Returns the index of the touch that comes
 /// then. It takes the walk's fields as arguments, so that they can be kept in registers.
-fn mark_until<T: Timeline>(timeline: &T, marks: &mut [u64], next: usize, tick: u64) -> usize
+pub(crate) fn mark_until<T: Timeline>(
+    timeline: &T,
+    marks: &mut [u64],
+    next: usize,
+    tick: u64,
+) -> usize
     requires { HasRoom (T.pages timeline.now) (T.touches timeline.now) next marks.old }
     ensures room { HasRoom (T.pages timeline.now) (T.touches timeline.now) result marks.new }
     ensures walked { (from upto : ℕ) → upto ≤ tick → IsScan (T.pages timeline.now) (T.touches timeline.now) from
@@ -65,6 +70,66 @@ fn mark_until<T: Timeline>(timeline: &T, marks: &mut [u64], next: usize, tick: u
         at += 1;
     }
     at
+}
+
+/// A walk on its way through a round: the touches before index `next` are behind it, and the round has come so far.
+#[derive(Clone, Copy)]
+pub(crate) struct Walk {
+    pub(crate) next: usize,
+    pub(crate) at: Progress,
+}
+
+/// Looks at one page of a round. Returns how far the round is then. The walk goes on to where the round was.
+fn look<T: Timeline>(timeline: &T, marks: &mut [u64], pace: &Pace, page: u32, walk: Walk) -> Walk
+    requires scan { IsScanWithin (T.pages timeline.now) (T.touches timeline.now) pace.now.from walk.at.tick
+        walk.next marks.old }
+    requires page { page < T.pages timeline.now }
+    requires pace { IsPace pace.now }
+    requires at { IsProgress pace.now walk.at }
+    requires few { walk.at.sent < 65_536 }
+    ensures sent { result.at.sent ≡ (if not (is_written (T.touches timeline.now) pace.now.from walk.at.tick page) then
+        walk.at.sent + 1 else walk.at.sent) }
+    ensures at { IsProgress pace.now result.at }
+    ensures scan { IsScanWithin (T.pages timeline.now) (T.touches timeline.now) pace.now.from result.at.tick
+        result.next marks.new }
+{
+    let next = mark_until(timeline, marks, walk.next, walk.at.tick);
+    if has_page(marks, page) {
+        return Walk { next, at: walk.at };
+    }
+    Walk {
+        next,
+        at: pace.send(walk.at),
+    }
+}
+
+/// Returns how far a round is when all of these pages are looked at, of which those soon written again are skipped. The
+/// walk begins before the round, and goes on to where the scan of the last page ends.
+pub(crate) fn count_sent<T: Timeline>(
+    timeline: &T,
+    marks: &mut [u64],
+    next: usize,
+    from: u64,
+    rate: u64,
+    pages: &[u32],
+) -> Walk
+    requires scan { IsScan (T.pages timeline.now) (T.touches timeline.now) from from next marks.old }
+    requires pages { IsPageList (T.pages timeline.now) pages.now }
+    requires rate { 1 ≤ rate }
+    requires from { from < 2 ^ 42 }
+    ensures sent { HasSent (T.touches timeline.now) from rate pages.now result.at.sent }
+    ensures scan { IsScanWithin (T.pages timeline.now) (T.touches timeline.now) from
+        (from + 1_000 * result.at.sent / rate) result.next marks.new }
+{
+    let pace = Pace::new(from, rate);
+    let mut walk = Walk {
+        next,
+        at: pace.begin(),
+    };
+    for page in pages {
+        walk = look(timeline, marks, &pace, *page, walk);
+    }
+    walk
 }
 
 impl Scan {
@@ -157,36 +222,12 @@ impl Scan {
         ensures scan { IsScanWithin (T.pages timeline.now) (T.touches timeline.now) pace.now.from result.tick
             self.new.next self.new.marks.items }
     {
-        self.advance(timeline, at.tick);
-        if has_page(&self.marks, page) {
-            return at;
-        }
-        pace.send(at)
-    }
-
-    /// Returns how many of these pages of a round are sent where those soon written again are skipped. The walk goes
-    /// on to where the scan of the last page ends.
-    pub(crate) fn count_sent<T: Timeline>(
-        &mut self,
-        timeline: &T,
-        from: u64,
-        rate: u64,
-        pages: &[u32],
-    ) -> u32
-        requires scan { IsScan (T.pages timeline.now) (T.touches timeline.now) from from self.old.next
-            self.old.marks.items }
-        requires pages { IsPageList (T.pages timeline.now) pages.now }
-        requires rate { 1 ≤ rate }
-        requires from { from < 2 ^ 42 }
-        ensures sent { HasSent (T.touches timeline.now) from rate pages.now result }
-        ensures scan { IsScanWithin (T.pages timeline.now) (T.touches timeline.now) from
-            (from + 1_000 * result / rate) self.new.next self.new.marks.items }
-    {
-        let pace = Pace::new(from, rate);
-        let mut at = pace.begin();
-        for page in pages {
-            at = self.look(timeline, &pace, *page, at);
-        }
-        at.sent
+        let walk = Walk {
+            next: self.next,
+            at,
+        };
+        let looked = look(timeline, &mut self.marks, pace, page, walk);
+        self.next = looked.next;
+        looked.at
     }
 }

@@ -7,3 +7,4 @@ pub mod Pass
 pub mod Kept
 pub mod Whole
 pub mod OtherWords
+pub mod Lent

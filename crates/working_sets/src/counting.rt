@@ -5,6 +5,7 @@ ghost use Rattle.working_sets.specs.Counting.{blank, CanAdd, counted, finished, 
 ghost use Rattle.working_sets.specs.Counting.{turned, with_row, written};
 
 use crate::hot::hot_pages;
+use crate::lending::PageSeen;
 use crate::window::{Tables, Window};
 use std::alloc::{AllocError, Global};
 use std::marker::Model;
@@ -29,6 +30,26 @@ impl Model for Mark {
 }
 
 impl Mark {
+    ghost use Rattle.std.specs.Prelude.{◌≡◌};
+    ghost use Rattle.working_sets.specs.Lending.{mark_in};
+
+    /// Returns the mark that is kept so in memory that is lent.
+    pub(crate) fn new(last: u64, windows: u64) -> Mark
+        ensures { result ≡ record { last = last; windows = windows } }
+    {
+        Mark { last, windows }
+    }
+
+    /// Returns how the mark is kept in memory that is lent.
+    pub(crate) fn seen(&self) -> PageSeen
+        ensures { mark_in result ≡ self.now }
+    {
+        PageSeen {
+            last: self.last,
+            windows: self.windows,
+        }
+    }
+
     /// Returns whether the page is in at least so many windows.
     pub(crate) fn is_hot(&self, hot: u64) -> bool
         ensures { result ≡ nat_le hot self.now.windows }
@@ -62,7 +83,7 @@ impl Model for Pass {
 }
 
 /// Returns the row of a window without writes.
-fn blank_row(number: u64) -> Window
+pub(crate) fn blank_row(number: u64) -> Window
     ensures { result ≡ blank number }
 {
     Window {
@@ -75,7 +96,7 @@ fn blank_row(number: u64) -> Window
 }
 
 /// Returns a row after one more write, to a page whose mark has this last window.
-fn row_after(row: Window, last: u64) -> Window
+pub(crate) fn row_after(row: Window, last: u64) -> Window
     requires { HasRoom row }
     ensures { result ≡ counted row last }
 {
@@ -89,7 +110,7 @@ fn row_after(row: Window, last: u64) -> Window
 }
 
 /// Returns a page's mark after a write in this window.
-fn mark_after(mark: Mark, number: u64) -> Mark
+pub(crate) fn mark_after(mark: Mark, number: u64) -> Mark
     requires number { number + 1 < 2 ^ 64 }
     requires windows { mark.windows + 1 < 2 ^ 64 }
     ensures { result ≡ marked mark number }

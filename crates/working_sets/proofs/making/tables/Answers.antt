@@ -1,4 +1,4 @@
-use Rattle.std.proofs.Common.{◌≡◌, ◌≤◌, length, ap, ◌∙◌, arith}
+use Rattle.std.proofs.Common.{◌≤◌, length, ap, ◌∙◌, arith}
 use Rattle.working_sets.proofs.Whole.{start_of_pass, ready_to_add, one_more_added, end_of_pass}
 use Rattle.working_sets.proofs.making.tables.Goals as goal
 

@@ -1,29 +1,15 @@
-use Rattle.std.proofs.Common.{ℕ, List, ◌∙◌, true, false, ap, arith}
-use Rattle.page_bitmap.specs.Pages.{in_words}
-use Rattle.round_planner.proofs.Counted.{looked_at}
+use Rattle.std.proofs.Common.{◌≡◌, ◌≤◌, ℕ, List, subst, sym, arith, length}
+use Rattle.round_planner.specs.Scanning.{IsScanWithin}
+use Rattle.page_bitmap.proofs.Bits.{whole_again}
 use Rattle.round_planner.proofs.scan.Scan.look.Goals as goal
-
-pub returns-then-has_page-clause-sent : goal.returns-then-has_page-clause-sent
-returns-then-has_page-clause-sent g c =
-    let within = c.requires.scan in
-    looked_at (g.T.Timeline.pages c.args.timeline.now) (g.T.Timeline.touches c.args.timeline.now) c.args.pace.now.from c.args.at.tick c.advance.new.self.next c.args.page c.args.at.sent
-    c.advance.new.self.marks.items c.has_page.result true (c.advance.ensures.walked c.args.pace.now.from within.tick within.high within.scan)
-    c.requires.page (c.has_page.ensures ∙ ap (λ (l : List ℕ). in_words l c.args.page) c.deref.ensures.value) c.if-has_page.true
-
-pub returns-then-has_page-clause-scan : goal.returns-then-has_page-clause-scan
-returns-then-has_page-clause-scan g c =
-    let within = c.requires.scan in
-    record { tick = c.args.at.tick; high = omega arith; scan = c.advance.ensures.walked c.args.pace.now.from within.tick within.high within.scan }
-
-pub returns-clause-sent : goal.returns-clause-sent
-returns-clause-sent g c =
-    let within = c.requires.scan in
-    c.send.ensures.sent
-    ∙ looked_at (g.T.Timeline.pages c.args.timeline.now) (g.T.Timeline.touches c.args.timeline.now) c.args.pace.now.from c.args.at.tick c.advance.new.self.next c.args.page c.args.at.sent
-    c.advance.new.self.marks.items c.has_page.result false (c.advance.ensures.walked c.args.pace.now.from within.tick within.high within.scan)
-    c.requires.page (c.has_page.ensures ∙ ap (λ (l : List ℕ). in_words l c.args.page) c.deref.ensures.value) c.if-has_page.false
 
 pub returns-clause-scan : goal.returns-clause-scan
 returns-clause-scan g c =
-    let within = c.requires.scan in
-    record { tick = c.args.at.tick; high = c.send.ensures.later; scan = c.advance.ensures.walked c.args.pace.now.from within.tick within.high within.scan }
+    let pages = g.T.Timeline.pages c.args.timeline.now in
+    let touches = g.T.Timeline.touches c.args.timeline.now in
+    let new = c.look-looked.new.marks in
+    let looked = c.look-looked.ensures in
+    let A : List ℕ → Type 0 = λ l. IsScanWithin pages touches c.args.pace.now.from c.look-looked.result.at.tick c.look-looked.result.next l in
+    let same : length new ≡ length c.args.self.now.marks.items = omega (arith, looked.scan.scan.met.len, c.requires.scan.scan.met.len) in
+    let fits : length new ≤ c.args.self.now.marks.len = grind (arith, same) in
+    subst A (sym (whole_again c.args.self.now.marks.len new c.args.self.now.marks.items same fits)) looked.scan

@@ -1,0 +1,63 @@
+-- What a caller sees of plans, what it lends for one, and why there is none.
+use Rattle.std.specs.Prelude.{◌≡◌, ◌≤◌, ℕ, List, length, Some}
+use Rattle.migration_model.specs.Trace.{GuestTrace, Spells}
+use Rattle.migration_model.specs.Touches.{touches_of}
+use Rattle.migration_model.specs.Rates.{MigrationSettings, StopReason, few_remain, too_fast, rounds_done}
+use Rattle.migration_model.specs.Sweeps.{PlanOutcome}
+use Rattle.page_bitmap.specs.Listing.{word_count}
+use Rattle.rate_limit.specs.Refusals.{refusal_of}
+use Rattle.trace_codec.specs.Refusals.{Refuses}
+use Rattle.round_planner.specs.Rows.{IsPlanned}
+use Rattle.round_planner.specs.declared.parts.RoundRow.{RoundRow}
+use Rattle.lent_planner.specs.declared.answers.Refusal.{Refusal}
+use Rattle.lent_planner.specs.declared.answers.Refusal.TheVariants as refusals
+use Rattle.lent_planner.specs.declared.plans.LentSums.{LentSums}
+use Rattle.lent_planner.specs.declared.plans.PlanRoom.{PlanRoom}
+
+-- the number of a reason
+abbrev pub reason_number : StopReason → ℕ
+reason_number few_remain = 0
+reason_number too_fast = 1
+reason_number rounds_done = 2
+
+-- the sums of a plan as a caller sees them
+abbrev pub sums_of : PlanOutcome → LentSums
+sums_of outcome = record {
+  rounds = outcome.rounds;
+  reason = reason_number outcome.reason;
+  stop = outcome.stop;
+  down = outcome.down;
+  total = outcome.total;
+}
+
+-- how long what a caller lends for a plan is: room for touches, marks, room for a list of pages, and rows for rounds
+abbrev pub room_of : ℕ → ℕ → ℕ → ℕ → PlanRoom
+room_of touches marks list rounds = record { touches = touches; marks = marks; list = list; rounds = rounds }
+
+-- so much is enough for a plan of this trace
+pub record HasRoom (trace : GuestTrace) (settings : MigrationSettings) (room : PlanRoom) : Type 0 where
+  pub touches : length trace.writes ≤ room.touches
+  pub marks : word_count trace.pages ≤ room.marks
+  pub list : trace.pages ≤ room.list
+  pub rounds : settings.rounds ≤ room.rounds
+
+-- the plan of the trace that these bytes encode comes to this, and its rounds stand over the front of a buffer
+pub record IsPlannedOf (bytes : List ℕ) (settings : MigrationSettings)
+    (outcome : PlanOutcome) (old new : List RoundRow) : Type 0 where
+  pub trace : GuestTrace
+  pub spells : Spells bytes trace
+  pub is_planned : IsPlanned trace.pages (touches_of trace) settings outcome old new
+
+-- the same, by its sums as a caller sees them
+pub record IsSummedOf (bytes : List ℕ) (settings : MigrationSettings)
+    (sums : LentSums) (old new : List RoundRow) : Type 0 where
+  pub outcome : PlanOutcome
+  pub is_planned : IsPlannedOf bytes settings outcome old new
+  pub sums_are : sums ≡ sums_of outcome
+
+-- no plan is made: the settings are refused, or the bytes, or what is lent is too short
+abbrev pub RefusesPlan : List ℕ → MigrationSettings → PlanRoom → Refusal → Type 0
+RefusesPlan bytes settings room (refusals.Settings e) = refusal_of settings ≡ Some e
+RefusesPlan bytes settings room (refusals.Trace e) = Refuses bytes e
+RefusesPlan bytes settings room refusals.ShortBuffer =
+    (trace : GuestTrace) × Spells bytes trace × (HasRoom trace settings room → ⊥)

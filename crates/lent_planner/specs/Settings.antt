@@ -1,0 +1,27 @@
+-- The settings that a caller asks for, as the definitions' value.
+use Rattle.std.specs.Prelude.{ℕ, ◌==◌, not, if◌then◌else◌, Option, Some, None}
+use Rattle.migration_model.specs.Rates.{MigrationSettings}
+use Rattle.lent_planner.specs.declared.settings.LentSettings.{LentSettings}
+
+-- the tick that a base stands at, where there is one
+abbrev pub base_in : LentSettings → Option ℕ
+base_in s = if s.has_base == 0 then None else Some s.base
+
+-- what a plan keeps to; no call starts a thread, so there is one worker, one stream, one replayer, and a lane of one
+abbrev pub settings_in : LentSettings → MigrationSettings
+settings_in s = record {
+  min = s.min;
+  max = s.max;
+  increment = s.increment;
+  threshold = s.threshold;
+  rounds = s.rounds;
+  start = s.start;
+  window = s.window;
+  hot = s.hot;
+  workers = 1;
+  streams = 1;
+  replayers = 1;
+  lane = 1;
+  skip = not (s.skip == 0);
+  base = base_in s;
+}

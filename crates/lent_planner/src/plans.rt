@@ -1,0 +1,170 @@
+//! The plan of a trace: its sums, and the numbers of its rounds.
+
+ghost use Rattle.std.specs.Prelude.{◌≡◌, ◌≢◌, IfErr, IfOk, IsOk, OnErr, length};
+ghost use Rattle.migration_model.specs.Rates.{AreSettings};
+ghost use Rattle.migration_model.specs.Trace.{GuestTrace, Spells};
+ghost use Rattle.rate_limit.specs.Pacing.{reason_of};
+ghost use Rattle.lent_planner.specs.Answers.{IsNumberOf, number_of};
+ghost use Rattle.lent_planner.specs.Plans.{HasRoom, IsPlannedOf, IsSummedOf, RefusesPlan, reason_number, room_of};
+ghost use Rattle.lent_planner.specs.Plans.{sums_of};
+ghost use Rattle.migration_model.specs.Touches.{touches_of};
+ghost use Rattle.round_planner.specs.Rows.{IsPlanned};
+ghost use Rattle.lent_planner.specs.Settings.{settings_in};
+
+use crate::answers::Refusal;
+use crate::settings::LentSettings;
+use crate::touches::{LentLog, LentTouch, put_touches};
+use guest_log::Shape;
+use page_bitmap::word_count;
+use rate_limit::{Reason, Settings};
+use round_planner::{Outcome, RoundRow, plan_rows};
+use trace_codec::TraceView;
+
+/// The sums of a plan, as in C's `struct precopy_sums`.
+#[derive(Clone, Copy)]
+#[repr(C)]
+pub struct LentSums {
+    /// How many rounds there are.
+    pub rounds: u64,
+    /// Why no further round comes: 0 where few pages remain, 1 where the next rate is too high, 2 after the last round.
+    pub reason: u64,
+    /// The tick at which the guest is stopped.
+    pub stop: u64,
+    /// The downtime, in ticks.
+    pub down: u64,
+    /// How many pages are sent, over all rounds and after the stop.
+    pub total: u64,
+}
+
+/// Returns the number of a reason.
+fn number_of_reason(reason: Reason) -> u64
+    ensures { result ≡ reason_number (reason_of reason) }
+{
+    match reason {
+        Reason::Few => 0,
+        Reason::Fast => 1,
+        Reason::Rounds => 2,
+    }
+}
+
+/// Returns the sums as the caller sees them.
+fn sums_in(outcome: &Outcome) -> LentSums
+    ensures { result ≡ sums_of outcome.now }
+{
+    LentSums {
+        rounds: outcome.rounds,
+        reason: number_of_reason(outcome.reason),
+        stop: outcome.stop,
+        down: outcome.down,
+        total: outcome.total,
+    }
+}
+
+/// How long what is lent for a plan is.
+#[derive(Clone, Copy)]
+pub(crate) struct PlanRoom {
+    touches: usize,
+    marks: usize,
+    list: usize,
+    rounds: usize,
+}
+
+impl PlanRoom {
+    ghost use Rattle.std.specs.Prelude.{◌↔◌, IsTrue};
+    ghost use Rattle.lent_planner.specs.Plans.{HasRoom};
+
+    /// Returns whether that is enough for a plan of a trace.
+    fn is_enough(&self, trace: &TraceView<'_>, settings: &Settings) -> bool
+        ensures { IsTrue result ↔ HasRoom trace.now settings.now self.now }
+    {
+        let Shape { pages, writes, .. } = trace.shape();
+        writes as usize <= self.touches
+            && word_count(pages as usize) <= self.marks
+            && pages as usize <= self.list
+            && settings.asked().rounds <= self.rounds as u64
+    }
+}
+
+/// Returns the sums of the plan of a trace, and writes its rounds over the front of a buffer.
+fn plan_of(
+    trace: &TraceView<'_>,
+    settings: &Settings,
+    touches: &mut [LentTouch],
+    marks: &mut [u64],
+    list: &mut [u32],
+    rounds: &mut [RoundRow],
+) -> Outcome
+    requires { HasRoom trace.now settings.now (room_of (length touches.old) (length marks.old) (length list.old)
+        (length rounds.old)) }
+    ensures { IsPlanned trace.now.pages (touches_of trace.now) settings.now result rounds.old rounds.new }
+{
+    let pages = trace.shape().pages as usize;
+    put_touches(trace, touches);
+    let log = LentLog::of(trace, touches);
+    let (marks, _) = marks.split_at_mut(word_count(pages));
+    let (list, _) = list.split_at_mut(pages);
+    plan_rows(&log, settings, marks, list, rounds)
+}
+
+/// Returns the sums of the plan of the trace that the bytes encode, and writes its rounds over the front of a buffer.
+/// The settings are tested first, and the room last.
+fn planned(
+    bytes: &[u8],
+    settings: &LentSettings,
+    touches: &mut [LentTouch],
+    marks: &mut [u64],
+    list: &mut [u32],
+    rounds: &mut [RoundRow],
+) -> Result<Outcome, Refusal>
+    ensures made { IfOk result (λ outcome. IsPlannedOf bytes.now (settings_in settings.now) outcome
+        rounds.old rounds.new) }
+    ensures refused { IfErr result (RefusesPlan bytes.now (settings_in settings.now) (room_of (length touches.old)
+        (length marks.old) (length list.old) (length rounds.old))) }
+    ensures only { (t : GuestTrace) → Spells bytes.now t → AreSettings (settings_in settings.now)
+        → HasRoom t (settings_in settings.now) (room_of (length touches.old) (length marks.old) (length list.old)
+        (length rounds.old)) → IsOk result }
+    ensures unchanged { OnErr result (rounds.new ≡ rounds.old) }
+{
+    let settings = settings.checked()?;
+    let trace = TraceView::parse(bytes)?;
+    let room = PlanRoom {
+        touches: touches.len(),
+        marks: marks.len(),
+        list: list.len(),
+        rounds: rounds.len(),
+    };
+    if !room.is_enough(&trace, &settings) {
+        return Err(Refusal::ShortBuffer);
+    }
+    Ok(plan_of(&trace, &settings, touches, marks, list, rounds))
+}
+
+/// Answers the sums of the plan of a trace with some settings, and writes the numbers of its rounds, in order, over the
+/// front of a buffer. It is refused where any of what is lent is too short: a slot of `touches` for each write, a bit of
+/// `marks` and a slot of `list` for each page, and a slot of `rounds` for each round that the settings ask for.
+#[unsafe(no_mangle)]
+pub extern "C" fn lent_plan(
+    trace: &[u8],
+    settings: &LentSettings,
+    touches: &mut [LentTouch],
+    marks: &mut [u64],
+    list: &mut [u32],
+    rounds: &mut [RoundRow],
+    sums: &mut LentSums,
+) -> u32
+    ensures made { result ≡ 0 → IsSummedOf trace.now (settings_in settings.now) sums.new rounds.old rounds.new }
+    ensures refused { result ≢ 0 → IsNumberOf result (RefusesPlan trace.now (settings_in settings.now)
+        (room_of (length touches.old) (length marks.old) (length list.old) (length rounds.old))) }
+    ensures only { (t : GuestTrace) → Spells trace.now t → AreSettings (settings_in settings.now)
+        → HasRoom t (settings_in settings.now) (room_of (length touches.old) (length marks.old) (length list.old)
+        (length rounds.old)) → result ≡ 0 }
+    ensures unchanged { result ≢ 0 → (sums.new ≡ sums.old) × (rounds.new ≡ rounds.old) }
+{
+    match planned(trace, settings, touches, marks, list, rounds) {
+        Ok(outcome) => {
+            *sums = sums_in(&outcome);
+            0
+        }
+        Err(refusal) => refusal.number(),
+    }
+}

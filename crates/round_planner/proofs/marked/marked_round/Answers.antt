@@ -1,0 +1,72 @@
+use Rattle.std.proofs.Common.{◌≡◌, ◌∙◌, ◌+◌, ℕ, length, refl, sym, ap, subst, arith}
+use Rattle.migration_model.specs.Rates.{duration_of}
+use Rattle.migration_model.specs.Rounds.{PlannedRound}
+use Rattle.migration_model.specs.Touches.{pages_written}
+use Rattle.round_planner.specs.Indexing.{IsTurned}
+use Rattle.round_planner.proofs.Plans.{ran}
+use Rattle.round_planner.proofs.Scans.{marked_few, marked_pages, walked_on}
+use Rattle.round_planner.proofs.marked.marked_round.Goals as goal
+
+pub mark_until-next-requires : goal.mark_until-next-requires
+mark_until-next-requires g c =
+    let has = c.sent_pages-sent.ensures c.requires.marks.coming c.requires.marks.is in
+    record { marks_len = has.within.scan.met.len; next_high = has.within.scan.bound }
+
+pub turn-dirtied-requires-clause-marks : goal.turn-dirtied-requires-clause-marks
+turn-dirtied-requires-clause-marks g c = omega (arith, c.mark_until-next.ensures.room.marks_len, c.requires.marks.is.at.can.list.few)
+
+pub turn-dirtied-requires-clause-room : goal.turn-dirtied-requires-clause-room
+turn-dirtied-requires-clause-room g c =
+    let coming = c.requires.marks.coming in
+    let is = c.requires.marks.is in
+    let has = c.sent_pages-sent.ensures coming is in
+    let scan =
+    walked_on (g.T.Timeline.pages c.args.timeline.now) (g.T.Timeline.touches c.args.timeline.now) coming.from coming.rate c.sent_pages-sent.result.0 c.duration.result
+    (c.args.now.now.step.from + c.duration.result) _ _ _ _ (ap (λ t. t + c.duration.result) is.at.from_is) (rw (is.at.rate_is) at c.duration.ensures.enough) has.within c.mark_until-next.ensures.walked in
+    omega (arith, marked_few _ _ coming.from _ _ _ scan, is.room_len)
+
+pub returns-clause-room : goal.returns-clause-room
+returns-clause-room g c = omega (arith, c.turn-dirtied.ensures.room, c.requires.marks.is.room_len)
+
+pub returns-clause-turned : goal.returns-clause-turned
+returns-clause-turned g c =
+    let pages = g.T.Timeline.pages c.args.timeline.now in
+    let touches = g.T.Timeline.touches c.args.timeline.now in
+    let coming = c.requires.marks.coming in
+    let at = c.requires.marks.is.at in
+    let has = c.sent_pages-sent.ensures coming c.requires.marks.is in
+    let to = c.args.now.now.step.from + c.duration.result in
+    let next = c.mark_until-next.result in
+    let scan =
+    walked_on pages touches coming.from coming.rate c.sent_pages-sent.result.0 c.duration.result to _ _ _ _ (ap (λ t. t + c.duration.result) at.from_is)
+    (rw (at.rate_is) at c.duration.ensures.enough) has.within c.mark_until-next.ensures.walked in
+    subst (λ (from : ℕ). IsTurned pages touches from to c.turn-dirtied.result next c.turn-dirtied.new.marks c.turn-dirtied.new.room) (sym at.from_is)
+    (c.turn-dirtied.ensures.turned pages coming.from to next touches scan)
+
+pub returns-clause-ran : goal.returns-clause-ran
+returns-clause-ran g c coming is =
+    let pages = g.T.Timeline.pages c.args.timeline.now in
+    let touches = g.T.Timeline.touches c.args.timeline.now in
+    let at = is.at in
+    let ticks = c.duration.result in
+    let has = c.sent_pages-sent.ensures coming is in
+    let to = coming.from + ticks in
+    let to_is : c.args.now.now.step.from + ticks ≡ to = ap (λ a. a + ticks) at.from_is in
+    let next = c.mark_until-next.result in
+    let marks = c.mark_until-next.new.marks in
+    let scan =
+    walked_on pages touches coming.from coming.rate c.sent_pages-sent.result.0 ticks to _ _ _ _ refl (rw (at.rate_is) at c.duration.ensures.enough) has.within (rw to_is at c.mark_until-next.ensures.walked) in
+    let dirtied = pages_written pages touches coming.from to in
+    let round : PlannedRound = record { from = coming.from; to = to; rate = coming.rate; pages = coming.pages; sent = has.list; dirtied = length dirtied } in
+    let ticks_are : ticks ≡ duration_of (length has.list) coming.rate = c.duration.ensures.value ∙ (λ i. duration_of (has.count_is i) (at.rate_is i)) in
+    record {
+      round = round;
+      dirtied = dirtied;
+      run = ran pages touches c.args.settings.now coming round dirtied ticks at.can has.sent refl refl refl refl ticks_are (rw (has.count_is, at.rate_is) at c.duration.ensures.enough)
+          (rw (has.count_is, at.rate_is) at c.duration.ensures.least) refl refl;
+      to_is = to_is;
+      sent_is = has.count_is;
+      dirtied_is = c.turn-dirtied.ensures.count ∙ ap length (marked_pages pages touches coming.from to next marks scan);
+      bound = scan.bound;
+      point = scan.point;
+    }
