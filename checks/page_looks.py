@@ -247,6 +247,16 @@ def heard_of(page, url):
     return sorted({path.strip("/") for path in Listener.heard})
 
 
+def without_policy(path):
+    """Writes the same page without its policy, and returns its path."""
+    with open(path, encoding="utf-8") as file:
+        text = file.read()
+    other = path.replace(".html", "-open.html")
+    with open(other, "w", encoding="utf-8") as file:
+        file.write(text.replace('http-equiv="Content-Security-Policy"', 'name="policy"'))
+    return other
+
+
 def check_silence(tally, page):
     """No request has left the page and none can; and nothing was thrown."""
     browser = page.browser
@@ -263,7 +273,8 @@ def check_silence(tally, page):
         url = f"http://127.0.0.1:{server.server_address[1]}"
         heard = heard_of(page, url)
         tally.add(not heard, f"sent from the page: {heard}")
-        browser.call("Page.navigate", url="about:blank")
+        browser.open(without_policy(page.path))
+        browser.wait("document.readyState === 'complete'")
         heard = heard_of(page, url)
         tally.add(len(heard) >= 5, f"without the page's policy only {heard} were sent, so the trial says little")
         server.shutdown()
