@@ -33,8 +33,9 @@ class Browser:
         os.close(their_out)
         self.count, self.rest, self.events = 0, b"", []
         self.session = None
-        target = self.call("Target.getTargets")["targetInfos"][0]["targetId"]
-        self.session = self.call("Target.attachToTarget", targetId=target, flatten=True)["sessionId"]
+        targets = self.call("Target.getTargets")["targetInfos"]
+        tab = next(target["targetId"] for target in targets if target["type"] == "page")
+        self.session = self.call("Target.attachToTarget", targetId=tab, flatten=True)["sessionId"]
         for name in ("Page", "Runtime", "Network", "Log", "DOM"):
             self.call(f"{name}.enable")
 
