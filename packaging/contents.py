@@ -148,7 +148,7 @@ def documents(places) -> Iterator[Entry]:
     """The documents and the examples, in folders as in the sources, so that the names in them lead to them."""
     for path in ("README.md", "CHANGELOG.md", "CONTRIBUTING.md", "LICENSE"):
         yield Entry(os.path.join(places.doc, path), read(path))
-    for folder in ("docs", "examples", "examples/c", "examples/guests", "bindings/python"):
+    for folder in ("docs", "docs/pictures", "examples", "examples/c", "examples/guests", "bindings/python"):
         for name in sorted(os.listdir(os.path.join(TOP, folder))):
             path = os.path.join(folder, name)
             if os.path.isfile(os.path.join(TOP, path)):
