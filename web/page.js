@@ -5,6 +5,7 @@ import { byId, oncePerFrame } from "./elements.js";
 import { counted, countOf, bytesText, rateText, secondsText } from "./numbers.js";
 import { refusalPart } from "./outcome.js";
 import { PlanView } from "./plan-view.js";
+import { watchWidths } from "./plot.js";
 import { hasWideMemory, Planner, Refusal } from "./planner.js";
 import { commandsOf, predictionOf } from "./predictions.js";
 import { serve } from "./starts-worker.js";
@@ -65,13 +66,7 @@ class Page {
     byId("exchange").addEventListener("click", () => this.exchange());
     this.listenToDrops();
     addEventListener("hashchange", () => this.follow());
-    let width = 0;
-    new ResizeObserver(([{ contentRect }]) => {
-      if (contentRect.width !== width) {
-        width = contentRect.width;
-        this.drawSoon();
-      }
-    }).observe(byId("results"));
+    watchWidths([...document.querySelectorAll(".plot")], this.drawSoon);
   }
 
   listenToDrops() {

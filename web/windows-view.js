@@ -2,7 +2,7 @@
 
 import { byId, svg } from "./elements.js";
 import { windowsTable } from "./outcome.js";
-import { Inspector } from "./plot.js";
+import { Inspector, widthOf } from "./plot.js";
 import { Refusal } from "./planner.js";
 import { amountOf, TIME_UNITS } from "./units.js";
 import { drawnAt, planMarks, traceAxis, windowParts, windowsPicture, windowWords } from "./windows-chart.js";
@@ -47,7 +47,7 @@ export class WindowsView {
 
   /** Draws the windows, and on them a prediction if there is one. Windows out of range are refused by the plan too. */
   draw(planner, settings, prediction) {
-    const width = this.plot.clientWidth;
+    const width = widthOf(this.plot);
     const tick = Number(amountOf(settings.tick, TIME_UNITS)) || 1;
     try {
       const { axis, panel, marks } = this.partsOf(planner, settings, width, tick);
