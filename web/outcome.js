@@ -59,7 +59,7 @@ export function comparisonOf(prediction, kept) {
     }
     return html("tr", {}, ...cells);
   });
-  return html("table", { class: "comparison" }, html("caption", { class: "hidden" }, "What the plan comes to"),
+  return html("table", { class: kept ? "comparison two" : "comparison" }, html("caption", { class: "hidden" }, "What the plan comes to"),
     html("thead", {}, head), html("tbody", {}, ...rows));
 }
 
