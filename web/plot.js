@@ -25,10 +25,10 @@ export function axisOf(width, first, last) {
 /** The widths of plots as they were seen last. To ask the page for them in a drawing would have it laid out twice. */
 const seenWidths = new Map();
 
-/** Watches the widths of plots, and calls `changed` if one becomes another. */
+/** Watches the widths of plots, and calls `changed` if one becomes another. A plot that is hidden keeps its width. */
 export function watchWidths(plots, changed) {
   const observer = new ResizeObserver((entries) => {
-    const others = entries.filter(({ target, contentRect }) => seenWidths.get(target) !== contentRect.width);
+    const others = entries.filter(({ target, contentRect: { width } }) => width > 0 && seenWidths.get(target) !== width);
     others.forEach(({ target, contentRect }) => seenWidths.set(target, contentRect.width));
     if (others.length > 0) {
       changed();
