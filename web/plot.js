@@ -28,7 +28,8 @@ const seenWidths = new Map();
 /** Watches the widths of plots, and calls `changed` if one becomes another. A plot that is hidden keeps its width. */
 export function watchWidths(plots, changed) {
   const observer = new ResizeObserver((entries) => {
-    const others = entries.filter(({ target, contentRect: { width } }) => width > 0 && seenWidths.get(target) !== width);
+    const isOther = ({ target, contentRect: { width } }) => width > 0 && seenWidths.get(target) !== width;
+    const others = entries.filter(isOther);
     others.forEach(({ target, contentRect }) => seenWidths.set(target, contentRect.width));
     if (others.length > 0) {
       changed();
