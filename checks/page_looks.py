@@ -83,7 +83,7 @@ def fill(page):
     browser.value("document.getElementById('keep').click(); document.getElementById('control-skip').click();"
                   "document.getElementById('windows-details').open = true")
     browser.value("document.getElementById('ask').click()")
-    browser.wait("document.querySelector('#starts-plot svg')")
+    browser.wait("document.querySelector('#starts-plot svg') !== null")
 
 
 def check_widths(page, folder):

@@ -11,7 +11,7 @@ const GROUPS = [
   {
     title: "Link",
     controls: [
-      { name: "link", isDerived: true, label: "Link for the migration", ...RATE },
+      { name: "link", isDerived: true, label: "Share of the link", ...RATE },
       { name: "first", isDerived: true, label: "First round", unit: "% of the link", low: 1, high: 100, most: 100 },
       { name: "increase", isDerived: true, label: "Increment", unit: "% of the rest", low: 0, high: 100, most: 100 },
     ],

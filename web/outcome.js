@@ -59,7 +59,8 @@ export function comparisonOf(prediction, kept) {
     }
     return html("tr", {}, ...cells);
   });
-  return html("table", { class: "comparison" }, html("caption", { class: "hidden" }, "What the plan comes to"),
+  const caption = html("caption", { class: "hidden" }, "What the plan comes to");
+  return html("table", { class: kept ? "comparison two" : "comparison" }, caption,
     html("thead", {}, head), html("tbody", {}, ...rows));
 }
 

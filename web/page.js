@@ -5,11 +5,12 @@ import { byId, oncePerFrame } from "./elements.js";
 import { counted, countOf, bytesText, rateText, secondsText } from "./numbers.js";
 import { refusalPart } from "./outcome.js";
 import { PlanView } from "./plan-view.js";
+import { watchWidths } from "./plot.js";
 import { hasWideMemory, Planner, Refusal } from "./planner.js";
 import { commandsOf, predictionOf } from "./predictions.js";
 import { serve } from "./starts-worker.js";
 import { StartsView } from "./starts-view.js";
-import { fitted, fragmentOf, presetOf, stateIn } from "./state.js";
+import { fitted, fragmentOf, plainSettings, presetOf, stateIn } from "./state.js";
 import { embeddedBytes, exampleSource, piecesOf } from "./trace-source.js";
 import { amountOf, bytesOf, LimitRefusal, limitsOf, microsOf, TIME_UNITS } from "./units.js";
 import { WindowsView } from "./windows-view.js";
@@ -65,13 +66,7 @@ class Page {
     byId("exchange").addEventListener("click", () => this.exchange());
     this.listenToDrops();
     addEventListener("hashchange", () => this.follow());
-    let width = 0;
-    new ResizeObserver(([{ contentRect }]) => {
-      if (contentRect.width !== width) {
-        width = contentRect.width;
-        this.drawSoon();
-      }
-    }).observe(byId("results"));
+    watchWidths([...document.querySelectorAll(".plot")], this.drawSoon);
   }
 
   listenToDrops() {
@@ -114,7 +109,10 @@ class Page {
     return this.load(source, example, true);
   }
 
-  /** Loads a trace, if no other is asked for meanwhile. Settings that were given with an address stay as they are. */
+  /**
+   * Loads a trace, if no other is asked for meanwhile. Settings that were given with an address stay as they are; those
+   * of an example are not for another trace.
+   */
   async load(source, example, isGiven) {
     this.loading += 1;
     const { loading } = this;
@@ -124,8 +122,11 @@ class Page {
       if (loading !== this.loading) {
         return;
       }
-      const settings = isGiven ? this.state.settings : fitted(this.state.settings, planner.sizes.last);
-      this.state = { ...this.state, settings, example };
+      if (!isGiven) {
+        const settings = this.state.example ? plainSettings() : this.state.settings;
+        this.state.settings = fitted(settings, planner.sizes.last);
+      }
+      this.state = { ...this.state, example };
       this.take(source, planner);
     } catch (error) {
       if (!(error instanceof Refusal)) {

@@ -3,7 +3,7 @@
 import { byId, html } from "./elements.js";
 import { bytesText, secondsText } from "./numbers.js";
 import { comparisonOf, refusalPart, roundsTable, verdictOf, verdictParts } from "./outcome.js";
-import { Inspector } from "./plot.js";
+import { Inspector, widthOf } from "./plot.js";
 import { quantityWords } from "./quantities.js";
 import { reachOf, roundsLook, roundsPicture } from "./rounds-chart.js";
 import { RATE_UNITS, TIME_UNITS } from "./units.js";
@@ -91,7 +91,7 @@ export class PlanView {
   drawOne(name, prediction, reach, title) {
     const plot = byId(`rounds-plot-${name}`);
     byId(`rounds-title-${name}`).textContent = title;
-    const { axis, picture } = roundsPicture(plot.clientWidth, prediction, reach);
+    const { axis, picture } = roundsPicture(widthOf(plot), prediction, reach);
     plot.replaceChildren(picture);
     this.inspectors[name].take(roundsLook(axis, prediction));
     byId(`rounds-table-${name}`).replaceChildren(roundsTable(prediction));

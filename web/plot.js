@@ -22,6 +22,30 @@ export function axisOf(width, first, last) {
   };
 }
 
+/** The widths of plots as they were seen last. To ask the page for them in a drawing would have it laid out twice. */
+const seenWidths = new Map();
+
+/** Watches the widths of plots, and calls `changed` if one becomes another. A plot that is hidden keeps its width. */
+export function watchWidths(plots, changed) {
+  const observer = new ResizeObserver((entries) => {
+    const isOther = ({ target, contentRect: { width } }) => width > 0 && seenWidths.get(target) !== width;
+    const others = entries.filter(isOther);
+    others.forEach(({ target, contentRect }) => seenWidths.set(target, contentRect.width));
+    if (others.length > 0) {
+      changed();
+    }
+  });
+  plots.forEach((plot) => observer.observe(plot));
+}
+
+/** The width of a plot, in pixels. */
+export function widthOf(plot) {
+  if (!seenWidths.get(plot)) {
+    seenWidths.set(plot, plot.clientWidth);
+  }
+  return seenWidths.get(plot);
+}
+
 /** The least step of 1, 2 or 5 times a power of ten that parts a span into no more than so many. */
 function stepFor(span, most) {
   const least = Math.max(span / Math.max(1, most), 1e-9);

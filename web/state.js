@@ -127,6 +127,11 @@ function windowFor(last) {
   return [1, 2, 5, 10].map((factor) => factor * power).find((length) => length >= least);
 }
 
+/** The settings of a page that nothing was asked of. */
+export function plainSettings() {
+  return structuredClone(DEFAULTS);
+}
+
 /** Settings that suit a trace with this last tick: start, base and windows lie within it. */
 export function fitted(settings, last) {
   const start = Math.min(settings.start, last);

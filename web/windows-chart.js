@@ -99,9 +99,9 @@ export function planMarks(axis, panel, settings, plan) {
   return marks;
 }
 
-/** The picture, with marks over the bars. */
-export function windowsPicture(width, parts, marks) {
-  return pictureOf(width, WINDOWS_TOP + WINDOWS_HEIGHT + 26, [...parts, ...marks]);
+/** The picture of all parts. */
+export function windowsPicture(width, parts) {
+  return pictureOf(width, WINDOWS_TOP + WINDOWS_HEIGHT + 26, parts);
 }
 
 /** What a window has, in words. */

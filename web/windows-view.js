@@ -1,8 +1,8 @@
 // The section of the working set: its picture, and its table while that is open.
 
-import { byId } from "./elements.js";
+import { byId, svg } from "./elements.js";
 import { windowsTable } from "./outcome.js";
-import { Inspector } from "./plot.js";
+import { Inspector, widthOf } from "./plot.js";
 import { Refusal } from "./planner.js";
 import { amountOf, TIME_UNITS } from "./units.js";
 import { drawnAt, planMarks, traceAxis, windowParts, windowsPicture, windowWords } from "./windows-chart.js";
@@ -30,31 +30,34 @@ export class WindowsView {
     return this.held.windows;
   }
 
-  /** The bars, drawn again only if something of them has changed. */
+  /** The picture, drawn again only if something of the bars has changed; the marks in it are of a prediction. */
   partsOf(planner, settings, width, tick) {
     const windows = this.windowsOf(planner, settings.window);
     const key = `${width} ${tick}`;
     if (this.held.key !== key) {
       const axis = traceAxis(width, planner.sizes, settings.window);
-      this.held = { ...this.held, key, axis, ...windowParts(axis, windows, settings.window, tick) };
+      const { panel, drawn, parts } = windowParts(axis, windows, settings.window, tick);
+      const marks = svg("g");
+      this.held = { ...this.held, key, axis, panel, drawn, marks };
+      this.plot.replaceChildren(windowsPicture(width, [...parts, marks]));
+      this.inspector.take(this.lookAt(axis, windows, drawn, settings));
     }
     return this.held;
   }
 
   /** Draws the windows, and on them a prediction if there is one. Windows out of range are refused by the plan too. */
   draw(planner, settings, prediction) {
-    const width = this.plot.clientWidth;
+    const width = widthOf(this.plot);
     const tick = Number(amountOf(settings.tick, TIME_UNITS)) || 1;
     try {
-      const { axis, panel, drawn, parts, windows } = this.partsOf(planner, settings, width, tick);
-      const marks = prediction ? planMarks(axis, panel, prediction.settings, prediction.plan) : [];
-      this.plot.replaceChildren(windowsPicture(width, parts, marks));
-      this.inspector.take(this.lookAt(axis, windows, drawn, settings));
+      const { axis, panel, marks } = this.partsOf(planner, settings, width, tick);
+      marks.replaceChildren(...(prediction ? planMarks(axis, panel, prediction.settings, prediction.plan) : []));
       this.axis = axis;
     } catch (error) {
       if (!(error instanceof Refusal)) {
         throw error;
       }
+      this.held = {};
       this.plot.replaceChildren();
       this.axis = null;
     }
