@@ -12,7 +12,8 @@ import time
 SECONDS = 60
 WORDS = ["--headless=new", "--remote-debugging-pipe", "--no-first-run", "--no-default-browser-check", "--disable-gpu",
          "--disable-background-networking", "--disable-component-update", "--disable-sync", "--hide-scrollbars",
-         "--force-color-profile=srgb", "about:blank"]
+         # Else more than 200 changes of the address in 10 seconds are passed over.
+         "--disable-ipc-flooding-protection", "--force-color-profile=srgb", "about:blank"]
 
 
 class BrowserError(Exception):
