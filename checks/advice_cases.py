@@ -6,7 +6,7 @@ Also sweeps as documents in times and bytes.
 import itertools
 import random
 
-from limit_cases import Known, Limits, costs_of, seconds, size_text
+from limit_cases import Known, Limits, costs_of, ran_in_range, seconds, size_text
 from view_texts import Failure, document_of, facts, ran, sweep_facts, told
 
 BUDGETS = [
@@ -92,13 +92,10 @@ def check_advice(view, precopy, words, trace):
 
 def check_measured_advice(view, precopy, limits, more, known):
     words = [*limits.words, *more]
-    status, text, faults = ran(view, ["advise", *words], known.path)
-    settings = limits.settings()
-    if settings is None:
-        if status != 2 or text or not faults.startswith("precopy-view: --"):
-            raise Failure(f"{words}: status {status}, {faults!r}")
+    status, text = ran_in_range(view, "advise", words, limits, known)
+    if status is None:
         return
-    least, most, inc, threshold = [int(word.split("=")[1]) for word in settings]
+    least, most, inc, threshold = [int(word.split("=")[1]) for word in limits.settings()]
     given = facts([part for word in more for part in word[2:].split("=")])
     budget = {**given, "down": (limits.downtime - limits.reserve) // limits.tick}
     wanted = advised_lines(precopy, known.path, (least, most, inc, threshold, 30), budget, more, limits)

@@ -139,14 +139,23 @@ def error_lines(limits, lists):
     return [f"standard errors: sent {size_text(sent * limits.page)}, downtime {seconds(time)}"]
 
 
+def ran_in_range(view, command, words, limits, known):
+    """Returns the status and the text of a command; where its limits make no settings, it has to refuse them, and the
+    status is None."""
+    status, text, faults = ran(view, [command, *words], known.path)
+    if limits.settings() is not None:
+        return status, text
+    if status != 2 or text or not faults.startswith("precopy-view: --"):
+        raise Failure(f"{words}: status {status}, {faults!r}")
+    return None, text
+
+
 def check_prediction(view, precopy, limits, start, known):
     words = [*limits.words, f"--start={start}"]
-    status, text, faults = ran(view, ["predict", *words], known.path)
-    settings = limits.settings()
-    if settings is None:
-        if status != 2 or text or not faults.startswith("precopy-view: --"):
-            raise Failure(f"{words}: status {status}, {faults!r}")
+    status, text = ran_in_range(view, "predict", words, limits, known)
+    if status is None:
         return
+    settings = limits.settings()
     report = report_facts(told(precopy, ["report", *settings, f"--start={start}"], known.path))
     lines, warnings, wanted = predicted_lines(limits, report, start, known.last)
     lines += error_lines(limits, pages_sent(report, known))
@@ -264,10 +273,8 @@ def start_ticks(draw, last):
 def check_starts(view, precopy, limits, starts, workers, known):
     words, ticks = starts
     words = [*limits.words, *words, f"--workers={workers}"]
-    status, text, faults = ran(view, ["when", *words], known.path)
-    if limits.settings() is None:
-        if status != 2 or text or not faults.startswith("precopy-view: --"):
-            raise Failure(f"{words}: status {status}, {faults!r}")
+    status, text = ran_in_range(view, "when", words, limits, known)
+    if status is None:
         return
     costs = start_costs(precopy, limits, ticks, known)
     within = [cost for cost in costs if cost["known"]]
