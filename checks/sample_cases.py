@@ -205,10 +205,10 @@ def exact_huge(_, folder):
 
 
 def exact_of_few(_, folder):
-    """Each drawn page asked for by itself, and found by a survey of all memory."""
+    """Each drawn page asked for by itself, found by a survey of all memory, or of those that are near one another."""
     for kind in ("private", "shared", "huge"):
-        for scan in ("pages", "whole"):
-            exact(folder, kind, 1 << 14, 200, words=["--scan", scan])
+        for words in (["--scan", "pages"], ["--scan", "whole"], []):
+            exact(folder, kind, 1 << 14, 200, words=words)
 
 
 def exact_by_values(_, folder):

@@ -5,8 +5,8 @@ at once. The scan tells pages without protection and protects them again, in one
 lost, and nobody waits. Only the pages that are followed are protected. The kernel takes all of it back when the
 descriptor is closed, or its owner dies.
 
-To ask for each page costs the same for a guest of any size. Where a guest is not much larger than what is followed, a
-survey of all its memory is faster: it tells which pages are protected still, and only the others are asked for.
+Pages near one another are surveyed in one call: it tells which are protected still, and only the others are asked for.
+A page with no other near is asked for by itself, which costs the same for a guest of any size.
 """
 
 import bisect
@@ -32,8 +32,9 @@ PROTECTING, ONLY_WATCHED = 1, 2
 WRITTEN, PRESENT, SWAPPED = 1 << 1, 1 << 3, 1 << 4
 REQUEST = struct.Struct("=12Q")
 REGION = struct.Struct("=3Q")
-# A survey takes some 5 nanoseconds for each page of the guest, and to ask for one page takes 750.
-WHOLE_PAGES = 150
+# A survey takes some 5 nanoseconds for each page that it passes, and a call takes 900. So far apart may its pages be.
+NEAR = 96 * PAGE
+REACH = {None: NEAR, "whole": 1 << 64, "pages": 0}
 # So many pages are surveyed at once: few enough that of most parts none was written since the last look.
 PART = 32
 
@@ -65,6 +66,17 @@ def regions_of(places: list[int]) -> Iterator[bytes]:
             begin = following
 
 
+def groups_of(ranges: list[tuple[int, int]], places: list[int], reach: int) -> Iterator[tuple[int, int]]:
+    """Pages of one call, as the first number and the one after the last: none is farther than that from the one before.
+    None goes beyond a range, where nothing is watched."""
+    for begin, end in ranges:
+        low, last = bisect.bisect_left(places, begin), bisect.bisect_left(places, end)
+        for high in range(low + 1, last + 1):
+            if high == last or high == low + PART or places[high] - places[high - 1] > reach:
+                yield low, high
+                low = high
+
+
 class Part(NamedTuple):
     """Some pages, where in the buffer their regions are told, and what stands there where none was written."""
 
@@ -74,26 +86,18 @@ class Part(NamedTuple):
 
 
 class Survey:
-    """Looks over all memory for pages that may have been written, and changes nothing."""
+    """Looks over groups of pages for those that may have been written, and changes nothing."""
 
-    def __init__(self, ranges: list[tuple[int, int]], places: list[int]):
+    def __init__(self, groups: list[tuple[int, int]], places: list[int]):
         self.told = bytearray(REGION.size * len(places))
         self.parts: list[Part] = []
         self.requests: list[bytearray] = []
         into = address_of(self.told)
-        for low, high in self._bounds(ranges, places):
+        for low, high in groups:
             of, slot = places[low:high], slice(REGION.size * low, REGION.size * high)
             unwritten = b"".join(regions_of(of)).ljust(slot.stop - slot.start, b"\0")
             self.parts.append(Part(dict(zip(of, range(low, high))), slot, unwritten))
             self.requests.append(surveying(of[0], of[-1] + PAGE, into + slot.start, len(of)))
-
-    @staticmethod
-    def _bounds(ranges: list[tuple[int, int]], places: list[int]) -> Iterator[tuple[int, int]]:
-        """The parts, as first number and the one after the last. None goes beyond a range, where nothing is watched."""
-        for begin, end in ranges:
-            first, last = bisect.bisect_left(places, begin), bisect.bisect_left(places, end)
-            for low in range(first, last, PART):
-                yield low, min(low + PART, last)
 
     def look(self, pagemap: int) -> list[int]:
         """The numbers of the pages that are not known to be protected. It may tell more than were written."""
@@ -157,10 +161,10 @@ class WrittenPages:
         return f"the kernel does not watch {begin:#x}-{end:#x}: {fault.strerror}"
 
     def _prepare(self) -> None:
-        """Makes the requests once: one for each page, and those of a survey where that is faster."""
-        pages = sum(end - begin for begin, end in self.ranges) // PAGE
-        self.is_whole = self.scan == "whole" if self.scan else pages <= WHOLE_PAGES * len(self.places)
-        self.survey = Survey(self.ranges, self.places) if self.is_whole else None
+        """Makes the requests once: one for each page, and those of a survey of pages near one another."""
+        groups = list(groups_of(self.ranges, self.places, REACH[self.scan]))
+        self.alone = [low for low, high in groups if high == low + 1]
+        self.survey = Survey([group for group in groups if group[1] > group[0] + 1], self.places)
         self.region = bytearray(REGION.size)
         self.requests = [asking(place, address_of(self.region)) for place in self.places]
 
@@ -183,12 +187,11 @@ class WrittenPages:
 
     def _unprotected(self) -> Iterable[int]:
         """The numbers of pages that are to be asked for."""
-        if self.survey:
-            try:
-                return self.survey.look(self.pagemap)
-            except PermissionError:
-                self.register()
-        return range(len(self.places))
+        try:
+            return sorted(self.alone + self.survey.look(self.pagemap))
+        except PermissionError:
+            self.register()
+            return range(len(self.places))
 
     def _ask(self, numbers: Iterable[int]) -> list[int]:
         call, pagemap, requests, written = ioctl, self.pagemap, self.requests, []
