@@ -1,43 +1,9 @@
 """What checks/refusals runs, and what it has to write. That is worked out by hand from docs/FORMATS.md and the rules of
 the plan, not by the program; except for help, which is what the program writes if nothing is refused."""
 
-import struct
-
-
-def header(pages, writes, shift=4):
-    return b"PCWT" + bytes([1, shift, 0, 0]) + struct.pack("<II", pages, writes)
-
-
-def record(tick, page, offset, data):
-    return struct.pack("<QIHH", tick, page, offset, len(data)) + data
-
-
-A = header(4, 5) + b"".join(
-    [
-        record(0, 0, 0, b"\x01"),
-        record(5, 1, 15, b"\x02"),
-        record(1200, 1, 0, b"\x03"),
-        record(2500, 3, 2, b"\x04\x05"),
-        record(2500, 1, 0, b"\x00"),
-    ]
-)
-assert len(A) == 102
+from worked import A, A_AT_2000, A_IMAGE, A_REPORT, header, record
 
 ZEROS = bytes(16)
-A_IMAGE = b"\x01" + bytes(15) + bytes(15) + b"\x02" + ZEROS + b"\x00\x00\x04\x05" + bytes(12)
-A_AT_2000 = b"\x01" + bytes(15) + b"\x03" + bytes(14) + b"\x02" + ZEROS + ZEROS
-A_REPORT = b"""\
-trace pages 4 size 16 writes 5
-window 0 writes 2 pages 2 again 0 fresh 2
-window 1 writes 1 pages 1 again 1 fresh 0
-window 2 writes 2 pages 2 again 1 fresh 1
-hot 2 pages 1
-page 1
-round 0 from 0 to 2000 rate 2 pages 4 sent 4 dirtied 2
-round 1 from 2000 to 3000 rate 2 pages 2 sent 2 dirtied 2
-round 2 from 3000 to 3667 rate 3 pages 2 sent 2 dirtied 0
-stop few at 3667 pages 0 down 0 total 8
-"""
 A_SWEEP = b"""\
 case 0 min 2 max 4 inc 1 threshold 1 limit 8 skip 0 rounds 3 stop few at 3667 down 0 total 8
 case 1 min 2 max 2 inc 1 threshold 1 limit 8 skip 0 rounds 2 stop fast at 3000 down 1000 total 8

@@ -2,7 +2,7 @@
 
 ghost use Rattle.std.specs.Prelude.{◌≡◌, IfOk, false};
 
-use crate::input_rows::{MEMORY, trace_of};
+use crate::input_rows::trace_of;
 use live_engine::OpenGate;
 use migration_jobs::{Job, RunError, Show, TestSink, run};
 use rate_limit::{Asked, Settings};
@@ -12,6 +12,7 @@ use std::test::Fail;
 use std::thread::Threads;
 use trace_codec::{TestSource, TraceError, read_trace};
 use trace_readers::{HeldTrace, IncomingTrace, TouchLog};
+use worked_guest::{MEMORY, asked};
 
 /// How many jobs there are.
 const JOBS: usize = 5;
@@ -19,20 +20,10 @@ const JOBS: usize = 5;
 /// Returns slow rates, by which the plan has three rounds and stops at tick 3667.
 fn settings() -> Result<Settings, Fail> {
     Ok(Settings::new(Asked {
-        min: 2,
-        max: 4,
-        increment: 1,
-        threshold: 1,
-        rounds: 8,
-        start: 0,
-        window: 1000,
-        hot: 2,
         workers: 2,
         streams: 2,
         replayers: 2,
-        lane: 1024,
-        skip: false,
-        base: None,
+        ..asked()
     })?)
 }
 

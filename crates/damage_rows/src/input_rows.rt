@@ -7,40 +7,31 @@ use std::alloc::{AllocError, Global};
 use std::test::Fail;
 use trace_codec::{Source, TestSource, TraceError, decode, read_trace};
 use trace_readers::{HeldTrace, TouchLog};
+use worked_guest::{MEMORY, TRACE};
 
-/// Pages of 16 bytes, 4 pages, 5 writes.
-pub(crate) static HEADER: [u8; 16] = [0x50, 0x43, 0x57, 0x54, 1, 4, 0, 0, 4, 0, 0, 0, 5, 0, 0, 0];
+/// Returns a write of the trace, counted from 0: to page 0 at tick 0, to page 1 at ticks 5 and 1200, to pages 3 and 1
+/// at tick 2500. There is no other.
+fn record(number: usize) -> &'static [u8] {
+    match number {
+        0 => &TRACE[16..33],
+        1 => &TRACE[33..50],
+        2 => &TRACE[50..67],
+        3 => &TRACE[67..85],
+        4 => &TRACE[85..],
+        _ => &[],
+    }
+}
 
-/// The writes, counted from 0: to page 0 at tick 0, to page 1 at ticks 5 and 1200, to pages 3 and 1 at tick 2500.
-pub(crate) static RECORDS: [&[u8]; 5] = [
-    &[0, 0, 0, 0, 0, 0, 0, 0, 0, 0, 0, 0, 0, 0, 1, 0, 1],
-    &[5, 0, 0, 0, 0, 0, 0, 0, 1, 0, 0, 0, 15, 0, 1, 0, 2],
-    &[0xb0, 4, 0, 0, 0, 0, 0, 0, 1, 0, 0, 0, 0, 0, 1, 0, 3],
-    &[0xc4, 9, 0, 0, 0, 0, 0, 0, 3, 0, 0, 0, 2, 0, 2, 0, 4, 5],
-    &[0xc4, 9, 0, 0, 0, 0, 0, 0, 1, 0, 0, 0, 0, 0, 1, 0, 0],
-];
-
-/// The memory after all writes.
-pub(crate) static MEMORY: [u8; 64] = [
-    1, 0, 0, 0, 0, 0, 0, 0, 0, 0, 0, 0, 0, 0, 0, 0, //
-    0, 0, 0, 0, 0, 0, 0, 0, 0, 0, 0, 0, 0, 0, 0, 2, //
-    0, 0, 0, 0, 0, 0, 0, 0, 0, 0, 0, 0, 0, 0, 0, 0, //
-    0, 0, 4, 5, 0, 0, 0, 0, 0, 0, 0, 0, 0, 0, 0, 0,
-];
-
-/// Returns a trace whose header counts so many writes, with these of the records above.
+/// Returns a trace whose header counts so many writes, with these of the trace's writes.
 pub(crate) fn trace_of(
     alloc: Global,
     writes: u32,
     records: &[usize],
 ) -> Result<Vec<u8>, AllocError> {
-    let mut bytes = Vec::from_slice(alloc, &HEADER)?;
-    bytes.truncate(12);
+    let mut bytes = Vec::from_slice(alloc, &TRACE[..12])?;
     bytes.extend_from_slice(&writes.to_le_bytes())?;
     for number in records {
-        if let Some(record) = RECORDS.get(*number) {
-            bytes.extend_from_slice(record)?;
-        }
+        bytes.extend_from_slice(record(*number))?;
     }
     Ok(bytes)
 }
@@ -120,7 +111,7 @@ fn two_bytes_past_the_end_of_a_page_are_refused(rt: HostRuntime) -> Result<(), F
     let mut bytes = trace_of(alloc, 5, &[0])?;
     bytes.extend_from_slice(&[5, 0, 0, 0, 0, 0, 0, 0, 1, 0, 0, 0, 15, 0, 2, 0, 2, 2])?;
     for number in [2usize, 3, 4] {
-        bytes.extend_from_slice(RECORDS[number])?;
+        bytes.extend_from_slice(record(number))?;
     }
     let cause = Some(TraceError::OutOfPage(1));
     assert_eq!(rt; refusals(alloc, &bytes)?, [cause; 4]);

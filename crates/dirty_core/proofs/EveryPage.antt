@@ -1,15 +1,18 @@
 -- What holds of every page after each legal list of events.
-use Rattle.std.proofs.Common.{◌≡◌, ◌≢◌, ℕ, ◌%◌, Bool, true, false, not, ◌&&◌, List, [], ◌∷◌, ◌++◌, Option, Some, None, refl, sym, ap, ◌∙◌, inl, inr}
+use Rattle.std.proofs.Common.{◌≡◌, ◌≢◌, ℕ, ◌%◌, Bool, true, false, not, ◌&&◌, List, [], ◌∷◌, ◌++◌, Option, Some, None}
+use Rattle.std.proofs.Common.{refl, sym, ap, ◌∙◌, inl, inr}
 use Rattle.std.specs.Prelude.{IsTrue, IsSome, is_some, ◌⊎◌}
 use Rattle.std.specs.List.{fold}
-use Rattle.std.proofs.lemmas.Bool.{eqb-true, eq-eqb, ne_eqb, cases_eq, cases_Bool, and_from, or_cases, or_left, or_right, both_ways}
+use Rattle.std.proofs.lemmas.Bool.{eqb-true, eq-eqb, ne_eqb, cases_eq, cases_Bool, and_from, or_cases, or_left}
+use Rattle.std.proofs.lemmas.Bool.{or_right, both_ways}
 use Rattle.dirty_core.specs.declared.event.Event.{Event}
 use Rattle.dirty_core.specs.declared.event.Event.TheVariants.{Store, Mark, Harvest, Peek, Restore, Read}
 use Rattle.dirty_core.specs.declared.refusal.CoreRefusal.TheVariants.{NotOwner, Pending, NothingPending}
 use Rattle.page_bitmap.specs.Pages.{PageSet, one_page, word_pages, bit_pages, union, common, minus}
 use Rattle.dirty_core.specs.Start.{Start, GuestOwns, CopierOwns, CopierOwnsPage, guest_of, copier_of}
 use Rattle.dirty_core.specs.Machine.{DirtyCore, Visits, last_visit, is_stored, put, with_pending, Needs, after}
-use Rattle.dirty_core.specs.Runs.{opened, core_after, IsLegalFrom, IsLegal, IsPending, IsRead, IsCaughtUp, IsOnlyDue, CaughtUp, OnlyDue, KnowsMark}
+use Rattle.dirty_core.specs.Runs.{opened, core_after, IsLegalFrom, IsLegal, IsPending, IsRead, IsCaughtUp, IsOnlyDue}
+use Rattle.dirty_core.specs.Runs.{CaughtUp, OnlyDue, KnowsMark}
 
 -- what each event keeps
 pub record IsSound (core : DirtyCore) : Type 0 where
@@ -34,14 +37,16 @@ put_else f i v n ne = rw (ne_eqb n i ne) refl
 visited : (page place : ℕ) (others : Visits) → last_visit ((page, place) ∷ others) page ≡ Some place
 visited page place others = rw (eq-eqb page page refl) refl
 
-not_visited : (page place other : ℕ) (others : Visits) → other ≢ page → last_visit ((page, place) ∷ others) other ≡ last_visit others other
+not_visited : (page place other : ℕ) (others : Visits) → other ≢ page
+    → last_visit ((page, place) ∷ others) other ≡ last_visit others other
 not_visited page place other others ne = rw (ne_eqb page other (λ e. ne (sym e))) refl
 
 -- of a seat's visits, after one more of its own
 pub seat_visited : (visits : ℕ → Visits) (seat page place : ℕ) → (owner : ℕ) → owner ≡ seat
     → last_visit (put visits seat ((page, place) ∷ visits seat) owner) page ≡ Some place
 seat_visited visits seat page place owner e =
-    ap (λ v. last_visit v page) (put_at visits seat ((page, place) ∷ visits seat) owner e) ∙ visited page place (visits seat)
+    ap (λ v. last_visit v page) (put_at visits seat ((page, place) ∷ visits seat) owner e)
+    ∙ visited page place (visits seat)
 
 pub seat_not_visited : (visits : ℕ → Visits) (seat page place owner other : ℕ) → other ≢ page
     → last_visit (put visits seat ((page, place) ∷ visits seat) owner) other ≡ last_visit (visits owner) other
@@ -61,7 +66,8 @@ pub set_else : (f : ℕ → PageSet) (i : ℕ) (v : PageSet) (n page : ℕ) → 
 set_else f i v n page ne = ap (λ s. s page) (put_else f i v n ne)
 
 -- a held page that the seat's new set keeps
-still_held : (f : ℕ → PageSet) (i : ℕ) (v : PageSet) (n page : ℕ) → IsTrue (f n page) → (n ≡ i → IsTrue (v page)) → IsTrue (put f i v n page)
+still_held : (f : ℕ → PageSet) (i : ℕ) (v : PageSet) (n page : ℕ) → IsTrue (f n page) → (n ≡ i → IsTrue (v page))
+    → IsTrue (put f i v n page)
 still_held f i v n page held kept = elim (cases_eq n i) [
   | inl e ↦ set_at f i v n page e ∙ kept e
   | inr ne ↦ set_else f i v n page ne ∙ held
@@ -96,16 +102,20 @@ minus_part false b is = absurd cc
 
 -- ---- a store
 
-stored_else : (core : DirtyCore) (guest page place other : ℕ) → other ≢ page → is_stored (after core (Store guest page place)) other ≡ is_stored core other
-stored_else core guest page place other ne = ap is_some (seat_not_visited core.stores guest page place (guest_of core.sizes other) other ne)
+stored_else : (core : DirtyCore) (guest page place other : ℕ) → other ≢ page
+    → is_stored (after core (Store guest page place)) other ≡ is_stored core other
+stored_else core guest page place other ne = ap is_some (seat_not_visited core.stores guest page place
+    (guest_of core.sizes other) other ne)
 
 stored_here : (core : DirtyCore) (guest page place other : ℕ) → guest_of core.sizes page ≡ guest → other ≡ page
     → is_stored (after core (Store guest page place)) other ≡ true
 stored_here core guest page place other owner e =
-    ap (λ p. is_some (last_visit (put core.stores guest ((page, place) ∷ core.stores guest) (guest_of core.sizes p)) p)) e
+    ap (λ p. is_some (last_visit (put core.stores guest ((page, place) ∷ core.stores guest) (guest_of core.sizes p)) p))
+    e
     ∙ ap is_some (seat_visited core.stores guest page place (guest_of core.sizes page) owner)
 
-pub stored_still : (core : DirtyCore) (guest page place other : ℕ) → guest_of core.sizes page ≡ guest → IsTrue (is_stored core other)
+pub stored_still : (core : DirtyCore) (guest page place other : ℕ) → guest_of core.sizes page ≡ guest
+    → IsTrue (is_stored core other)
     → IsTrue (is_stored (after core (Store guest page place)) other)
 stored_still core guest page place other owner was = elim (cases_eq other page) [
   | inl e ↦ stored_here core guest page place other owner e
@@ -119,22 +129,26 @@ pending_else core guest page place other free was = elim (cases_eq (guest_of cor
   | inr far ↦ put_else core.pending guest (Some page) (guest_of core.sizes other) far ∙ was
 ]
 
-IsSound-store : (core : DirtyCore) (guest page place : ℕ) → GuestOwns core.sizes guest page → core.pending guest ≡ None → IsSound core
+IsSound-store : (core : DirtyCore) (guest page place : ℕ) → GuestOwns core.sizes guest page → core.pending guest ≡ None
+    → IsSound core
     → IsSound (after core (Store guest page place))
 IsSound-store core guest page place owns free sound = record {
   caught_up = λ q before. elim (cases_eq q page) [
     | inl e ↦ inr (inr (inl (
-        put_at core.pending guest (Some page) (guest_of core.sizes q) (ap (guest_of core.sizes) e ∙ owns.owner) ∙ ap Some (sym e))))
+        put_at core.pending guest (Some page) (guest_of core.sizes q) (ap (guest_of core.sizes) e ∙ owns.owner)
+        ∙ ap Some (sym e))))
     | inr ne ↦
         let was : IsTrue (core.at_opening q) ⊎ IsTrue (is_stored core q) =
-        either (λ opening. inl opening) (λ stored. inr (sym (stored_else core guest page place q ne) ∙ stored)) before in
+        either (λ opening. inl opening) (λ stored. inr (sym (stored_else core guest page place q ne) ∙ stored))
+        before in
         cases_four (λ marked. inl marked) (λ held. inr (inl held))
         (λ pending. inr (inr (inl (pending_else core guest page place q free pending))))
         (λ read. inr (inr (inr (read ∙ ap Some (sym (put_else core.place page place q ne))))))
         (sound.caught_up q was)
   ];
   only_due = λ q marked.
-      either (λ stored. inl (stored_still core guest page place q owns.owner stored)) (λ returned. inr returned) (sound.only_due q marked);
+      either (λ stored. inl (stored_still core guest page place q owns.owner stored)) (λ returned. inr returned)
+      (sound.only_due q marked);
   own = λ g q pending. elim (cases_eq g guest) [
     | inl e ↦
         let same : page ≡ q = same_page page q (sym (put_at core.pending guest (Some page) g e) ∙ pending) in
@@ -144,7 +158,8 @@ IsSound-store core guest page place owns free sound = record {
   pending = λ q pending. elim (cases_eq q page) [
     | inl e ↦ stored_here core guest page place q owns.owner e
     | inr ne ↦ elim (cases_eq (guest_of core.sizes q) guest) [
-      | inl e ↦ absurd (ne (sym (same_page page q (sym (put_at core.pending guest (Some page) (guest_of core.sizes q) e) ∙ pending))))
+      | inl e ↦ absurd (ne (sym (same_page page q (sym (put_at core.pending guest (Some page) (guest_of core.sizes q) e)
+          ∙ pending))))
       | inr far ↦
           stored_else core guest page place q ne
           ∙ sound.pending q (sym (put_else core.pending guest (Some page) (guest_of core.sizes q) far) ∙ pending)
@@ -155,11 +170,13 @@ IsSound-store core guest page place owns free sound = record {
 
 -- ---- a mark
 
-IsSound-marked : (core : DirtyCore) (guest page : ℕ) (o : Option ℕ) → core.pending guest ≡ o → o ≡ Some page → IsSound core
+IsSound-marked : (core : DirtyCore) (guest page : ℕ) (o : Option ℕ) → core.pending guest ≡ o → o ≡ Some page
+    → IsSound core
     → IsSound (record core { marked = with_pending core.marked o; pending = put core.pending guest None })
 IsSound-marked core guest page None is some sound = absurd cc
 IsSound-marked core guest page (Some p) is some sound =
-    let still : (q : ℕ) → IsTrue (core.marked q) → IsTrue (union core.marked (one_page p) q) = λ q marked. or_left _ _ marked in
+    let still : (q : ℕ) → IsTrue (core.marked q) → IsTrue (union core.marked (one_page p) q) =
+    λ q marked. or_left _ _ marked in
     record {
       caught_up = λ q before.
           cases_four (λ marked. inl (still q marked)) (λ held. inr (inl held))
@@ -216,7 +233,8 @@ IsSound-harvest core copier word owns sound =
 
 -- ---- a restore
 
-IsSound-restore : (core : DirtyCore) (copier word bits : ℕ) → IsSound core → IsSound (after core (Restore copier word bits))
+IsSound-restore : (core : DirtyCore) (copier word bits : ℕ) → IsSound core
+    → IsSound (after core (Restore copier word bits))
 IsSound-restore core copier word bits sound =
     let back : PageSet = bit_pages word bits in
     record {
@@ -224,7 +242,8 @@ IsSound-restore core copier word bits sound =
           cases_four (λ marked. inl (or_left _ _ marked))
           (λ held. elim (cases_Bool (back q)) [
             | inl inside ↦ inl (or_right _ _ inside)
-            | inr outside ↦ inr (inl (still_held core.held copier (minus (core.held copier) back) (copier_of core.sizes q) q held
+            | inr outside ↦ inr (inl (still_held core.held copier (minus (core.held copier) back)
+                (copier_of core.sizes q) q held
                 (λ e. minus_from _ _ (ap (λ c. core.held c q) (sym e) ∙ held) (both_ways _ outside))))
           ])
           (λ pending. inr (inr (inl pending)))
@@ -248,8 +267,10 @@ IsSound-read : (core : DirtyCore) (copier page : ℕ) → CopierOwnsPage core.si
 IsSound-read core copier page owns sound =
     let left : PageSet = minus (core.held copier) (one_page page) in
     let here : (q : ℕ) → q ≡ page → IsRead (after core (Read copier page)) q =
-    λ q e. ap (λ p. last_visit (put core.reads copier ((page, core.place page) ∷ core.reads copier) (copier_of core.sizes p)) p) e
-    ∙ seat_visited core.reads copier page (core.place page) (copier_of core.sizes page) owns.word.owner ∙ ap (λ p. Some (core.place p)) (sym e) in
+    λ q e. ap (λ p. last_visit (put core.reads copier ((page, core.place page) ∷ core.reads copier)
+    (copier_of core.sizes p)) p) e
+    ∙ seat_visited core.reads copier page (core.place page) (copier_of core.sizes page) owns.word.owner
+    ∙ ap (λ p. Some (core.place p)) (sym e) in
     record {
       caught_up = λ q before. elim (cases_eq q page) [
         | inl e ↦ inr (inr (inr (here q e)))
@@ -258,7 +279,8 @@ IsSound-read core copier page owns sound =
             (λ held. inr (inl (still_held core.held copier left (copier_of core.sizes q) q held
             (λ e. minus_from _ _ (ap (λ c. core.held c q) (sym e) ∙ held) (λ same. ne (eqb-true _ _ same))))))
             (λ pending. inr (inr (inl pending)))
-            (λ read. inr (inr (inr (seat_not_visited core.reads copier page (core.place page) (copier_of core.sizes q) q ne ∙ read))))
+            (λ read. inr (inr (inr (seat_not_visited core.reads copier page (core.place page) (copier_of core.sizes q) q
+            ne ∙ read))))
             (sound.caught_up q before)
       ];
       only_due = sound.only_due;
@@ -274,7 +296,8 @@ some_page None is = absurd cc
 some_page (Some page) is = (page, refl)
 
 pub IsSound-after : (core : DirtyCore) (event : Event) → Needs core event → IsSound core → IsSound (after core event)
-IsSound-after core (Store guest page place) needs sound = IsSound-store core guest page place (needs NotOwner) (needs Pending) sound
+IsSound-after core (Store guest page place) needs sound = IsSound-store core guest page place (needs NotOwner)
+    (needs Pending) sound
 IsSound-after core (Mark guest) needs sound =
     let some = some_page (core.pending guest) (needs NothingPending) in
     IsSound-marked core guest some.0 (core.pending guest) refl some.1 sound
@@ -292,9 +315,11 @@ IsSound-opened start = record {
   returned = λ q returned. returned;
 }
 
-pub IsSound-run : (core : DirtyCore) (events : List Event) → IsLegalFrom core events → IsSound core → IsSound (fold after core events)
+pub IsSound-run : (core : DirtyCore) (events : List Event) → IsLegalFrom core events → IsSound core
+    → IsSound (fold after core events)
 IsSound-run core [] legal sound = sound
-IsSound-run core (event ∷ events) legal sound = IsSound-run (after core event) events legal.1 (IsSound-after core event legal.0 sound)
+IsSound-run core (event ∷ events) legal sound = IsSound-run (after core event) events legal.1
+    (IsSound-after core event legal.0 sound)
 
 pub CaughtUp-run : (start : Start) (events : List Event) → IsLegal start events → CaughtUp (core_after start events)
 CaughtUp-run start events legal = (IsSound-run (opened start) events legal (IsSound-opened start)).caught_up
@@ -302,18 +327,24 @@ CaughtUp-run start events legal = (IsSound-run (opened start) events legal (IsSo
 pub OnlyDue-run : (start : Start) (events : List Event) → IsLegal start events → OnlyDue (core_after start events)
 OnlyDue-run start events legal = (IsSound-run (opened start) events legal (IsSound-opened start)).only_due
 
-pub KnowsMark-run : (start : Start) (events : List Event) → IsLegal start events → (page : ℕ) → KnowsMark (core_after start events) page
+pub KnowsMark-run : (start : Start) (events : List Event) → IsLegal start events → (page : ℕ)
+    → KnowsMark (core_after start events) page
 KnowsMark-run start events legal page =
     let sound = IsSound-run (opened start) events legal (IsSound-opened start) in
     record { pending = sound.pending page; returned = sound.returned page }
 
 -- ---- one more event at the end
 
-pub core_after-push : (core : DirtyCore) (events : List Event) (event : Event) → fold after core (events ++ event ∷ []) ≡ after (fold after core events) event
+pub core_after-push : (core : DirtyCore) (events : List Event) (event : Event)
+    → fold after core (events ++ event ∷ []) ≡ after (fold after core events) event
 core_after-push core [] event = refl
 core_after-push core (first ∷ events) event = core_after-push (after core first) events event
 
-pub IsLegalFrom-push : (core : DirtyCore) (events : List Event) (event : Event) → IsLegalFrom core events → Needs (fold after core events) event
+pub IsLegalFrom-push : (core : DirtyCore) (events : List Event) (event : Event) → IsLegalFrom core events
+    → Needs (fold after core events) event
     → IsLegalFrom core (events ++ event ∷ [])
 IsLegalFrom-push core [] event legal needs = (needs, tt)
-IsLegalFrom-push core (first ∷ events) event legal needs = (legal.0, IsLegalFrom-push (after core first) events event legal.1 needs)
+IsLegalFrom-push core (first ∷ events) event legal needs = (
+  legal.0,
+  IsLegalFrom-push (after core first) events event legal.1 needs,
+)

@@ -8,11 +8,13 @@ use Rattle.dirty_core.specs.declared.event.Event.TheVariants.{Store, Mark, Harve
 use Rattle.dirty_core.specs.declared.refusal.CoreRefusal.TheVariants.{NotOwner, OldPlace}
 use Rattle.dirty_core.specs.Start.{Start, GuestOwns, guest_of, copier_of}
 use Rattle.dirty_core.specs.Machine.{DirtyCore, Visits, last_visit, put, Needs, after}
-use Rattle.dirty_core.specs.Runs.{opened, core_after, IsLegalFrom, IsLegal, place_after, Rises, IsVisited, KnowsPlace, IsOverReads}
+use Rattle.dirty_core.specs.Runs.{opened, core_after, IsLegalFrom, IsLegal, place_after, Rises, IsVisited, KnowsPlace}
+use Rattle.dirty_core.specs.Runs.{IsOverReads}
 use Rattle.dirty_core.proofs.EveryPage.{put_at, put_else, seat_visited, seat_not_visited, either}
 
 -- a place after some visits is the place before them, or that of one of them
-place_known : (before : ℕ) (visits : Visits) (page : ℕ) → (place_after before visits page ≡ before) ⊎ IsVisited visits page (place_after before visits page)
+place_known : (before : ℕ) (visits : Visits) (page : ℕ) → (place_after before visits page ≡ before)
+    ⊎ IsVisited visits page (place_after before visits page)
 place_known before [] page = inl refl
 place_known before (visit ∷ others) page = elim (cases_eq visit.0 page) [
   | inl e ↦ inr (inl (e, rw (eq-eqb visit.0 page e) refl))
@@ -22,7 +24,8 @@ place_known before (visit ∷ others) page = elim (cases_eq visit.0 page) [
 
 -- ---- a store
 
-Knows-store : (start : Start) (core : DirtyCore) (guest page place q : ℕ) → GuestOwns core.sizes guest page → core.place page < place
+Knows-store : (start : Start) (core : DirtyCore) (guest page place q : ℕ) → GuestOwns core.sizes guest page
+    → core.place page < place
     → KnowsPlace start core q → KnowsPlace start (after core (Store guest page place)) q
 Knows-store start core guest page place q owns over known =
     let first : ℕ = slice_index start.places q in
@@ -61,7 +64,8 @@ Knows-store start core guest page place q owns over known =
 
 -- ---- a read
 
-Knows-read : (start : Start) (core : DirtyCore) (copier page q : ℕ) → KnowsPlace start core q → KnowsPlace start (after core (Read copier page)) q
+Knows-read : (start : Start) (core : DirtyCore) (copier page q : ℕ) → KnowsPlace start core q
+    → KnowsPlace start (after core (Read copier page)) q
 Knows-read start core copier page q known =
     let first : ℕ = slice_index start.places q in
     let more : Visits = (page, core.place page) ∷ core.reads copier in
@@ -74,7 +78,8 @@ Knows-read start core copier page q known =
       rises = known.rises;
       read = λ n visited. elim (cases_eq seat copier) [
         | inl e ↦
-            let now : IsVisited more q n = subst (λ v. IsVisited v q n) (put_at core.reads copier more seat e) visited in
+            let now : IsVisited more q n = subst (λ v. IsVisited v q n) (put_at core.reads copier more seat e)
+            visited in
             either
             (λ here. subst (λ m. (m ≡ first) ⊎ IsVisited stores q m) (ap core.place (sym here.0) ∙ here.1) current)
             (λ old. known.read n (subst (λ v. IsVisited v q n) (sym (ap core.reads e)) old))
@@ -85,27 +90,44 @@ Knows-read start core copier page q known =
 
 -- ---- every event, and every legal list of events
 
-Knows-after : (start : Start) (core : DirtyCore) (event : Event) (q : ℕ) → Needs core event → KnowsPlace start core q → KnowsPlace start (after core event) q
-Knows-after start core (Store guest page place) q needs known = Knows-store start core guest page place q (needs NotOwner) (needs OldPlace) known
-Knows-after start core (Mark guest) q needs known = record { place = known.place; rises = known.rises; read = known.read }
-Knows-after start core (Harvest copier word) q needs known = record { place = known.place; rises = known.rises; read = known.read }
+Knows-after : (start : Start) (core : DirtyCore) (event : Event) (q : ℕ) → Needs core event → KnowsPlace start core q
+    → KnowsPlace start (after core event) q
+Knows-after start core (Store guest page place) q needs known =
+    Knows-store start core guest page place q (needs NotOwner) (needs OldPlace) known
+Knows-after start core (Mark guest) q needs known = record {
+  place = known.place;
+  rises = known.rises;
+  read =
+      known.read;
+}
+Knows-after start core (Harvest copier word) q needs known =
+    record { place = known.place; rises = known.rises; read = known.read }
 Knows-after start core (Peek copier word) q needs known = known
-Knows-after start core (Restore copier word bits) q needs known = record { place = known.place; rises = known.rises; read = known.read }
+Knows-after start core (Restore copier word bits) q needs known =
+    record { place = known.place; rises = known.rises; read = known.read }
 Knows-after start core (Read copier page) q needs known = Knows-read start core copier page q known
 
-Knows-run : (start : Start) (core : DirtyCore) (events : List Event) (q : ℕ) → IsLegalFrom core events → KnowsPlace start core q
+Knows-run : (start : Start) (core : DirtyCore) (events : List Event) (q : ℕ) → IsLegalFrom core events
+    → KnowsPlace start core q
     → KnowsPlace start (fold after core events) q
 Knows-run start core [] q legal known = known
 Knows-run start core (event ∷ events) q legal known =
     Knows-run start (after core event) events q legal.1 (Knows-after start core event q legal.0 known)
 
-pub KnowsPlace-run : (start : Start) (events : List Event) → IsLegal start events → (page : ℕ) → KnowsPlace start (core_after start events) page
+pub KnowsPlace-run : (start : Start) (events : List Event) → IsLegal start events → (page : ℕ)
+    → KnowsPlace start (core_after start events) page
 KnowsPlace-run start events legal page =
-    Knows-run start (opened start) events page legal (record { place = refl; rises = tt; read = λ n visited. absurd visited })
+    Knows-run start (opened start) events page legal (record {
+      place = refl;
+      rises = tt;
+      read =
+          λ n visited. absurd visited;
+    })
 
 -- ---- no place read is above the current one
 
-before_below : (before : ℕ) (visits : Visits) (page : ℕ) → Rises before visits page → before ≤ place_after before visits page
+pub before_below : (before : ℕ) (visits : Visits) (page : ℕ) → Rises before visits page
+    → before ≤ place_after before visits page
 before_below before [] page rises = omega arith
 before_below before (visit ∷ others) page rises =
     let low = before_below before others page rises.1 in
@@ -114,7 +136,9 @@ before_below before (visit ∷ others) page rises =
       | inr ne ↦ rw (ne_eqb visit.0 page ne) low
     ]
 
-visit_below : (before : ℕ) (visits : Visits) (page place : ℕ) → Rises before visits page → IsVisited visits page place → place ≤ place_after before visits page
+pub visit_below : (before : ℕ) (visits : Visits) (page place : ℕ) → Rises before visits page
+    → IsVisited visits page place
+    → place ≤ place_after before visits page
 visit_below before [] page place rises visited = absurd visited
 visit_below before (visit ∷ others) page place rises (inl here) =
     let is : visit.1 ≡ place = here.1 in
@@ -126,7 +150,8 @@ visit_below before (visit ∷ others) page place rises (inr there) =
       | inr ne ↦ rw (ne_eqb visit.0 page ne) low
     ]
 
-pub IsOverReads-known : (start : Start) (core : DirtyCore) (page : ℕ) → KnowsPlace start core page → IsOverReads start core page
+pub IsOverReads-known : (start : Start) (core : DirtyCore) (page : ℕ) → KnowsPlace start core page
+    → IsOverReads start core page
 IsOverReads-known start core page known =
     let first : ℕ = slice_index start.places page in
     let stores : Visits = core.stores (guest_of core.sizes page) in
@@ -140,5 +165,7 @@ IsOverReads-known start core page known =
           (known.read place visited);
     }
 
-pub IsOverReads-run : (start : Start) (events : List Event) → IsLegal start events → (page : ℕ) → IsOverReads start (core_after start events) page
-IsOverReads-run start events legal page = IsOverReads-known start (core_after start events) page (KnowsPlace-run start events legal page)
+pub IsOverReads-run : (start : Start) (events : List Event) → IsLegal start events → (page : ℕ)
+    → IsOverReads start (core_after start events) page
+IsOverReads-run start events legal page = IsOverReads-known start (core_after start events) page
+    (KnowsPlace-run start events legal page)

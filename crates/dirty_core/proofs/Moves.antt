@@ -1,20 +1,28 @@
 -- What the code writes for each event is the event's relation, whatever the history was.
-use Rattle.std.proofs.Common.{◌≡◌, ℕ, ◌/◌, ◌%◌, ◌^◌, ◌<◌, Bool, true, false, cond, not, ◌&&◌, ◌||◌, eqb, List, length, get_or, set, replicate, Option, Some, None, refl, sym, ap, ◌∙◌, inl, inr}
+use Rattle.std.proofs.Common.{◌≡◌, ℕ, ◌/◌, ◌%◌, ◌^◌, ◌<◌, Bool, true, false, cond, not, ◌&&◌, ◌||◌, eqb, List, length}
+use Rattle.std.proofs.Common.{get_or, set, replicate, Option, Some, None, refl, sym, ap, ◌∙◌, inl, inr}
 use Rattle.std.specs.Prelude.{IsTrue, IsSome, is_some}
 use Rattle.std.specs.Int.{bit_at}
 use Rattle.std.proofs.lemmas.Nat.Bits.{bit_at-zero}
 use Rattle.std.proofs.lemmas.Bool.{eqb-true, eq-eqb, ne_eqb, cases_eq, cases_lt, and_parts, and_from}
-use Rattle.std.proofs.lemmas.List.{get_or-set_same, get_or-set_other, get_or_default, get_or_past, get_or-replicate, length-set, length-replicate}
+use Rattle.std.proofs.lemmas.List.{get_or-set_same, get_or-set_other, get_or_default, get_or_past, get_or-replicate}
+use Rattle.std.proofs.lemmas.List.{length-set, length-replicate}
+use Rattle.std.proofs.Math.Bool.{or-false, and-true, and-false, or-true}
 use Rattle.dirty_core.specs.declared.event.Event.{Event}
 use Rattle.dirty_core.specs.declared.event.Event.TheVariants.{Store, Mark, Harvest, Peek, Restore, Read}
 use Rattle.dirty_core.specs.declared.answer.Answer.{Answer}
 use Rattle.dirty_core.specs.declared.answer.Answer.TheVariants.{Done, Pages, Place}
-use Rattle.dirty_core.specs.declared.refusal.CoreRefusal.TheVariants.{NotOwner, Pending, NothingPending, NotHeld, OldPlace}
-use Rattle.page_bitmap.specs.Pages.{PageSet, in_words, one_page, word_pages, bit_pages, union, common, minus, IsWithin, SamePages}
+use Rattle.dirty_core.specs.declared.refusal.CoreRefusal.TheVariants.{NotOwner, Pending, NothingPending, NotHeld}
+use Rattle.dirty_core.specs.declared.refusal.CoreRefusal.TheVariants.{OldPlace}
+use Rattle.page_bitmap.specs.Pages.{PageSet, in_words, one_page, word_pages, bit_pages, union, common, minus, IsWithin}
+use Rattle.page_bitmap.specs.Pages.{SamePages}
+use Rattle.page_bitmap.proofs.Bits.{no_words}
 use Rattle.dirty_core.specs.Start.{Start, Sizes, GuestOwns, CopierOwns, CopierOwnsPage}
 use Rattle.dirty_core.specs.Machine.{DirtyCore, put, with_pending, Needs, Answers, after}
 use Rattle.dirty_core.specs.Runs.{opened}
-use Rattle.dirty_core.specs.Kept.{Kept, kept_with, kept_sizes, place_of, is_marked, pending_of, held_by, History, history_of, core_with, Keeps, Goes}
+use Rattle.dirty_core.specs.Kept.{Kept, kept_with, kept_sizes, place_of, is_marked, pending_of, held_by, History}
+use Rattle.dirty_core.specs.Kept.{history_of, core_with, Keeps, Goes}
+use Rattle.migration_model.proofs.Lists.{get_or-replicate_default}
 
 -- the kept value shows what this core has now
 pub record ShowsNow (kept : Kept) (core : DirtyCore) : Type 0 where
@@ -43,7 +51,8 @@ record Moves (old : Kept) (event : Event) (answer : Answer) (new : Kept) (histor
   pub answers : Answers (core_with old history) event answer
   pub now : ShowsNow new (after (core_with old history) event)
 
-Goes-from_moves : (old : Kept) (event : Event) (answer : Answer) (new : Kept) → ((history : History) → Moves old event answer new history) → Goes old event answer new
+Goes-from_moves : (old : Kept) (event : Event) (answer : Answer) (new : Kept)
+    → ((history : History) → Moves old event answer new history) → Goes old event answer new
 Goes-from_moves old event answer new moves history =
     let here = moves history in (
       history_of (after (core_with old history) event),
@@ -56,29 +65,14 @@ Goes-from_moves old event answer new moves history =
 
 -- ---- a function with another value at one argument
 
-put-set : {V : Type 0} (xs : List V) (i : ℕ) (v d : V) → i < length xs → (n : ℕ) → get_or (set xs i v) n d ≡ put (λ m. get_or xs m d) i v n
+put-set : {V : Type 0} (xs : List V) (i : ℕ) (v d : V) → i < length xs → (n : ℕ)
+    → get_or (set xs i v) n d ≡ put (λ m. get_or xs m d) i v n
 put-set xs i v d within n = elim (cases_eq n i) [
   | inl e ↦ rw (e, eq-eqb i i refl, get_or-set_same) refl
   | inr ne ↦ rw (ne_eqb n i ne, get_or-set_other) refl
 ]
 
 -- ---- the sets of pages that copiers hold, where pages of one of them come or go
-
-or_false : (b : Bool) → (b || false) ≡ b
-or_false true = refl
-or_false false = refl
-
-or_true : (b : Bool) → (b || true) ≡ true
-or_true true = refl
-or_true false = refl
-
-and_true : (b : Bool) → (b && true) ≡ b
-and_true true = refl
-and_true false = refl
-
-and_false : (b : Bool) → (b && false) ≡ false
-and_false true = refl
-and_false false = refl
 
 and_assoc : (a b c : Bool) → (a && (b && c)) ≡ ((a && b) && c)
 and_assoc true b c = refl
@@ -87,11 +81,11 @@ and_assoc false b c = refl
 held_more : (o c copier : ℕ) (h s : Bool) → (s ≡ true → o ≡ copier)
     → (eqb o c && (h || s)) ≡ cond (eqb c copier) ((eqb o copier && h) || s) (eqb o c && h)
 held_more o c copier h false own = elim (cases_eq c copier) [
-  | inl e ↦ rw (e, eq-eqb copier copier refl, or_false h) (sym (or_false _))
-  | inr ne ↦ rw (ne_eqb c copier ne, or_false h) refl
+  | inl e ↦ rw (e, eq-eqb copier copier refl, or-false h) (sym (or-false _))
+  | inr ne ↦ rw (ne_eqb c copier ne, or-false h) refl
 ]
 held_more o c copier h true own = elim (cases_eq c copier) [
-  | inl e ↦ rw (e, own refl, eq-eqb copier copier refl, or_true h) refl
+  | inl e ↦ rw (e, own refl, eq-eqb copier copier refl, or-true h) refl
   | inr ne ↦
       let apart : o ≡ c → ⊥ = λ same. ne (sym same ∙ own refl) in
       rw (ne_eqb c copier ne, ne_eqb o c apart) refl
@@ -101,7 +95,7 @@ held_less : (o c copier : ℕ) (h s : Bool) → (s ≡ true → o ≡ copier)
     → (eqb o c && (h && not s)) ≡ cond (eqb c copier) ((eqb o copier && h) && not s) (eqb o c && h)
 held_less o c copier h false own = elim (cases_eq c copier) [
   | inl e ↦ rw (e, eq-eqb copier copier refl) (and_assoc (eqb o copier) h (not false))
-  | inr ne ↦ rw (ne_eqb c copier ne, and_true h) refl
+  | inr ne ↦ rw (ne_eqb c copier ne, and-true h) refl
 ]
 held_less o c copier h true own = elim (cases_eq c copier) [
   | inl e ↦ rw (e, eq-eqb copier copier refl) (and_assoc (eqb o copier) h (not true))
@@ -116,17 +110,20 @@ one_set true some others page = refl
 one_set false some others page = refl
 
 -- a page of a copier's word is that copier's
-own_word : (sizes : Sizes) (copier word page : ℕ) → CopierOwns sizes copier word → eqb (page / 64) word ≡ true → page / 64 % sizes.copiers ≡ copier
+own_word : (sizes : Sizes) (copier word page : ℕ) → CopierOwns sizes copier word → eqb (page / 64) word ≡ true
+    → page / 64 % sizes.copiers ≡ copier
 own_word sizes copier word page owns same = rw (eqb-true _ _ same) owns.owner
 
 -- ---- what was read of the list of pending pages
 
-pub nothing_read : (xs : List (Option ℕ)) (i : ℕ) (o : Option ℕ) (b : Bool) → i < length xs → o ≡ get_or xs i o → b ≡ is_some o → b ≡ false
+pub nothing_read : (xs : List (Option ℕ)) (i : ℕ) (o : Option ℕ) (b : Bool) → i < length xs → o ≡ get_or xs i o
+    → b ≡ is_some o → b ≡ false
     → get_or xs i None ≡ None
 nothing_read xs i None b within read is none = get_or_default xs i None None within ∙ sym read
 nothing_read xs i (Some page) b within read is none = absurd cc
 
-pub something_read : (xs : List (Option ℕ)) (i page : ℕ) (o : Option ℕ) → i < length xs → o ≡ get_or xs i o → o ≡ Some page → get_or xs i None ≡ Some page
+pub something_read : (xs : List (Option ℕ)) (i page : ℕ) (o : Option ℕ) → i < length xs → o ≡ get_or xs i o
+    → o ≡ Some page → get_or xs i None ≡ Some page
 something_read xs i page o within read is = get_or_default xs i None o within ∙ sym read ∙ is
 
 -- pages that are pending exist, also where one is pending no more
@@ -135,51 +132,54 @@ pub pending_real : (xs : List (Option ℕ)) (i pages : ℕ) → i < length xs
     → (guest page : ℕ) → get_or (set xs i None) guest None ≡ Some page → page < pages
 pending_real xs i pages within real guest page is = elim (cases_eq guest i) [
   | inl e ↦ absurd (let none : get_or (set xs i None) guest None ≡ None = rw (e, get_or-set_same) refl in cc)
-  | inr ne ↦ real guest page (let same : get_or (set xs i None) guest None ≡ get_or xs guest None = rw get_or-set_other refl in sym same ∙ is)
+  | inr ne ↦ real guest page (let same : get_or (set xs i None) guest None ≡ get_or xs guest None =
+      rw get_or-set_other refl in sym same ∙ is)
 ]
 
 -- ---- the opening
 
-none_else : {V : Type 0} (n i : ℕ) (v : V) → get_or (replicate n v) i v ≡ v
-none_else n i v = elim (cases_lt i n) [
-  | inl low ↦ get_or-replicate n i v v low
-  | inr past ↦ get_or_past (replicate n v) i v (rw length-replicate past)
-]
-
-pub no_words : (n page : ℕ) → in_words (replicate n 0) page ≡ false
-no_words n page =
-    let zero_word : get_or (replicate n 0) (page / 64) 0 ≡ 0 = none_else n (page / 64) 0 in
-    ap (λ x. eqb (bit_at x (page % 64)) 1) zero_word ∙ ap (λ x. eqb x 1) (bit_at-zero (page % 64))
-
 pub Keeps-opened : (start : Start) (n copiers : ℕ) (places dirty held : List ℕ) (pending : List (Option ℕ))
-    → places ≡ start.places → dirty ≡ start.dirty → held ≡ replicate n 0 → pending ≡ replicate start.guests None → copiers ≡ start.copiers
+    → places ≡ start.places → dirty ≡ start.dirty → held ≡ replicate n 0 → pending ≡ replicate start.guests None
+    → copiers ≡ start.copiers
     → Keeps (kept_with places dirty held pending copiers) (opened start)
 Keeps-opened start n copiers places dirty held pending p d h q c = Keeps-from_now _ _ (record {
-  sizes = λ i. record { pages = length (p i); guests = (ap length q ∙ length-replicate start.guests None) i; copiers = c i };
+  sizes = λ i. record {
+    pages = length (p i);
+    guests = (ap length q ∙ length-replicate start.guests None) i;
+    copiers =
+        c i;
+  };
   place = λ page. ap (λ xs. get_or xs page 0) p;
   marked = λ page. ap (λ xs. in_words xs page) d;
-  pending = λ guest. ap (λ xs. get_or xs guest None) q ∙ none_else start.guests guest None;
+  pending = λ guest. ap (λ xs. get_or xs guest None) q ∙ get_or-replicate_default start.guests guest None;
   held = λ copier page.
       ap (λ xs. eqb (page / 64 % copiers) copier && in_words xs page) h
-      ∙ ap (λ b. eqb (page / 64 % copiers) copier && b) (no_words n page) ∙ and_false _;
+      ∙ ap (λ b. eqb (page / 64 % copiers) copier && b) (no_words n page) ∙ and-false _;
 })
 
 -- ---- the six events
 
-pub Needs-store : (core : DirtyCore) (guest page place : ℕ) → GuestOwns core.sizes guest page → core.pending guest ≡ None → core.place page < place
+pub Needs-store : (core : DirtyCore) (guest page place : ℕ) → GuestOwns core.sizes guest page
+    → core.pending guest ≡ None → core.place page < place
     → Needs core (Store guest page place)
 Needs-store core guest page place owns none over NotOwner = owns
 Needs-store core guest page place owns none over Pending = none
 Needs-store core guest page place owns none over OldPlace = over
 Needs-store core guest page place owns none over _ = tt
 
-pub stored : (k : Kept) (guest page place : ℕ) → GuestOwns (kept_sizes k) guest page → pending_of k guest ≡ None → place_of k page < place
-    → Goes k (Store guest page place) Done (kept_with (set k.places page place) k.dirty k.held (set k.pending guest (Some page)) k.copiers)
+pub stored : (k : Kept) (guest page place : ℕ) → GuestOwns (kept_sizes k) guest page → pending_of k guest ≡ None
+    → place_of k page < place
+    → Goes k (Store guest page place) Done (kept_with (set k.places page place) k.dirty k.held
+    (set k.pending guest (Some page)) k.copiers)
 stored k guest page place owns none over = Goes-from_moves _ _ _ _ (λ history. record {
   needs = Needs-store (core_with k history) guest page place owns none over;
   answers = tt;
   now = record {
-    sizes = λ i. record { pages = length-set k.places page place i; guests = length-set k.pending guest (Some page) i; copiers = k.copiers };
+    sizes = λ i. record {
+      pages = length-set k.places page place i;
+      guests = length-set k.pending guest (Some page) i;
+      copiers = k.copiers;
+    };
     place = put-set k.places page place 0 owns.page_real;
     marked = λ p. refl;
     pending = put-set k.pending guest (Some page) None owns.guest_real;
@@ -187,7 +187,8 @@ stored k guest page place owns none over = Goes-from_moves _ _ _ _ (λ history. 
   };
 })
 
-pub Needs-mark : (core : DirtyCore) (guest : ℕ) → guest < core.sizes.guests → IsSome (core.pending guest) → Needs core (Mark guest)
+pub Needs-mark : (core : DirtyCore) (guest : ℕ) → guest < core.sizes.guests → IsSome (core.pending guest)
+    → Needs core (Mark guest)
 Needs-mark core guest real some NotOwner = real
 Needs-mark core guest real some NothingPending = some
 Needs-mark core guest real some _ = tt
@@ -207,11 +208,13 @@ marked k guest page dirty real some pages = Goes-from_moves _ _ _ _ (λ history.
   };
 })
 
-pub Needs-harvest : (core : DirtyCore) (copier word : ℕ) → CopierOwns core.sizes copier word → Needs core (Harvest copier word)
+pub Needs-harvest : (core : DirtyCore) (copier word : ℕ) → CopierOwns core.sizes copier word
+    → Needs core (Harvest copier word)
 Needs-harvest core copier word owns NotOwner = owns
 Needs-harvest core copier word owns _ = tt
 
-pub harvested : (k : Kept) (copier word bits : ℕ) (dirty held : List ℕ) → CopierOwns (kept_sizes k) copier word → bits < 2 ^ 64
+pub harvested : (k : Kept) (copier word bits : ℕ) (dirty held : List ℕ) → CopierOwns (kept_sizes k) copier word
+    → bits < 2 ^ 64
     → SamePages (bit_pages word bits) (common (word_pages word) (in_words k.dirty))
     → SamePages (in_words dirty) (minus (in_words k.dirty) (word_pages word))
     → SamePages (in_words held) (union (in_words k.held) (bit_pages word bits))
@@ -228,11 +231,13 @@ harvested k copier word bits dirty held owns fits pages cleared more = Goes-from
         ap (λ b. eqb (p / 64 % k.copiers) c && b) (more p ∙ ap (λ b. in_words k.held p || b) (pages p))
         ∙ held_more (p / 64 % k.copiers) c copier (in_words k.held p) (common (word_pages word) (in_words k.dirty) p)
         (λ both. own_word (kept_sizes k) copier word p owns (and_parts _ _ both).0)
-        ∙ one_set (eqb c copier) (union (held_by k copier) (common (word_pages word) (in_words k.dirty))) (held_by k c) p;
+        ∙ one_set (eqb c copier) (union (held_by k copier) (common (word_pages word) (in_words k.dirty))) (held_by k c)
+        p;
   };
 })
 
-pub Needs-peek : (core : DirtyCore) (copier word : ℕ) → CopierOwns core.sizes copier word → Needs core (Peek copier word)
+pub Needs-peek : (core : DirtyCore) (copier word : ℕ) → CopierOwns core.sizes copier word
+    → Needs core (Peek copier word)
 Needs-peek core copier word owns NotOwner = owns
 Needs-peek core copier word owns _ = tt
 
@@ -245,7 +250,8 @@ peeked k copier word bits owns fits pages = Goes-from_moves _ _ _ _ (λ history.
   now = record { sizes = refl; place = λ p. refl; marked = λ p. refl; pending = λ g. refl; held = λ c p. refl };
 })
 
-pub Needs-restore : (core : DirtyCore) (copier word bits : ℕ) → CopierOwns core.sizes copier word → IsWithin (bit_pages word bits) (core.held copier)
+pub Needs-restore : (core : DirtyCore) (copier word bits : ℕ) → CopierOwns core.sizes copier word
+    → IsWithin (bit_pages word bits) (core.held copier)
     → Needs core (Restore copier word bits)
 Needs-restore core copier word bits owns within NotOwner = owns
 Needs-restore core copier word bits owns within NotHeld = within
@@ -260,7 +266,8 @@ restored k copier word bits dirty held owns within less more =
     let own : (p : ℕ) → bit_pages word bits p ≡ true → p / 64 % k.copiers ≡ copier =
     λ p told. own_word (kept_sizes k) copier word p owns (and_parts _ _ told).0 in
     Goes-from_moves _ _ _ _ (λ history. record {
-      needs = Needs-restore (core_with k history) copier word bits owns (λ p told. and_from _ _ (eq-eqb _ _ (own p told)) (within p told));
+      needs = Needs-restore (core_with k history) copier word bits owns
+          (λ p told. and_from _ _ (eq-eqb _ _ (own p told)) (within p told));
       answers = tt;
       now = record {
         sizes = refl;
@@ -274,12 +281,14 @@ restored k copier word bits dirty held owns within less more =
       };
     })
 
-pub Needs-read : (core : DirtyCore) (copier page : ℕ) → CopierOwnsPage core.sizes copier page → IsTrue (core.held copier page) → Needs core (Read copier page)
+pub Needs-read : (core : DirtyCore) (copier page : ℕ) → CopierOwnsPage core.sizes copier page
+    → IsTrue (core.held copier page) → Needs core (Read copier page)
 Needs-read core copier page owns held NotOwner = owns
 Needs-read core copier page owns held NotHeld = held
 Needs-read core copier page owns held _ = tt
 
-pub read_place : (k : Kept) (copier page place : ℕ) (held : List ℕ) → CopierOwnsPage (kept_sizes k) copier page → IsTrue (in_words k.held page)
+pub read_place : (k : Kept) (copier page place : ℕ) (held : List ℕ) → CopierOwnsPage (kept_sizes k) copier page
+    → IsTrue (in_words k.held page)
     → place ≡ place_of k page
     → SamePages (in_words held) (minus (in_words k.held) (one_page page))
     → Goes k (Read copier page) (Place place) (kept_with k.places k.dirty held k.pending k.copiers)

@@ -10,20 +10,24 @@ use Rattle.page_bitmap.specs.Pages.{PageSet, in_words, one_page, word_pages, bit
 use Rattle.dirty_core.specs.Start.{Start, IsStart, GuestOwns, sizes_of}
 use Rattle.dirty_core.specs.Machine.{DirtyCore, put, with_pending, Needs, after}
 use Rattle.dirty_core.specs.Runs.{opened, core_after, IsLegalFrom, IsLegal, IsReal}
-use Rattle.dirty_core.proofs.EveryPage.{put_at, put_else, set_at, set_else, same_page, no_page_is, minus_part, some_page, either}
+use Rattle.dirty_core.proofs.EveryPage.{put_at, put_else, set_at, set_else, same_page, no_page_is, minus_part}
+use Rattle.dirty_core.proofs.EveryPage.{some_page, either}
 
 -- a page of a seat's new set, or of the old ones
-of_sets : (f : ℕ → PageSet) (i : ℕ) (v : PageSet) (n page : ℕ) → IsTrue (put f i v n page) → IsTrue (v page) ⊎ IsTrue (f n page)
+of_sets : (f : ℕ → PageSet) (i : ℕ) (v : PageSet) (n page : ℕ) → IsTrue (put f i v n page)
+    → IsTrue (v page) ⊎ IsTrue (f n page)
 of_sets f i v n page is = elim (cases_eq n i) [
   | inl e ↦ inl (sym (set_at f i v n page e) ∙ is)
   | inr ne ↦ inr (sym (set_else f i v n page ne) ∙ is)
 ]
 
-Real-marked : (core : DirtyCore) (guest page q : ℕ) (o : Option ℕ) → core.pending guest ≡ o → o ≡ Some page → IsReal core q
+Real-marked : (core : DirtyCore) (guest page q : ℕ) (o : Option ℕ) → core.pending guest ≡ o → o ≡ Some page
+    → IsReal core q
     → IsReal (record core { marked = with_pending core.marked o; pending = put core.pending guest None }) q
 Real-marked core guest page q None is some known = absurd (no_page_is None page refl some)
 Real-marked core guest page q (Some p) is some known = record {
-  marked = λ marked. either known.marked (λ now. known.pending guest (is ∙ ap Some (sym (eqb-true q p now)))) (or_cases _ _ marked);
+  marked = λ marked. either known.marked (λ now. known.pending guest (is ∙ ap Some (sym (eqb-true q p now))))
+      (or_cases _ _ marked);
   held = known.held;
   pending = λ g pending. elim (cases_eq g guest) [
     | inl e ↦ absurd (no_page_is _ q (put_at core.pending guest None g e) pending)
@@ -73,11 +77,14 @@ Real-after core (Read copier page) q needs known = record {
   pending = known.pending;
 }
 
-Real-run : (core : DirtyCore) (events : List Event) (q : ℕ) → IsLegalFrom core events → IsReal core q → IsReal (fold after core events) q
+Real-run : (core : DirtyCore) (events : List Event) (q : ℕ) → IsLegalFrom core events → IsReal core q
+    → IsReal (fold after core events) q
 Real-run core [] q legal known = known
-Real-run core (event ∷ events) q legal known = Real-run (after core event) events q legal.1 (Real-after core event q legal.0 known)
+Real-run core (event ∷ events) q legal known = Real-run (after core event) events q legal.1
+    (Real-after core event q legal.0 known)
 
-pub IsReal-run : (start : Start) (events : List Event) → IsStart start → IsLegal start events → (page : ℕ) → IsReal (core_after start events) page
+pub IsReal-run : (start : Start) (events : List Event) → IsStart start → IsLegal start events → (page : ℕ)
+    → IsReal (core_after start events) page
 IsReal-run start events is legal page =
     Real-run (opened start) events page legal (record {
       marked = is.real page;
@@ -116,5 +123,6 @@ at_opening-run : (core : DirtyCore) (events : List Event) → (fold after core e
 at_opening-run core [] = refl
 at_opening-run core (event ∷ events) = at_opening-run (after core event) events ∙ at_opening-after core event
 
-pub at_opening-core_after : (start : Start) (events : List Event) → (core_after start events).at_opening ≡ in_words start.dirty
+pub at_opening-core_after : (start : Start) (events : List Event)
+    → (core_after start events).at_opening ≡ in_words start.dirty
 at_opening-core_after start events = at_opening-run (opened start) events

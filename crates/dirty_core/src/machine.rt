@@ -1,4 +1,4 @@
-//! The core, and its six events.
+//! The core, and its six events. No program runs it: it serves users of the library, and tests.
 
 ghost use Rattle.std.specs.Prelude.{◌≡◌, ◌↔◌, ◌<◌, length, replicate, None, IfOk, IfErr, OnErr, IsOk, IsTrue};
 ghost use Rattle.dirty_core.specs.Start.{sizes_of, GuestOwns, CopierOwns, CopierOwnsPage};

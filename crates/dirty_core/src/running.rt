@@ -1,4 +1,4 @@
-//! Whole runs of events.
+//! Whole runs of events. No program runs it: it serves users of the library, and tests.
 
 ghost use Rattle.std.specs.Prelude.{◌≡◌, ℕ, List, IfOk, IfErr, OnOk};
 ghost use Rattle.dirty_core.specs.declared.event.Event.{Event as AnyEvent};

@@ -1,5 +1,6 @@
 -- What each call has to show before its step, from what is always so of the table and the seat.
-use Rattle.std.proofs.Common.{◌≡◌, ℕ, ◌+◌, ◌-◌, ◌*◌, ◌/◌, ◌%◌, ◌^◌, ◌<◌, length, bit_or, Some, None, sym, ap, subst, ◌∙◌, arith}
+use Rattle.std.proofs.Common.{◌≡◌, ℕ, ◌+◌, ◌-◌, ◌*◌, ◌/◌, ◌%◌, ◌^◌, ◌<◌, length, bit_or, Some, None, sym, ap, subst}
+use Rattle.std.proofs.Common.{◌∙◌, arith}
 use Rattle.std.specs.Prelude.{IsTrue}
 use mathlib.Core.Option.{none}
 use Rattle.atomic_table.specs.Table.{step, Allows}
@@ -8,13 +9,15 @@ use Rattle.dirty_core.specs.Start.{Start, IsStart}
 use Rattle.dirty_words.specs.Facts.{last_place, OwnsPage, OwnsWord, CopyFits, CopyFacts}
 use Rattle.dirty_words.specs.Plays.{stores, marks, harvests, peeks, restores, reads}
 use Rattle.dirty_words.specs.Shows.{place_word, Shows}
-use Rattle.dirty_words.specs.Seats.{TableView, GuestView, CopyView, table_view, guest_view, copy_view, guest_table, copy_table}
+use Rattle.dirty_words.specs.Seats.{TableView, GuestView, CopyView, table_view, guest_view, copy_view, guest_table}
+use Rattle.dirty_words.specs.Seats.{copy_table}
 use Rattle.dirty_words.specs.Invariants.{IsTable, guest_facts, copy_facts, IsGuestSeat, IsCopySeat}
 use Rattle.dirty_words.specs.declared.table.RoundTable.TheInside.{Inside as TableFields}
 use Rattle.dirty_words.specs.declared.guest.GuestSeat.TheInside.{Inside as GuestFields}
 use Rattle.dirty_words.specs.declared.copier.CopySeat.TheInside.{Inside as CopyFields}
 use Rattle.dirty_words.proofs.Changes.{Before}
-use Rattle.dirty_words.proofs.Steps.{store_allowed, mark_allowed, harvest_allowed, peek_allowed, restore_allowed, read_allowed}
+use Rattle.dirty_words.proofs.Steps.{store_allowed, mark_allowed, harvest_allowed, peek_allowed, restore_allowed}
+use Rattle.dirty_words.proofs.Steps.{read_allowed}
 
 -- a guest's seat and a table, as a call finds them
 pub record GuestCall (seat : GuestFields) (table : TableFields) (guest : GuestView) (of : TableView) : Type 0 where
@@ -31,8 +34,10 @@ pub record CopyCall (seat : CopyFields) (table : TableFields) (copier : CopyView
   pub table_kept : IsTable table
   pub same : copy_table copier ≡ of
 
-module _ (seat : GuestFields) (table : TableFields) (guest : GuestView) (of : TableView) (call : GuestCall seat table guest of) where
-  one_table : table_view seat.seat.table_id (guest_facts seat).start ≡ table_view table.table.shared.table_id table.table.shared.key
+module _ (seat : GuestFields) (table : TableFields) (guest : GuestView) (of : TableView)
+    (call : GuestCall seat table guest of) where
+  one_table : table_view seat.seat.table_id (guest_facts seat).start
+      ≡ table_view table.table.shared.table_id table.table.shared.key
   one_table = ap guest_table call.seat_is ∙ call.same ∙ sym call.table_is
 
   one_id : seat.seat.table_id ≡ table.table.shared.table_id
@@ -44,10 +49,12 @@ module _ (seat : GuestFields) (table : TableFields) (guest : GuestView) (of : Ta
   facts_are : guest.facts ≡ guest_facts seat
   facts_are = sym (ap (λ g. g.facts) call.seat_is)
 
-  pub advance_asks : (page place word : ℕ) → OwnsPage guest.facts page → guest.facts.pending ≡ None → last_place guest.facts page < place → place < 2 ^ 32
+  pub advance_asks : (page place word : ℕ) → OwnsPage guest.facts page → guest.facts.pending ≡ None
+      → last_place guest.facts page < place → place < 2 ^ 32
       → word ≡ length table.dirty.items + page
       → (seat.seat.table_id ≡ table.table.shared.table_id) × (word < table.table.shared.table_id.words)
-      × Allows (λ s. Shows table.table.shared.key s) table.table.shared.table_id.slots seat.seat.id seat.seat.me word (λ _. place)
+      × Allows (λ s. Shows table.table.shared.key s) table.table.shared.table_id.slots seat.seat.id seat.seat.me word
+      (λ _. place)
       (λ _. stores (step table.table.shared.table_id.slots word place 0 none) seat.seat.me place)
   advance_asks page place word owns free over fits is =
       let start : Start = table.table.shared.key in
@@ -60,17 +67,22 @@ module _ (seat : GuestFields) (table : TableFields) (guest : GuestView) (of : Ta
       let at : place_word start page ≡ word = omega (arith, is, dirty) in (
         one_id,
         omega (arith, is, dirty, places, words, pages, real),
-        subst (λ w. Allows (λ s. Shows start s) table.table.shared.table_id.slots seat.seat.id seat.seat.me w (λ _. place)
+        subst (λ w. Allows (λ s. Shows start s) table.table.shared.table_id.slots seat.seat.id seat.seat.me w
+            (λ _. place)
             (λ _. stores (step table.table.shared.table_id.slots w place 0 none) seat.seat.me place)) at
-            (store_allowed start table.table.shared.table_id.slots seat.seat.id seat.seat.me page place call.seat_kept.alone owned
-            (subst (λ f. f.pending ≡ None) facts_are free) (subst (λ f. last_place f page < place) facts_are over) fits),
+            (store_allowed start table.table.shared.table_id.slots seat.seat.id seat.seat.me page place
+            call.seat_kept.alone owned
+            (subst (λ f. f.pending ≡ None) facts_are free) (subst (λ f. last_place f page < place) facts_are over)
+            fits),
       )
 
   pub mark_asks : (page : ℕ) → seat.pending ≡ Some page
       → (seat.seat.table_id ≡ table.table.shared.table_id) × (page / 64 < table.table.shared.table_id.words)
-      × Allows (λ s. Shows table.table.shared.key s) table.table.shared.table_id.slots seat.seat.id seat.seat.me (page / 64)
+      × Allows (λ s. Shows table.table.shared.key s) table.table.shared.table_id.slots seat.seat.id seat.seat.me
+      (page / 64)
       (λ n. bit_or n (1 * 2 ^ (page % 64) % 18_446_744_073_709_551_616))
-      (marks (step table.table.shared.table_id.slots (page / 64) (1 * 2 ^ (page % 64) % 18_446_744_073_709_551_616) 0 none) seat.seat.me)
+      (marks (step table.table.shared.table_id.slots (page / 64) (1 * 2 ^ (page % 64) % 18_446_744_073_709_551_616) 0
+      none) seat.seat.me)
   mark_asks page some =
       let start : Start = table.table.shared.key in
       let is : (guest_facts seat).pending ≡ Some page = sym call.seat_kept.pending ∙ some in
@@ -82,11 +94,14 @@ module _ (seat : GuestFields) (table : TableFields) (guest : GuestView) (of : Ta
       let real = owned.page_real in (
         one_id,
         omega (arith, dirty, words, rule, pages, real),
-        mark_allowed start table.table.shared.table_id.slots seat.seat.id seat.seat.me page call.seat_kept.alone owned is,
+        mark_allowed start table.table.shared.table_id.slots seat.seat.id seat.seat.me page call.seat_kept.alone owned
+            is,
       )
 
-module _ (seat : CopyFields) (table : TableFields) (copier : CopyView) (of : TableView) (call : CopyCall seat table copier of) where
-  one_copy_table : table_view seat.seat.table_id (copy_facts seat).start ≡ table_view table.table.shared.table_id table.table.shared.key
+module _ (seat : CopyFields) (table : TableFields) (copier : CopyView) (of : TableView)
+    (call : CopyCall seat table copier of) where
+  one_copy_table : table_view seat.seat.table_id (copy_facts seat).start
+      ≡ table_view table.table.shared.table_id table.table.shared.key
   one_copy_table = ap copy_table call.seat_is ∙ call.same ∙ sym call.table_is
 
   one_copy_id : seat.seat.table_id ≡ table.table.shared.table_id
@@ -105,74 +120,96 @@ module _ (seat : CopyFields) (table : TableFields) (copier : CopyView) (of : Tab
   }
 
   -- what a seat's own facts become, its contract's facts become
-  pub facts_after : (new : CopyFacts) (change : CopyFacts → CopyFacts) → new ≡ change (copy_facts seat) → new ≡ change copier.facts
+  pub facts_after : (new : CopyFacts) (change : CopyFacts → CopyFacts) → new ≡ change (copy_facts seat)
+      → new ≡ change copier.facts
   facts_after new change is = is ∙ ap change (sym copy_facts_are)
 
   -- a word that the copier owns is one of the table's dirty words
-  own_word : (word : ℕ) → OwnsWord (copy_facts seat) word → (word < length table.table.shared.key.dirty) × (word < table.table.shared.table_id.words)
+  own_word : (word : ℕ) → OwnsWord (copy_facts seat) word → (word < length table.table.shared.key.dirty)
+      × (word < table.table.shared.table_id.words)
   own_word word owns =
       let start : Start = table.table.shared.key in
       let dirty : length table.dirty.items ≡ length start.dirty = ap length call.table_kept.dirty in
       let words = call.table_kept.words in
       let rule = call.table_kept.is_start.words in
-      let pages : length (copy_facts seat).start.places ≡ length start.places = ap (λ k. length k.places) one_copy_start in
+      let pages : length (copy_facts seat).start.places ≡ length start.places =
+      ap (λ k. length k.places) one_copy_start in
       let real = owns.word_real in
       (omega (arith, rule, pages, real), omega (arith, dirty, words, rule, pages, real))
 
   pub harvest_asks : (word : ℕ) → OwnsWord copier.facts word
       → (seat.seat.table_id ≡ table.table.shared.table_id) × (word < table.table.shared.table_id.words)
-      × Allows (λ s. Shows table.table.shared.key s) table.table.shared.table_id.slots seat.seat.id seat.seat.me word (λ _. 0)
+      × Allows (λ s. Shows table.table.shared.key s) table.table.shared.table_id.slots seat.seat.id seat.seat.me word
+      (λ _. 0)
       (harvests (step table.table.shared.table_id.slots word 0 0 none) seat.seat.me)
   harvest_asks word owns =
       let owned : OwnsWord (copy_facts seat) word = subst (λ f. OwnsWord f word) copy_facts_are owns in
-      let low = own_word word owned in
-      (one_copy_id, low.1, harvest_allowed table.table.shared.key _ seat.seat.id seat.seat.me word call.seat_kept.alone owned low.0 call.seat_kept.fits)
+      let low = own_word word owned in (
+        one_copy_id,
+        low.1,
+        harvest_allowed table.table.shared.key _ seat.seat.id seat.seat.me word call.seat_kept.alone
+            owned low.0 call.seat_kept.fits,
+      )
 
   pub peek_asks : (word : ℕ) → OwnsWord copier.facts word
       → (seat.seat.table_id ≡ table.table.shared.table_id) × (word < table.table.shared.table_id.words)
-      × Allows (λ s. Shows table.table.shared.key s) table.table.shared.table_id.slots seat.seat.id seat.seat.me word (λ n. n)
+      × Allows (λ s. Shows table.table.shared.key s) table.table.shared.table_id.slots seat.seat.id seat.seat.me word
+      (λ n. n)
       (peeks (step table.table.shared.table_id.slots word 0 0 none) seat.seat.me)
   peek_asks word owns =
       let owned : OwnsWord (copy_facts seat) word = subst (λ f. OwnsWord f word) copy_facts_are owns in
-      let low = own_word word owned in
-      (one_copy_id, low.1, peek_allowed table.table.shared.key _ seat.seat.id seat.seat.me word call.seat_kept.alone owned low.0 call.seat_kept.fits)
+      let low = own_word word owned in (
+        one_copy_id,
+        low.1,
+        peek_allowed table.table.shared.key _ seat.seat.id seat.seat.me word call.seat_kept.alone
+            owned low.0 call.seat_kept.fits,
+      )
 
-  pub restore_asks : (word bits : ℕ) → OwnsWord copier.facts word → bits < 2 ^ 64 → IsWithin (bit_pages word bits) (in_words copier.facts.held)
+  pub restore_asks : (word bits : ℕ) → OwnsWord copier.facts word → bits < 2 ^ 64
+      → IsWithin (bit_pages word bits) (in_words copier.facts.held)
       → (seat.seat.table_id ≡ table.table.shared.table_id) × (word < table.table.shared.table_id.words)
-      × Allows (λ s. Shows table.table.shared.key s) table.table.shared.table_id.slots seat.seat.id seat.seat.me word (λ n. bit_or n bits)
+      × Allows (λ s. Shows table.table.shared.key s) table.table.shared.table_id.slots seat.seat.id seat.seat.me word
+      (λ n. bit_or n bits)
       (restores (step table.table.shared.table_id.slots word bits 0 none) seat.seat.me)
   restore_asks word bits owns small held =
       let owned : OwnsWord (copy_facts seat) word = subst (λ f. OwnsWord f word) copy_facts_are owns in
       let low = own_word word owned in (
         one_copy_id,
         low.1,
-        restore_allowed table.table.shared.key _ seat.seat.id seat.seat.me word bits call.seat_kept.alone owned low.0 small
+        restore_allowed table.table.shared.key _ seat.seat.id seat.seat.me word bits call.seat_kept.alone owned low.0
+            small
             (subst (λ f. IsWithin (bit_pages word bits) (in_words f.held)) copy_facts_are held) call.seat_kept.fits,
       )
 
   pub read_asks : (page word : ℕ) → IsTrue (in_words copier.facts.held page) → word ≡ length table.dirty.items + page
       → (seat.seat.table_id ≡ table.table.shared.table_id) × (word < table.table.shared.table_id.words)
-      × Allows (λ s. Shows table.table.shared.key s) table.table.shared.table_id.slots seat.seat.id seat.seat.me word (λ n. n)
+      × Allows (λ s. Shows table.table.shared.key s) table.table.shared.table_id.slots seat.seat.id seat.seat.me word
+      (λ n. n)
       (reads (step table.table.shared.table_id.slots word 0 0 none) seat.seat.me)
   read_asks page word held is =
       let start : Start = table.table.shared.key in
-      let held' : IsTrue (in_words (copy_facts seat).held page) = subst (λ f. IsTrue (in_words f.held page)) copy_facts_are held in
+      let held' : IsTrue (in_words (copy_facts seat).held page) =
+      subst (λ f. IsTrue (in_words f.held page)) copy_facts_are held in
       let real = (call.seat_kept.fits.held page held').page_real in
       let dirty : length table.dirty.items ≡ length start.dirty = ap length call.table_kept.dirty in
       let places : length table.places.items ≡ length start.places = ap length call.table_kept.places in
       let words = call.table_kept.words in
-      let pages : length (copy_facts seat).start.places ≡ length start.places = ap (λ k. length k.places) one_copy_start in
+      let pages : length (copy_facts seat).start.places ≡ length start.places =
+      ap (λ k. length k.places) one_copy_start in
       let at : place_word start page ≡ word = omega (arith, is, dirty) in (
         one_copy_id,
         omega (arith, is, dirty, places, words, pages, real),
         subst (λ w. Allows (λ s. Shows start s) table.table.shared.table_id.slots seat.seat.id seat.seat.me w (λ n. n)
             (reads (step table.table.shared.table_id.slots w 0 0 none) seat.seat.me)) at
-            (read_allowed start table.table.shared.table_id.slots seat.seat.id seat.seat.me page call.seat_kept.alone held' call.seat_kept.fits),
+            (read_allowed start table.table.shared.table_id.slots seat.seat.id seat.seat.me page call.seat_kept.alone
+            held' call.seat_kept.fits),
       )
 
   -- the page whose place this word has
-  pub word_page : (page word : ℕ) → word ≡ length table.dirty.items + page → word - length (copy_facts seat).start.dirty ≡ page
+  pub word_page : (page word : ℕ) → word ≡ length table.dirty.items + page
+      → word - length (copy_facts seat).start.dirty ≡ page
   word_page page word is =
       let dirty : length table.dirty.items ≡ length table.table.shared.key.dirty = ap length call.table_kept.dirty in
-      let words : length (copy_facts seat).start.dirty ≡ length table.table.shared.key.dirty = ap (λ k. length k.dirty) one_copy_start in
+      let words : length (copy_facts seat).start.dirty ≡ length table.table.shared.key.dirty =
+      ap (λ k. length k.dirty) one_copy_start in
       omega (arith, is, dirty, words)

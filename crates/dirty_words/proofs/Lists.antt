@@ -1,5 +1,6 @@
 -- Lists that are written index by index.
-use Rattle.std.proofs.Common.{◌≡◌, ℕ, zero, suc, ◌+◌, ◌<◌, List, [], ◌∷◌, ◌++◌, length, get_or, set, sym, ap, subst, ◌∙◌, arith, inl, inr}
+use Rattle.std.proofs.Common.{◌≡◌, ℕ, zero, suc, ◌+◌, ◌<◌, List, [], ◌∷◌, ◌++◌, length, get_or, set, sym, ap, subst}
+use Rattle.std.proofs.Common.{◌∙◌, arith, inl, inr}
 use Rattle.std.specs.Prelude.{All}
 use Rattle.std.proofs.Math.Seq.{get_or-append_seam}
 use mathlib.Core.Option.{some, some-injective, some-ne-none}
@@ -21,7 +22,8 @@ set_more f xs i x within is below k low = elim (cases_eq k i) [
 ]
 
 -- what is so of each item is so of one between the others
-pub all_middle : {A : Type 0} (P : A → Type 0) (before : List A) (x : A) (later all : List A) → All P all → before ++ x ∷ later ≡ all → P x
+pub all_middle : {A : Type 0} (P : A → Type 0) (before : List A) (x : A) (later all : List A) → All P all
+    → before ++ x ∷ later ≡ all → P x
 all_middle P before x later all each is =
     let low : length before < length (before ++ x ∷ later) = rw length-append (omega arith) in
     subst P (get_or-append_seam before x later x) (subst (λ xs. All P xs) (sym is) each (length before) x low)

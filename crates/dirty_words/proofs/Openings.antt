@@ -1,5 +1,6 @@
 -- The rule at opening, and at each cut, join and new seat.
-use Rattle.std.proofs.Common.{◌≡◌, ℕ, zero, suc, ◌+◌, ◌-◌, ◌/◌, ◌%◌, ◌^◌, ◌<◌, ◌≤◌, List, [], ◌∷◌, ◌++◌, map, length, get_or, eqb, refl, sym, ap, subst, ◌∙◌, arith, ⊎_elim}
+use Rattle.std.proofs.Common.{◌≡◌, ℕ, zero, suc, ◌+◌, ◌-◌, ◌/◌, ◌%◌, ◌^◌, ◌<◌, ◌≤◌, List, [], ◌∷◌, ◌++◌, map, length}
+use Rattle.std.proofs.Common.{get_or, eqb, refl, sym, ap, subst, ◌∙◌, arith, ⊎_elim}
 use Rattle.std.specs.List.{range_with_len}
 use Rattle.std.specs.Int.{bit_at}
 use mathlib.Core.Option.{some, none, some-injective, some-ne-none}
@@ -9,19 +10,23 @@ use Rattle.std.proofs.lemmas.List.{length-append, get_or-append-add}
 use Rattle.atomic_table.specs.Table.{State, step, opening, Splits, Joins, Enters}
 use Rattle.dirty_core.specs.Start.{Start, IsStart}
 use Rattle.dirty_core.specs.Runs.{opened}
-use Rattle.dirty_core.proofs.Moves.{no_words}
-use Rattle.dirty_words.specs.Facts.{Facts, of_guest, of_copier, first_guest, first_copier, guest_entries, copier_entries, opening_facts}
+use Rattle.dirty_words.specs.Facts.{Facts, of_guest, of_copier, first_guest, first_copier, guest_entries}
+use Rattle.dirty_words.specs.Facts.{copier_entries, opening_facts}
 use Rattle.dirty_words.specs.Plays.{first_of, rest_of, enters}
 use Rattle.dirty_words.specs.Shows.{ShowWords, TellsGuest, TellsCopier, Tells, Owners, owner_of, EachView, Shows}
-use Rattle.dirty_words.proofs.Seating.{IsSameSeat, nothing, in_either, gives, merged, EachView-cut, EachView-join, EachView-enter}
+use Rattle.dirty_words.proofs.Seating.{IsSameSeat, nothing, in_either, gives, merged, EachView-cut, EachView-join}
+use Rattle.dirty_words.proofs.Seating.{EachView-enter}
+use Rattle.page_bitmap.proofs.Bits.{no_words}
 
 -- ---- what stands in a view of the opening
 
-in_range : (f : ℕ → Facts) (number count entry : ℕ) (facts : Facts) → get_elem? (map f (range_with_len number count)) entry ≡ some facts
+in_range : (f : ℕ → Facts) (number count entry : ℕ) (facts : Facts)
+    → get_elem? (map f (range_with_len number count)) entry ≡ some facts
     → (n : ℕ) × (number ≤ n) × (facts ≡ f n)
 in_range f number zero entry facts e = absurd (nothing entry facts e)
 in_range f number (suc count) zero facts e = (number, omega arith, sym (some-injective (f number) facts e))
-in_range f number (suc count) (suc entry) facts e = let later = in_range f (number + 1) count entry facts e in let above = later.1 in (later.0, omega arith, later.2)
+in_range f number (suc count) (suc entry) facts e = let later =
+    in_range f (number + 1) count entry facts e in let above = later.1 in (later.0, omega arith, later.2)
 
 Tells-first_guest : (start : Start) (number : ℕ) → TellsGuest start (opened start) (first_guest start number)
 Tells-first_guest start number = record { start_is = refl; stores = refl; pending = refl }
@@ -35,7 +40,8 @@ Tells-first_copier start number = record {
   fresh = λ page shown. absurd (let none = no_words (length start.dirty) page in cc);
 }
 
-Tells-opening : (start : Start) (entry : ℕ) (facts : Facts) → get_elem? (opening_facts start) entry ≡ some facts → Tells start (opened start) facts
+Tells-opening : (start : Start) (entry : ℕ) (facts : Facts) → get_elem? (opening_facts start) entry ≡ some facts
+    → Tells start (opened start) facts
 Tells-opening start entry facts e = ⊎_elim
     (λ (guest : get_elem? (guest_entries start 0 start.guests) entry ≡ some facts).
     let is = in_range (λ n. of_guest (first_guest start n)) 0 start.guests entry facts guest in
@@ -51,7 +57,8 @@ pub ShowWords-opened : (start : Start) (words : List ℕ) → words ≡ start.di
     → ((page : ℕ) → get_or start.places page 0 < 2 ^ 32) → ShowWords start words (opened start)
 ShowWords-opened start words is small = subst (λ ws. ShowWords start ws (opened start)) (sym is) (record {
   sized = length-append start.dirty start.places;
-  marked = λ page low. ap (λ n. eqb (bit_at n (page % 64)) 1) (get_or-append start.dirty start.places 0 (page / 64) low);
+  marked = λ page low. ap (λ n. eqb (bit_at n (page % 64)) 1)
+      (get_or-append start.dirty start.places 0 (page / 64) low);
   place = λ page low. get_or-append-add start.dirty start.places page 0;
   small = λ page low. small page;
 })
@@ -75,8 +82,11 @@ Shows-opened start words is_start is small = record {
 }
   where
     first_view : EachView (opening_facts start ∷ []) no_owner (Tells start (opened start))
-    first_view zero entry view facts there inside =
-        (first_owner facts, Tells-opening start entry facts (subst (λ v. get_elem? v entry ≡ some facts) (sym (some-injective (opening_facts start) view there)) inside))
+    first_view zero entry view facts there inside = (
+      first_owner facts,
+      Tells-opening start entry facts (subst (λ v. get_elem? v entry ≡ some facts)
+          (sym (some-injective (opening_facts start) view there)) inside),
+    )
     first_view (suc seat) entry view facts there inside = absurd (some-ne-none view (sym there))
 
 -- ---- a cut
@@ -119,12 +129,14 @@ apart_copier start number count entry other e same =
 
 -- the entries of a number below the last: its own, and the others
 pub guest_entries-more : (start : Start) (number count : ℕ) → number < count
-    → guest_entries start number (count - number) ≡ of_guest (first_guest start number) ∷ guest_entries start (number + 1) (count - (number + 1))
+    → guest_entries start number (count - number) ≡ of_guest (first_guest start number)
+    ∷ guest_entries start (number + 1) (count - (number + 1))
 guest_entries-more start number count low =
     let e : count - number ≡ suc (count - (number + 1)) = omega arith in ap (guest_entries start number) e
 
 pub copier_entries-more : (start : Start) (number count : ℕ) → number < count
-    → copier_entries start number (count - number) ≡ of_copier (first_copier start number) ∷ copier_entries start (number + 1) (count - (number + 1))
+    → copier_entries start number (count - number) ≡ of_copier (first_copier start number)
+    ∷ copier_entries start (number + 1) (count - (number + 1))
 copier_entries-more start number count low =
     let e : count - number ≡ suc (count - (number + 1)) = omega arith in ap (copier_entries start number) e
 
@@ -132,20 +144,24 @@ pub cuts_guest : (start : Start) (id number : ℕ) (view : List Facts) → numbe
     → view ≡ guest_entries start number (start.guests - number) ++ copier_entries start 0 start.copiers
     → Splits (λ (s : State ℕ (List Facts)). Shows start s) id view (rest_of view) (first_of view)
 cuts_guest start id number view low is =
-    let others : List Facts = guest_entries start (number + 1) (start.guests - (number + 1)) ++ copier_entries start 0 start.copiers in
+    let others : List Facts = guest_entries start (number + 1) (start.guests - (number + 1))
+    ++ copier_entries start 0 start.copiers in
     let e : of_guest (first_guest start number) ∷ others ≡ view =
     sym (is ∙ ap (λ l. l ++ copier_entries start 0 start.copiers) (guest_entries-more start number start.guests low)) in
     subst (λ v. Splits (λ (s : State ℕ (List Facts)). Shows start s) id v (rest_of v) (first_of v)) e
-    (cuts start id (of_guest (first_guest start number)) others (apart_guest start number (start.guests - (number + 1))))
+    (cuts start id (of_guest (first_guest start number)) others
+    (apart_guest start number (start.guests - (number + 1))))
 
 pub cuts_copier : (start : Start) (id number : ℕ) (view : List Facts) → number < start.copiers
     → view ≡ copier_entries start number (start.copiers - number)
     → Splits (λ (s : State ℕ (List Facts)). Shows start s) id view (rest_of view) (first_of view)
 cuts_copier start id number view low is =
     let others : List Facts = copier_entries start (number + 1) (start.copiers - (number + 1)) in
-    let e : of_copier (first_copier start number) ∷ others ≡ view = sym (is ∙ copier_entries-more start number start.copiers low) in
+    let e : of_copier (first_copier start number) ∷ others ≡ view =
+    sym (is ∙ copier_entries-more start number start.copiers low) in
     subst (λ v. Splits (λ (s : State ℕ (List Facts)). Shows start s) id v (rest_of v) (first_of v)) e
-    (cuts start id (of_copier (first_copier start number)) others (apart_copier start number (start.copiers - (number + 1))))
+    (cuts start id (of_copier (first_copier start number)) others
+    (apart_copier start number (start.copiers - (number + 1))))
 
 -- ---- a join, and a new seat
 
@@ -161,7 +177,8 @@ joins start id view other theirs s shows at apart at_other = record {
 }
 
 pub enters_table : (start : Start) (slots word : ℕ) (first : List Facts)
-    → Enters (λ (s : State ℕ (List Facts)). Shows start s) slots word (λ n w. enters {S = ℕ} (step slots word 0 0 none) (first, []) n (w, []))
+    → Enters (λ (s : State ℕ (List Facts)). Shows start s) slots word
+    (λ n w. enters {S = ℕ} (step slots word 0 0 none) (first, []) n (w, []))
 enters_table start slots word first s shows homes small = (
   [],
   record {
@@ -180,9 +197,11 @@ enters_table start slots word first s shows homes small = (
 pub first_guest_cut : (start : Start) (number : ℕ) (view : List Facts) → number < start.guests
     → view ≡ guest_entries start number (start.guests - number) ++ copier_entries start 0 start.copiers
     → (first_of view ≡ of_guest (first_guest start number) ∷ [])
-    × (rest_of view ≡ guest_entries start (number + 1) (start.guests - (number + 1)) ++ copier_entries start 0 start.copiers)
+    × (rest_of view ≡ guest_entries start (number + 1) (start.guests - (number + 1))
+    ++ copier_entries start 0 start.copiers)
 first_guest_cut start number view low is =
-    let e = is ∙ ap (λ l. l ++ copier_entries start 0 start.copiers) (guest_entries-more start number start.guests low) in
+    let e = is ∙ ap (λ l. l ++ copier_entries start 0 start.copiers)
+    (guest_entries-more start number start.guests low) in
     (ap first_of e, ap rest_of e)
 
 pub first_copier_cut : (start : Start) (number : ℕ) (view : List Facts) → number < start.copiers

@@ -1,5 +1,6 @@
 -- Views after a step, a cut and a join: no guest or copier stands in two of them, and what stands there is true.
-use Rattle.std.proofs.Common.{◌≡◌, ◌≢◌, ◌⊎◌, ℕ, zero, suc, List, [], ◌∷◌, ◌++◌, length, set, cond, eqb, refl, sym, ap, subst, ◌∙◌, inl, inr, ⊎_elim}
+use Rattle.std.proofs.Common.{◌≡◌, ◌≢◌, ◌⊎◌, ℕ, zero, suc, List, [], ◌∷◌, ◌++◌, length, set, cond, eqb, refl, sym, ap}
+use Rattle.std.proofs.Common.{subst, ◌∙◌, inl, inr, ⊎_elim}
 use mathlib.Core.Option.{some, some-injective, some-ne-none}
 use lib.ListN.{get_elem?}
 use Rattle.std.proofs.lemmas.Bool.{eq-eqb, ne_eqb}
@@ -59,24 +60,29 @@ gives_it owners (of_copier facts) seat = put_at owners.copier facts.number seat 
 
 gives_other : (owners : Owners) (facts other : Facts) (seat : ℕ) → (IsSameSeat facts other → ⊥)
     → owner_of (gives owners facts seat) other ≡ owner_of owners other
-gives_other owners (of_guest a) (of_guest b) seat apart = put_else owners.guest a.number seat b.number (λ e. apart (sym e))
-gives_other owners (of_copier a) (of_copier b) seat apart = put_else owners.copier a.number seat b.number (λ e. apart (sym e))
+gives_other owners (of_guest a) (of_guest b) seat apart = put_else owners.guest a.number seat b.number
+    (λ e. apart (sym e))
+gives_other owners (of_copier a) (of_copier b) seat apart = put_else owners.copier a.number seat b.number
+    (λ e. apart (sym e))
 gives_other owners (of_guest a) (of_copier b) seat apart = refl
 gives_other owners (of_copier a) (of_guest b) seat apart = refl
 
-at_end : {A : Type 0} → (l : List A) (a : A) (i : ℕ) (b : A) → get_elem? (l ++ a ∷ []) i ≡ some b → (get_elem? l i ≡ some b) ⊎ ((i ≡ length l) × (a ≡ b))
+at_end : {A : Type 0} → (l : List A) (a : A) (i : ℕ) (b : A) → get_elem? (l ++ a ∷ []) i ≡ some b
+    → (get_elem? l i ≡ some b) ⊎ ((i ≡ length l) × (a ≡ b))
 at_end [] a zero b e = inr (refl, some-injective a b e)
 at_end [] a (suc i) b e = absurd (some-ne-none b (sym e))
 at_end (x ∷ xs) a zero b e = inl e
 at_end (x ∷ xs) a (suc i) b e = ⊎_elim (λ old. inl old) (λ last. inr (ap suc last.0, last.1)) (at_end xs a i b e)
 
-pub EachView-cut : (views : List (List Facts)) (owners : Owners) (IsTold : Facts → Type 0) (id : ℕ) (first : Facts) (rest : List Facts)
+pub EachView-cut : (views : List (List Facts)) (owners : Owners) (IsTold : Facts → Type 0) (id : ℕ) (first : Facts)
+    (rest : List Facts)
     → EachView views owners IsTold → get_elem? views id ≡ some (first ∷ rest)
     → ((entry : ℕ) (other : Facts) → get_elem? rest entry ≡ some other → IsSameSeat first other → ⊥)
     → EachView (set views id rest ++ (first ∷ []) ∷ []) (gives owners first (length views)) IsTold
 EachView-cut views owners IsTold id first rest each at apart seat entry view facts there inside =
     let mine = each id 0 (first ∷ rest) first at refl in
-    let stays : (IsSameSeat first facts → ⊥) → owner_of owners facts ≡ seat → owner_of (gives owners first (length views)) facts ≡ seat =
+    let stays : (IsSameSeat first facts → ⊥) → owner_of owners facts ≡ seat
+    → owner_of (gives owners first (length views)) facts ≡ seat =
     λ far owner. gives_other owners first facts (length views) far ∙ owner in
     ⊎_elim
     (λ (old : get_elem? (set views id rest) seat ≡ some view). ⊎_elim
@@ -89,8 +95,10 @@ EachView-cut views owners IsTold id first rest each at apart seat entry view fac
     (stays (λ same. far.0 (sym was.0 ∙ sym (same_owner owners first facts same) ∙ mine.0)) was.0, was.1))
     (at_set views id seat rest view old))
     (λ (last : (seat ≡ length (set views id rest)) × (first ∷ [] ≡ view)).
-    let e : first ≡ facts = only first entry facts (subst (λ v. get_elem? v entry ≡ some facts) (sym last.1) inside) in (
-      ap (owner_of (gives owners first (length views))) (sym e) ∙ gives_it owners first (length views) ∙ sym (length-set views id rest) ∙ sym last.0,
+    let e : first ≡ facts = only first entry facts (subst (λ v. get_elem? v entry ≡ some facts) (sym last.1)
+    inside) in (
+      ap (owner_of (gives owners first (length views))) (sym e) ∙ gives_it owners first (length views)
+          ∙ sym (length-set views id rest) ∙ sym last.0,
       subst IsTold e mine.1,
     ))
     (at_end (set views id rest) (first ∷ []) seat view there)
@@ -109,12 +117,15 @@ merged_owner : (owners : Owners) (other id : ℕ) (facts : Facts)
 merged_owner owners other id (of_guest facts) = refl
 merged_owner owners other id (of_copier facts) = refl
 
-merged_here : (owners : Owners) (other id : ℕ) (facts : Facts) → owner_of owners facts ≡ other → owner_of (merged owners other id) facts ≡ id
-merged_here owners other id facts e = merged_owner owners other id facts ∙ rw (eq-eqb (owner_of owners facts) other e) refl
+merged_here : (owners : Owners) (other id : ℕ) (facts : Facts) → owner_of owners facts ≡ other
+    → owner_of (merged owners other id) facts ≡ id
+merged_here owners other id facts e = merged_owner owners other id facts
+    ∙ rw (eq-eqb (owner_of owners facts) other e) refl
 
 merged_else : (owners : Owners) (other id : ℕ) (facts : Facts) → owner_of owners facts ≢ other
     → owner_of (merged owners other id) facts ≡ owner_of owners facts
-merged_else owners other id facts ne = merged_owner owners other id facts ∙ rw (ne_eqb (owner_of owners facts) other ne) refl
+merged_else owners other id facts ne = merged_owner owners other id facts
+    ∙ rw (ne_eqb (owner_of owners facts) other ne) refl
 
 pub in_either : (v w : List Facts) (entry : ℕ) (facts : Facts) → get_elem? (v ++ w) entry ≡ some facts
     → (get_elem? v entry ≡ some facts) ⊎ ((k : ℕ) × (get_elem? w k ≡ some facts))
@@ -122,13 +133,16 @@ in_either [] w entry facts e = inr (entry, e)
 in_either (x ∷ v) w zero facts e = inl e
 in_either (x ∷ v) w (suc entry) facts e = in_either v w entry facts e
 
-pub EachView-join : (views : List (List Facts)) (owners : Owners) (IsTold : Facts → Type 0) (id : ℕ) (v : List Facts) (other : ℕ) (w : List Facts)
-    → EachView views owners IsTold → get_elem? views id ≡ some v → (other ≡ id → ⊥) → get_elem? (set views id (v ++ w)) other ≡ some w
+pub EachView-join : (views : List (List Facts)) (owners : Owners) (IsTold : Facts → Type 0) (id : ℕ) (v : List Facts)
+    (other : ℕ) (w : List Facts)
+    → EachView views owners IsTold → get_elem? views id ≡ some v → (other ≡ id → ⊥)
+    → get_elem? (set views id (v ++ w)) other ≡ some w
     → EachView (set (set views id (v ++ w)) other []) (merged owners other id) IsTold
 EachView-join views owners IsTold id v other w each at apart at_other seat entry view facts there inside =
     let at_other' : get_elem? views other ≡ some w = sym (set_else views id other (v ++ w) apart) ∙ at_other in
     ⊎_elim
-    (λ (here : (seat ≡ other) × ([] ≡ view)). absurd (nothing entry facts (subst (λ l. get_elem? l entry ≡ some facts) (sym here.1) inside)))
+    (λ (here : (seat ≡ other) × ([] ≡ view)). absurd (nothing entry facts
+    (subst (λ l. get_elem? l entry ≡ some facts) (sym here.1) inside)))
     (λ (far : (seat ≢ other) × (get_elem? (set views id (v ++ w)) seat ≡ some view)). ⊎_elim
     (λ (here : (seat ≡ id) × (v ++ w ≡ view)). ⊎_elim
     (λ (old : get_elem? v entry ≡ some facts).
@@ -146,9 +160,11 @@ EachView-join views owners IsTold id v other w each at apart at_other seat entry
 
 -- ---- a new seat in which nobody stands
 
-pub EachView-enter : (views : List (List Facts)) (owners : Owners) (IsTold : Facts → Type 0) → EachView views owners IsTold
+pub EachView-enter : (views : List (List Facts)) (owners : Owners) (IsTold : Facts → Type 0)
+    → EachView views owners IsTold
     → EachView (views ++ [] ∷ []) owners IsTold
 EachView-enter views owners IsTold each seat entry view facts there inside = ⊎_elim
     (λ (old : get_elem? views seat ≡ some view). each seat entry view facts old inside)
-    (λ (last : (seat ≡ length views) × ([] ≡ view)). absurd (nothing entry facts (subst (λ l. get_elem? l entry ≡ some facts) (sym last.1) inside)))
+    (λ (last : (seat ≡ length views) × ([] ≡ view)). absurd (nothing entry facts
+    (subst (λ l. get_elem? l entry ≡ some facts) (sym last.1) inside)))
     (at_end views [] seat view there)

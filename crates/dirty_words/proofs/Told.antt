@@ -1,24 +1,30 @@
 -- What seats know stays true at each event, and what the seat that made it knows grows by it.
-use Rattle.std.proofs.Common.{◌≡◌, ◌≢◌, ℕ, ◌/◌, ◌%◌, ◌^◌, ◌<◌, Bool, true, false, ◌&&◌, ◌||◌, not, eqb, ◌∷◌, length, get_or, Some, None, refl, sym, ap, ◌∙◌, arith}
+use Rattle.std.proofs.Common.{◌≡◌, ◌≢◌, ℕ, ◌/◌, ◌%◌, ◌^◌, ◌<◌, Bool, true, false, ◌&&◌, ◌||◌, not, eqb, ◌∷◌, length}
+use Rattle.std.proofs.Common.{get_or, Some, None, refl, sym, ap, ◌∙◌, arith}
 use Rattle.std.specs.Prelude.{IsTrue}
 use Rattle.std.specs.Int.{bit_at}
 use Rattle.std.proofs.lemmas.Bool.{eqb-true, eq-eqb, ne_eqb, and_parts, and_from, or_cases}
+use Rattle.std.proofs.Math.Bool.{or-false, and-true}
 use Rattle.dirty_core.specs.declared.event.Event.TheVariants.{Store, Mark, Harvest, Restore, Read}
-use Rattle.page_bitmap.specs.Pages.{PageSet, in_words, one_page, word_pages, bit_pages, union, common, minus, IsWithin, SamePages}
+use Rattle.page_bitmap.specs.Pages.{PageSet, in_words, one_page, word_pages, bit_pages, union, common, minus, IsWithin}
+use Rattle.page_bitmap.specs.Pages.{SamePages}
 use Rattle.dirty_core.specs.Start.{Start, GuestOwns, CopierOwns, copier_of, word_copier}
 use Rattle.dirty_core.specs.Machine.{DirtyCore, is_stored, after}
 use Rattle.dirty_core.specs.Runs.{IsOnlyDue}
 use Rattle.dirty_core.proofs.EveryPage.{put_at, put_else, set_at, set_else, stored_still, either}
 use Rattle.page_bitmap.proofs.Bits.{added, removed, page_bit_pages}
-use Rattle.dirty_words.specs.Facts.{Facts, of_guest, of_copier, GuestFacts, CopyFacts, page_bit, bits_less, fresh_after, after_store, after_mark, after_harvest, after_peek, after_restore, after_read}
+use Rattle.dirty_words.specs.Facts.{Facts, of_guest, of_copier, GuestFacts, CopyFacts, page_bit, bits_less, fresh_after}
+use Rattle.dirty_words.specs.Facts.{after_store, after_mark, after_harvest, after_peek, after_restore, after_read}
 use Rattle.dirty_words.specs.Shows.{TellsGuest, TellsCopier, Tells}
 use Rattle.dirty_words.proofs.Seating.{IsSameSeat}
 use Rattle.dirty_words.proofs.Words.{cleared, less_parts}
 
 -- ---- a guest's events
 
-pub Tells-store : (start : Start) (core : DirtyCore) (mine : GuestFacts) (page place : ℕ) (other : Facts) → GuestOwns core.sizes mine.number page
-    → (IsSameSeat (of_guest mine) other → ⊥) → Tells start core other → Tells start (after core (Store mine.number page place)) other
+pub Tells-store : (start : Start) (core : DirtyCore) (mine : GuestFacts) (page place : ℕ) (other : Facts)
+    → GuestOwns core.sizes mine.number page
+    → (IsSameSeat (of_guest mine) other → ⊥) → Tells start core other
+    → Tells start (after core (Store mine.number page place)) other
 Tells-store start core mine page place (of_guest f) owns apart told = record {
   start_is = told.start_is;
   stores = told.stores ∙ sym (put_else core.stores mine.number _ f.number (λ e. apart (sym e)));
@@ -41,14 +47,22 @@ Tells-stored start core mine page place told = record {
 }
 
 pub Tells-mark : (start : Start) (core : DirtyCore) (mine : GuestFacts) (other : Facts)
-    → (IsSameSeat (of_guest mine) other → ⊥) → Tells start core other → Tells start (after core (Mark mine.number)) other
+    → (IsSameSeat (of_guest mine) other → ⊥) → Tells start core other
+    → Tells start (after core (Mark mine.number)) other
 Tells-mark start core mine (of_guest f) apart told = record {
   start_is = told.start_is;
   stores = told.stores;
   pending = told.pending ∙ sym (put_else core.pending mine.number _ f.number (λ e. apart (sym e)));
 }
 Tells-mark start core mine (of_copier f) apart told =
-    record { start_is = told.start_is; held = told.held; reads = told.reads; returned = told.returned; fresh = told.fresh }
+    record {
+      start_is = told.start_is;
+      held = told.held;
+      reads = told.reads;
+      returned = told.returned;
+      fresh =
+          told.fresh;
+    }
 
 pub Tells-marked : (start : Start) (core : DirtyCore) (mine : GuestFacts) → TellsGuest start core mine
     → TellsGuest start (after core (Mark mine.number)) (after_mark mine)
@@ -60,61 +74,64 @@ Tells-marked start core mine told = record {
 
 -- ---- a copier's events
 
-and_true : (b : Bool) → (b && true) ≡ b
-and_true true = refl
-and_true false = refl
-
-or_false : (b : Bool) → (b || false) ≡ b
-or_false true = refl
-or_false false = refl
-
 -- pages of another copier are not in the word
-not_in_word : (core : DirtyCore) (copier word page other : ℕ) → CopierOwns core.sizes copier word → other ≢ copier → copier_of core.sizes page ≡ other
+not_in_word : (core : DirtyCore) (copier word page other : ℕ) → CopierOwns core.sizes copier word → other ≢ copier
+    → copier_of core.sizes page ≡ other
     → page / 64 ≢ word
 not_in_word core copier word page other owns apart own e = apart (sym own ∙ ap (word_copier core.sizes) e ∙ owns.owner)
 
-pub Tells-harvest : (start : Start) (core : DirtyCore) (mine : CopyFacts) (word : ℕ) (other : Facts) → CopierOwns core.sizes mine.number word
-    → (IsSameSeat (of_copier mine) other → ⊥) → Tells start core other → Tells start (after core (Harvest mine.number word)) other
+pub Tells-harvest : (start : Start) (core : DirtyCore) (mine : CopyFacts) (word : ℕ) (other : Facts)
+    → CopierOwns core.sizes mine.number word
+    → (IsSameSeat (of_copier mine) other → ⊥) → Tells start core other
+    → Tells start (after core (Harvest mine.number word)) other
 Tells-harvest start core mine word (of_guest f) owns apart told =
     record { start_is = told.start_is; stores = told.stores; pending = told.pending }
 Tells-harvest start core mine word (of_copier f) owns apart told =
     let far : f.number ≢ mine.number = λ e. apart (sym e) in
     record {
       start_is = told.start_is;
-      held = λ p. told.held p ∙ sym (set_else core.held mine.number (union (core.held mine.number) (common (word_pages word) core.marked)) f.number p far);
+      held = λ p. told.held p ∙ sym (set_else core.held mine.number
+          (union (core.held mine.number) (common (word_pages word) core.marked)) f.number p far);
       reads = told.reads;
       returned = λ p own.
           told.returned p own
-          ∙ sym (ap (λ b. core.returned p && not b) (ne_eqb (p / 64) word (not_in_word core mine.number word p f.number owns far own)) ∙ and_true _);
+          ∙ sym (ap (λ b. core.returned p && not b) (ne_eqb (p / 64) word
+          (not_in_word core mine.number word p f.number owns far own)) ∙ and-true _);
       fresh = told.fresh;
     }
 
-pub Tells-restore : (start : Start) (core : DirtyCore) (mine : CopyFacts) (word bits : ℕ) (other : Facts) → CopierOwns core.sizes mine.number word
-    → (IsSameSeat (of_copier mine) other → ⊥) → Tells start core other → Tells start (after core (Restore mine.number word bits)) other
+pub Tells-restore : (start : Start) (core : DirtyCore) (mine : CopyFacts) (word bits : ℕ) (other : Facts)
+    → CopierOwns core.sizes mine.number word
+    → (IsSameSeat (of_copier mine) other → ⊥) → Tells start core other
+    → Tells start (after core (Restore mine.number word bits)) other
 Tells-restore start core mine word bits (of_guest f) owns apart told =
     record { start_is = told.start_is; stores = told.stores; pending = told.pending }
 Tells-restore start core mine word bits (of_copier f) owns apart told =
     let far : f.number ≢ mine.number = λ e. apart (sym e) in
     record {
       start_is = told.start_is;
-      held = λ p. told.held p ∙ sym (set_else core.held mine.number (minus (core.held mine.number) (bit_pages word bits)) f.number p far);
+      held = λ p. told.held p ∙ sym (set_else core.held mine.number
+          (minus (core.held mine.number) (bit_pages word bits)) f.number p far);
       reads = told.reads;
       returned = λ p own.
           told.returned p own
-          ∙ sym (ap (λ b. core.returned p || (b && eqb (bit_at bits (p % 64)) 1)) (ne_eqb (p / 64) word (not_in_word core mine.number word p f.number owns far own))
-          ∙ or_false _);
+          ∙ sym (ap (λ b. core.returned p || (b && eqb (bit_at bits (p % 64)) 1))
+          (ne_eqb (p / 64) word (not_in_word core mine.number word p f.number owns far own))
+          ∙ or-false _);
       fresh = told.fresh;
     }
 
 pub Tells-read : (start : Start) (core : DirtyCore) (mine : CopyFacts) (page : ℕ) (other : Facts)
-    → (IsSameSeat (of_copier mine) other → ⊥) → Tells start core other → Tells start (after core (Read mine.number page)) other
+    → (IsSameSeat (of_copier mine) other → ⊥) → Tells start core other
+    → Tells start (after core (Read mine.number page)) other
 Tells-read start core mine page (of_guest f) apart told =
     record { start_is = told.start_is; stores = told.stores; pending = told.pending }
 Tells-read start core mine page (of_copier f) apart told =
     let far : f.number ≢ mine.number = λ e. apart (sym e) in
     record {
       start_is = told.start_is;
-      held = λ p. told.held p ∙ sym (set_else core.held mine.number (minus (core.held mine.number) (one_page page)) f.number p far);
+      held = λ p. told.held p ∙ sym (set_else core.held mine.number (minus (core.held mine.number) (one_page page))
+          f.number p far);
       reads = told.reads ∙ sym (put_else core.reads mine.number _ f.number far);
       returned = told.returned;
       fresh = told.fresh;
@@ -124,7 +141,8 @@ one_not_zero : (n : ℕ) → n ≡ 1 → n ≡ 0 → ⊥
 one_not_zero n one none = omega arith
 
 -- the fresh pages of an answer were stored: they are marked and not returned
-fresh_stored : (start : Start) (core : DirtyCore) (mine : CopyFacts) (word answer : ℕ) → CopierOwns core.sizes mine.number word
+fresh_stored : (start : Start) (core : DirtyCore) (mine : CopyFacts) (word answer : ℕ)
+    → CopierOwns core.sizes mine.number word
     → word < length mine.fresh → ((page : ℕ) → IsOnlyDue core page) → TellsCopier start core mine
     → SamePages (bit_pages word answer) (common (word_pages word) core.marked)
     → IsWithin (in_words (fresh_after word answer mine)) (is_stored core)
@@ -137,15 +155,19 @@ fresh_stored start core mine word answer owns within due told is page shown =
     let marked : IsTrue (core.marked page) = (and_parts _ _ (sym (is page) ∙ in_answer)).1 in
     let own : copier_of core.sizes page ≡ mine.number = ap (word_copier core.sizes) parts.0 ∙ owns.owner in
     let not_returned : IsTrue (core.returned page) → ⊥ = λ back.
-    let bit : bit_at (get_or mine.returned (page / 64) 0) (page % 64) ≡ 1 = eqb-true _ _ (told.returned page own ∙ back) in
-    let bit' : bit_at returned (page % 64) ≡ 1 = ap (λ w. bit_at (get_or mine.returned w 0) (page % 64)) (sym parts.0) ∙ bit in
+    let bit : bit_at (get_or mine.returned (page / 64) 0) (page % 64) ≡ 1 =
+    eqb-true _ _ (told.returned page own ∙ back) in
+    let bit' : bit_at returned (page % 64) ≡ 1 = ap (λ w. bit_at (get_or mine.returned w 0) (page % 64)) (sym parts.0)
+    ∙ bit in
     let none : bit_at returned (page % 64) ≡ 0 = parts.2 in
     one_not_zero _ bit' none in
     either (λ stored. stored) (λ back. absurd (not_returned back)) (due page marked))
     (or_cases _ _ (sym (added mine.fresh word (bits_less answer returned) page within) ∙ shown))
 
-pub Tells-harvested : (start : Start) (core : DirtyCore) (mine : CopyFacts) (word answer : ℕ) → CopierOwns core.sizes mine.number word
-    → word < length mine.held → word < length mine.returned → word < length mine.fresh → ((page : ℕ) → IsOnlyDue core page) → TellsCopier start core mine
+pub Tells-harvested : (start : Start) (core : DirtyCore) (mine : CopyFacts) (word answer : ℕ)
+    → CopierOwns core.sizes mine.number word
+    → word < length mine.held → word < length mine.returned → word < length mine.fresh
+    → ((page : ℕ) → IsOnlyDue core page) → TellsCopier start core mine
     → SamePages (bit_pages word answer) (common (word_pages word) core.marked)
     → TellsCopier start (after core (Harvest mine.number word)) (after_harvest word answer mine)
 Tells-harvested start core mine word answer owns in_held in_returned in_fresh due told is =
@@ -156,11 +178,13 @@ Tells-harvested start core mine word answer owns in_held in_returned in_fresh du
           added mine.held word answer p in_held ∙ ap (λ b. b || bit_pages word answer p) (told.held p)
           ∙ ap (λ b. core.held mine.number p || b) (is p) ∙ sym (set_at core.held mine.number taken mine.number p refl);
       reads = told.reads;
-      returned = λ p own. cleared mine.returned word p in_returned ∙ ap (λ b. b && not (word_pages word p)) (told.returned p own);
+      returned = λ p own. cleared mine.returned word p in_returned
+          ∙ ap (λ b. b && not (word_pages word p)) (told.returned p own);
       fresh = fresh_stored start core mine word answer owns in_fresh due told is;
     }
 
-pub Tells-peeked : (start : Start) (core : DirtyCore) (mine : CopyFacts) (word answer : ℕ) → CopierOwns core.sizes mine.number word
+pub Tells-peeked : (start : Start) (core : DirtyCore) (mine : CopyFacts) (word answer : ℕ)
+    → CopierOwns core.sizes mine.number word
     → word < length mine.fresh → ((page : ℕ) → IsOnlyDue core page) → TellsCopier start core mine
     → SamePages (bit_pages word answer) (common (word_pages word) core.marked)
     → TellsCopier start core (after_peek word answer mine)
@@ -183,7 +207,8 @@ Tells-restored start core mine word bits in_held in_returned fits told =
           removed mine.held word bits p in_held fits ∙ ap (λ b. b && not (bit_pages word bits p)) (told.held p)
           ∙ sym (set_at core.held mine.number left mine.number p refl);
       reads = told.reads;
-      returned = λ p own. added mine.returned word bits p in_returned ∙ ap (λ b. b || bit_pages word bits p) (told.returned p own);
+      returned = λ p own. added mine.returned word bits p in_returned
+          ∙ ap (λ b. b || bit_pages word bits p) (told.returned p own);
       fresh = told.fresh;
     }
 
@@ -197,7 +222,8 @@ Tells-reading start core mine page place in_held fits is told =
       held = λ p.
           removed mine.held (page / 64) (page_bit page) p in_held fits
           ∙ ap (λ b. in_words mine.held p && not b) (page_bit_pages page p)
-          ∙ ap (λ b. b && not (one_page page p)) (told.held p) ∙ sym (set_at core.held mine.number left mine.number p refl);
+          ∙ ap (λ b. b && not (one_page page p)) (told.held p)
+          ∙ sym (set_at core.held mine.number left mine.number p refl);
       reads =
           ap (λ n. (page, n) ∷ mine.reads) is ∙ ap (λ v. (page, core.place page) ∷ v) told.reads
           ∙ sym (put_at core.reads mine.number _ mine.number refl);

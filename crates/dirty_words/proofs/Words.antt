@@ -1,11 +1,13 @@
 -- The words after each step show the core after its event.
-use Rattle.std.proofs.Common.{◌≡◌, ◌≢◌, ℕ, zero, suc, ◌+◌, ◌*◌, ◌/◌, ◌%◌, ◌^◌, ◌<◌, Bool, true, false, ◌&&◌, not, eqb, List, length, get_or, set, bit_and, refl, sym, ap, ◌∙◌, arith, inl, inr}
+use Rattle.std.proofs.Common.{◌≡◌, ◌≢◌, ℕ, zero, suc, ◌+◌, ◌*◌, ◌/◌, ◌%◌, ◌^◌, ◌<◌, Bool, true, false, ◌&&◌, not, eqb}
+use Rattle.std.proofs.Common.{List, length, get_or, set, bit_and, refl, sym, ap, ◌∙◌, arith, inl, inr}
 use Rattle.std.specs.Prelude.{IsTrue}
 use Rattle.std.specs.Int.{bit_at}
 use Rattle.std.proofs.lemmas.Bool.{eqb-true, eq-eqb, ne_eqb, cases_eq, and_parts}
 use Rattle.std.proofs.lemmas.List.{get_or-set_same, get_or-set_other, length-set}
 use Rattle.std.proofs.lemmas.Nat.Bits.{bit_at_and, bit_at_xor, bit_at-lt, bit_at-zero, same_from_bits_below}
 use Rattle.std.proofs.lemmas.Nat.{div-mul-add, mod-mul-add, pow_pos}
+use Rattle.std.proofs.Math.Bool.{and-true, and-false}
 use Rattle.dirty_core.specs.declared.event.Event.TheVariants.{Store}
 use Rattle.page_bitmap.specs.Pages.{PageSet, in_words, word_pages, bit_pages, common, minus, SamePages}
 use Rattle.dirty_core.specs.Start.{Start}
@@ -43,7 +45,8 @@ ShowWords-store start words core guest page place shown real fits =
 
 -- ---- one dirty word
 
-pub ShowWords-dirty : (start : Start) (words : List ℕ) (old new : DirtyCore) (word bits : ℕ) → ShowWords start words old → word < length start.dirty
+pub ShowWords-dirty : (start : Start) (words : List ℕ) (old new : DirtyCore) (word bits : ℕ) → ShowWords start words old
+    → word < length start.dirty
     → ((page : ℕ) → page / 64 < length start.dirty → in_words (set words word bits) page ≡ new.marked page)
     → ((page : ℕ) → new.place page ≡ old.place page)
     → ShowWords start (set words word bits) new
@@ -57,26 +60,20 @@ ShowWords-dirty start words old new word bits shown low marked same = record {
 }
 
 -- a word cleared
-pub cleared : (words : List ℕ) (word page : ℕ) → word < length words → in_words (set words word 0) page ≡ minus (in_words words) (word_pages word) page
+pub cleared : (words : List ℕ) (word page : ℕ) → word < length words
+    → in_words (set words word 0) page ≡ minus (in_words words) (word_pages word) page
 cleared words word page within = elim (cases_eq (page / 64) word) [
   | inl e ↦
       here words word 0 page within e ∙ ap (λ n. eqb n 1) (bit_at-zero (page % 64))
-      ∙ sym (ap (λ b. in_words words page && not b) (eq-eqb (page / 64) word e) ∙ and_false _)
+      ∙ sym (ap (λ b. in_words words page && not b) (eq-eqb (page / 64) word e) ∙ and-false _)
   | inr ne ↦
       elsewhere words word 0 page ne
-      ∙ sym (ap (λ b. in_words words page && not b) (ne_eqb (page / 64) word ne) ∙ and_true _)
+      ∙ sym (ap (λ b. in_words words page && not b) (ne_eqb (page / 64) word ne) ∙ and-true _)
 ]
-  where
-    and_false : (b : Bool) → (b && false) ≡ false
-    and_false true = refl
-    and_false false = refl
-
-    and_true : (b : Bool) → (b && true) ≡ b
-    and_true true = refl
-    and_true false = refl
 
 -- what a dirty word has, read or swapped out, is the word's marked pages
-pub word_marked : (words : List ℕ) (marked : PageSet) (word : ℕ) → ((page : ℕ) → page / 64 ≡ word → in_words words page ≡ marked page)
+pub word_marked : (words : List ℕ) (marked : PageSet) (word : ℕ)
+    → ((page : ℕ) → page / 64 ≡ word → in_words words page ≡ marked page)
     → SamePages (bit_pages word (get_or words word 0)) (common (word_pages word) marked)
 word_marked words marked word shown page = elim (cases_eq (page / 64) word) [
   | inl e ↦
@@ -108,7 +105,8 @@ no_one zero low none = refl
 no_one (suc zero) low none = absurd cc
 no_one (suc (suc n)) low none = absurd (omega arith)
 
-pub no_pages : (words : List ℕ) (word : ℕ) → get_or words word 0 < 2 ^ 64 → ((page : ℕ) → in_words words page ≡ false) → get_or words word 0 ≡ 0
+pub no_pages : (words : List ℕ) (word : ℕ) → get_or words word 0 < 2 ^ 64 → ((page : ℕ) → in_words words page ≡ false)
+    → get_or words word 0 ≡ 0
 no_pages words word fits none = same_from_bits_below 64 (get_or words word 0) 0 fits (pow_pos 64) (λ i low.
     let page : ℕ = word * 64 + i in
     let e : page / 64 ≡ word = div-mul-add word 64 i low in

@@ -32,7 +32,7 @@ pub record IsAnswer (facts : CopyFacts) (word answer : ℕ) : Type 0 where
   pub real : (page : ℕ) → IsTrue (bit_pages word answer page) → page < length facts.start.places
 
 -- the answer's pages that were not returned are fresh, as are those that were
-pub record IsShown (old : CopyFacts) (word answer : ℕ) (new : CopyFacts) : Type 0 where
+pub record MakesFresh (old : CopyFacts) (word answer : ℕ) (new : CopyFacts) : Type 0 where
   pub shown : (page : ℕ) → IsTrue (bit_pages word answer page) → IsTrue (in_words old.returned page)
       ⊎ IsTrue (in_words new.fresh page)
   pub kept : IsWithin (in_words old.fresh) (in_words new.fresh)

@@ -5,7 +5,7 @@ ghost use Rattle.std.specs.Prelude.{bit_and, ◌^◌};
 ghost use Rattle.page_bitmap.specs.Pages.{in_words, word_pages, bit_pages, one_page, union, minus, IsWithin, SamePages};
 ghost use Rattle.dirty_words.specs.Facts.{first_copier, OwnsWord, CopyFits, HoldsNone, after_harvest, after_peek};
 ghost use Rattle.dirty_words.specs.Facts.{after_restore, after_read};
-ghost use Rattle.dirty_words.specs.Plays.{lone_copier, IsAnswer, IsShown, IsOver};
+ghost use Rattle.dirty_words.specs.Plays.{lone_copier, IsAnswer, MakesFresh, IsOver};
 ghost use Rattle.dirty_words.specs.Seats.{copy_view, copy_table};
 
 use crate::rule::{Harvests, Peeks, Reads, Restores, View};
@@ -137,7 +137,7 @@ impl CopySeat {
             (union (in_words self.old.facts.held) (bit_pages word result)) }
         ensures returned { SamePages (in_words self.new.facts.returned)
             (minus (in_words self.old.facts.returned) (word_pages word)) }
-        ensures fresh { IsShown self.old.facts word result self.new.facts }
+        ensures fresh { MakesFresh self.old.facts word result self.new.facts }
     {
         let bits = table.table.shared.swap::<Harvests>(&mut self.seat, word, 0);
         self.held[word] |= bits;
@@ -152,7 +152,7 @@ impl CopySeat {
         ensures table { copy_table self.new ≡ copy_table self.old }
         ensures facts { self.new.facts ≡ after_peek word result self.old.facts }
         ensures answer { IsAnswer self.old.facts word result }
-        ensures fresh { IsShown self.old.facts word result self.new.facts }
+        ensures fresh { MakesFresh self.old.facts word result self.new.facts }
     {
         table.table.shared.load::<Peeks>(&mut self.seat, word)
     }

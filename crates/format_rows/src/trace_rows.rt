@@ -8,21 +8,9 @@ use trace_codec::{
     Shape, TestSource, Timeline, TraceError, WriteLog, checked_write, decode, read_header,
 };
 use trace_readers::HeldTrace;
+use worked_guest::{NO_WRITES, TRACE};
 
-/// A guest of 4 pages of 16 bytes, which writes pages 0 and 1 at ticks 0 and 5, page 1 at tick 1200, and pages 3 and 1
-/// at tick 2500.
-const TRACE: [u8; 102] = [
-    0x50, 0x43, 0x57, 0x54, 1, 4, 0, 0, 4, 0, 0, 0, 5, 0, 0, 0, // header
-    0, 0, 0, 0, 0, 0, 0, 0, 0, 0, 0, 0, 0, 0, 1, 0, 1, // write 1
-    5, 0, 0, 0, 0, 0, 0, 0, 1, 0, 0, 0, 0x0f, 0, 1, 0, 2, // write 2
-    0xb0, 4, 0, 0, 0, 0, 0, 0, 1, 0, 0, 0, 0, 0, 1, 0, 3, // write 3
-    0xc4, 9, 0, 0, 0, 0, 0, 0, 3, 0, 0, 0, 2, 0, 2, 0, 4, 5, // write 4
-    0xc4, 9, 0, 0, 0, 0, 0, 0, 1, 0, 0, 0, 0, 0, 1, 0, 0, // write 5
-];
-
-const NO_WRITES: [u8; 16] = [0x50, 0x43, 0x57, 0x54, 1, 4, 0, 0, 4, 0, 0, 0, 0, 0, 0, 0];
-
-/// Returns the first bytes of the trace above, some of them changed, and more behind them.
+/// Returns the first bytes of the trace, some of them changed, and more behind them.
 fn changed(
     alloc: Global,
     len: usize,

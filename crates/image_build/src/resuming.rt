@@ -1,4 +1,5 @@
 //! Memory whose pages are at versions of their own, brought to the end of a trace.
+//! No program runs it: it serves users of the library, and tests.
 
 ghost use Rattle.std.specs.Prelude.{◌≡◌, ◌*◌, ◌^◌, ◌≤◌, fold, length};
 ghost use Rattle.std.specs.List.{All};

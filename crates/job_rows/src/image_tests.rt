@@ -1,5 +1,5 @@
-//! Memory that `image` makes page by page, since it is too large to be made whole, and memory that it makes whole once a
-//! quarter as many bytes of the trace have come.
+//! Memory that `image` makes page by page, since it is too large to be made whole, and memory that it makes whole once
+//! a quarter as many bytes of the trace have come.
 
 use crate::tests::ran;
 use migration_jobs::{Job, RunError, TestSink};

@@ -2,7 +2,7 @@
 
 ghost use Rattle.std.specs.Prelude.{◌≡◌, false};
 
-use crate::tests::{MEMORY, MEMORY_AT_2000, sink, whole};
+use crate::tests::{sink, whole};
 use live_engine::{Gate, LiveError, OpenGate, Point};
 use migration_jobs::{Job, RunError, Show, TestSink, run};
 use rate_limit::{Asked, Settings};
@@ -13,26 +13,7 @@ use std::test::Fail;
 use std::thread;
 use std::thread::Threads;
 use trace_codec::{TestSource, TraceError};
-
-/// Returns slow rates, by which the plan of the tests' trace has three rounds and stops at tick 3667.
-pub(crate) fn slow() -> Asked {
-    Asked {
-        min: 2,
-        max: 4,
-        increment: 1,
-        threshold: 1,
-        rounds: 8,
-        start: 0,
-        window: 1000,
-        hot: 2,
-        workers: 1,
-        streams: 1,
-        replayers: 1,
-        lane: 1024,
-        skip: false,
-        base: None,
-    }
-}
+use worked_guest::{MEMORY, MEMORY_AT_2000, asked};
 
 /// Returns what a live run over some bytes writes.
 pub(crate) fn shown<R: Threads + Wait + Sync, G: Gate>(
@@ -58,21 +39,21 @@ fn writes_memory_of_a_live_run(rt: HostRuntime) -> Result<(), Fail> {
         workers: 3,
         streams: 2,
         replayers: 4,
-        ..slow()
+        ..asked()
     };
     let one_round = Asked {
         max: 2,
         rounds: 1,
-        ..slow()
+        ..asked()
     };
     let cases: [(Asked, &[u8]); 4] = [
-        (slow(), &MEMORY),
+        (asked(), &MEMORY),
         (many, &MEMORY),
         (one_round, &MEMORY_AT_2000),
         (
             Asked {
                 skip: true,
-                ..slow()
+                ..asked()
             },
             &MEMORY,
         ),
@@ -108,7 +89,7 @@ fn writes_a_page_past_the_first_word(rt: HostRuntime) -> Result<(), Fail> {
         max: 10,
         rounds: 1,
         workers: 2,
-        ..slow()
+        ..asked()
     };
     for show in [Show::Stop, Show::End] {
         let bytes = Vec::from_slice(alloc, &LAST_PAGE)?;
@@ -205,7 +186,7 @@ fn replayers_and_copiers_run_at_once(rt: HostRuntime) -> Result<(), Fail> {
     let alloc = rt.alloc();
     for show in [Show::Stop, Show::End] {
         let gate = Meeting::new();
-        let output = shown(&rt, alloc, whole(alloc)?, slow(), show, &gate)?;
+        let output = shown(&rt, alloc, whole(alloc)?, asked(), show, &gate)?;
         assert!(rt; output.bytes() == MEMORY.as_slice());
         assert_eq!(rt; gate.counts(), [0, 5, 5, 3]);
     }

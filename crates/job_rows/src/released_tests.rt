@@ -2,8 +2,8 @@
 
 ghost use Rattle.std.specs.Prelude.{◌≡◌, ◌≤◌, IfOk, false};
 
-use crate::live_tests::{shown, slow};
-use crate::tests::{MEMORY, MEMORY_AT_2000, TRACE, ran, sink};
+use crate::live_tests::shown;
+use crate::tests::{ran, sink};
 use image_build::{replay, replay_before, replay_bytes, replay_view};
 use live_engine::{OpenGate, migrate};
 use migration_jobs::{Job, Show};
@@ -12,6 +12,7 @@ use std::alloc::{AllocError, Global};
 use std::test::Fail;
 use trace_codec::{TestSource, Trace, TraceError, TraceView, decode, encode, read_trace};
 use trace_readers::{HeldTrace, TouchLog};
+use worked_guest::{MEMORY, MEMORY_AT_2000, TRACE, asked};
 
 /// The tests' trace in version 2, but that its last write releases page 1.
 pub(crate) static RELEASED: [u8; 101] = [
@@ -179,7 +180,7 @@ fn jobs_take_a_release_for_a_write(rt: HostRuntime) -> Result<(), Fail> {
         source(alloc, &RELEASED, 7)?,
         sink(alloc),
     );
-    let job = Job::Report(Settings::new(slow())?);
+    let job = Job::Report(Settings::new(asked())?);
     let (report, text) = ran(&rt, alloc, &job, source(alloc, &RELEASED, 7)?, sink(alloc));
     assert_eq!(rt; (image, report), (Ok(()), Ok(())));
     assert!(rt; memory.bytes() == MEMORY_RELEASED.as_slice() && text.bytes() == REPORT.as_bytes());
@@ -193,16 +194,16 @@ fn live_runs_leave_a_released_page_zeros(rt: HostRuntime) -> Result<(), Fail> {
         workers: 3,
         streams: 2,
         replayers: 4,
-        ..slow()
+        ..asked()
     };
     let early = Asked {
         max: 2,
         rounds: 1,
-        ..slow()
+        ..asked()
     };
     let cases: [(Asked, Show, &[u8]); 5] = [
-        (slow(), Show::Stop, &MEMORY_RELEASED),
-        (slow(), Show::End, &MEMORY_RELEASED),
+        (asked(), Show::Stop, &MEMORY_RELEASED),
+        (asked(), Show::End, &MEMORY_RELEASED),
         (many, Show::Stop, &MEMORY_RELEASED),
         (early, Show::Stop, &MEMORY_AT_2000),
         (early, Show::End, &MEMORY_RELEASED),
@@ -219,7 +220,7 @@ fn live_runs_leave_a_released_page_zeros(rt: HostRuntime) -> Result<(), Fail> {
 fn a_live_run_with_a_release_stops_where_its_plan_does(rt: HostRuntime) -> Result<(), Fail> {
     let alloc = rt.alloc();
     let trace = HeldTrace::parse(alloc, Vec::from_slice(alloc, &RELEASED)?)?;
-    let settings = Settings::new(slow())?;
+    let settings = Settings::new(asked())?;
     let stopped = migrate(&rt, alloc, &trace, &settings, &OpenGate)?;
     assert_eq!(rt;
         (stopped.stop, stopped.versions.as_slice()),

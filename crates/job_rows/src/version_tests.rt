@@ -2,10 +2,10 @@
 
 use crate::incoming_tests::{held, visited};
 use crate::released_tests::{RELEASED, refusals};
-use crate::tests::TRACE;
 use std::alloc::{AllocError, Global};
 use std::test::Fail;
 use trace_codec::TraceError;
+use worked_guest::TRACE;
 
 /// A cause behind the header of a trace.
 #[derive(Clone, Copy, Debug)]

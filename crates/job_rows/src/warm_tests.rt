@@ -1,7 +1,7 @@
 //! Warm starts: the destination begins with the guest's memory before a base tick.
 
-use crate::live_tests::{shown, slow};
-use crate::tests::{MEMORY, MEMORY_AT_2000, ran, sink, whole};
+use crate::live_tests::shown;
+use crate::tests::{ran, sink, whole};
 use live_engine::OpenGate;
 use migration_jobs::{Job, Show};
 use rate_limit::{Asked, Settings};
@@ -10,21 +10,14 @@ use std::sync::Wait;
 use std::test::Fail;
 use std::thread::Threads;
 use trace_codec::TestSource;
-
-/// The memory before tick 1200.
-static MEMORY_AT_1200: [u8; 64] = [
-    1, 0, 0, 0, 0, 0, 0, 0, 0, 0, 0, 0, 0, 0, 0, 0, //
-    0, 0, 0, 0, 0, 0, 0, 0, 0, 0, 0, 0, 0, 0, 0, 2, //
-    0, 0, 0, 0, 0, 0, 0, 0, 0, 0, 0, 0, 0, 0, 0, 0, //
-    0, 0, 0, 0, 0, 0, 0, 0, 0, 0, 0, 0, 0, 0, 0, 0,
-];
+use worked_guest::{MEMORY, MEMORY_AT_1200, MEMORY_AT_2000, asked};
 
 /// Returns slow rates from a start on, over the memory before a base.
 fn warm(base: u64, start: u64) -> Asked {
     Asked {
         start,
         base: Some(base),
-        ..slow()
+        ..asked()
     }
 }
 

@@ -89,7 +89,7 @@ pub fn words<R: Env + AllocGlobal>(rt: &R) -> Result<Vec<String>, WordsError> {
 }
 
 /// Returns a command with no options yet.
-fn command<'a>(alloc: Global, name: &'a str, about: &'a str) -> Command<'a>
+pub fn leaf_command<'a>(alloc: Global, name: &'a str, about: &'a str) -> Command<'a>
     ensures { IsLeaf result name.entry.now [] }
 {
     Command::new(alloc, name).about(about)
@@ -99,27 +99,27 @@ fn command<'a>(alloc: Global, name: &'a str, about: &'a str) -> Command<'a>
 fn commands<'a>(alloc: Global) -> Result<Command<'a>, AllocError>
     ensures { IfOk result (λ line. app_of line ≡ precopy_line) }
 {
-    let image = command(
+    let image = leaf_command(
         alloc,
         "image",
         "Writes the memory after all writes of the trace on standard input",
     );
-    let report = command(
+    let report = leaf_command(
         alloc,
         "report",
         "Writes the working sets of the trace on standard input",
     );
-    let live = command(
+    let live = leaf_command(
         alloc,
         "live",
         "Performs a migration over the trace on standard input, and writes the memory that it leaves",
     );
-    let sweep = command(
+    let sweep = leaf_command(
         alloc,
         "sweep",
         "Writes what the plans of many cases come to, over the trace on standard input",
     );
-    command(
+    leaf_command(
         alloc,
         "precopy",
         "Predicts and performs pre-copy migrations over a trace of guest writes",

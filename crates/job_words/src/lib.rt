@@ -6,7 +6,8 @@ mod command;
 mod options;
 
 pub use cases::{cases_of, with_cases};
-pub use command::{WordsError, WordsRefusal, job_of, refusal_of, words};
+pub use command::{WordsError, WordsRefusal, job_of, leaf_command, refusal_of, words};
 pub use options::{
-    flag, given, is_flag, number, said, settings_of, sweep_options, with_report, with_sweep,
+    Number, flag, given, is_flag, number, said, settings_of, sweep_options, with_numbers,
+    with_report, with_sweep,
 };

@@ -31,7 +31,7 @@ const DEFAULTS: Asked = Asked {
 };
 
 /// An option that takes a whole number: its name, and its help.
-type Number<'a> = (&'a str, &'a str);
+pub type Number<'a> = (&'a str, &'a str);
 
 /// When a migration begins.
 const START: Number<'static> = ("start", "Tick at which the first round begins [default: 0]");
@@ -116,8 +116,8 @@ pub fn flag<'a>(alloc: Global, name: &'a str, help: &'a str) -> Arg<'a>
     option(alloc, name, help).action(ArgAction::SetTrue)
 }
 
-/// Returns the command with these options.
-fn with_numbers<'a>(
+/// Returns the command with these options, each of which takes a whole number.
+pub fn with_numbers<'a>(
     alloc: Global,
     command: Command<'a>,
     numbers: &[Number<'a>],

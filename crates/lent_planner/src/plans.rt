@@ -140,8 +140,8 @@ fn planned(
 }
 
 /// Answers the sums of the plan of a trace with some settings, and writes the numbers of its rounds, in order, over the
-/// front of a buffer. It is refused where any of what is lent is too short: a slot of `touches` for each write, a bit of
-/// `marks` and a slot of `list` for each page, and a slot of `rounds` for each round that the settings ask for.
+/// front of a buffer. It is refused where any of what is lent is too short: a slot of `touches` for each write, a bit
+/// of `marks` and a slot of `list` for each page, and a slot of `rounds` for each round that the settings ask for.
 #[unsafe(no_mangle)]
 pub extern "C" fn lent_plan(
     trace: &[u8],

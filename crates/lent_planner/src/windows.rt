@@ -72,9 +72,9 @@ fn windows(
     put_windows(&trace, &settings, touches, marks, rows)
 }
 
-/// Writes the rows of the windows of a trace that have a write, rising, over the front of a buffer, and answers how many
-/// there are. It is refused where any of what is lent is too short: a slot of `touches` for each write, one of `marks`
-/// for each page, and one of `rows` for each write, or else for each window that begins up to the last write.
+/// Writes the rows of the windows of a trace that have a write, rising, over the front of a buffer, and answers how
+/// many there are. It is refused where any of what is lent is too short: a slot of `touches` for each write, one of
+/// `marks` for each page, and one of `rows` for each write, or else for each window that begins up to the last write.
 #[unsafe(no_mangle)]
 pub extern "C" fn lent_windows(
     trace: &[u8],

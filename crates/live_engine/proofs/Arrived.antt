@@ -16,24 +16,23 @@ use Rattle.migration_model.specs.Final.{shape_of_trace}
 use Rattle.migration_model.specs.Live.{LiveRound, LiveRounds}
 use Rattle.migration_model.proofs.Frames.{one_frame_lem}
 use Rattle.migration_model.proofs.Placed.{version_rises}
+use Rattle.migration_model.proofs.Lists.{if_some}
 use Rattle.dirty_words.specs.Seats.{ClosedView}
 use Rattle.stream_lanes.specs.Ends.{InView, IsSentOn, LaneId, OutView}
 use Rattle.stream_lanes.specs.Grids.{AreColumns}
+use Rattle.stream_lanes.proofs.Grown.{within}
 use Rattle.live_tasks.specs.CopierStates.{CopierStateView, IsCopierState}
 use Rattle.live_engine.specs.Lists.{rows_of}
 use Rattle.stream_receivers.specs.Receivers.{AreEnds, AreFrames, HasFrames, ReceiverView}
 use Rattle.stream_receivers.proofs.Had.{has_same}
+use Rattle.stream_receivers.proofs.Ends.{holds_at}
 use Rattle.live_engine.specs.declared.opening.Team.{Team}
 use Rattle.live_engine.specs.Joining.{AreJoined, HaveCapacity, IsAsInBase, IsCurrentText, IsMarked, IsSentBy, lanes_of}
 use Rattle.live_engine.specs.Receiving.{AreCrossed, HaveArrived, IsSentTo, lanes_in}
-use Rattle.live_engine.specs.Runs.{AllCame, AreDone, AreOpened, HaveEnded, IsTeamOf}
+use Rattle.live_engine.specs.Runs.{AllSentArrived, AreDone, AreOpened, HaveEnded, IsTeamOf}
 use Rattle.live_engine.proofs.Crossed.{lanes_kept, shapes_kept}
-use Rattle.live_engine.proofs.Each.{all_at, all_there, any_at, any_there, made_of, makes_at, pick, within}
+use Rattle.live_engine.proofs.Each.{all_at, any_at, any_there, made_of, makes_at, pick}
 use Rattle.live_engine.proofs.Running.{fits_pages}
-
-if_some : {X : Type 0} {P : X → Type 0} (o : Option X) → ((x : X) → o ≡ Some x → P x) → IfSome o P
-if_some None all = tt
-if_some (Some x) all = all x refl
 
 some_from : {X : Type 0} (P : X → Type 0) (o : Option X) (x : X) → o ≡ Some x → P x → IsSomeAnd o P
 some_from P o x there holds = subst (λ q. IsSomeAnd q P) (sym there) holds
@@ -60,7 +59,7 @@ pub row_size : (copiers streams : ℕ) (rows : List (Vec OutView Global)) (recei
 row_size copiers streams rows receivers crossed = all_at (λ (row : Vec OutView Global). length row.items ≡ streams) rows
     (λ worker row there.
     sym (length-map row.items (λ (o : OutView). o.lane))
-    ∙ all_there (λ (ids : List LaneId). length ids ≡ streams) (lanes_of (map items_of rows)) worker
+    ∙ holds_at (λ (ids : List LaneId). length ids ≡ streams) (lanes_of (map items_of rows)) worker
     (lanes_by row.items) crossed.rows
     (makes_at lanes_by (map items_of rows) worker row.items (makes_at items_of rows worker row there)))
 
@@ -77,10 +76,10 @@ module _ (copiers streams : ℕ) (rows columns : List (Vec OutView Global)) (rec
   ends_of stream outs receiver column_there receiver_there =
       let taking_there : slice_get (map lanes_in receivers) stream
       ≡ Some (lanes_in receiver) = makes_at lanes_in receivers stream receiver receiver_there in
-      let size : length outs.items ≡ length rows = all_there
+      let size : length outs.items ≡ length rows = holds_at
       (λ (column : Vec OutView Global). length column.items ≡ length rows) columns stream outs are.sizes
       column_there in
-      let lanes : length (lanes_in receiver) ≡ copiers = all_there (λ (column : List LaneId). length column ≡ copiers)
+      let lanes : length (lanes_in receiver) ≡ copiers = holds_at (λ (column : List LaneId). length column ≡ copiers)
       (map lanes_in receivers) stream (lanes_in receiver) crossed.columns taking_there in
       record {
         count = size ∙ rows_are ∙ sym lanes ∙ length-map receiver.ends (λ (end : InView). end.lane);
@@ -102,7 +101,7 @@ module _ (copiers streams : ℕ) (rows columns : List (Vec OutView Global)) (rec
       → IsSentOn outs.items text → IsSentTo stream (map items_of rows) text
   sent_to stream outs text column_there sent =
       let found = any_there (λ (out : OutView). Contains out.sent text) outs.items sent in
-      let size : length outs.items ≡ length rows = all_there
+      let size : length outs.items ≡ length rows = holds_at
       (λ (column : Vec OutView Global). length column.items ≡ length rows) columns stream outs are.sizes
       column_there in
       let low : found.0 < length rows = (let within = slice_get_within outs.items found.0 found.1 found.2 in omega
@@ -145,7 +144,7 @@ module _ (copiers streams : ℕ) (rows columns : List (Vec OutView Global)) (rec
             let column_there : slice_get columns stream
             ≡ Some o.0 = slice_get-get_or columns stream o.0 (omega (arith, within, count, streams_are, are.count))
             ∙ ap Some (sym o.1) in
-            let shape_is : r.0.part.shape ≡ shape = all_there (λ (x : ReceiverView). x.part.shape ≡ shape) receivers
+            let shape_is : r.0.part.shape ≡ shape = holds_at (λ (x : ReceiverView). x.part.shape ≡ shape) receivers
             stream r.0 shapes receiver_there in
             let all : AreFrames shape (IsSentOn o.0.items) = λ text sent. frames text
             (by_some stream (map items_of rows) text (sent_to stream o.0 text column_there sent)) in
@@ -208,7 +207,7 @@ module _ (trace : GuestTrace) (base : Option ℕ) (copiers streams tick : ℕ) (
       let row = any_there (λ (outs : List OutView). IsSentOn outs text) rows found.1 in
       let end = any_there (λ (out : OutView). Contains out.sent text) row.1 row.3 in
       let stream : ℕ = end.0 in
-      let size : length row.1 ≡ streams = all_there (λ (r : List OutView). length r ≡ streams) rows row.0 row.1 sizes
+      let size : length row.1 ≡ streams = holds_at (λ (r : List OutView). length r ≡ streams) rows row.0 row.1 sizes
       row.2 in
       let low : stream < length parts = (let within = slice_get_within row.1 stream end.1 end.2 in omega
       (arith, within, size, come.count)) in
@@ -248,7 +247,7 @@ pub sizes_of : (trace : GuestTrace) (streams : ℕ) (states : List CopierStateVi
 sizes_of trace streams states each = all_at (λ (row : List OutView). length row ≡ streams) (rows_of states)
     (λ copier row there.
     let state = made_of (λ (d : CopierStateView). d.outs) states copier row there in
-    sym (ap length state.2) ∙ (all_there (IsCopierState trace streams) states copier state.0 each state.1).lanes_are)
+    sym (ap length state.2) ∙ (holds_at (IsCopierState trace streams) states copier state.0 each state.1).lanes_are)
 
 -- the lanes that are left cross as those that were opened
 pub still_crossed : (trace : GuestTrace) (s : MigrationSettings) (plan : MigrationPlan) (team : Team)
@@ -274,7 +273,7 @@ pub all_came : (trace : GuestTrace) (s : MigrationSettings) (plan : MigrationPla
     → (All (λ (r : ReceiverView). r.part.shape ≡ shape_of_trace trace) receivers
     → AreFrames (shape_of_trace trace) (IsSentBy (rows_of states))
     → HaveArrived (shape_of_trace trace) team.streams (rows_of states) parts)
-    → AllCame trace s.base team.streams closed parts
+    → AllSentArrived trace s.base team.streams closed parts
 all_came trace s plan team first states opened receivers closed rounds parts are ended come_by =
     let done = ended.done in
     let come : HaveArrived (shape_of_trace trace) team.streams (rows_of states) parts =

@@ -14,16 +14,14 @@ use Rattle.migration_model.specs.Images.{AreNotBeyond, HaveCurrent}
 use Rattle.migration_model.specs.Final.{shape_of_trace}
 use Rattle.migration_model.specs.Warm.{first_part}
 use Rattle.migration_model.proofs.Parts.{IsHonest-join, get_or-later_each, later_first, later_one, later_second}
-use Rattle.migration_model.proofs.Parts.{length-later_each}
+use Rattle.migration_model.proofs.Parts.{length-later_each, copy_at-join}
 use Rattle.migration_model.proofs.Warm.{first_copy, first_had, first_shape, is_first_part}
+use Rattle.migration_model.proofs.Lists.{if_some}
 use Rattle.dirty_words.specs.Seats.{ClosedView}
-use Rattle.live_engine.specs.Runs.{AllArrived, AllCame}
+use Rattle.live_engine.specs.Runs.{AllArrived, AllSentArrived}
 use Rattle.stream_receivers.specs.First.{parts_with}
+use Rattle.stream_receivers.proofs.Came.{later_comes}
 use Rattle.live_engine.proofs.Each.{any_at, any_there}
-
-if_some : {P : PageCopy → Type 0} (o : Option PageCopy) → ((copy : PageCopy) → o ≡ Some copy → P copy) → IfSome o P
-if_some None each = tt
-if_some (Some copy) each = each copy refl
 
 from_if : (P : PageCopy → Type 0) (o : Option PageCopy) (copy : PageCopy) → IfSome o P → o ≡ Some copy → P copy
 from_if P None copy holds is = absurd (none-some copy is)
@@ -50,24 +48,13 @@ keeps_first a (Some b) = elim (cases_lt a.stamp b.stamp) [
   | inr older ↦ (a, later_first a b older, omega arith)
 ]
 
-keeps_second : (a : Option PageCopy) (b : PageCopy) → (now : PageCopy) × (later a (Some b) ≡ Some now)
-    × (b.stamp ≤ now.stamp)
-keeps_second None b = (b, refl, omega arith)
-keeps_second (Some a) b = elim (cases_lt a.stamp b.stamp) [
-  | inl newer ↦ (b, later_second a b newer, omega arith)
-  | inr older ↦ (a, later_first a b older, omega (arith, older))
-]
-
-joined_at : (a b : GuestPart) (page : ℕ) → copy_at (join a b) page ≡ later (copy_at a page) (copy_at b page)
-joined_at a b page = get_or-later_each a.copies b.copies page
-
 is_joined : (a b : GuestPart) → IsPart a → IsPart b → a.shape ≡ b.shape → IsPart (join a b)
 is_joined a b is_a is_b same = record {
   shape = is_a.shape;
   places = length-later_each a.copies b.copies (is_a.places ∙ ap (λ (s : GuestShape). s.pages) same ∙ sym is_b.places)
       ∙ is_a.places;
   copies = λ page. if_some (copy_at (join a b) page)
-      (λ copy there. elim (later_one (copy_at a page) (copy_at b page) copy (sym (joined_at a b page) ∙ there)) [
+      (λ copy there. elim (later_one (copy_at a page) (copy_at b page) copy (sym (copy_at-join a b page) ∙ there)) [
         | inl one ↦ from_if (IsCopy a.shape) (copy_at a page) copy (is_a.copies page) one
         | inr two ↦ subst (λ (s : GuestShape). IsCopy s copy) (sym same)
             (from_if (IsCopy b.shape) (copy_at b page) copy (is_b.copies page) two)
@@ -96,7 +83,7 @@ module _ (trace : GuestTrace) (versions : List ℕ) (first part : GuestPart) (re
   join_bound : (page : ℕ) → IfSome (copy_at (join first part) page) (IsBelow (get_or versions page 0))
   join_bound page = if_some (copy_at (join first part) page)
       (λ copy there. elim (later_one (copy_at first page) (copy_at part page) copy
-      (sym (joined_at first part page) ∙ there)) [
+      (sym (copy_at-join first part page) ∙ there)) [
         | inl one ↦ from_if (IsBelow (get_or versions page 0)) (copy_at first page) copy (bound page) one
         | inr two ↦ from_if (IsBelow (get_or versions page 0)) (copy_at part page) copy (part_bound page) two
       ])
@@ -132,15 +119,15 @@ module _ (trace : GuestTrace) (versions : List ℕ) (first part : GuestPart) (re
       ≡ get_or versions page 0 → HaveCurrent versions (join first part ∷ rest) page
   first_current page copy there stamp =
       let kept = keeps_first copy (copy_at part page) in
-      at_version page kept.0 (joined_at first part page
+      at_version page kept.0 (copy_at-join first part page
       ∙ ap (λ (o : Option PageCopy). later o (copy_at part page)) there ∙ kept.1)
       (let up = kept.2 in omega (arith, stamp, up))
 
   part_current : (page : ℕ) (copy : PageCopy) → copy_at part page ≡ Some copy → copy.stamp ≡ get_or versions page 0
       → HaveCurrent versions (join first part ∷ rest) page
   part_current page copy there stamp =
-      let kept = keeps_second (copy_at first page) copy in
-      at_version page kept.0 (joined_at first part page ∙ ap (later (copy_at first page)) there ∙ kept.1)
+      let kept = later_comes (copy_at first page) copy in
+      at_version page kept.0 (copy_at-join first part page ∙ ap (later (copy_at first page)) there ∙ kept.1)
       (let up = kept.2 in omega (arith, stamp, up))
 
   at_index : (page i : ℕ) (p : GuestPart) → slice_get (part ∷ rest) i ≡ Some p
@@ -163,7 +150,7 @@ module _ (trace : GuestTrace) (versions : List ℕ) (first part : GuestPart) (re
 -- what came, with what the destination began with
 base_begun : (trace : GuestTrace) (tick streams : ℕ) (closed : ClosedView) (part : GuestPart) (rest : List GuestPart)
     → IsTrace trace
-    → AllCame trace (Some tick) streams closed (part ∷ rest)
+    → AllSentArrived trace (Some tick) streams closed (part ∷ rest)
     → AllArrived trace streams closed (join (first_part trace (Some tick)) part ∷ rest)
 base_begun trace tick streams closed part rest is came =
     let first : GuestPart = first_part trace (Some tick) in
@@ -190,7 +177,7 @@ base_begun trace tick streams closed part rest is came =
 
 pub all_begun : (trace : GuestTrace) (base : Option ℕ) (streams : ℕ) (closed : ClosedView) (parts : List GuestPart)
     → IsTrace trace → 1 ≤ streams
-    → AllCame trace base streams closed parts → AllArrived trace streams closed
+    → AllSentArrived trace base streams closed parts → AllArrived trace streams closed
     (parts_with (option_map (λ tick. first_part trace (Some tick)) base) parts)
 all_begun trace None streams closed parts is some came = record {
   fits = came.fits;

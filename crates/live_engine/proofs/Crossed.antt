@@ -8,10 +8,12 @@ use Rattle.std.proofs.lemmas.Option.{same_Some, slice_get_within}
 use Rattle.migration_model.specs.Frames.{GuestShape}
 use Rattle.stream_lanes.specs.Ends.{InView, LaneId, OutView}
 use Rattle.stream_lanes.specs.Grids.{IsGrid, IsNewLane}
+use Rattle.stream_lanes.proofs.Grown.{within}
 use Rattle.stream_receivers.specs.Receivers.{ReceiverView}
+use Rattle.stream_receivers.proofs.Ends.{holds_at}
 use Rattle.live_engine.specs.Joining.{HaveCapacity, HaveSentNothing, lanes_of}
 use Rattle.live_engine.specs.Receiving.{AreCrossed, identity_of, lanes_in}
-use Rattle.live_engine.proofs.Each.{all_at, all_there, made_of, makes_at, same_image, within}
+use Rattle.live_engine.proofs.Each.{all_at, made_of, makes_at, same_image}
 
 abbrev items_of : Vec OutView Global → List OutView
 items_of row = row.items
@@ -30,11 +32,11 @@ module _ (workers streams capacity : ℕ) (outs : List (Vec OutView Global)) (in
       → (column : Vec InView Global) × (end : InView) × (slice_get ins stream ≡ Some column)
       × (slice_get column.items worker ≡ Some end) × IsNewLane capacity out end
   other_end worker stream row out row_there out_there =
-      let size : length row.items ≡ streams = all_there (λ (r : Vec OutView Global). length r.items ≡ streams) outs
+      let size : length row.items ≡ streams = holds_at (λ (r : Vec OutView Global). length r.items ≡ streams) outs
       worker row is.out_rows row_there in
       let low = slice_get_within row.items stream out out_there in
       let column = within ins stream (omega (arith, low, size, is.streams_are)) in
-      let long : length column.0.items ≡ workers = all_there (λ (c : Vec InView Global). length c.items ≡ workers) ins
+      let long : length column.0.items ≡ workers = holds_at (λ (c : Vec InView Global). length c.items ≡ workers) ins
       stream column.0 is.in_rows column.1 in
       let row_low = slice_get_within outs worker row row_there in
       let end = within column.0.items worker (omega (arith, row_low, long, is.workers_are)) in (
@@ -52,11 +54,11 @@ module _ (workers streams capacity : ℕ) (outs : List (Vec OutView Global)) (in
       → (row : Vec OutView Global) × (out : OutView) × (slice_get outs worker ≡ Some row)
       × (slice_get row.items stream ≡ Some out) × IsNewLane capacity out end
   other_out worker stream column end column_there end_there =
-      let long : length column.items ≡ workers = all_there (λ (c : Vec InView Global). length c.items ≡ workers) ins
+      let long : length column.items ≡ workers = holds_at (λ (c : Vec InView Global). length c.items ≡ workers) ins
       stream column is.in_rows column_there in
       let low = slice_get_within column.items worker end end_there in
       let row = within outs worker (omega (arith, low, long, is.workers_are)) in
-      let size : length row.0.items ≡ streams = all_there (λ (r : Vec OutView Global). length r.items ≡ streams) outs
+      let size : length row.0.items ≡ streams = holds_at (λ (r : Vec OutView Global). length r.items ≡ streams) outs
       worker row.0 is.out_rows row.1 in
       let column_low = slice_get_within ins stream column column_there in
       let out = within row.0.items stream (omega (arith, column_low, size, is.streams_are)) in
@@ -97,17 +99,17 @@ module _ (workers streams capacity : ℕ) (outs : List (Vec OutView Global)) (in
         let row_items = made_of out_lanes (map items_of outs) worker ids there in
         let row = made_of items_of outs worker row_items.0 row_items.1 in
         sym (ap length (ap out_lanes row.2 ∙ row_items.2)) ∙ length-map row.0.items (λ (o : OutView). o.lane)
-        ∙ all_there (λ (r : Vec OutView Global). length r.items ≡ streams) outs worker row.0 is.out_rows row.1);
+        ∙ holds_at (λ (r : Vec OutView Global). length r.items ≡ streams) outs worker row.0 is.out_rows row.1);
     columns = all_at (λ (column : List LaneId). length column ≡ workers) (map in_lanes ins) (λ stream ids there.
         let column = made_of in_lanes ins stream ids there in
         sym (ap length column.2) ∙ length-map column.0.items (λ (e : InView). e.lane)
-        ∙ all_there (λ (c : Vec InView Global). length c.items ≡ workers) ins stream column.0 is.in_rows column.1);
+        ∙ holds_at (λ (c : Vec InView Global). length c.items ≡ workers) ins stream column.0 is.in_rows column.1);
     lanes = λ worker stream ids_row ids_column row_there column_there.
         let row_items = made_of out_lanes (map items_of outs) worker ids_row row_there in
         let row = made_of items_of outs worker row_items.0 row_items.1 in
         let row_is : out_lanes row.0.items ≡ ids_row = ap out_lanes row.2 ∙ row_items.2 in
         let column = made_of in_lanes ins stream ids_column column_there in
-        let size : length row.0.items ≡ streams = all_there (λ (r : Vec OutView Global). length r.items ≡ streams) outs
+        let size : length row.0.items ≡ streams = holds_at (λ (r : Vec OutView Global). length r.items ≡ streams) outs
         worker row.0 is.out_rows row.1 in
         let column_low = slice_get_within ins stream column.0 column.1 in
         let out = within row.0.items stream (omega (arith, column_low, size, is.streams_are)) in
@@ -136,4 +138,4 @@ shapes_kept shape before after same shapes = all_at (λ (r : ReceiverView). r.pa
     (λ stream receiver there.
     let was = same_image identity_of identity_of after before stream receiver same there in
     ap (λ (i : List LaneId × GuestShape). i.1) was.2
-    ∙ all_there (λ (r : ReceiverView). r.part.shape ≡ shape) before stream was.0 shapes was.1)
+    ∙ holds_at (λ (r : ReceiverView). r.part.shape ≡ shape) before stream was.0 shapes was.1)

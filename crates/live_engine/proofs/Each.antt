@@ -9,6 +9,7 @@ use Rattle.std.proofs.lemmas.List.{length-map}
 use Rattle.std.proofs.lemmas.List.FromFn.{length-map-range_with_len, get_or-map-range_with_len}
 use Rattle.std.proofs.lemmas.Option.{slice_get_within, get_or_from_slice_get, slice_get-get_or}
 use Rattle.live_engine.specs.Seated.{EachAt}
+use Rattle.stream_lanes.proofs.Grown.{within}
 
 pub pick : {X : Type 0} (xs : List X) (i : ℕ) → i < length xs → (x : X) × (x ≡ get_or xs i x)
 pick [] i low = absurd (omega (arith, low))
@@ -121,13 +122,6 @@ same_at (x ∷ xs) (y ∷ ys) len each = λ i. each 0 x (omega arith) i
 
 pub all_at : {X : Type 0} (P : X → Type 0) (xs : List X) → ((i : ℕ) (x : X) → slice_get xs i ≡ Some x → P x) → All P xs
 all_at P xs each k d low = each k (get_or xs k d) (slice_get-get_or xs k d low)
-
-pub all_there : {X : Type 0} (P : X → Type 0) (xs : List X) (i : ℕ) (x : X) → All P xs → slice_get xs i ≡ Some x → P x
-all_there P xs i x all there = subst P (get_or_from_slice_get xs i x x there) (all i x (slice_get_within xs i x there))
-
--- the element at an index that there is
-pub within : {X : Type 0} (xs : List X) (i : ℕ) → i < length xs → (x : X) × (slice_get xs i ≡ Some x)
-within xs i low = let p = pick xs i low in (p.0, slice_get-get_or xs i p.0 low ∙ ap Some (sym p.1))
 
 -- lists of the same images have the same images of elements at an index
 pub same_image : {X Y Z : Type 0} (f : X → Z) (g : Y → Z) (xs : List X) (ys : List Y) (i : ℕ) (x : X) → map f xs

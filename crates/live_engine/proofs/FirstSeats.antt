@@ -60,16 +60,6 @@ pub lists_more : {X Y : Type 0} (f : X → List Y) (front : List X) (x : X) (bef
 lists_more f front x before is = ap (λ l. l ++ f x) is ∙ ap (λ l. flat_map f front ++ l) (sym (append-nil (f x)))
     ∙ sym (flat_map-append f front (x ∷ []))
 
--- what all have, the next has
-pub next_holds : {X : Type 0} (P : X → Type 0) (front old rest all : List X) (x : X) → old ≡ x ∷ rest → front ++ old
-    ≡ all → All P all → P x
-next_holds P front old rest all x steps is holds =
-    let whole : front ++ (x ∷ rest) ≡ all = next_of front old rest all x steps is in
-    let here : get_or all (length front + 0) x ≡ x = ap (λ l. get_or l (length front + 0) x) (sym whole)
-    ∙ get_or-append-add front (x ∷ rest) 0 x in
-    let len : length all ≡ length front + length (x ∷ rest) = sym (ap length whole) ∙ length-append front (x ∷ rest) in
-    subst P here (holds (length front + 0) x (omega (arith, len)))
-
 -- the next of a list stands behind those that were given out
 pub next_there : {X : Type 0} (front old rest all : List X) (x : X) (number : ℕ) → old ≡ x ∷ rest → front ++ old ≡ all
     → length front ≡ number → slice_get all number ≡ Some x

@@ -6,6 +6,7 @@ use Rattle.std.specs.List.{Contains, flat_map}
 use Rattle.std.proofs.Math.Nat.{mod-lt}
 use Rattle.std.proofs.lemmas.List.{get_or-map, length-map, map-append}
 use Rattle.std.proofs.lemmas.Option.{slice_get-get_or, same_Some}
+use Rattle.std.proofs.lemmas.Bool.{false≢true}
 use Rattle.migration_model.specs.Trace.{GuestTrace}
 use Rattle.migration_model.specs.Versions.{IsWritten, version_before}
 use Rattle.migration_model.specs.Live.{IsPlaceOf, LiveRound, live_round_with, IsInScanOrder, IsListed}
@@ -22,12 +23,11 @@ use Rattle.live_tasks.specs.RoundLogs as boxes
 use Rattle.live_tasks.specs.Scans.{IsOwn}
 use Rattle.live_tasks.specs.Replays.{OpensAt}
 use Rattle.live_engine.specs.Seated.{IsReplayed, AreReplayed, IsCopied, AreCopied}
-use Rattle.live_engine.specs.Joining.{IsRound}
+use Rattle.live_engine.specs.Joining.{IsLiveRound}
 use Rattle.live_engine.proofs.Each.{each_got}
 use Rattle.live_engine.proofs.ScanOrder.{fst_in, place_of, in_piece, in_all, in_scan_order}
 use Rattle.live_engine.proofs.Visits.{last_is_visit, visit_has_last, stored_is_visit, place_is_written}
 use Rattle.live_engine.proofs.Visits.{written_has_place, version_stored}
-use Rattle.live_tasks.proofs.Basics.{false_true}
 
 zero_and : (i : ℕ) → i ≡ 0 + i
 zero_and i = omega arith
@@ -257,14 +257,14 @@ module _ (trace : GuestTrace) (skip : Bool) (table : TableView) (from to streams
     | inr stored ↦ inr (o.replayed.replayed.stored page place stored).1
   ]
 
-  pub round_left : IsRound trace skip table.start.copiers table.start.dirty from to closed (round_of copiers)
+  pub round_left : IsLiveRound trace skip table.start.copiers table.start.dirty from to closed (round_of copiers)
   round_left = record {
     versions = version_left;
     found = λ page real marked.
         let o = owned page real in
         elim (o.copied.scanned.found page o.own (in_words_of page real) (was_marked page o ∙ marked)) [
           | inl listed ↦ own_listed page o listed
-          | inr held ↦ absurd (false_true (sym (o.copied.held page) ∙ held))
+          | inr held ↦ absurd (false≢true (sym (o.copied.held page) ∙ held))
         ];
     only = λ page listed.
         let own = listed_own page listed in

@@ -5,6 +5,9 @@ pub mod Visits
 pub mod ScanOrder
 pub mod Leaving
 pub mod Posted
+pub mod Pushed
+pub mod SentOn
+pub mod Law
 pub mod Running
 pub mod FirstDue
 pub mod Warmed

@@ -18,7 +18,7 @@ use Rattle.live_tasks.specs.CopierStates.{CopierStateView, IsCopierState}
 use Rattle.stream_lanes.specs.Ends.{OutView}
 use Rattle.live_tasks.specs.Replays.{OpensAt}
 use Rattle.live_engine.specs.Seated.{IsReplayed, AreReplayed, IsCopied, AreCopied}
-use Rattle.live_engine.specs.Joining.{HavePosted, IsRound}
+use Rattle.live_engine.specs.Joining.{HavePosted, IsLiveRound}
 use Rattle.live_engine.specs.Lists.{lists_of, rows_of}
 use Rattle.live_engine.proofs.Each.{each_got, made_of, pick}
 use Rattle.live_engine.proofs.Leaving.{IsClosedRound, listing, round_left, round_of}
@@ -109,12 +109,12 @@ pub round_is : (trace : GuestTrace) (skip : Bool) (table : TableView) (from to s
     → IsClosedRound trace skip table from to streams rows guests copiers after
     → table.start ≡ start_with before.versions before.dirty replayers workers → states
     ≡ map (λ (c : Copier). c.state) copiers
-    → IsRound trace skip workers before.dirty from to after (lists_of states)
+    → IsLiveRound trace skip workers before.dirty from to after (lists_of states)
 round_is trace skip table from to streams replayers workers rows guests copiers states before after closed same
     states_are =
-    subst (λ (r : LiveRound). IsRound trace skip workers before.dirty from to after r)
+    subst (λ (r : LiveRound). IsLiveRound trace skip workers before.dirty from to after r)
     (lists_are copiers states states_are)
-    (subst (λ (s : Start). IsRound trace skip s.copiers s.dirty from to after (round_of copiers)) same
+    (subst (λ (s : Start). IsLiveRound trace skip s.copiers s.dirty from to after (round_of copiers)) same
     (round_left trace skip table from to streams rows guests copiers after closed))
 
 -- what the copiers of a round sent on their lanes
@@ -148,7 +148,7 @@ pub round_done : (trace : GuestTrace) (skip : Bool) (table : TableView) (from to
     ≡ map (λ (c : Copier). c.seat) copiers
     → states ≡ map (λ (c : Copier). c.state) copiers → EachPageLeft table.start guests seats after
     → IsStart (start_with after.versions after.dirty table.start.guests table.start.copiers)
-    → IsRound trace skip workers before.dirty from to after (lists_of states)
+    → IsLiveRound trace skip workers before.dirty from to after (lists_of states)
     × HavePosted trace workers (lists_of states) (rows_of first) (rows_of states)
 round_done trace skip table from to streams replayers workers first guests copiers seats states before after start_is
     start span opens count replayed copied seats_are states_are left next =

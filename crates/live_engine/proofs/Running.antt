@@ -1,184 +1,47 @@
 -- How rounds are joined: what holds after one follows from what held before it and from what it did.
-use Rattle.std.proofs.Common.{◌≡◌, ℕ, zero, suc, ◌+◌, ◌-◌, ◌/◌, ◌<◌, ◌≤◌, ◌⊎◌, inl, inr, Bool, true, false, cond, eqb}
-use Rattle.std.proofs.Common.{leb, ◌&&◌, List, [], ◌∷◌, ◌++◌, length, map, take, get_or, refl, sym, ap, subst, ◌∙◌}
+use Rattle.std.proofs.Common.{◌≡◌, ℕ, ◌+◌, ◌-◌, ◌/◌, ◌<◌, ◌≤◌, ◌⊎◌, inl, inr, Bool, true, false}
+use Rattle.std.proofs.Common.{leb, ◌&&◌, List, [], ◌∷◌, ◌++◌, length, map, get_or, refl, sym, ap, subst, ◌∙◌}
 use Rattle.std.proofs.Common.{arith}
 use Rattle.std.specs.Prelude.{Option, Some, None, IfSome, slice_get, slice_index}
-use Rattle.std.specs.List.{All, Contains, count_by, flat_map, sum_by}
-use Rattle.std.proofs.lemmas.Bool.{cases_Bool, cases_lt, and_parts, lt-ltb, le-ltb}
-use Rattle.std.proofs.lemmas.Grind.{flat_map-append}
-use Rattle.std.proofs.lemmas.List.{get_or_append_left, get_or-append-add, get_or-map, length-append, length-map}
+use Rattle.std.specs.List.{All, Contains}
+use Rattle.std.proofs.lemmas.Bool.{cases_Bool, cases_lt, and_parts, lt-ltb, le-ltb, false≢true}
+use Rattle.std.proofs.lemmas.List.{get_or_append_left, get_or-append-add, length-append, length-map}
 use Rattle.std.proofs.lemmas.List.{get_or_default}
-use Rattle.std.proofs.lemmas.List.Elements.{All-head, All-tail}
-use Rattle.std.proofs.lemmas.List.Sums.{sum_by-append, sum_by-cons}
-use Rattle.std.proofs.lemmas.Option.{none-some, same_Some, slice_get_within, get_or_from_slice_get, slice_get-get_or}
+use Rattle.std.proofs.lemmas.Option.{none-some, slice_get_within, slice_get-get_or}
 use Rattle.migration_model.specs.Trace.{GuestTrace}
 use Rattle.migration_model.specs.Touches.{touches_of, is_written}
 use Rattle.migration_model.specs.Versions.{IsWritten, version_before}
 use Rattle.migration_model.specs.Rounds.{PlannedRound}
 use Rattle.migration_model.specs.Live.{IsPlaceOf, LiveRound, KeepsLaw, LiveRounds, IsSentWith, IsInBase, WasCurrent}
-use Rattle.migration_model.specs.Live.{IsDue, pages_sent, page_copier, sent_by_copier}
+use Rattle.migration_model.specs.Live.{IsDue, page_copier, sent_by_copier}
 use Rattle.migration_model.proofs.Touches.{written_is_lem}
 use Rattle.migration_model.proofs.Placed.{version_rises}
 use Rattle.migration_model.proofs.Warm.{version_low}
 use Rattle.page_bitmap.specs.Pages.{in_words}
 use Rattle.dirty_words.specs.Seats.{ClosedView}
 use Rattle.dirty_words.specs.Closing.{FitsPages}
-use Rattle.stream_lanes.specs.Ends.{LaneId, OutView}
+use Rattle.stream_lanes.specs.Ends.{OutView}
 use Rattle.live_tasks.specs.CopierStates.{CopierStateView}
 use Rattle.live_tasks.specs.RoundLogs.{frames_sent}
 use Rattle.live_engine.specs.Lists.{rows_of}
 use Rattle.live_engine.specs.declared.opening.Team.{Team}
 use Rattle.live_engine.specs.Runs.{IsUnderWay}
-use Rattle.live_engine.specs.Joining.{IsRound, IsMarked, IsSentBy, lanes_of, HaveCapacity, HaveSentNothing, HavePosted}
+use Rattle.live_engine.specs.Joining.{IsLiveRound, IsMarked, IsSentBy, lanes_of, HaveCapacity, HaveSentNothing}
+use Rattle.live_engine.specs.Joining.{HavePosted}
 use Rattle.live_engine.specs.Joining.{IsHonestText, IsCurrentText, IsAsInBase, AreJoined}
 use Rattle.live_engine.specs.Warm.{is_lacking}
-use Rattle.live_engine.proofs.Each.{all_there, pick}
+use Rattle.live_engine.proofs.Each.{pick}
 use Rattle.live_engine.proofs.ScanOrder.{fst_in}
 use Rattle.live_engine.proofs.Visits.{version_stays}
-use Rattle.live_tasks.proofs.Basics.{false_leb, false_true, in_none}
+use Rattle.live_tasks.proofs.Basics.{false_leb}
+use Rattle.stream_receivers.proofs.Ends.{holds_at}
+use Rattle.live_engine.proofs.Law.{law_more, law_of_all}
+use Rattle.live_engine.proofs.Pushed.{last_of, is_last}
+use Rattle.live_engine.proofs.SentOn.{sum_holds, capacity_at, sent_more, no_frames, nothing_sent}
 
 and_none : (a b : Bool) → b ≡ false → (a && b) ≡ false
 and_none true b e = e
 and_none false b e = refl
-
--- ---- what was sent on lanes
-
--- an element is no greater than the sum
-sum_holds : {X : Type 0} (f : X → ℕ) (xs : List X) (i : ℕ) (x : X) → i < length xs → get_or xs i x ≡ x
-    → f x ≤ sum_by f xs
-sum_holds f [] i x low there = absurd (omega (arith, low))
-sum_holds f (y ∷ ys) zero x low there = let same : f y ≡ f x = ap f there in omega (arith, same, sum_by-cons f y ys)
-sum_holds f (y ∷ ys) (suc i) x low there = let rest = sum_holds f ys i x (omega (arith, low)) there in omega
-    (arith, rest, sum_by-cons f y ys)
-
--- the capacity of one of the lanes
-capacity_at : (lane : ℕ) (rows : List (List OutView)) (copier : ℕ) (outs : List OutView) (i : ℕ) (out : OutView)
-    → HaveCapacity lane (lanes_of rows)
-    → slice_get rows copier ≡ Some outs → i < length outs → get_or outs i out ≡ out → out.lane.capacity ≡ lane
-capacity_at lane rows copier outs i out capacity there low at =
-    let ids : List LaneId = map (λ (o : OutView). o.lane) outs in
-    let within = slice_get_within rows copier outs there in
-    let row : get_or (lanes_of rows) copier ids ≡ ids = get_or-map
-    (λ (row : List OutView). map (λ (o : OutView). o.lane) row) rows copier outs ids within
-    ∙ ap (λ (row : List OutView). map (λ (o : OutView). o.lane) row)
-    (get_or_from_slice_get rows copier outs outs there) in
-    let count : length (lanes_of rows) ≡ length rows = length-map rows
-    (λ (row : List OutView). map (λ (o : OutView). o.lane) row) in
-    let own : All (λ (id : LaneId). id.capacity ≡ lane) ids = subst (All (λ (id : LaneId). id.capacity ≡ lane)) row
-    (capacity copier ids (omega (arith, within, count))) in
-    let one : get_or ids i out.lane ≡ out.lane = get_or-map (λ (o : OutView). o.lane) outs i out out.lane low
-    ∙ ap (λ (o : OutView). o.lane) at in
-    sym (ap (λ (id : LaneId). id.capacity) one) ∙ own i out.lane
-    (omega (arith, low, length-map outs (λ (o : OutView). o.lane)))
-
--- what a copier sent in rounds of which one more came
-sent_more : (copiers : ℕ) (rounds : List LiveRound) (round : LiveRound) (copier : ℕ)
-    → sent_by_copier copiers (rounds ++ round ∷ []) copier
-    ≡ sent_by_copier copiers rounds copier + sent_by_copier copiers (round ∷ []) copier
-sent_more copiers rounds round copier =
-    ap (count_by (λ (page : ℕ). eqb (page_copier copiers page) copier)) (flat_map-append pages_sent rounds (round ∷ []))
-    ∙ sum_by-append (λ (page : ℕ). cond (eqb (page_copier copiers page) copier) 1 0) (flat_map pages_sent rounds)
-    (flat_map pages_sent (round ∷ []))
-
--- lanes on which nothing was sent
-no_frames : (outs : List OutView) → All (λ (out : OutView). out.sent ≡ []) outs → frames_sent outs ≡ 0
-no_frames [] none = refl
-no_frames (out ∷ outs) none =
-    let here : length out.sent ≡ 0 = ap length (All-head (λ (o : OutView). o.sent ≡ []) out outs none) in
-    omega (
-      arith,
-      here,
-      sum_by-cons (λ (o : OutView). length o.sent) out outs,
-      no_frames outs
-          (All-tail (λ (o : OutView). o.sent ≡ []) out outs none),
-    )
-
-nothing_sent : (rows : List (List OutView)) (text : List ℕ) → HaveSentNothing rows → IsSentBy rows text → ⊥
-nothing_sent rows text none (c, outs, low, at, (s, out, inside, there, sent)) =
-    let row : All (λ (o : OutView). o.sent ≡ []) outs = subst
-    (All (λ (o : OutView). o.sent ≡ [])) at (none c outs low) in
-    let empty : out.sent ≡ [] = ap (λ (o : OutView). o.sent) (sym there) ∙ row s out inside in
-    in_none text (subst (λ (texts : List (List ℕ)). Contains texts text) empty sent)
-
--- ---- lists with one more at their end
-
-last_of : {X : Type 0} (xs : List X) (x : X) → slice_get (xs ++ x ∷ []) (length (xs ++ x ∷ []) - 1) ≡ Some x
-last_of xs x =
-    let len : length (xs ++ x ∷ []) ≡ length xs + 1 = length-append xs (x ∷ []) in
-    let index : length (xs ++ x ∷ []) - 1 ≡ length xs + 0 = omega (arith, len) in
-    ap (slice_get (xs ++ x ∷ [])) index ∙ slice_get-get_or (xs ++ x ∷ []) (length xs + 0) x (omega (arith, len))
-    ∙ ap Some (get_or-append-add xs (x ∷ []) 0 x)
-
-is_last : {X : Type 0} (xs : List X) (x y : X) → slice_get (xs ++ x ∷ []) (length (xs ++ x ∷ []) - 1) ≡ Some y → x ≡ y
-is_last xs x y there = same_Some x y (sym (last_of xs x) ∙ there)
-
-at_front : {X : Type 0} (xs : List X) (x y : X) (i : ℕ) → i < length xs → slice_get (xs ++ x ∷ []) i ≡ Some y
-    → slice_get xs i ≡ Some y
-at_front xs x y i low there =
-    slice_get-get_or xs i y low ∙ ap Some (sym (get_or_append_left xs (x ∷ []) y i low)
-    ∙ get_or_from_slice_get (xs ++ x ∷ []) i y y there)
-
-at_end : {X : Type 0} (xs : List X) (x y : X) → slice_get (xs ++ x ∷ []) (length xs) ≡ Some y → x ≡ y
-at_end xs x y there =
-    let index : length xs + 0 ≡ length xs = omega arith in
-    sym (get_or-append-add xs (x ∷ []) 0 y) ∙ ap (λ (k : ℕ). get_or (xs ++ x ∷ []) k y) index
-    ∙ get_or_from_slice_get (xs ++ x ∷ []) (length xs) y y there
-
-take_front : {X : Type 0} (xs ys : List X) (i : ℕ) → i ≤ length xs → take i (xs ++ ys) ≡ take i xs
-take_front [] ys zero low = refl
-take_front [] ys (suc i) low = absurd (omega (arith, low))
-take_front (x ∷ xs) ys zero low = refl
-take_front (x ∷ xs) ys (suc i) low = ap (λ l. x ∷ l) (take_front xs ys i (omega (arith, low)))
-
-take_whole : {X : Type 0} (xs : List X) → take (length xs) xs ≡ xs
-take_whole [] = refl
-take_whole (x ∷ xs) = ap (λ l. x ∷ l) (take_whole xs)
-
--- the law over rounds of which one more keeps it
-pub law_more : (trace : GuestTrace) (base : Option ℕ) (skip : Bool) (copiers lane : ℕ) (planned : List PlannedRound)
-    (rounds : List LiveRound) (plan : PlannedRound) (round : LiveRound)
-    → LiveRounds trace base skip copiers lane planned rounds
-    → KeepsLaw trace base skip copiers lane planned rounds plan round
-    → LiveRounds trace base skip copiers lane (planned ++ plan ∷ []) (rounds ++ round ∷ [])
-law_more trace base skip copiers lane planned rounds plan round law keeps =
-    let lp : length (planned ++ plan ∷ []) ≡ length planned + 1 = length-append planned (plan ∷ []) in
-    let lr : length (rounds ++ round ∷ []) ≡ length rounds + 1 = length-append rounds (round ∷ []) in
-    record {
-      count = omega (arith, lp, lr, law.count);
-      each = λ i p r p_there r_there.
-          let low : i < length (planned ++ plan ∷ []) = slice_get_within (planned ++ plan ∷ []) i p p_there in
-          let planned_take : i ≤ length planned → take i (planned ++ plan ∷ [])
-          ≡ take i planned = λ le. take_front planned (plan ∷ []) i le in
-          let rounds_take : i ≤ length rounds → take i (rounds ++ round ∷ [])
-          ≡ take i rounds = λ le. take_front rounds (round ∷ []) i le in
-          elim (cases_lt i (length planned)) [
-            | inl inside ↦
-                let inside_rounds : i < length rounds = omega (arith, inside, law.count) in
-                let old = law.each i p r (at_front planned plan p i inside p_there)
-                (at_front rounds round r i inside_rounds r_there) in
-                subst (λ (ps : List PlannedRound). KeepsLaw trace base skip copiers lane ps
-                (take i (rounds ++ round ∷ [])) p r) (sym (planned_take (omega (arith, inside))))
-                (subst (λ (rs : List LiveRound). KeepsLaw trace base skip copiers lane (take i planned) rs p r)
-                (sym (rounds_take (omega (arith, inside_rounds)))) old)
-            | inr behind ↦
-                let here : i ≡ length planned = omega (arith, behind, low, lp) in
-                let here_rounds : i ≡ length rounds = here ∙ sym law.count in
-                let p_is : plan ≡ p = at_end planned plan p
-                (ap (slice_get (planned ++ plan ∷ [])) (sym here) ∙ p_there) in
-                let r_is : round ≡ r = at_end rounds round r
-                (ap (slice_get (rounds ++ round ∷ [])) (sym here_rounds) ∙ r_there) in
-                let planned_is : take i (planned ++ plan ∷ []) ≡ planned = planned_take (omega (arith, here))
-                ∙ ap (λ (k : ℕ). take k planned) here ∙ take_whole planned in
-                let rounds_is : take i (rounds ++ round ∷ []) ≡ rounds = rounds_take (omega (arith, here_rounds))
-                ∙ ap (λ (k : ℕ). take k rounds) here_rounds ∙ take_whole rounds in
-                subst (λ (ps : List PlannedRound). KeepsLaw trace base skip copiers lane ps
-                (take i (rounds ++ round ∷ [])) p r) (sym planned_is)
-                (subst (λ (rs : List LiveRound). KeepsLaw trace base skip copiers lane planned rs p r) (sym rounds_is)
-                (subst (λ (x : PlannedRound). KeepsLaw trace base skip copiers lane planned rounds x r) p_is
-                (subst (λ (y : LiveRound). KeepsLaw trace base skip copiers lane planned rounds plan y) r_is
-                keeps)))
-          ];
-    }
 
 -- ---- what was sent earlier
 
@@ -232,13 +95,13 @@ pub written_or_not : (trace : GuestTrace) (from to page : ℕ) → IsWritten tra
     ⊎ (IsWritten trace from to page → ⊥)
 written_or_not trace from to page = elim (cases_Bool (is_written (touches_of trace) from to page)) [
   | inl hit ↦ inl ((written_is_lem trace from to page).0 hit)
-  | inr not_hit ↦ inr (λ is. false_true (sym not_hit ∙ (written_is_lem trace from to page).1 is))
+  | inr not_hit ↦ inr (λ is. false≢true (sym not_hit ∙ (written_is_lem trace from to page).1 is))
 ]
 
 marked_or_not : (dirty : List ℕ) (page : ℕ) → IsMarked dirty page ⊎ (IsMarked dirty page → ⊥)
 marked_or_not dirty page = elim (cases_Bool (in_words dirty page)) [
   | inl hit ↦ inl hit
-  | inr not_hit ↦ inr (λ is. false_true (sym not_hit ∙ is))
+  | inr not_hit ↦ inr (λ is. false≢true (sym not_hit ∙ is))
 ]
 
 module _ (trace : GuestTrace) (base : Option ℕ) (skip : Bool) (copiers from to : ℕ) (planned : List PlannedRound)
@@ -246,7 +109,7 @@ module _ (trace : GuestTrace) (base : Option ℕ) (skip : Bool) (copiers from to
     (old new : ClosedView) (before after : List (List OutView)) (le : from ≤ to) (from_is : plan.from ≡ from)
     (to_is : plan.to ≡ to)
     (joined : AreJoined trace base copiers from planned rounds old before)
-    (is : IsRound trace skip copiers old.dirty from to new round)
+    (is : IsLiveRound trace skip copiers old.dirty from to new round)
     (posted : HavePosted trace copiers round before after) where
   written_now : (page : ℕ) → IsWritten trace from to page → IsWritten trace plan.from plan.to page
   written_now page w = subst (λ (a : ℕ). IsWritten trace a plan.to page) (sym from_is)
@@ -435,7 +298,7 @@ module _ (trace : GuestTrace) (base : Option ℕ) (skip : Bool) (copiers from to
           s.0,
           elim later_or_all [
             | inl later ↦ later
-            | inr never ↦ absurd (false_true (sym never ∙ s.0))
+            | inr never ↦ absurd (false≢true (sym never ∙ s.0))
           ],
           written_now page s.1,
         );
@@ -482,31 +345,13 @@ joined_first trace base copiers tick closed rows low versions marks none = recor
   put_off = λ page real put_off. absurd (none-some put_off.0 put_off.1);
   marked = λ page real marked. elim (at_first trace base tick page low) [
     | inl lacks ↦ inl (refl, lacks.1)
-    | inr has ↦ absurd (false_true (sym has.0 ∙ sym (marks page real) ∙ marked))
+    | inr has ↦ absurd (false≢true (sym has.0 ∙ sym (marks page real) ∙ marked))
   ];
   count = λ copier outs there. omega (
     arith,
     no_frames outs
-        (all_there (All (λ (out : OutView). out.sent ≡ [])) rows copier outs none there),
+        (holds_at (All (λ (out : OutView). out.sent ≡ [])) rows copier outs none there),
   );
-}
-
--- where skipping is on in one round it is on
-law_of_all : (trace : GuestTrace) (base : Option ℕ) (now skip : Bool) (copiers lane : ℕ) (planned : List PlannedRound)
-    (rounds : List LiveRound) (plan : PlannedRound) (round : LiveRound)
-    → (now ≡ true → skip ≡ true) → KeepsLaw trace base now copiers lane planned rounds plan round
-    → KeepsLaw trace base skip copiers lane planned rounds plan round
-law_of_all trace base now skip copiers lane planned rounds plan round on is = record {
-  sent_order = is.sent_order;
-  skipped_order = is.skipped_order;
-  deferred_order = is.deferred_order;
-  apart = is.apart;
-  deferred_apart = is.deferred_apart;
-  defers = is.defers;
-  due = is.due;
-  only = is.only;
-  stamps = is.stamps;
-  skips = λ page skipped. let s = is.skips page skipped in (on s.0, s.1, s.2);
 }
 
 -- the law after a round in which pages may be skipped only where skipping is on and a round came before
@@ -514,7 +359,7 @@ pub law_next : (trace : GuestTrace) (base : Option ℕ) (skip now : Bool) (copie
     (rounds : List LiveRound) (plan : PlannedRound) (round : LiveRound)
     (old new : ClosedView) (before after : List (List OutView)) → now ≡ (skip && leb 1 (length rounds))
     → plan.from ≤ plan.to → AreJoined trace base copiers plan.from planned rounds old before
-    → IsRound trace now copiers old.dirty plan.from plan.to new round → HavePosted trace copiers round before after
+    → IsLiveRound trace now copiers old.dirty plan.from plan.to new round → HavePosted trace copiers round before after
     → HaveCapacity lane (lanes_of before)
     → LiveRounds trace base skip copiers lane planned rounds
     → LiveRounds trace base skip copiers lane (planned ++ plan ∷ []) (rounds ++ round ∷ [])
@@ -535,7 +380,7 @@ pub joined_next : (trace : GuestTrace) (base : Option ℕ) (now : Bool) (copiers
     (rounds : List LiveRound) (plan : PlannedRound) (round : LiveRound)
     (old new : ClosedView) (before after : List (List OutView)) → plan.from ≤ plan.to
     → AreJoined trace base copiers plan.from planned rounds old before
-    → IsRound trace now copiers old.dirty plan.from plan.to new round → HavePosted trace copiers round before after
+    → IsLiveRound trace now copiers old.dirty plan.from plan.to new round → HavePosted trace copiers round before after
     → AreJoined trace base copiers plan.to (planned ++ plan ∷ []) (rounds ++ round ∷ []) new after
 joined_next trace base now copiers planned rounds plan round old new before after le joined is posted =
     joined_more trace base now copiers plan.from plan.to planned rounds plan round old new before after le refl refl

@@ -1,7 +1,7 @@
 -- Visits of pages, and the places of a trace's writes.
 use Rattle.std.proofs.Common.{◌≡◌, ℕ, ◌+◌, ◌-◌, ◌≤◌, inl, inr, true, eqb, [], ◌∷◌, refl, sym, ap, ◌∙◌, arith}
 use Rattle.std.specs.Prelude.{Option, Some, None, IsTrue, is_some, unwrap_or, slice_get}
-use Rattle.std.proofs.lemmas.Bool.{cases_eq, cases_lt, cond-true, cond-false, eq-eqb, ne_eqb}
+use Rattle.std.proofs.lemmas.Bool.{cases_eq, cases_lt, cond-true, cond-false, eq-eqb, ne_eqb, false≢true}
 use Rattle.std.proofs.lemmas.Option.{none-some, same_Some, slice_get_within, get_or_from_slice_get, slice_get-get_or}
 use Rattle.migration_model.specs.Trace.{GuestTrace}
 use Rattle.migration_model.specs.Versions.{IsWritten, version_before}
@@ -9,7 +9,7 @@ use Rattle.migration_model.specs.Live.{IsPlaceOf}
 use Rattle.migration_model.proofs.Placed.{version_is_place, version_is_greatest, version_rises}
 use Rattle.dirty_core.specs.Machine.{Visits, last_visit}
 use Rattle.dirty_core.specs.Runs.{IsVisited, Rises, place_after}
-use Rattle.live_tasks.proofs.Basics.{false_true}
+use Rattle.dirty_core.proofs.EveryPlace.{before_below, visit_below}
 
 pub last_is_visit : (visits : Visits) (page place : ℕ) → last_visit visits page ≡ Some place
     → IsVisited visits page place
@@ -39,49 +39,12 @@ visit_has_last (v ∷ vs) page place is = elim (cases_eq v.0 page) [
 
 some_case : (visits : Visits) (page : ℕ) (o : Option ℕ) → last_visit visits page ≡ o → is_some (last_visit visits page)
     ≡ true → (place : ℕ) × IsVisited visits page place
-some_case visits page None e is = absurd (false_true (sym (ap is_some e) ∙ is))
+some_case visits page None e is = absurd (false≢true (sym (ap is_some e) ∙ is))
 some_case visits page (Some place) e is = (place, last_is_visit visits page place e)
 
 pub stored_is_visit : (visits : Visits) (page : ℕ) → IsTrue (is_some (last_visit visits page)) → (place : ℕ)
     × IsVisited visits page place
 stored_is_visit visits page is = some_case visits page (last_visit visits page) refl is
-
--- a page's visits are at most at the place after them, which is no less than the place before
-pub rises_to : (before : ℕ) (visits : Visits) (page : ℕ) → Rises before visits page
-    → before ≤ place_after before visits page
-rises_to before [] page up = omega arith
-rises_to before (v ∷ vs) page up = elim (cases_eq v.0 page) [
-  | inl e ↦
-      let last : place_after before (v ∷ vs) page ≡ v.1 = ap (λ (o : Option ℕ). unwrap_or o before)
-      (cond-true (eqb v.0 page) (Some v.1) (last_visit vs page) (eq-eqb v.0 page e)) in
-      omega (arith, last, up.0 e, rises_to before vs page up.1)
-  | inr apart ↦
-      let last : place_after before (v ∷ vs) page ≡ place_after before vs page =
-      ap (λ (o : Option ℕ). unwrap_or o before) (cond-false (eqb v.0 page) (Some v.1) (last_visit vs page)
-      (ne_eqb v.0 page apart)) in
-      omega (arith, last, rises_to before vs page up.1)
-]
-
-pub visits_below : (before : ℕ) (visits : Visits) (page place : ℕ) → Rises before visits page
-    → IsVisited visits page place → place ≤ place_after before visits page
-visits_below before [] page place up is = absurd is
-visits_below before (v ∷ vs) page place up is = elim (cases_eq v.0 page) [
-  | inl e ↦
-      let last : place_after before (v ∷ vs) page ≡ v.1 = ap (λ (o : Option ℕ). unwrap_or o before)
-      (cond-true (eqb v.0 page) (Some v.1) (last_visit vs page) (eq-eqb v.0 page e)) in
-      elim is [
-        | inl same ↦ omega (arith, last, same.1)
-        | inr earlier ↦ omega (arith, last, up.0 e, visits_below before vs page place up.1 earlier)
-      ]
-  | inr apart ↦
-      let last : place_after before (v ∷ vs) page ≡ place_after before vs page =
-      ap (λ (o : Option ℕ). unwrap_or o before) (cond-false (eqb v.0 page) (Some v.1) (last_visit vs page)
-      (ne_eqb v.0 page apart)) in
-      elim is [
-        | inl same ↦ absurd (apart same.0)
-        | inr earlier ↦ omega (arith, last, visits_below before vs page place up.1 earlier)
-      ]
-]
 
 -- ---- writes and places
 
@@ -177,8 +140,8 @@ version_stored trace page from to before stores le opening up stored all =
               high =
                   earlier;
             }) in
-            omega (arith, first, opening, rises_to before stores page up)
-        | inr later ↦ visits_below before stores page (version_before trace page to) up
+            omega (arith, first, opening, before_below before stores page up)
+        | inr later ↦ visit_below before stores page (version_before trace page to) up
             (all (version_before trace page to) (record {
               write = is.write;
               some = is.some;

@@ -19,7 +19,7 @@ abbrev pub IsMarked : List ℕ → ℕ → Type 0
 IsMarked dirty page = IsTrue (in_words dirty page)
 
 -- What a round in these ticks did and left, when the table opened with the versions before them and with these marks.
-pub record IsRound (trace : GuestTrace) (skip : Bool) (copiers : ℕ) (dirty : List ℕ) (from to : ℕ)
+pub record IsLiveRound (trace : GuestTrace) (skip : Bool) (copiers : ℕ) (dirty : List ℕ) (from to : ℕ)
     (closed : ClosedView) (round : LiveRound) : Type 0 where
   pub versions : (page : ℕ) → page < trace.pages → slice_index closed.versions page ≡ version_before trace page to
   pub found : (page : ℕ) → page < trace.pages → IsMarked dirty page → IsListed round page

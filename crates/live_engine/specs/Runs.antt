@@ -84,7 +84,7 @@ pub record HaveEnded (trace : GuestTrace) (s : MigrationSettings) (plan : Migrat
 
 -- All that was sent has come to the parts. A page that isn't marked is no older there than at the stop, or has the
 -- version that it had in the base.
-pub record AllCame (trace : GuestTrace) (base : Option ℕ)
+pub record AllSentArrived (trace : GuestTrace) (base : Option ℕ)
     (streams : ℕ) (closed : ClosedView) (parts : List GuestPart) : Type 0 where
   pub fits : FitsPages closed trace.pages (length trace.writes)
   pub base_low : IfSome base (λ from. (page : ℕ) → page < trace.pages

@@ -64,7 +64,7 @@ impl Promise<Receiver> for Receives {
 }
 
 /// Looks at each lane of a stream once, and tells whether a frame came. Once a frame is refused it looks no further.
-fn sweep<G: Gate>(gate: &G, stream: usize, receiver: &mut Receiver) -> bool
+fn look<G: Gate>(gate: &G, stream: usize, receiver: &mut Receiver) -> bool
     ensures { identity_of receiver.new ≡ identity_of receiver.old }
 {
     let mut came = false;
@@ -106,7 +106,7 @@ fn receive<R: Wait, G: Gate>(
     let mut looks = 0u32;
     for _ in 0..u64::MAX {
         let ended = signals.ended.load(Ordering::SeqCst);
-        let came = sweep(gate, stream, &mut receiver);
+        let came = look(gate, stream, &mut receiver);
         if receiver.is_refused() {
             signals.refused.store(true, Ordering::SeqCst);
             break;

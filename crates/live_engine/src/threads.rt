@@ -108,7 +108,7 @@ fn start_guest<'s, E, W: WriteLog + Sync, G: Gate>(
 }
 
 /// Starts the replayers, in order.
-fn start_guests<'s, E, W: WriteLog + Sync, G: Gate>(
+fn start_replayers<'s, E, W: WriteLog + Sync, G: Gate>(
     scope: &'s Scope<'s, E>,
     round: &Round<'s, W, G>,
     ticks: Ticks,
@@ -264,7 +264,7 @@ fn run_in_scope<'s, E, W: WriteLog + Sync, G: Gate, R: Threads>(
     } = crew;
     let mut guests = Vec::new(alloc);
     let mut copiers = Vec::new(alloc);
-    let started = match start_guests(scope, round, ticks, guest_seats, &mut guests) {
+    let started = match start_replayers(scope, round, ticks, guest_seats, &mut guests) {
         Ok(()) => start_copiers(scope, alloc, round, copy_seats, states, &mut copiers),
         Err(refused) => Err(refused),
     };

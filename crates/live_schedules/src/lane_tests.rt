@@ -1,10 +1,11 @@
 //! Runs over lanes that are full, or that their receivers empty beside the rounds.
 
 use crate::gates::{Counts, SlowFirstReceiver, SlowReceivers, TakenBeside, TakenInTurn};
-use crate::tests::{AT_END, asked, first_sent, has_images, run, run_sixteen, times};
+use crate::tests::{first_sent, has_images, run, run_sixteen, times};
 use live_engine::Live;
 use rate_limit::Asked;
 use std::test::Fail;
+use worked_guest::{MEMORY, asked};
 
 /// Returns the settings of the worked example, with so many streams and lanes of so many frames.
 fn asked_with(streams: u64, lane: u64) -> Asked {
@@ -17,7 +18,7 @@ fn asked_with(streams: u64, lane: u64) -> Asked {
 
 /// Returns whether both memories are the ones that every run of the worked example makes.
 fn has_both_images(live: &Live) -> bool {
-    has_images(live, &AT_END, &AT_END)
+    has_images(live, &MEMORY, &MEMORY)
 }
 
 /// Returns whether the first round sent these pages, whatever their stamps, and deferred those.

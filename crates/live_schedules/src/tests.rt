@@ -14,61 +14,12 @@ use std::sync::Wait;
 use std::sync::atomic::{AtomicU64, Ordering};
 use std::test::Fail;
 use std::thread::Threads;
-use trace_codec::{Trace, Write};
+use trace_codec::{Trace, Write, decode};
+use worked_guest::{MEMORY, MEMORY_AT_2000, TRACE, asked};
 
-/// The memory where the guest stops at tick 2000.
-pub(crate) static AT_2000: [u8; 64] = [
-    1, 0, 0, 0, 0, 0, 0, 0, 0, 0, 0, 0, 0, 0, 0, 0, //
-    3, 0, 0, 0, 0, 0, 0, 0, 0, 0, 0, 0, 0, 0, 0, 2, //
-    0, 0, 0, 0, 0, 0, 0, 0, 0, 0, 0, 0, 0, 0, 0, 0, //
-    0, 0, 0, 0, 0, 0, 0, 0, 0, 0, 0, 0, 0, 0, 0, 0,
-];
-
-/// The memory after all writes.
-pub(crate) static AT_END: [u8; 64] = [
-    1, 0, 0, 0, 0, 0, 0, 0, 0, 0, 0, 0, 0, 0, 0, 0, //
-    0, 0, 0, 0, 0, 0, 0, 0, 0, 0, 0, 0, 0, 0, 0, 2, //
-    0, 0, 0, 0, 0, 0, 0, 0, 0, 0, 0, 0, 0, 0, 0, 0, //
-    0, 0, 4, 5, 0, 0, 0, 0, 0, 0, 0, 0, 0, 0, 0, 0,
-];
-
+/// Returns the worked guest.
 fn guest(alloc: Global) -> Result<Trace, Fail> {
-    let cases: [(u64, u32, u16, &[u8]); 5] = [
-        (0, 0, 0, &[1]),
-        (5, 1, 15, &[2]),
-        (1200, 1, 0, &[3]),
-        (2500, 3, 2, &[4, 5]),
-        (2500, 1, 0, &[0]),
-    ];
-    let mut writes = Vec::new(alloc);
-    for (tick, page, offset, bytes) in cases {
-        writes.push(Write {
-            tick,
-            page,
-            offset,
-            bytes: Vec::from_slice(alloc, bytes)?,
-        })?;
-    }
-    Ok(Trace::new(1, 4, 4, writes)?)
-}
-
-pub(crate) fn asked() -> Asked {
-    Asked {
-        min: 2,
-        max: 4,
-        increment: 1,
-        threshold: 1,
-        rounds: 8,
-        start: 0,
-        window: 1000,
-        hot: 2,
-        workers: 1,
-        streams: 1,
-        replayers: 1,
-        lane: 1024,
-        skip: false,
-        base: None,
-    }
+    Ok(decode(alloc, &TRACE)?)
 }
 
 pub(crate) fn run(
@@ -104,7 +55,7 @@ pub(crate) fn times(count: &AtomicU64) -> u64 {
 #[test]
 fn a_live_run_ends_where_the_plan_does(rt: HostRuntime) -> Result<(), Fail> {
     let live = run(&rt, rt.alloc(), asked(), &OpenGate)?;
-    let is_right = has_images(&live, &AT_END, &AT_END);
+    let is_right = has_images(&live, &MEMORY, &MEMORY);
     assert_eq!(rt; (live.stop, live.rounds.len(), is_right), (3667, 3, true));
     Ok(())
 }
@@ -120,7 +71,7 @@ fn many_threads_and_streams_make_the_same_memory(rt: HostRuntime) -> Result<(), 
     };
     let live = run(&rt, rt.alloc(), many, &OpenGate)?;
     assert_eq!(rt;
-        (live.stop, has_images(&live, &AT_END, &AT_END)),
+        (live.stop, has_images(&live, &MEMORY, &MEMORY)),
         (3000, true)
     );
     Ok(())
@@ -135,7 +86,7 @@ fn the_guest_resumes_from_where_it_stopped(rt: HostRuntime) -> Result<(), Fail> 
     };
     let live = run(&rt, rt.alloc(), early, &OpenGate)?;
     assert_eq!(rt;
-        (live.stop, has_images(&live, &AT_2000, &AT_END)),
+        (live.stop, has_images(&live, &MEMORY_AT_2000, &MEMORY)),
         (2000, true)
     );
     Ok(())
@@ -169,7 +120,8 @@ fn the_guest_resumes_in_the_memory_in_which_it_stopped(rt: HostRuntime) -> Resul
     let stopped = migrate(&rt, alloc, &trace, &settings, &OpenGate)?;
     let at_stop = stopped.memory.image(alloc)?;
     let at_end = resumed(alloc, &stopped, &trace).ok_or("the pages of the guest")?;
-    let is_right = at_stop.bytes() == AT_2000.as_slice() && at_end.as_slice() == AT_END.as_slice();
+    let is_right = at_stop.bytes() == MEMORY_AT_2000.as_slice()
+        && at_end.as_slice() == MEMORY.as_slice();
     assert_eq!(rt; (stopped.stop, is_right), (2000, true));
     Ok(())
 }
@@ -238,7 +190,7 @@ fn replayers_and_copiers_meet(rt: HostRuntime) -> Result<(), Fail> {
     let count = sent(&live, 0).map(|sent| sent.len());
     assert_eq!(rt; steps, [0, 5, 5, 3, total_sent(&live)]);
     assert_eq!(rt; (firsts, count), ([Some((0, 1)), Some((0, 1))], Some(4)));
-    assert!(rt; has_images(&live, &AT_END, &AT_END));
+    assert!(rt; has_images(&live, &MEMORY, &MEMORY));
     Ok(())
 }
 
@@ -246,7 +198,7 @@ fn replayers_and_copiers_meet(rt: HostRuntime) -> Result<(), Fail> {
 fn has_rounds(live: &Live, first: &[(u32, u32)]) -> bool {
     sent(live, 0) == Some(first)
         && first_sent(live, 1) == Some((0, 1))
-        && has_images(live, &AT_END, &AT_END)
+        && has_images(live, &MEMORY, &MEMORY)
 }
 
 #[test]
@@ -292,7 +244,7 @@ fn a_page_that_is_marked_again_is_skipped(rt: HostRuntime) -> Result<(), Fail> {
         has_round(&live, 1, &[(0, 1)], &[1]),
         has_round(&live, 2, &[(1, 5), (3, 4)], &[]),
     ];
-    let is_right = has_images(&live, &AT_END, &AT_END);
+    let is_right = has_images(&live, &MEMORY, &MEMORY);
     assert_eq!(rt; (rounds, live.rounds.len(), is_right), ([true; 3], 3, true));
     assert_eq!(rt; times(&gate.0.late), 0);
     Ok(())

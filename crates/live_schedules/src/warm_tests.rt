@@ -1,20 +1,13 @@
 //! Warm starts: the destination begins with the guest's memory before a base tick.
 
-use crate::tests::{AT_2000, AT_END, asked, has_images, run};
+use crate::tests::{has_images, run};
 use live_engine::{Live, OpenGate};
 use rate_limit::Asked;
 use std::test::Fail;
-
-/// The memory before tick 1200.
-static AT_1200: [u8; 64] = [
-    1, 0, 0, 0, 0, 0, 0, 0, 0, 0, 0, 0, 0, 0, 0, 0, //
-    0, 0, 0, 0, 0, 0, 0, 0, 0, 0, 0, 0, 0, 0, 0, 2, //
-    0, 0, 0, 0, 0, 0, 0, 0, 0, 0, 0, 0, 0, 0, 0, 0, //
-    0, 0, 0, 0, 0, 0, 0, 0, 0, 0, 0, 0, 0, 0, 0, 0,
-];
+use worked_guest::{MEMORY, MEMORY_AT_1200, MEMORY_AT_2000, asked};
 
 /// The memory before tick 5.
-static AT_5: [u8; 64] = [
+static MEMORY_AT_5: [u8; 64] = [
     1, 0, 0, 0, 0, 0, 0, 0, 0, 0, 0, 0, 0, 0, 0, 0, //
     0, 0, 0, 0, 0, 0, 0, 0, 0, 0, 0, 0, 0, 0, 0, 0, //
     0, 0, 0, 0, 0, 0, 0, 0, 0, 0, 0, 0, 0, 0, 0, 0, //
@@ -42,10 +35,10 @@ fn a_warm_start_sends_what_was_written_since_the_base(rt: HostRuntime) -> Result
     let alloc = rt.alloc();
     // The base, the start, the stop, the pages of the first round, and the memory at the stop.
     let rows: [(u64, u64, u64, &[u32], &[u8; 64]); 4] = [
-        (0, 1000, 2500, &[0, 1], &AT_2000),
-        (6, 1200, 1200, &[], &AT_1200),
-        (1200, 1201, 1701, &[1], &AT_2000),
-        (5, 5, 5, &[], &AT_5),
+        (0, 1000, 2500, &[0, 1], &MEMORY_AT_2000),
+        (6, 1200, 1200, &[], &MEMORY_AT_1200),
+        (1200, 1201, 1701, &[1], &MEMORY_AT_2000),
+        (5, 5, 5, &[], &MEMORY_AT_5),
     ];
     let mut right = true;
     for (base, start, stop, pages, at_stop) in rows {
@@ -57,7 +50,7 @@ fn a_warm_start_sends_what_was_written_since_the_base(rt: HostRuntime) -> Result
                 ..asked()
             };
             let live = run(&rt, alloc, warm, &OpenGate)?;
-            let memory = has_images(&live, at_stop, &AT_END);
+            let memory = has_images(&live, at_stop, &MEMORY);
             right &= memory && live.stop == stop && sent_first(&live, pages);
         }
     }

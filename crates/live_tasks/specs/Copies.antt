@@ -4,7 +4,7 @@ use Rattle.migration_model.specs.Trace.{GuestTrace}
 use Rattle.page_bitmap.specs.Listing.{word_count}
 use Rattle.page_bitmap.specs.Pages.{in_words, bit_pages, one_page, union, minus, SamePages}
 use Rattle.dirty_words.specs.Facts.{CopyFacts, HoldsNone, after_peek, after_read, after_restore}
-use Rattle.dirty_words.specs.Plays.{IsShown}
+use Rattle.dirty_words.specs.Plays.{MakesFresh}
 use Rattle.dirty_words.specs.Seats.{TableView, CopyView, copy_table}
 use Rattle.stream_lanes.specs.Ends.{OutView, HasRoom, IsSentOn}
 use Rattle.live_tasks.specs.RoundLogs.{IsCrowded, IsPosted, SpellsPage, frames_sent, with_deferred, with_sent}
@@ -17,7 +17,7 @@ pub record HasPeeked (page : ℕ) (shows : Bool) (old new : CopyFacts) : Type 0 
   pub answer : ℕ
   pub facts : new ≡ after_peek (page / 64) answer old
   pub shows_is : bit_pages (page / 64) answer page ≡ shows
-  pub shown : IsShown old (page / 64) answer new
+  pub shown : MakesFresh old (page / 64) answer new
 
 -- one more frame fits on the lane of this stream
 pub record HasRoomAt (outs : List OutView) (stream : ℕ) : Type 0 where

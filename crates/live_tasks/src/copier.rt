@@ -3,7 +3,7 @@
 ghost use Rattle.std.specs.Prelude.{◌≡◌, ◌<◌, ◌≤◌, ◌+◌, ◌*◌, ◌^◌, ℕ, IsTrue, IfOk, OnOk, [], length, ◌/◌};
 ghost use Rattle.page_bitmap.specs.Pages.{in_words, one_page, word_pages, bit_pages, union, minus, SamePages};
 ghost use Rattle.dirty_words.specs.Facts.{after_harvest, after_read, first_copier, OwnsWord, HoldsNone};
-ghost use Rattle.dirty_words.specs.Plays.{IsAnswer, IsShown};
+ghost use Rattle.dirty_words.specs.Plays.{IsAnswer, MakesFresh};
 ghost use Rattle.dirty_words.specs.Seats.{copy_table};
 ghost use Rattle.live_tasks.specs.CopierStates.{IsCopierState};
 ghost use Rattle.live_tasks.specs.RoundLogs.{IsCrowded, SpellsPage};
@@ -73,7 +73,7 @@ impl<'a, W: WriteLog, G: Gate> Round<'a, W, G> {
             (union (in_words seat.old.facts.held) (bit_pages word result)) }
         ensures returned { SamePages (in_words seat.new.facts.returned)
             (minus (in_words seat.old.facts.returned) (word_pages word)) }
-        ensures fresh { IsShown seat.old.facts word result seat.new.facts }
+        ensures fresh { MakesFresh seat.old.facts word result seat.new.facts }
     {
         let copier = seat.number();
         let bits = seat.harvest(self.table, word);

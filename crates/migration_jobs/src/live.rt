@@ -7,7 +7,7 @@ ghost use Rattle.trace_codec.specs.declared.error.TraceError.TheVariants.{ReadFa
 ghost use Rattle.migration_jobs.specs.Output.{IsLiveJob, IsShown, RefusesOutput, RefusesRun};
 
 use crate::error::RunError;
-use crate::shown::Shown;
+use crate::shown::ShownMemory;
 use job_kinds::{Job, Show};
 use live_engine::{Gate, LiveError, migrate};
 use rate_limit::Settings;
@@ -25,12 +25,12 @@ fn live_of_trace<R: Threads + Wait + Sync, G: Gate>(
     show: Show,
     trace: HeldTrace,
     gate: &G,
-) -> Result<Shown, RunError>
+) -> Result<ShownMemory, RunError>
     ensures made { IfOk result (λ m. IsTrace trace × IsShown show trace settings.now m.bytes) }
     ensures refused { IfErr result (λ e. (error : LiveError) × (e ≡ RunError.Live error)) }
 {
     let stopped = migrate(rt, alloc, &trace, settings, gate)?;
-    Ok(Shown::new(stopped, trace, show))
+    Ok(ShownMemory::new(stopped, trace, show))
 }
 
 /// Returns the memory of a live run of the trace that a source holds.
@@ -41,7 +41,7 @@ pub(crate) fn live_output<R: Threads + Wait + Sync, S: Source, G: Gate>(
     show: Show,
     source: &mut S,
     gate: &G,
-) -> Result<Shown, RunError>
+) -> Result<ShownMemory, RunError>
     requires { S.has_failed source.old ≡ false }
     ensures made { IfOk result (λ m. (trace : GuestTrace) × IsTrace trace × SourceSpells (S.remaining source.old) trace
         × IsShown show trace settings.now m.bytes) }

@@ -9,7 +9,7 @@ ghost use Rattle.migration_jobs.specs.Sink.{AppendsPart};
 use crate::error::RunError;
 use crate::paged_memory::{PagedMemory, fill_piece};
 use crate::replayed::ReplayedMemory;
-use crate::shown::Shown;
+use crate::shown::ShownMemory;
 use crate::sink::Sink;
 use std::alloc::Global;
 
@@ -19,7 +19,7 @@ pub(crate) enum Output {
     /// Bytes that are complete.
     Text(Vec<u8>),
     /// The memory of a live run, written page by page.
-    Memory(Shown),
+    Memory(ShownMemory),
     /// The memory after all writes of a trace, written page by page.
     Replayed(ReplayedMemory),
 }

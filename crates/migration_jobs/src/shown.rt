@@ -16,13 +16,13 @@ use trace_readers::HeldTrace;
 /// The memory of a guest that stopped, as it is or after the guest has resumed. A page is copied only when it is asked
 /// for, and no such copy fails.
 #[derive(Drop)]
-pub(crate) struct Shown {
+pub(crate) struct ShownMemory {
     stopped: StoppedGuest,
     trace: HeldTrace,
     show: Show,
 }
 
-impl Model for Shown {
+impl Model for ShownMemory {
     ghost Value = { GuestMemory };
 
     ghost view = { λ m. memory_shown m.show m.trace (memory_by m.stopped.memory) };
@@ -31,13 +31,13 @@ impl Model for Shown {
         (memory_by m.stopped.memory) };
 }
 
-impl Shown {
+impl ShownMemory {
     /// Returns the memory of a guest that stopped, with what is to be shown of it.
-    pub(crate) fn new(stopped: StoppedGuest, trace: HeldTrace, show: Show) -> Shown
+    pub(crate) fn new(stopped: StoppedGuest, trace: HeldTrace, show: Show) -> ShownMemory
         requires { IsStoppedAt trace stopped.versions.items stopped.index (memory_by stopped.memory) }
         ensures { result ≡ memory_shown show trace (memory_by stopped.memory) }
     {
-        Shown {
+        ShownMemory {
             stopped,
             trace,
             show,
@@ -45,7 +45,7 @@ impl Shown {
     }
 }
 
-impl PagedMemory for Shown {
+impl PagedMemory for ShownMemory {
     ghost memory = { λ m. m };
 
     fn shape(&self) -> Shape {

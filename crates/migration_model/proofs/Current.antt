@@ -1,5 +1,7 @@
 -- Memory made of honest parts that have the current copy of every page.
-use Rattle.std.proofs.Common.{◌≡◌, ℕ, inl, inr, zero, suc, ◌+◌, ◌-◌, ◌*◌, ◌^◌, ◌<◌, ◌≤◌, List, [], ◌∷◌, ◌++◌, length, take, drop, replicate, get_or, Option, Some, None, IfSome, IsSomeAnd, refl, sym, ap, subst, ◌∙◌, arith}
+use Rattle.std.proofs.Common.{◌≡◌, ℕ, inl, inr, zero, suc, ◌+◌, ◌-◌, ◌*◌, ◌^◌, ◌<◌, ◌≤◌, List, [], ◌∷◌, ◌++◌, length}
+use Rattle.std.proofs.Common.{take, drop, replicate, get_or, Option, Some, None, IfSome, IsSomeAnd, refl, sym, ap}
+use Rattle.std.proofs.Common.{subst, ◌∙◌, arith}
 use Rattle.std.specs.List.{All, fold, flat_map, between, range_with_len}
 use Rattle.std.proofs.Math.Seq.{drop-append-add, take-append_seam}
 use Rattle.std.proofs.lemmas.Bool.{cases_lt}
@@ -10,10 +12,12 @@ use Rattle.migration_model.specs.Final.{shape_of_trace}
 use Rattle.migration_model.specs.Memory.{image_before, page_of}
 use Rattle.migration_model.specs.Trace.{GuestTrace, IsTrace}
 use Rattle.migration_model.specs.Versions.{page_at, version_before}
-use Rattle.migration_model.specs.Parts.{PageCopy, GuestPart, copy_at, IsCopy, empty_part, later, join, join_all, IsHonest}
+use Rattle.migration_model.specs.Parts.{PageCopy, GuestPart, copy_at, IsCopy, empty_part, later, join, join_all}
+use Rattle.migration_model.specs.Parts.{IsHonest}
 use Rattle.migration_model.specs.Images.{bytes_of, memory_in, bytes_of_first, HaveFirst, AreCurrent}
 use Rattle.migration_model.proofs.Pages.{memory_before}
 use Rattle.migration_model.proofs.Parts.{get_or-later_each, later_first, later_second}
+use Rattle.migration_model.proofs.Lists.{get_or-replicate_default}
 
 -- the copy is no later than this one, and this one where the stamps are equal
 record Below (size stamp : ℕ) (content : List ℕ) (c : PageCopy) : Type 0 where
@@ -44,7 +48,8 @@ low_later n s w (Some a) (Some b) low_a low_b = elim (cases_lt a.stamp b.stamp) 
 this_first : (n s : ℕ) (w : List ℕ) (a b : Option PageCopy) → IsThis n s w a → IsLow n s w b → IsThis n s w (later a b)
 this_first n s w None b is low = absurd is
 this_first n s w (Some a) None is low = is
-this_first n s w (Some a) (Some b) is low = subst (IsThis n s w) (sym (later_first a b (omega (arith, is.stamp_is, low.stamp_low)))) is
+this_first n s w (Some a) (Some b) is low = subst (IsThis n s w)
+    (sym (later_first a b (omega (arith, is.stamp_is, low.stamp_low)))) is
 
 this_second : (n s : ℕ) (w : List ℕ) (a b : Option PageCopy) → IsLow n s w a → IsThis n s w b → IsThis n s w (later a b)
 this_second n s w None b low is = is
@@ -53,7 +58,12 @@ this_second n s w (Some a) (Some b) low is = elim (cases_lt a.stamp b.stamp) [
   | inl lt ↦ subst (IsThis n s w) (sym (later_second a b lt)) is
   | inr le ↦
       let same : a.stamp ≡ s = omega (arith, le, is.stamp_is, low.stamp_low) in
-      let this : IsThis n s w (Some a) = record { content_is = low.same same; stamp_is = same; size_is = low.size_is } in
+      let this : IsThis n s w (Some a) = record {
+        content_is = low.same same;
+        stamp_is = same;
+        size_is =
+            low.size_is;
+      } in
       subst (IsThis n s w) (sym (later_first a b le)) this
 ]
 
@@ -63,24 +73,30 @@ this_stays n s p w first [] is low = is
 this_stays n s p w first (part ∷ parts) is low =
     this_stays n s p w (join first part) parts
     (subst (IsThis n s w) (sym (get_or-later_each first.copies part.copies p))
-    (this_first n s w (copy_at first p) (copy_at part p) is (All-head (λ (q : GuestPart). IsLow n s w (copy_at q p)) part parts low)))
+    (this_first n s w (copy_at first p) (copy_at part p) is (All-head (λ (q : GuestPart). IsLow n s w (copy_at q p))
+    part parts low)))
     (All-tail (λ (q : GuestPart). IsLow n s w (copy_at q p)) part parts low)
 
-this_comes : (n s p : ℕ) (w : List ℕ) (first : GuestPart) (parts : List GuestPart) (k : ℕ) → IsLow n s w (copy_at first p)
-    → All (λ part. IsLow n s w (copy_at part p)) parts → k < length parts → IsThis n s w (copy_at (get_or parts k first) p)
+this_comes : (n s p : ℕ) (w : List ℕ) (first : GuestPart) (parts : List GuestPart) (k : ℕ)
+    → IsLow n s w (copy_at first p)
+    → All (λ part. IsLow n s w (copy_at part p)) parts → k < length parts
+    → IsThis n s w (copy_at (get_or parts k first) p)
     → IsThis n s w (copy_at (fold join first parts) p)
 this_comes n s p w first [] k low lows within is = absurd (omega arith)
 this_comes n s p w first (part ∷ parts) zero low lows within is =
     this_stays n s p w (join first part) parts
-    (subst (IsThis n s w) (sym (get_or-later_each first.copies part.copies p)) (this_second n s w (copy_at first p) (copy_at part p) low is))
+    (subst (IsThis n s w) (sym (get_or-later_each first.copies part.copies p))
+    (this_second n s w (copy_at first p) (copy_at part p) low is))
     (All-tail (λ (q : GuestPart). IsLow n s w (copy_at q p)) part parts lows)
 this_comes n s p w first (part ∷ parts) (suc k) low lows within is =
     this_comes n s p w (join first part) parts k
     (subst (IsLow n s w) (sym (get_or-later_each first.copies part.copies p))
-    (low_later n s w (copy_at first p) (copy_at part p) low (All-head (λ (q : GuestPart). IsLow n s w (copy_at q p)) part parts lows)))
+    (low_later n s w (copy_at first p) (copy_at part p) low (All-head (λ (q : GuestPart). IsLow n s w (copy_at q p))
+    part parts lows)))
     (All-tail (λ (q : GuestPart). IsLow n s w (copy_at q p)) part parts lows)
     (omega arith)
-    (subst (λ (q : GuestPart). IsThis n s w (copy_at q p)) (get_or_default parts k first (join first part) (omega arith)) is)
+    (subst (λ (q : GuestPart). IsThis n s w (copy_at q p)) (get_or_default parts k first (join first part)
+    (omega arith)) is)
 
 -- the p-th piece of equal pieces
 pub piece_at : (f : ℕ → List ℕ) (size a n p : ℕ) → p < n → ((q : ℕ) → q < a + n → length (f q) ≡ size)
@@ -100,11 +116,17 @@ piece_at f size a (suc n) (suc p) low sizes =
     ∙ piece_at f size (a + 1) n p (omega arith) (λ q below. sizes q (omega arith))
     ∙ ap f (omega arith)
 
-length_pieces : (f : ℕ → List ℕ) (size a n : ℕ) → ((q : ℕ) → q < a + n → length (f q) ≡ size) → length (flat_map f (range_with_len a n)) ≡ n * size
+length_pieces : (f : ℕ → List ℕ) (size a n : ℕ) → ((q : ℕ) → q < a + n → length (f q) ≡ size)
+    → length (flat_map f (range_with_len a n)) ≡ n * size
 length_pieces f size a zero sizes = omega arith
 length_pieces f size a (suc n) sizes =
     let rest = flat_map f (range_with_len (a + 1) n) in
-    omega (arith, length-append (f a) rest, sizes a (omega arith), length_pieces f size (a + 1) n (λ q low. sizes q (omega (arith, low))))
+    omega (
+      arith,
+      length-append (f a) rest,
+      sizes a (omega arith),
+      length_pieces f size (a + 1) n (λ q low. sizes q (omega (arith, low))),
+    )
 
 bytes_of_this : (n s : ℕ) (w : List ℕ) (o : Option PageCopy) → IsThis n s w o → bytes_of o ≡ w
 bytes_of_this n s w None is = absurd is
@@ -114,11 +136,13 @@ size_of_this : (n s : ℕ) (w : List ℕ) (o : Option PageCopy) → IsThis n s w
 size_of_this n s w None is = absurd is
 size_of_this n s w (Some c) is = is.size_is
 
-this_from_low : (n s : ℕ) (w : List ℕ) (o : Option PageCopy) → IsLow n s w o → IsSomeAnd o (λ c. c.stamp ≡ s) → IsThis n s w o
+this_from_low : (n s : ℕ) (w : List ℕ) (o : Option PageCopy) → IsLow n s w o → IsSomeAnd o (λ c. c.stamp ≡ s)
+    → IsThis n s w o
 this_from_low n s w None low is = absurd is
 this_from_low n s w (Some c) low is = record { content_is = low.same is; stamp_is = is; size_is = low.size_is }
 
-low_from : (trace : GuestTrace) (shape : GuestShape) (part : GuestPart) (p s : ℕ) (o : Option PageCopy) → IsHonest trace part → copy_at part p ≡ o
+low_from : (trace : GuestTrace) (shape : GuestShape) (part : GuestPart) (p s : ℕ) (o : Option PageCopy)
+    → IsHonest trace part → copy_at part p ≡ o
     → IfSome o (IsCopy shape) → IfSome o (λ c. c.stamp ≤ s) → IsLow (2 ^ shape.shift) s (page_at trace p s) o
 low_from trace shape part p s None honest at copy bound = bound
 low_from trace shape part p s (Some c) honest at copy bound =
@@ -127,31 +151,32 @@ low_from trace shape part p s (Some c) honest at copy bound =
 abbrev none_copy : Option PageCopy
 none_copy = None
 
-nones_past : (n i : ℕ) → get_or (replicate n none_copy) i None ≡ None
-nones_past zero i = refl
-nones_past (suc n) zero = refl
-nones_past (suc n) (suc i) = nones_past n i
-
 low_none : (n s : ℕ) (w : List ℕ) → IsLow n s w None
 low_none n s w = tt
 
 low_at_first : (shape : GuestShape) (n s p : ℕ) (w : List ℕ) → IsLow n s w (copy_at (empty_part shape) p)
-low_at_first shape n s p w = subst (IsLow n s w) (sym (nones_past shape.pages p)) (low_none n s w)
+low_at_first shape n s p w = subst (IsLow n s w) (sym (get_or-replicate_default shape.pages p none_copy))
+    (low_none n s w)
 
-shape-joined : (first : GuestPart) (parts : List GuestPart) → (fold join first parts).shape ≡ first.shape
+pub shape-joined : (first : GuestPart) (parts : List GuestPart) → (fold join first parts).shape ≡ first.shape
 shape-joined first [] = refl
 shape-joined first (part ∷ parts) = shape-joined (join first part) parts
 
-lows : (trace : GuestTrace) (shape : GuestShape) (versions : List ℕ) (parts : List GuestPart) (p : ℕ) → AreCurrent trace shape versions parts
-    → All (λ part. IsLow (2 ^ shape.shift) (get_or versions p 0) (page_at trace p (get_or versions p 0)) (copy_at part p)) parts
+lows : (trace : GuestTrace) (shape : GuestShape) (versions : List ℕ) (parts : List GuestPart) (p : ℕ)
+    → AreCurrent trace shape versions parts
+    → All (λ part. IsLow (2 ^ shape.shift) (get_or versions p 0) (page_at trace p (get_or versions p 0))
+    (copy_at part p)) parts
 lows trace shape versions parts p are k d low =
     let part = get_or parts k d in
     low_from trace shape part p (get_or versions p 0) (copy_at part p) (are.not_beyond.honest k d low) refl
-    (subst (λ (s : GuestShape). IfSome (copy_at part p) (IsCopy s)) (are.not_beyond.shapes k d low) ((are.not_beyond.are_parts k d low).copies p))
+    (subst (λ (s : GuestShape). IfSome (copy_at part p) (IsCopy s)) (are.not_beyond.shapes k d low)
+    ((are.not_beyond.are_parts k d low).copies p))
     (are.not_beyond.bound p k d low)
 
-joined_this : (trace : GuestTrace) (shape : GuestShape) (versions : List ℕ) (parts : List GuestPart) (p : ℕ) → AreCurrent trace shape versions parts → p < shape.pages
-    → IsThis (2 ^ shape.shift) (get_or versions p 0) (page_at trace p (get_or versions p 0)) (copy_at (join_all shape parts) p)
+joined_this : (trace : GuestTrace) (shape : GuestShape) (versions : List ℕ) (parts : List GuestPart) (p : ℕ)
+    → AreCurrent trace shape versions parts → p < shape.pages
+    → IsThis (2 ^ shape.shift) (get_or versions p 0) (page_at trace p (get_or versions p 0))
+    (copy_at (join_all shape parts) p)
 joined_this trace shape versions parts p are low =
     let n = 2 ^ shape.shift in
     let s = get_or versions p 0 in
@@ -159,12 +184,14 @@ joined_this trace shape versions parts p are low =
     let found = are.current p low in
     let first = empty_part shape in
     let all = lows trace shape versions parts p are in
-    let part : found.1 ≡ get_or parts found.0 first = sym found.3 ∙ get_or_default parts found.0 found.1 first found.2 in
+    let part : found.1 ≡ get_or parts found.0 first = sym found.3
+    ∙ get_or_default parts found.0 found.1 first found.2 in
     this_comes n s p w first parts found.0 (low_at_first shape n s p w) all found.2
     (this_from_low n s w (copy_at (get_or parts found.0 first) p) (all found.0 first found.2)
     (subst (λ (q : GuestPart). IsSomeAnd (copy_at q p) (λ c. c.stamp ≡ s)) part found.4))
 
-pub current_page : (trace : GuestTrace) (shape : GuestShape) (versions : List ℕ) (parts : List GuestPart) (p : ℕ) → AreCurrent trace shape versions parts → p < shape.pages
+pub current_page : (trace : GuestTrace) (shape : GuestShape) (versions : List ℕ) (parts : List GuestPart) (p : ℕ)
+    → AreCurrent trace shape versions parts → p < shape.pages
     → page_of (memory_in (join_all shape parts)) p ≡ page_at trace p (get_or versions p 0)
 current_page trace shape versions parts p are low =
     let joined = join_all shape parts in
@@ -174,9 +201,12 @@ current_page trace shape versions parts p are low =
     let same : joined.shape ≡ shape = shape-joined (empty_part shape) parts in
     let front : 0 + p ≡ p = omega arith in
     let len : p * n + n - p * n ≡ n = omega arith in
-    ap (λ (g : GuestShape). between (p * 2 ^ g.shift) (p * 2 ^ g.shift + 2 ^ g.shift) (bytes_of_first joined g.pages)) same
+    ap (λ (g : GuestShape). between (p * 2 ^ g.shift) (p * 2 ^ g.shift + 2 ^ g.shift) (bytes_of_first joined g.pages))
+    same
     ∙ ap (λ k. take k (drop (p * n) (bytes_of_first joined shape.pages))) len
-    ∙ piece_at f n 0 shape.pages p low (λ q below. size_of_this n (get_or versions q 0) (page_at trace q (get_or versions q 0)) (copy_at joined q) (joined_this trace shape versions parts q are (omega arith)))
+    ∙ piece_at f n 0 shape.pages p low (λ q below. size_of_this n (get_or versions q 0)
+    (page_at trace q (get_or versions q 0)) (copy_at joined q)
+    (joined_this trace shape versions parts q are (omega arith)))
     ∙ ap f front
     ∙ bytes_of_this n s (page_at trace p s) (copy_at joined p) (joined_this trace shape versions parts p are low)
 
@@ -184,24 +214,32 @@ some_there : (o : Option PageCopy) (s : ℕ) → IsSomeAnd o (λ c. c.stamp ≡ 
 some_there None s is none = is
 some_there (Some c) s is none = cc none
 
-pub current_whole : (trace : GuestTrace) (shape : GuestShape) (versions : List ℕ) (parts : List GuestPart) → AreCurrent trace shape versions parts → HaveFirst parts shape.pages
+pub current_whole : (trace : GuestTrace) (shape : GuestShape) (versions : List ℕ) (parts : List GuestPart)
+    → AreCurrent trace shape versions parts → HaveFirst parts shape.pages
 current_whole trace shape versions parts are p low lacks =
     let found = are.current p low in
-    some_there (copy_at found.1 p) (get_or versions p 0) found.4 (ap (λ (q : GuestPart). copy_at q p) (sym found.3) ∙ lacks found.0 found.1 found.2)
+    some_there (copy_at found.1 p) (get_or versions p 0) found.4
+    (ap (λ (q : GuestPart). copy_at q p) (sym found.3) ∙ lacks found.0 found.1 found.2)
 
 -- memory made of such parts is as long as the guest's pages
-current_sizes : (trace : GuestTrace) (shape : GuestShape) (versions : List ℕ) (parts : List GuestPart) → AreCurrent trace shape versions parts
-    → length (memory_in (join_all shape parts)).bytes ≡ (memory_in (join_all shape parts)).pages * 2 ^ (memory_in (join_all shape parts)).shift
+current_sizes : (trace : GuestTrace) (shape : GuestShape) (versions : List ℕ) (parts : List GuestPart)
+    → AreCurrent trace shape versions parts
+    → length (memory_in (join_all shape parts)).bytes ≡ (memory_in (join_all shape parts)).pages * 2
+    ^ (memory_in (join_all shape parts)).shift
 current_sizes trace shape versions parts are =
     let joined = join_all shape parts in
     let same : joined.shape ≡ shape = shape-joined (empty_part shape) parts in
     length_pieces (λ page. bytes_of (copy_at joined page)) (2 ^ joined.shape.shift) 0 joined.shape.pages
-    (λ q low. size_of_this (2 ^ joined.shape.shift) (get_or versions q 0) (page_at trace q (get_or versions q 0)) (copy_at joined q)
-    (subst (λ (s : GuestShape). IsThis (2 ^ s.shift) (get_or versions q 0) (page_at trace q (get_or versions q 0)) (copy_at joined q)) (sym same)
+    (λ q low. size_of_this (2 ^ joined.shape.shift) (get_or versions q 0) (page_at trace q (get_or versions q 0))
+    (copy_at joined q)
+    (subst (λ (s : GuestShape). IsThis (2 ^ s.shift) (get_or versions q 0) (page_at trace q (get_or versions q 0))
+    (copy_at joined q)) (sym same)
     (joined_this trace shape versions parts q are (omega (arith, low, ap (λ (s : GuestShape). s.pages) same)))))
 
-pub current_size : (trace : GuestTrace) (shape : GuestShape) (versions : List ℕ) (parts : List GuestPart) → AreCurrent trace shape versions parts
-    → ((memory_in (join_all shape parts)).shift ≡ shape.shift) × ((memory_in (join_all shape parts)).pages ≡ shape.pages)
+pub current_size : (trace : GuestTrace) (shape : GuestShape) (versions : List ℕ) (parts : List GuestPart)
+    → AreCurrent trace shape versions parts
+    → ((memory_in (join_all shape parts)).shift ≡ shape.shift)
+    × ((memory_in (join_all shape parts)).pages ≡ shape.pages)
     × (length (memory_in (join_all shape parts)).bytes ≡ shape.pages * 2 ^ shape.shift)
 current_size trace shape versions parts are =
     let same : (join_all shape parts).shape ≡ shape = shape-joined (empty_part shape) parts in (
@@ -217,6 +255,7 @@ pub current_before : (trace : GuestTrace) (versions : List ℕ) (parts : List Gu
 current_before trace versions parts tick is are at =
     let shape = shape_of_trace trace in
     let same : (join_all shape parts).shape ≡ shape = shape-joined (empty_part shape) parts in
-    memory_before trace (memory_in (join_all shape parts)) tick is (ap (λ (s : GuestShape). s.shift) same) (ap (λ (s : GuestShape). s.pages) same)
+    memory_before trace (memory_in (join_all shape parts)) tick is (ap (λ (s : GuestShape). s.shift) same)
+    (ap (λ (s : GuestShape). s.pages) same)
     (current_sizes trace shape versions parts are)
     (λ page low. current_page trace shape versions parts page are low ∙ ap (page_at trace page) (at page low))

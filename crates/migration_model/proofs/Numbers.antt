@@ -3,7 +3,8 @@ use Rattle.std.proofs.Common.{◌≡◌, ℕ, ◌^◌, ◌<◌, ◌≤◌, List,
 use Rattle.std.specs.Int.{Width, w16, w32, w64}
 use Rattle.std.proofs.lemmas.Bool.{cases_lt}
 use Rattle.std.proofs.lemmas.List.{length-take, get_or-take, get_or_past}
-use Rattle.std.proofs.lemmas.Nat.{le_bytes_2, le_bytes_4, le_bytes_8, from_le_bytes-to_le_bytes_2, from_le_bytes-to_le_bytes_4, from_le_bytes-to_le_bytes_8}
+use Rattle.std.proofs.lemmas.Nat.{le_bytes_2, le_bytes_4, le_bytes_8, from_le_bytes-to_le_bytes_2}
+use Rattle.std.proofs.lemmas.Nat.{from_le_bytes-to_le_bytes_4, from_le_bytes-to_le_bytes_8}
 use Rattle.migration_model.specs.Numbers.{IsBytes, text_of, number_in}
 
 -- a width of numbers: how many bytes it has, and how many numbers fit
@@ -41,7 +42,13 @@ wide32 = record {
   again = λ n rest lt. from_le_bytes-to_le_bytes_4 n lt;
   back = λ bytes long fits.
       le_bytes_4 (take 4 bytes) _ (omega (arith, length-take 4 bytes)) (IsBytes-take 4 bytes fits)
-      (omega (arith, at_front 4 0 bytes (lit< tt), at_front 4 1 bytes (lit< tt), at_front 4 2 bytes (lit< tt), at_front 4 3 bytes (lit< tt)));
+      (omega (
+        arith,
+        at_front 4 0 bytes (lit< tt),
+        at_front 4 1 bytes (lit< tt),
+        at_front 4 2 bytes (lit< tt),
+        at_front 4 3 bytes (lit< tt),
+      ));
   below = λ bytes fits. omega (arith, fits 0, fits 1, fits 2, fits 3);
 }
 
@@ -52,6 +59,16 @@ wide64 = record {
   again = λ n rest lt. from_le_bytes-to_le_bytes_8 n lt;
   back = λ bytes long fits.
       le_bytes_8 (take 8 bytes) _ (omega (arith, length-take 8 bytes)) (IsBytes-take 8 bytes fits)
-      (omega (arith, at_front 8 0 bytes (lit< tt), at_front 8 1 bytes (lit< tt), at_front 8 2 bytes (lit< tt), at_front 8 3 bytes (lit< tt), at_front 8 4 bytes (lit< tt), at_front 8 5 bytes (lit< tt), at_front 8 6 bytes (lit< tt), at_front 8 7 bytes (lit< tt)));
+      (omega (
+        arith,
+        at_front 8 0 bytes (lit< tt),
+        at_front 8 1 bytes (lit< tt),
+        at_front 8 2 bytes (lit< tt),
+        at_front 8 3 bytes (lit< tt),
+        at_front 8 4 bytes (lit< tt),
+        at_front 8 5 bytes (lit< tt),
+        at_front 8 6 bytes (lit< tt),
+        at_front 8 7 bytes (lit< tt),
+      ));
   below = λ bytes fits. omega (arith, fits 0, fits 1, fits 2, fits 3, fits 4, fits 5, fits 6, fits 7);
 }

@@ -7,7 +7,8 @@ abbrev pub from : {X : Type 0} → (X → Bool) → ℕ → List X → List ℕ
 from q s [] = []
 from q s (x ∷ xs) = cond (q x) (s ∷ from q (s + 1) xs) (from q (s + 1) xs)
 
-pub map_cond : {X Y : Type 0} (f : X → Y) (b : Bool) (x : X) (xs : List X) → map f (cond b (x ∷ xs) xs) ≡ cond b (f x ∷ map f xs) (map f xs)
+pub map_cond : {X Y : Type 0} (f : X → Y) (b : Bool) (x : X) (xs : List X)
+    → map f (cond b (x ∷ xs) xs) ≡ cond b (f x ∷ map f xs) (map f xs)
 map_cond f true x xs = refl
 map_cond f false x xs = refl
 

@@ -2,10 +2,12 @@
 use Rattle.std.proofs.Common.{◌≡◌, ℕ, ◌<◌, ◌≤◌, Bool, true, false, ◌&&◌, ◌||◌, eqb, ltb, ◌∙◌, sym, inl, inr, arith}
 use Rattle.std.specs.Prelude.{◌⊎◌}
 use Rattle.std.specs.Cmp.{IsStrictWeakOrder}
-use Rattle.std.proofs.lemmas.Bool.{cases_lt, cases_eq, or_cases, or_left, or_right, and_parts, and_from, both_ways, false_from_ne_true, ltb-true, lt-ltb, eq-eqb, eqb-true}
+use Rattle.std.proofs.lemmas.Bool.{cases_lt, cases_eq, or_cases, or_left, or_right, and_parts, and_from, both_ways}
+use Rattle.std.proofs.lemmas.Bool.{false_from_ne_true, ltb-true, lt-ltb, eq-eqb, eqb-true}
 use Rattle.std.proofs.lemmas.List.MinMax.{IsStrictWeakOrder-by_number, IsStrictWeakOrder-flip}
 use Rattle.migration_starts.specs.Costs.{CostAtStart}
-use Rattle.migration_starts.specs.Choices.{by_then, first_price, is_better_start, is_quicker, is_worse_start, misses, second_price}
+use Rattle.migration_starts.specs.Choices.{by_then, first_price, is_better_start, is_quicker, is_worse_start, misses}
+use Rattle.migration_starts.specs.Choices.{second_price}
 
 -- the first of two numbers is less, or they are equal and the rest holds
 less_is : (m n : ℕ) (rest : Bool) → (ltb m n || (eqb m n && rest)) ≡ true → (m < n) ⊎ ((m ≡ n) × (rest ≡ true))
@@ -16,7 +18,8 @@ less_is m n rest is = elim (or_cases (ltb m n) (eqb m n && rest) is) [
 
 less_from : (m n : ℕ) (rest : Bool) → (m < n) ⊎ ((m ≡ n) × (rest ≡ true)) → (ltb m n || (eqb m n && rest)) ≡ true
 less_from m n rest (inl less) = or_left (ltb m n) (eqb m n && rest) (lt-ltb m n less)
-less_from m n rest (inr same) = or_right (ltb m n) (eqb m n && rest) (and_from (eqb m n) rest (eq-eqb m n same.0) same.1)
+less_from m n rest (inr same) = or_right (ltb m n) (eqb m n && rest)
+    (and_from (eqb m n) rest (eq-eqb m n same.0) same.1)
 
 -- where it is not less, it is greater, or they are equal and the rest does not hold
 not_less : (m n : ℕ) (rest : Bool) → (ltb m n || (eqb m n && rest)) ≡ false → (n < m) ⊎ ((m ≡ n) × (rest ≡ false))
@@ -45,7 +48,8 @@ module _ (key : CostAtStart → ℕ) (test : CostAtStart → CostAtStart → Boo
     | inr same ↦ inr (sym same.0, order.one_way a b same.1)
   ])
 
-  chain_of : (a b c : CostAtStart) → (key b < key a) ⊎ ((key a ≡ key b) × (test a b ≡ false)) → (key c < key b) ⊎ ((key b ≡ key c) × (test b c ≡ false))
+  chain_of : (a b c : CostAtStart) → (key b < key a) ⊎ ((key a ≡ key b) × (test a b ≡ false))
+      → (key c < key b) ⊎ ((key b ≡ key c) × (test b c ≡ false))
       → (key c < key a) ⊎ ((key a ≡ key c) × (test a c ≡ false))
   chain_of a b c (inl x) (inl y) = inl (omega arith)
   chain_of a b c (inl x) (inr y) = inl (omega (arith, y.0))
@@ -55,12 +59,14 @@ module _ (key : CostAtStart → ℕ) (test : CostAtStart → CostAtStart → Boo
   pub IsStrictWeakOrder-by_then : IsStrictWeakOrder (by_then key test)
   IsStrictWeakOrder-by_then = record {
     one_way = one_way_then;
-    chain = λ a b c x y. not_from (key a) (key c) (test a c) (chain_of a b c (not_less (key a) (key b) (test a b) x) (not_less (key b) (key c) (test b c) y));
+    chain = λ a b c x y. not_from (key a) (key c) (test a c)
+        (chain_of a b c (not_less (key a) (key b) (test a b) x) (not_less (key b) (key c) (test b c) y));
   }
 
 pub better_order : IsStrictWeakOrder is_better_start
 better_order =
-    IsStrictWeakOrder-by_then misses _ (IsStrictWeakOrder-by_then first_price _ (IsStrictWeakOrder-by_then second_price _ (IsStrictWeakOrder-by_number (λ (at : CostAtStart). at.cost.time))))
+    IsStrictWeakOrder-by_then misses _ (IsStrictWeakOrder-by_then first_price _
+    (IsStrictWeakOrder-by_then second_price _ (IsStrictWeakOrder-by_number (λ (at : CostAtStart). at.cost.time))))
 
 pub worse_order : IsStrictWeakOrder is_worse_start
 worse_order = IsStrictWeakOrder-flip is_better_start better_order

@@ -1,12 +1,18 @@
 -- Sets of pages after a write to one of their words.
-use Rattle.std.proofs.Common.{◌≡◌, ◌≢◌, ℕ, zero, suc, ◌+◌, ◌-◌, ◌*◌, ◌/◌, ◌%◌, ◌^◌, ◌<◌, ◌≤◌, min, max, Bool, true, false, not, ◌&&◌, ◌||◌, eqb, List, [], ◌++◌, length, get_or, set, take, drop, bit_and, bit_or, refl, sym, ap, ◌∙◌, arith, inl, inr, w64}
+use Rattle.std.proofs.Common.{◌≡◌, ◌≢◌, ℕ, zero, suc, ◌+◌, ◌-◌, ◌*◌, ◌/◌, ◌%◌, ◌^◌, ◌<◌, ◌≤◌, min, max, Bool, true}
+use Rattle.std.proofs.Common.{false, not, ◌&&◌, ◌||◌, eqb, List, [], ◌++◌, length, get_or, set, take, drop, bit_and}
+use Rattle.std.proofs.Common.{bit_or, refl, sym, ap, ◌∙◌, arith, inl, inr, w64, replicate}
 use Rattle.std.specs.Prelude.{IsTrue, ◌↔◌}
 use Rattle.std.specs.Int.{bit_at}
 use Rattle.std.proofs.lemmas.Bool.{eqb-true, eq-eqb, ne_eqb, cases_eq, cases_lt, and_parts, and_from}
 use Rattle.std.proofs.lemmas.List.{append-nil, drop_all, take_all, get_or-set_same, get_or-set_other, get_or_past}
-use Rattle.std.proofs.lemmas.Nat.{shr-shr, div-mul-add, mod-mul-add, and_le_r, one_shl, mod_below, div-add-mod', shr_le, pow_pos}
-use Rattle.std.proofs.lemmas.Nat.Bits.{bit_at_or, bit_at_and, bit_at_not, bit_at-lt, bit_at_above, same_from_bits_below, bit_at-pow_same, bit_at-pow_other, bit_at-zero}
+use Rattle.std.proofs.lemmas.Nat.{shr-shr, div-mul-add, mod-mul-add, and_le_r, one_shl, mod_below, div-add-mod', shr_le}
+use Rattle.std.proofs.lemmas.Nat.{pow_pos}
+use Rattle.std.proofs.lemmas.Nat.Bits.{bit_at_or, bit_at_and, bit_at_not, bit_at-lt, bit_at_above, same_from_bits_below}
+use Rattle.std.proofs.lemmas.Nat.Bits.{bit_at-pow_same, bit_at-pow_other, bit_at-zero}
+use Rattle.std.proofs.Math.Bool.{or-false}
 use Rattle.page_bitmap.specs.Pages.{in_words, one_page, bit_pages, union, minus, IsWithin}
+use Rattle.migration_model.proofs.Lists.{get_or-replicate_default}
 
 or_test : (x y : ℕ) → x < 2 → y < 2 → eqb (max x y) 1 ≡ (eqb x 1 || eqb y 1)
 or_test zero zero a b = refl
@@ -24,16 +30,13 @@ without_test (suc zero) (suc zero) a b = refl
 without_test x (suc (suc y)) a b = absurd (omega arith)
 without_test (suc (suc x)) y a b = absurd (omega arith)
 
-or_false : (b : Bool) → b ≡ (b || false)
-or_false true = refl
-or_false false = refl
-
 and_true : (b : Bool) → b ≡ (b && true)
 and_true true = refl
 and_true false = refl
 
 -- the pages of a word that was written
-pub here : (ws : List ℕ) (i n page : ℕ) → i < length ws → page / 64 ≡ i → in_words (set ws i n) page ≡ eqb (bit_at n (page % 64)) 1
+pub here : (ws : List ℕ) (i n page : ℕ) → i < length ws → page / 64 ≡ i
+    → in_words (set ws i n) page ≡ eqb (bit_at n (page % 64)) 1
 here ws i n page within e = rw (e, get_or-set_same) refl
 
 -- a write to one word leaves all pages of other words as they are
@@ -48,16 +51,18 @@ added ws i b page within = elim (cases_eq (page / 64) i) [
       ∙ ap (λ n. eqb n 1) (bit_at_or (get_or ws i 0) b (page % 64))
       ∙ or_test _ _ (bit_at-lt (get_or ws i 0) (page % 64)) (bit_at-lt b (page % 64))
       ∙ rw (e, eq-eqb i i refl) refl
-  | inr ne ↦ elsewhere ws i _ page ne ∙ rw (ne_eqb (page / 64) i ne) (or_false _)
+  | inr ne ↦ elsewhere ws i _ page ne ∙ rw (ne_eqb (page / 64) i ne) (sym (or-false _))
 ]
 
 pub removed : (ws : List ℕ) (i b page : ℕ) → i < length ws → b < 2 ^ 64
-    → in_words (set ws i (bit_and (get_or ws i 0) (18_446_744_073_709_551_615 - b))) page ≡ minus (in_words ws) (bit_pages i b) page
+    → in_words (set ws i (bit_and (get_or ws i 0) (18_446_744_073_709_551_615 - b))) page
+    ≡ minus (in_words ws) (bit_pages i b) page
 removed ws i b page within fits = elim (cases_eq (page / 64) i) [
   | inl e ↦
       here ws i _ page within e
       ∙ ap (λ n. eqb n 1) (bit_at_and (get_or ws i 0) (18_446_744_073_709_551_615 - b) (page % 64)
-      ∙ ap (λ n. min (bit_at (get_or ws i 0) (page % 64)) n) (bit_at_not w64 b (page % 64) fits (mod_below page 64 (omega arith))))
+      ∙ ap (λ n. min (bit_at (get_or ws i 0) (page % 64)) n)
+      (bit_at_not w64 b (page % 64) fits (mod_below page 64 (omega arith))))
       ∙ without_test _ _ (bit_at-lt (get_or ws i 0) (page % 64)) (bit_at-lt b (page % 64))
       ∙ rw (e, eq-eqb i i refl) refl
   | inr ne ↦ elsewhere ws i _ page ne ∙ rw (ne_eqb (page / 64) i ne) (and_true _)
@@ -73,7 +78,8 @@ page_bit_pages page other =
             rw (same, eq-eqb (page / 64) (page / 64) refl, bit_at-pow_same (page % 64)) (sym (eq-eqb page page refl))
         | inr ne ↦
             let apart : other ≡ page → ⊥ = λ same. ne (ap (λ n. n % 64) same) in
-            rw (eq-eqb (other / 64) (page / 64) e, bit_at-pow_other (page % 64) (other % 64) ne) (sym (ne_eqb other page apart))
+            rw (eq-eqb (other / 64) (page / 64) e, bit_at-pow_other (page % 64) (other % 64) ne)
+            (sym (ne_eqb other page apart))
       ]
       | inr ne ↦
           let apart : other ≡ page → ⊥ = λ same. ne (ap (λ n. n / 64) same) in
@@ -84,7 +90,8 @@ page_bit_pages page other =
 pub shifted_page_bit : (page : ℕ) → 1 * 2 ^ (page % 64) % 18_446_744_073_709_551_616 ≡ 2 ^ (page % 64)
 shifted_page_bit page = one_shl (page % 64) 64 (mod_below page 64 (omega arith))
 
-pub one_bit : (page other : ℕ) → bit_pages (page / 64) (1 * 2 ^ (page % 64) % 18_446_744_073_709_551_616) other ≡ one_page page other
+pub one_bit : (page other : ℕ) → bit_pages (page / 64) (1 * 2 ^ (page % 64) % 18_446_744_073_709_551_616) other
+    ≡ one_page page other
 one_bit page other = ap (λ n. bit_pages (page / 64) n other) (shifted_page_bit page) ∙ page_bit_pages page other
 
 -- ---- a test of some bits
@@ -100,7 +107,8 @@ kept_min (suc zero) (suc zero) a b h = refl
 kept_min x (suc (suc y)) a b h = absurd (omega arith)
 kept_min (suc (suc x)) y a b h = absurd (omega arith)
 
-pub within : (ws : List ℕ) (i b : ℕ) → b < 2 ^ 64 → (eqb (bit_and (get_or ws i 0) b) b ≡ true) ↔ IsWithin (bit_pages i b) (in_words ws)
+pub within : (ws : List ℕ) (i b : ℕ) → b < 2 ^ 64 → (eqb (bit_and (get_or ws i 0) b) b ≡ true) ↔ IsWithin
+    (bit_pages i b) (in_words ws)
 within ws i b fits = (
   λ same page in_bits.
       let parts = and_parts _ _ in_bits in
@@ -109,7 +117,8 @@ within ws i b fits = (
       let both = sym (bit_at_and (get_or ws i 0) b (page % 64)) ∙ ap (λ n. bit_at n (page % 64)) (eqb-true _ _ same) in
       rw e (eq-eqb _ _ (kept_bit _ _ (bit_at-lt (get_or ws i 0) (page % 64)) both one)),
   λ all.
-      eq-eqb _ _ (same_from_bits_below 64 (bit_and (get_or ws i 0) b) b (omega (arith, and_le_r (get_or ws i 0) b, fits)) fits (λ k low.
+      eq-eqb _ _ (same_from_bits_below 64 (bit_and (get_or ws i 0) b) b
+      (omega (arith, and_le_r (get_or ws i 0) b, fits)) fits (λ k low.
       let page : ℕ = i * 64 + k in
       let e : page / 64 ≡ i = div-mul-add i 64 k low in
       let f : page % 64 ≡ k = mod-mul-add i 64 k low in
@@ -133,7 +142,8 @@ has_word ws page in_set = elim (cases_lt (page / 64) (length ws)) [
   | inl low ↦ low
   | inr past ↦
       let one : bit_at (get_or ws (page / 64) 0) (page % 64) ≡ 1 = eqb-true _ _ in_set in
-      let none : bit_at (get_or ws (page / 64) 0) (page % 64) ≡ 0 = rw (get_or_past ws (page / 64) 0 past) (bit_at-zero (page % 64)) in
+      let none : bit_at (get_or ws (page / 64) 0) (page % 64) ≡ 0 =
+      rw (get_or_past ws (page / 64) 0 past) (bit_at-zero (page % 64)) in
       absurd (omega arith)
 ]
 
@@ -141,8 +151,10 @@ pub whole : (ws : List ℕ) (pages : ℕ) → length ws ≡ (pages + 63) / 64 �
     → (page : ℕ) → IsTrue (in_words ws page) → page < pages
 whole ws pages len none page in_set = let low = has_word ws page in_set in omega arith
 
-pub ends : (ws : List ℕ) (pages : ℕ) → 1 ≤ pages → length ws ≡ (pages + 63) / 64 → (pages % 64 ≡ 0 → ⊥) → get_or ws (length ws - 1) 0 < 2 ^ 64
-    → (eqb (get_or ws (length ws - 1) 0 / 2 ^ (pages % 64)) 0 ≡ true) ↔ ((page : ℕ) → IsTrue (in_words ws page) → page < pages)
+pub ends : (ws : List ℕ) (pages : ℕ) → 1 ≤ pages → length ws ≡ (pages + 63) / 64 → (pages % 64 ≡ 0 → ⊥)
+    → get_or ws (length ws - 1) 0 < 2 ^ 64
+    → (eqb (get_or ws (length ws - 1) 0 / 2 ^ (pages % 64)) 0 ≡ true) ↔
+    ((page : ℕ) → IsTrue (in_words ws page) → page < pages)
 ends ws pages some len used fits =
     let last : ℕ = get_or ws (length ws - 1) 0 in
     let at : length ws - 1 ≡ pages / 64 = omega arith in (
@@ -155,7 +167,8 @@ ends ws pages some len used fits =
             let split : page % 64 ≡ pages % 64 + k = omega (arith, at) in
             let one : bit_at last (page % 64) ≡ 1 = rw e at (eqb-true _ _ in_set) in
             let zeros : bit_at last (page % 64) ≡ 0 =
-            ap (λ n. bit_at last n) split ∙ sym (shifted_bit last (pages % 64) k) ∙ ap (λ n. bit_at n k) (eqb-true _ _ none) ∙ bit_at-zero k in
+            ap (λ n. bit_at last n) split ∙ sym (shifted_bit last (pages % 64) k)
+            ∙ ap (λ n. bit_at n k) (eqb-true _ _ none) ∙ bit_at-zero k in
             absurd (omega arith)
       ],
       λ all. eq-eqb _ _ (same_from_bits_below 64 (last / 2 ^ (pages % 64)) 0
@@ -175,7 +188,14 @@ ends ws pages some len used fits =
 -- ---- a list that is written where it stands
 
 -- words that are lent whole come back whole
-pub whole_again : (n : ℕ) (new old : List ℕ) → length new ≡ length old → length new ≤ n → take n (new ++ drop (length new) old) ≡ new
+pub whole_again : (n : ℕ) (new old : List ℕ) → length new ≡ length old → length new ≤ n
+    → take n (new ++ drop (length new) old) ≡ new
 whole_again n new old same fits =
     let none : drop (length new) old ≡ [] = drop_all (length new) old (omega (arith, same)) in
     ap (λ (l : List ℕ). take n (new ++ l)) none ∙ ap (take n) (append-nil new) ∙ take_all n new fits
+
+-- words of zeros have no page
+pub no_words : (n page : ℕ) → in_words (replicate n 0) page ≡ false
+no_words n page =
+    ap (λ x. eqb (bit_at x (page % 64)) 1) (get_or-replicate_default n (page / 64) 0)
+    ∙ ap (λ x. eqb x 1) (bit_at-zero (page % 64))

@@ -6,12 +6,14 @@ use Rattle.page_message.specs.declared.error.FrameError.{FrameError}
 use Rattle.page_message.specs.Shapes.{shape_of}
 
 -- a test that let something pass
-pub passed : (b : Bool) (e : FrameError) (others : Option FrameError) → cond b (Some e) others ≡ None → (b ≡ false) × (others ≡ None)
+pub passed : (b : Bool) (e : FrameError) (others : Option FrameError) → cond b (Some e) others ≡ None
+    → (b ≡ false) × (others ≡ None)
 passed true e others is = absurd cc
 passed false e others is = (refl, is)
 
 -- a test that lets something pass
-pub passes : (b : Bool) (e : FrameError) (others : Option FrameError) → b ≡ false → others ≡ None → cond b (Some e) others ≡ None
+pub passes : (b : Bool) (e : FrameError) (others : Option FrameError) → b ≡ false → others ≡ None
+    → cond b (Some e) others ≡ None
 passes b e others is none = rw is none
 
 -- what a shape's type says of it

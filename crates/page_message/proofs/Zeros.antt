@@ -1,16 +1,16 @@
 -- Two tests of the same bytes.
-use Rattle.std.proofs.Common.{◌≡◌, ◌↔◌, ℕ, suc, Bool, false, IsTrue, ◌==◌, List, [], ◌∷◌, length, replicate, refl, sym, ap₂, arith}
+use Rattle.std.proofs.Common.{◌≡◌, ◌↔◌, ℕ, suc, Bool, false, IsTrue, ◌==◌, List, [], ◌∷◌, length, replicate, refl, sym}
+use Rattle.std.proofs.Common.{ap₂, arith}
 use Rattle.std.specs.List.{All, list_all}
 use Rattle.std.specs.Bool.{Decides}
 use Rattle.std.proofs.lemmas.Bool.{false_from_ne_true}
 use Rattle.std.proofs.lemmas.Bool.Decides.{Decides-by_and, Decides-eqb, same_from_decides}
 use Rattle.migration_model.specs.Frames.{IsZeros}
-
-pub tells_zeros : (bytes : List ℕ) → Decides (list_all (λ byte. byte == 0) bytes) (IsZeros bytes)
-tells_zeros bytes = Decides-by_and (λ byte. byte == 0) (λ byte. byte ≡ 0) (list_all (λ byte. byte == 0)) (λ byte. Decides-eqb byte 0) refl (λ _ _. refl) bytes
+use Rattle.migration_model.proofs.Frames.{tells_zeros}
 
 pub zeros_test : (bytes : List ℕ) (b : Bool) → (IsTrue b ↔ IsZeros bytes) → b ≡ list_all (λ byte. byte == 0) bytes
-zeros_test bytes b tells = same_from_decides b (list_all (λ byte. byte == 0) bytes) (tells.0, tells.1) (tells_zeros bytes)
+zeros_test bytes b tells = same_from_decides b (list_all (λ byte. byte == 0) bytes) (tells.0, tells.1)
+    (tells_zeros bytes)
 
 pub not_zeros : (bytes : List ℕ) → ¬ IsZeros bytes → list_all (λ byte. byte == 0) bytes ≡ false
 not_zeros bytes some = false_from_ne_true _ (λ all. some ((tells_zeros bytes).0 all))
@@ -22,4 +22,5 @@ some_from_false bytes is zeros = absurd (cc (is, (tells_zeros bytes).1 zeros))
 pub all_same : {X : Type 0} (x : X) (xs : List X) → All (λ y. y ≡ x) xs → replicate (length xs) x ≡ xs
 all_same x [] same = refl
 all_same x (y ∷ ys) same =
-    ap₂ (λ (first : _) (rest : List _). first ∷ rest) (sym (same 0 x (omega arith))) (all_same x ys (λ k d low. same (suc k) d (omega (arith, low))))
+    ap₂ (λ (first : _) (rest : List _). first ∷ rest) (sym (same 0 x (omega arith)))
+    (all_same x ys (λ k d low. same (suc k) d (omega (arith, low))))

@@ -5,10 +5,10 @@ mod decoding;
 mod encoding;
 mod error;
 mod frame;
-mod making;
+mod page_frame;
 
 pub use decoding::{decode_frame, view_frame};
 pub use encoding::{append_frame, encode_frame};
 pub use error::FrameError;
 pub use frame::{Body, Frame, FrameView};
-pub use making::frame_of;
+pub use page_frame::frame_of;

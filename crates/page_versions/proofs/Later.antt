@@ -1,5 +1,6 @@
 -- A page at a later version, from one at an earlier version.
-use Rattle.std.proofs.Common.{◌≡◌, ℕ, suc, ◌+◌, ◌-◌, ◌<◌, ◌≤◌, Bool, true, false, cond, leb, ltb, eqb, List, [], ◌∷◌, ◌++◌, length, take, drop, fold, refl, sym, ap, ap₂, subst, ◌∙◌, arith}
+use Rattle.std.proofs.Common.{◌≡◌, ℕ, suc, ◌+◌, ◌-◌, ◌<◌, ◌≤◌, Bool, true, false, cond, leb, ltb, eqb, List, [], ◌∷◌}
+use Rattle.std.proofs.Common.{◌++◌, length, take, drop, fold, refl, sym, ap, ap₂, subst, ◌∙◌, arith}
 use Rattle.std.specs.List.{filter}
 use Rattle.std.proofs.lemmas.List.{length-take-le}
 use Rattle.std.proofs.lemmas.List.Sums.{fold-append}
@@ -16,7 +17,8 @@ cond-append : (b : Bool) (x : ℕ) (xs ys : List ℕ) → cond b (x ∷ xs ++ ys
 cond-append true x xs ys = refl
 cond-append false x xs ys = refl
 
-from-append : {X : Type 0} (q : X → Bool) (s : ℕ) (xs ys : List X) → from q s (xs ++ ys) ≡ from q s xs ++ from q (s + length xs) ys
+from-append : {X : Type 0} (q : X → Bool) (s : ℕ) (xs ys : List X)
+    → from q s (xs ++ ys) ≡ from q s xs ++ from q (s + length xs) ys
 from-append q s [] ys = let here : s ≡ s + 0 = omega arith in ap (λ (k : ℕ). from q k ys) here
 from-append q s (x ∷ xs) ys =
     let next : s + 1 + length xs ≡ s + suc (length xs) = omega arith in
@@ -27,7 +29,8 @@ from-append q s (x ∷ xs) ys =
 -- the places up to a later version: those up to an earlier one, and then those in between
 places_between : {X : Type 0} (q : X → Bool) (xs : List X) (earlier later : ℕ) → earlier ≤ later → earlier ≤ length xs
     → filter (λ (v : ℕ). leb v later) (from q 1 xs)
-    ≡ filter (λ (v : ℕ). leb v earlier) (from q 1 xs) ++ filter (λ (v : ℕ). leb v later) (filter (λ (v : ℕ). ltb earlier v) (from q 1 xs))
+    ≡ filter (λ (v : ℕ). leb v earlier) (from q 1 xs) ++ filter (λ (v : ℕ). leb v later)
+    (filter (λ (v : ℕ). ltb earlier v) (from q 1 xs))
 places_between q xs earlier later rise low =
     let more = later - earlier in
     let whole : later ≡ earlier + more = omega arith in
@@ -44,7 +47,8 @@ places_between q xs earlier later rise low =
     ∙ places_upto q (1 + earlier) (drop earlier xs) later more (omega arith)))
 
 -- the page's writes between two versions make it the one from the other
-pub later_page : (trace : GuestTrace) (index : GuestIndex) (page earlier later : ℕ) → IsTrace trace → IsIndexOf index trace → page < index.pages
+pub later_page : (trace : GuestTrace) (index : GuestIndex) (page earlier later : ℕ) → IsTrace trace
+    → IsIndexOf index trace → page < index.pages
     → earlier ≤ later → earlier ≤ length trace.writes
     → fold (λ bytes place. overwrite trace.shift bytes (write_at trace.writes place)) (page_at trace page earlier)
     (filter (λ (v : ℕ). leb v later) (filter (λ (v : ℕ). ltb earlier v) (places_in index.touches page)))

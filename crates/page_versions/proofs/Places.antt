@@ -1,5 +1,6 @@
 -- Places of those elements of a list that pass a test.
-use Rattle.std.proofs.Common.{◌≡◌, ℕ, zero, suc, ◌+◌, ◌-◌, ◌<◌, ◌≤◌, Bool, true, false, cond, leb, ltb, eqb, ◌&&◌, List, [], ◌∷◌, length, take, drop, map, get_or, refl, sym, ap, ◌∙◌, arith}
+use Rattle.std.proofs.Common.{◌≡◌, ℕ, zero, suc, ◌+◌, ◌-◌, ◌<◌, ◌≤◌, Bool, true, false, cond, leb, ltb, eqb, ◌&&◌, List}
+use Rattle.std.proofs.Common.{[], ◌∷◌, length, take, drop, map, get_or, refl, sym, ap, ◌∙◌, arith}
 use Rattle.std.specs.List.{All, enumerate_from, filter, fold}
 use Rattle.std.specs.List.Sorted.{IsNonDecreasingBy, IsNonDecreasing}
 use Rattle.std.proofs.lemmas.Bool.{cond_both, cond-true, cond-false, le-leb, lt-leb, le-ltb, lt-ltb}
@@ -13,34 +14,43 @@ use Rattle.migration_model.proofs.Places.{from, from_is}
 use Rattle.page_versions.specs.Index.{GuestIndex, IsIndexOf, places_in, places_of}
 use Rattle.page_versions.specs.Layout.{tick_at}
 
-from_map : {X Y : Type 0} (f : X → Y) (q : Y → Bool) (s : ℕ) (xs : List X) → from q s (map f xs) ≡ from (λ x. q (f x)) s xs
+from_map : {X Y : Type 0} (f : X → Y) (q : Y → Bool) (s : ℕ) (xs : List X)
+    → from q s (map f xs) ≡ from (λ x. q (f x)) s xs
 from_map f q s [] = refl
 from_map f q s (x ∷ xs) = ap (λ (l : List ℕ). cond (q (f x)) (s ∷ l) l) (from_map f q (s + 1) xs)
 
-pub places_in_is : (touches : List GuestTouch) (page : ℕ) → places_in touches page ≡ from (λ (t : GuestTouch). eqb t.page page) 1 touches
+pub places_in_is : (touches : List GuestTouch) (page : ℕ) → places_in touches page
+    ≡ from (λ (t : GuestTouch). eqb t.page page) 1 touches
 places_in_is touches page = from_is (λ (t : GuestTouch). eqb t.page page) 1 touches
 
-pub places_of_is : (trace : GuestTrace) (page : ℕ) → places_of trace page ≡ from (λ (w : GuestWrite). eqb w.page page) 1 trace.writes
+pub places_of_is : (trace : GuestTrace) (page : ℕ) → places_of trace page
+    ≡ from (λ (w : GuestWrite). eqb w.page page) 1 trace.writes
 places_of_is trace page = from_is (λ (w : GuestWrite). eqb w.page page) 1 trace.writes
 
 -- the places of a trace's touches are those of its writes
 pub same_places : (trace : GuestTrace) (page : ℕ) → places_in (touches_of trace) page ≡ places_of trace page
 same_places trace page =
-    places_in_is (touches_of trace) page ∙ from_map touch_of (λ (t : GuestTouch). eqb t.page page) 1 trace.writes ∙ sym (places_of_is trace page)
+    places_in_is (touches_of trace) page ∙ from_map touch_of (λ (t : GuestTouch). eqb t.page page) 1 trace.writes
+    ∙ sym (places_of_is trace page)
 
-pub places_of_index : (index : GuestIndex) (trace : GuestTrace) (page : ℕ) → IsIndexOf index trace → places_in index.touches page ≡ places_of trace page
+pub places_of_index : (index : GuestIndex) (trace : GuestTrace) (page : ℕ) → IsIndexOf index trace
+    → places_in index.touches page ≡ places_of trace page
 places_of_index index trace page is = ap (λ (l : List GuestTouch). places_in l page) is.1 ∙ same_places trace page
 
-pub bounds : {X : Type 0} (q : X → Bool) (s : ℕ) (xs : List X) → All (λ (v : ℕ). (s ≤ v) × (v < s + length xs)) (from q s xs)
+pub bounds : {X : Type 0} (q : X → Bool) (s : ℕ) (xs : List X)
+    → All (λ (v : ℕ). (s ≤ v) × (v < s + length xs)) (from q s xs)
 bounds q s [] = All-nil (λ (v : ℕ). (s ≤ v) × (v < s + 0))
 bounds q s (x ∷ xs) =
     let rest : All (λ (v : ℕ). (s ≤ v) × (v < s + suc (length xs))) (from q (s + 1) xs) =
     All-weaker (λ (v : ℕ). (s + 1 ≤ v) × (v < s + 1 + length xs)) (λ (v : ℕ). (s ≤ v) × (v < s + suc (length xs)))
     (λ v is. (omega (arith, is.0), omega (arith, is.1))) (from q (s + 1) xs) (bounds q (s + 1) xs) in
-    cond_both (q x) (s ∷ from q (s + 1) xs) (from q (s + 1) xs) (λ (l : List ℕ). All (λ (v : ℕ). (s ≤ v) × (v < s + suc (length xs))) l)
-    (λ _. All-cons (λ (v : ℕ). (s ≤ v) × (v < s + suc (length xs))) s (from q (s + 1) xs) (omega arith, omega arith) rest) (λ _. rest)
+    cond_both (q x) (s ∷ from q (s + 1) xs) (from q (s + 1) xs)
+    (λ (l : List ℕ). All (λ (v : ℕ). (s ≤ v) × (v < s + suc (length xs))) l)
+    (λ _. All-cons (λ (v : ℕ). (s ≤ v) × (v < s + suc (length xs))) s (from q (s + 1) xs) (omega arith, omega arith)
+    rest) (λ _. rest)
 
-pub rises-cons : {X : Type 0} (m : X → ℕ) (x : X) (xs : List X) → All (λ y. m x ≤ m y) xs → IsNonDecreasingBy m xs → IsNonDecreasingBy m (x ∷ xs)
+pub rises-cons : {X : Type 0} (m : X → ℕ) (x : X) (xs : List X) → All (λ y. m x ≤ m y) xs → IsNonDecreasingBy m xs
+    → IsNonDecreasingBy m (x ∷ xs)
 rises-cons m x xs above order zero zero d le low = omega arith
 rises-cons m x xs above order zero (suc j) d le low = above j d (omega arith)
 rises-cons m x xs above order (suc i) zero d le low = absurd (omega arith)
@@ -51,16 +61,19 @@ pub rises : {X : Type 0} (q : X → Bool) (s : ℕ) (xs : List X) (m : ℕ → �
     → ((i j : ℕ) → s ≤ i → i ≤ j → j < s + length xs → m i ≤ m j) → IsNonDecreasingBy m (from q s xs)
 rises q s [] m up = λ i j d le low. absurd (omega arith)
 rises q s (x ∷ xs) m up =
-    let rest : IsNonDecreasingBy m (from q (s + 1) xs) = rises q (s + 1) xs m (λ i j low le high. up i j (omega arith) le (omega arith)) in
+    let rest : IsNonDecreasingBy m (from q (s + 1) xs) = rises q (s + 1) xs m
+    (λ i j low le high. up i j (omega arith) le (omega arith)) in
     let above : All (λ (y : ℕ). m s ≤ m y) (from q (s + 1) xs) =
     All-weaker (λ (v : ℕ). (s + 1 ≤ v) × (v < s + 1 + length xs)) (λ (y : ℕ). m s ≤ m y)
-    (λ v is. up s v (omega arith) (omega (arith, is.0)) (omega (arith, is.1))) (from q (s + 1) xs) (bounds q (s + 1) xs) in
+    (λ v is. up s v (omega arith) (omega (arith, is.0)) (omega (arith, is.1))) (from q (s + 1) xs)
+    (bounds q (s + 1) xs) in
     cond_both (q x) (s ∷ from q (s + 1) xs) (from q (s + 1) xs) (λ (l : List ℕ). IsNonDecreasingBy m l)
     (λ _. rises-cons m s (from q (s + 1) xs) above rest) (λ _. rest)
 
 pub places_rise : (touches : List GuestTouch) (page : ℕ) → IsNonDecreasing (places_in touches page)
 places_rise touches page =
-    rw (places_in_is touches page) (rises (λ (t : GuestTouch). eqb t.page page) 1 touches (λ v. v) (λ i j low le high. le))
+    rw (places_in_is touches page) (rises (λ (t : GuestTouch). eqb t.page page) 1 touches (λ v. v)
+    (λ i j low le high. le))
 
 pub ticks_rise : (pages : ℕ) (touches : List GuestTouch) (page : ℕ) → AreTouches pages touches
     → IsNonDecreasingBy (tick_at touches) (places_in touches page)
@@ -73,7 +86,8 @@ ticks_rise pages touches page fits =
 pub filter_none : {X : Type 0} (p : X → Bool) (xs : List X) → All (λ x. p x ≡ false) xs → filter p xs ≡ []
 filter_none p [] fails = refl
 filter_none p (x ∷ xs) fails =
-    cond-false (p x) (x ∷ filter p xs) (filter p xs) (All-head (λ x. p x ≡ false) x xs fails) ∙ filter_none p xs (All-tail (λ x. p x ≡ false) x xs fails)
+    cond-false (p x) (x ∷ filter p xs) (filter p xs) (All-head (λ x. p x ≡ false) x xs fails)
+    ∙ filter_none p xs (All-tail (λ x. p x ≡ false) x xs fails)
 
 pub filter_all : {X : Type 0} (p : X → Bool) (xs : List X) → All (λ x. p x ≡ true) xs → filter p xs ≡ xs
 filter_all p [] passes = refl
@@ -91,7 +105,8 @@ filter_cond_true : (r : ℕ → Bool) (b : Bool) (s : ℕ) (l : List ℕ) → r 
 filter_cond_true r true s l is = ap (λ (t : Bool). cond t (s ∷ filter r l) (filter r l)) is
 filter_cond_true r false s l is = refl
 
-filter_cond_false : (r : ℕ → Bool) (b : Bool) (s : ℕ) (l : List ℕ) → r s ≡ false → filter r (cond b (s ∷ l) l) ≡ filter r l
+filter_cond_false : (r : ℕ → Bool) (b : Bool) (s : ℕ) (l : List ℕ) → r s ≡ false
+    → filter r (cond b (s ∷ l) l) ≡ filter r l
 filter_cond_false r true s l is = ap (λ (t : Bool). cond t (s ∷ filter r l) (filter r l)) is
 filter_cond_false r false s l is = refl
 
@@ -100,7 +115,8 @@ pub places_upto : {X : Type 0} (q : X → Bool) (s : ℕ) (xs : List X) (version
     → filter (λ (v : ℕ). leb v version) (from q s xs) ≡ from q s (take k xs)
 places_upto q s xs version zero is =
     filter_none (λ (v : ℕ). leb v version) (from q s xs)
-    (All-weaker (λ (v : ℕ). (s ≤ v) × (v < s + length xs)) (λ (v : ℕ). leb v version ≡ false) (λ v b. lt-leb v version (omega (arith, is, b.0))) (from q s xs) (bounds q s xs))
+    (All-weaker (λ (v : ℕ). (s ≤ v) × (v < s + length xs)) (λ (v : ℕ). leb v version ≡ false)
+    (λ v b. lt-leb v version (omega (arith, is, b.0))) (from q s xs) (bounds q s xs))
 places_upto q s [] version (suc k) is = refl
 places_upto q s (x ∷ xs) version (suc k) is =
     filter_cond_true (λ (v : ℕ). leb v version) (q x) s (from q (s + 1) xs) (le-leb s version (omega (arith, is)))
@@ -112,7 +128,8 @@ pub places_past : {X : Type 0} (q : X → Bool) (s : ℕ) (xs : List X) (version
 places_past q s xs version zero is =
     let here : s ≡ s + 0 = omega arith in
     filter_all (λ (v : ℕ). ltb version v) (from q s xs)
-    (All-weaker (λ (v : ℕ). (s ≤ v) × (v < s + length xs)) (λ (v : ℕ). ltb version v ≡ true) (λ v b. lt-ltb version v (omega (arith, is, b.0))) (from q s xs) (bounds q s xs))
+    (All-weaker (λ (v : ℕ). (s ≤ v) × (v < s + length xs)) (λ (v : ℕ). ltb version v ≡ true)
+    (λ v b. lt-ltb version v (omega (arith, is, b.0))) (from q s xs) (bounds q s xs))
     ∙ ap (λ (n : ℕ). from q n xs) here
 places_past q s [] version (suc k) is = refl
 places_past q s (x ∷ xs) version (suc k) is =
@@ -123,7 +140,8 @@ places_past q s (x ∷ xs) version (suc k) is =
 
 -- those whose elements pass one more test
 pub places_both : {X : Type 0} (q t : X → Bool) (r : ℕ → Bool) (s : ℕ) (xs : List X)
-    → ((i : ℕ) (d : X) → i < length xs → r (s + i) ≡ t (get_or xs i d)) → filter r (from q s xs) ≡ from (λ x. q x && t x) s xs
+    → ((i : ℕ) (d : X) → i < length xs → r (s + i) ≡ t (get_or xs i d))
+    → filter r (from q s xs) ≡ from (λ x. q x && t x) s xs
 places_both q t r s [] same = refl
 places_both q t r s (x ∷ xs) same =
     let here : s ≡ s + 0 = omega arith in
@@ -135,7 +153,8 @@ places_both q t r s (x ∷ xs) same =
 
 -- ---- a fold over the elements at such places
 
-fold_cond : {B : Type 0} (g : B → ℕ → B) (c : Bool) (b : B) (s : ℕ) (l : List ℕ) → fold g b (cond c (s ∷ l) l) ≡ fold g (cond c (g b s) b) l
+fold_cond : {B : Type 0} (g : B → ℕ → B) (c : Bool) (b : B) (s : ℕ) (l : List ℕ)
+    → fold g b (cond c (s ∷ l) l) ≡ fold g (cond c (g b s) b) l
 fold_cond g true b s l = refl
 fold_cond g false b s l = refl
 

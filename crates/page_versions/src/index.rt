@@ -9,8 +9,8 @@ ghost use Rattle.page_versions.specs.Layout.{IsLaidOut};
 
 use crate::bytes::{put_bytes, put_writes};
 use crate::error::IndexError;
+use crate::index_parts::{are_touches, parts_of, touches_in};
 use crate::laying::Parts;
-use crate::making::{are_touches, parts_of, touches_in};
 use crate::searching::{greatest_before, places_after, places_between, places_to};
 use guest_log::{Touch, WriteLog};
 use std::alloc::{AllocError, Global};

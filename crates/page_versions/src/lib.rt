@@ -4,8 +4,8 @@
 mod bytes;
 mod error;
 mod index;
+mod index_parts;
 mod laying;
-mod making;
 mod runs;
 mod searching;
 

@@ -6,6 +6,7 @@ use std::alloc::{AllocError, Global};
 use std::test::Fail;
 use std::thread::Threads;
 use trace_codec::{Trace, Write};
+use worked_guest::{TOUCHES, asked};
 
 /// Returns a trace whose writes are of one byte, at these ticks and to these pages.
 fn guest(alloc: Global, pages: u32, touches: &[(u64, u32)]) -> Result<Trace, Fail> {
@@ -21,26 +22,17 @@ fn guest(alloc: Global, pages: u32, touches: &[(u64, u32)]) -> Result<Trace, Fai
     Ok(Trace::new(1, 4, pages, writes)?)
 }
 
-const TOUCHES: [(u64, u32); 5] = [(0, 0), (5, 1), (1200, 1), (2500, 3), (2500, 1)];
-
+/// The same, but that the last two writes come a tick earlier.
 const EARLIER: [(u64, u32); 5] = [(0, 0), (5, 1), (1200, 1), (2499, 3), (2499, 1)];
 
-fn asked(max: u64, threshold: u64, start: u64, skip: bool) -> Asked {
+/// Returns the settings that these make of the worked ones.
+fn asked_with(max: u64, threshold: u64, start: u64, skip: bool) -> Asked {
     Asked {
-        min: 2,
         max,
-        increment: 1,
         threshold,
-        rounds: 8,
         start,
-        window: 1000,
-        hot: 2,
-        workers: 1,
-        streams: 1,
-        replayers: 1,
-        lane: 1024,
         skip,
-        base: None,
+        ..asked()
     }
 }
 
@@ -48,7 +40,7 @@ fn asked(max: u64, threshold: u64, start: u64, skip: bool) -> Asked {
 fn warm(base: u64, start: u64, skip: bool) -> Asked {
     Asked {
         base: Some(base),
-        ..asked(4, 1, start, skip)
+        ..asked_with(4, 1, start, skip)
     }
 }
 
@@ -115,7 +107,7 @@ fn worked_plans(rt: HostRuntime) -> Result<(), Fail> {
     let cases: [(&[(u64, u32)], Asked, Reason, &[u64]); 14] = [
         (
             &TOUCHES,
-            asked(4, 1, 0, false),
+            asked_with(4, 1, 0, false),
             Reason::Few,
             &[
                 0, 2000, 2, 4, 4, 2, 2000, 3000, 2, 2, 2, 2, 3000, 3667, 3, 2, 2, 0, 3667, 0, 0, 8,
@@ -123,7 +115,7 @@ fn worked_plans(rt: HostRuntime) -> Result<(), Fail> {
         ),
         (
             &TOUCHES,
-            asked(2, 1, 0, false),
+            asked_with(2, 1, 0, false),
             Reason::Fast,
             &[
                 0, 2000, 2, 4, 4, 2, 2000, 3000, 2, 2, 2, 2, 3000, 2, 1000, 8,
@@ -131,7 +123,7 @@ fn worked_plans(rt: HostRuntime) -> Result<(), Fail> {
         ),
         (
             &TOUCHES,
-            asked(4, 1, 0, true),
+            asked_with(4, 1, 0, true),
             Reason::Few,
             &[
                 0, 2000, 2, 4, 4, 2, 2000, 3000, 2, 2, 2, 2, 3000, 3667, 3, 2, 2, 0, 3667, 0, 0, 8,
@@ -139,19 +131,19 @@ fn worked_plans(rt: HostRuntime) -> Result<(), Fail> {
         ),
         (
             &EARLIER,
-            asked(4, 1, 0, true),
+            asked_with(4, 1, 0, true),
             Reason::Fast,
             &[0, 2000, 2, 4, 4, 2, 2000, 2500, 2, 2, 1, 2, 2500, 2, 500, 7],
         ),
         (
             &TOUCHES,
-            asked(4, 3, 0, false),
+            asked_with(4, 3, 0, false),
             Reason::Few,
             &[0, 2000, 2, 4, 4, 2, 2000, 2, 500, 6],
         ),
         (
             &TOUCHES,
-            asked(4, 2, 0, false),
+            asked_with(4, 2, 0, false),
             Reason::Few,
             &[
                 0, 2000, 2, 4, 4, 2, 2000, 3000, 2, 2, 2, 2, 3000, 3667, 3, 2, 2, 0, 3667, 0, 0, 8,
@@ -159,13 +151,13 @@ fn worked_plans(rt: HostRuntime) -> Result<(), Fail> {
         ),
         (
             &TOUCHES,
-            asked(4, 1, 3000, false),
+            asked_with(4, 1, 3000, false),
             Reason::Few,
             &[3000, 5000, 2, 4, 4, 0, 5000, 0, 0, 4],
         ),
         (
             &[],
-            asked(4, 1, 0, false),
+            asked_with(4, 1, 0, false),
             Reason::Few,
             &[0, 2000, 2, 4, 4, 0, 2000, 0, 0, 4],
         ),
@@ -244,31 +236,39 @@ fn pages_of_worked_plans(rt: HostRuntime) -> Result<(), Fail> {
     let cases: [(&[(u64, u32)], Asked, &[&[u32]]); 11] = [
         (
             &TOUCHES,
-            asked(4, 1, 0, false),
+            asked_with(4, 1, 0, false),
             &[&[0, 1, 2, 3], &[0, 1], &[1, 3], &[]],
         ),
         (
             &TOUCHES,
-            asked(2, 1, 0, false),
+            asked_with(2, 1, 0, false),
             &[&[0, 1, 2, 3], &[0, 1], &[1, 3]],
         ),
         (
             &TOUCHES,
-            asked(4, 1, 0, true),
+            asked_with(4, 1, 0, true),
             &[&[0, 1, 2, 3], &[0, 1], &[1, 3], &[]],
         ),
         (
             &EARLIER,
-            asked(4, 1, 0, true),
+            asked_with(4, 1, 0, true),
             &[&[0, 1, 2, 3], &[0, 1], &[1, 3]],
         ),
         (
             &TOUCHES,
-            asked(4, 2, 0, false),
+            asked_with(4, 2, 0, false),
             &[&[0, 1, 2, 3], &[0, 1], &[1, 3], &[]],
         ),
-        (&TOUCHES, asked(4, 3, 0, false), &[&[0, 1, 2, 3], &[0, 1]]),
-        (&TOUCHES, asked(4, 1, 3000, false), &[&[0, 1, 2, 3], &[]]),
+        (
+            &TOUCHES,
+            asked_with(4, 3, 0, false),
+            &[&[0, 1, 2, 3], &[0, 1]],
+        ),
+        (
+            &TOUCHES,
+            asked_with(4, 1, 3000, false),
+            &[&[0, 1, 2, 3], &[]],
+        ),
         (&TOUCHES, warm(0, 1000, false), &[&[0, 1], &[1], &[]]),
         (&TOUCHES, warm(6, 1200, false), &[&[], &[]]),
         (&TOUCHES, warm(1200, 1201, true), &[&[1], &[]]),
@@ -289,7 +289,7 @@ fn pages_of_worked_plans(rt: HostRuntime) -> Result<(), Fail> {
 #[test]
 fn a_page_of_the_last_word(rt: HostRuntime) -> Result<(), Fail> {
     let alloc = rt.alloc();
-    let mut asked = asked(10, 1, 0, false);
+    let mut asked = asked_with(10, 1, 0, false);
     asked.min = 10;
     asked.rounds = 1;
     let settings = Settings::new(asked)?;
@@ -328,7 +328,7 @@ fn skips(plan: &Plan) -> (Option<(&[u32], &[u32])>, &[u32]) {
 #[test]
 fn pages_that_are_skipped(rt: HostRuntime) -> Result<(), Fail> {
     let alloc = rt.alloc();
-    let settings = Settings::new(asked(4, 1, 0, true))?;
+    let settings = Settings::new(asked_with(4, 1, 0, true))?;
     let trace = guest(alloc, 4, &EARLIER)?;
     let made = plan(alloc, &trace, &settings)?;
     drop(trace);
@@ -351,7 +351,7 @@ fn pages_of_three_words(rt: HostRuntime) -> Result<(), Fail> {
         (1007, 64),
         (1014, 129),
     ];
-    let mut asked = asked(200, 1, 0, true);
+    let mut asked = asked_with(200, 1, 0, true);
     asked.min = 130;
     let settings = Settings::new(asked)?;
     let trace = guest(alloc, 130, &touches)?;

@@ -2,25 +2,7 @@
 
 use rate_limit::{Asked, Next, Reason, Settings, SettingsError, dirty_rate, duration, next};
 use std::test::Fail;
-
-fn asked() -> Asked {
-    Asked {
-        min: 2,
-        max: 4,
-        increment: 1,
-        threshold: 1,
-        rounds: 8,
-        start: 0,
-        window: 1000,
-        hot: 2,
-        workers: 1,
-        streams: 1,
-        replayers: 1,
-        lane: 1024,
-        skip: false,
-        base: None,
-    }
-}
+use worked_guest::asked;
 
 /// Settings of a warm start, with so many workers.
 fn warm(base: u64, start: u64, workers: u64) -> Asked {

@@ -5,21 +5,8 @@ use std::alloc::Global;
 use std::test::Fail;
 use trace_codec::decode;
 use trace_readers::TouchLog;
+use worked_guest::{NO_WRITES, TRACE, asked};
 use working_sets::{Tables, Window, par_tables, tables};
-
-/// A guest of 4 pages of 16 bytes, which writes pages 0 and 1 at ticks 0 and 5, page 1 at tick 1200, and pages 3 and 1
-/// at tick 2500.
-const TRACE: [u8; 102] = [
-    0x50, 0x43, 0x57, 0x54, 1, 4, 0, 0, 4, 0, 0, 0, 5, 0, 0, 0, // header
-    0, 0, 0, 0, 0, 0, 0, 0, 0, 0, 0, 0, 0, 0, 1, 0, 1, // write 1
-    5, 0, 0, 0, 0, 0, 0, 0, 1, 0, 0, 0, 0x0f, 0, 1, 0, 2, // write 2
-    0xb0, 4, 0, 0, 0, 0, 0, 0, 1, 0, 0, 0, 0, 0, 1, 0, 3, // write 3
-    0xc4, 9, 0, 0, 0, 0, 0, 0, 3, 0, 0, 0, 2, 0, 2, 0, 4, 5, // write 4
-    0xc4, 9, 0, 0, 0, 0, 0, 0, 1, 0, 0, 0, 0, 0, 1, 0, 0, // write 5
-];
-
-/// The bytes of this guest's trace, with no write.
-const NO_WRITES: [u8; 16] = [0x50, 0x43, 0x57, 0x54, 1, 4, 0, 0, 4, 0, 0, 0, 0, 0, 0, 0];
 
 /// A guest of 1 page with a write at tick 0 and one at the greatest tick, 2^40 - 1.
 const FAR_APART: [u8; 50] = [
@@ -30,20 +17,9 @@ const FAR_APART: [u8; 50] = [
 
 fn settings(window: u64, hot: u64) -> Result<Settings, SettingsError> {
     Settings::new(Asked {
-        min: 2,
-        max: 4,
-        increment: 1,
-        threshold: 1,
-        rounds: 8,
-        start: 0,
         window,
         hot,
-        workers: 1,
-        streams: 1,
-        replayers: 1,
-        lane: 1024,
-        skip: false,
-        base: None,
+        ..asked()
     })
 }
 

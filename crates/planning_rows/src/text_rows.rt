@@ -6,11 +6,9 @@ use std::alloc::Global;
 use std::test::Fail;
 use std::thread::Threads;
 use sweep_report::{Line, report_text, sweep, sweep_text};
-use trace_codec::{Trace, TraceView, Write};
+use trace_codec::{Trace, TraceView, Write, decode};
+use worked_guest::{NO_WRITES, TRACE, asked};
 use working_sets::{Tables, Window, tables};
-
-/// The beginning of a trace of 4 pages of 16 bytes, with no write.
-const NO_WRITES: [u8; 16] = [0x50, 0x43, 0x57, 0x54, 1, 4, 0, 0, 4, 0, 0, 0, 0, 0, 0, 0];
 
 /// Returns a plan of one round, with its greatest numbers.
 fn one_round(alloc: Global) -> Result<Plan, Fail> {
@@ -34,22 +32,7 @@ fn one_round(alloc: Global) -> Result<Plan, Fail> {
 
 /// Returns the report over these windows and hot pages, with so many windows for a hot page.
 fn text(alloc: Global, windows: &[Window], pages: &[u32], hot: u64) -> Result<Vec<u8>, Fail> {
-    let settings = Settings::new(Asked {
-        min: 2,
-        max: 4,
-        increment: 1,
-        threshold: 1,
-        rounds: 8,
-        start: 0,
-        window: 1000,
-        hot,
-        workers: 1,
-        streams: 1,
-        replayers: 1,
-        lane: 1024,
-        skip: false,
-        base: None,
-    })?;
+    let settings = Settings::new(Asked { hot, ..asked() })?;
     let trace = TraceView::parse(&NO_WRITES)?;
     let tables = Tables {
         windows: Vec::from_slice(alloc, windows)?,
@@ -101,45 +84,26 @@ stop fast at 1099577163775 pages 1 down 65536000 total 3
     Ok(())
 }
 
-/// Returns a trace of 4 pages that writes one byte at these ticks and to these pages.
+/// Returns the worked guest.
 fn guest(alloc: Global) -> Result<Trace, Fail> {
-    let mut writes = Vec::new(alloc);
-    for (tick, page) in [(0, 0), (5, 1), (1200, 1), (2500, 3), (2500, 1)] {
-        writes.push(Write {
-            tick,
-            page,
-            offset: 0,
-            bytes: Vec::from_slice(alloc, &[1])?,
-        })?;
-    }
-    Ok(Trace::new(1, 4, 4, writes)?)
+    Ok(decode(alloc, &TRACE)?)
 }
 
 fn case(max: u64, threshold: u64) -> Result<Settings, Fail> {
     Ok(Settings::new(Asked {
-        min: 2,
         max,
-        increment: 1,
         threshold,
-        rounds: 8,
-        start: 0,
-        window: 1000,
-        hot: 2,
-        workers: 1,
-        streams: 1,
-        replayers: 1,
-        lane: 1024,
-        skip: false,
-        base: None,
+        ..asked()
     })?)
 }
 
 /// Returns the settings of a warm start.
 fn warm(base: u64, start: u64) -> Result<Settings, Fail> {
-    let mut asked = *case(4, 1)?.asked();
-    asked.base = Some(base);
-    asked.start = start;
-    Ok(Settings::new(asked)?)
+    Ok(Settings::new(Asked {
+        start,
+        base: Some(base),
+        ..asked()
+    })?)
 }
 
 /// Returns the report on the guest.
@@ -269,11 +233,12 @@ fn busy_guest(alloc: Global) -> Result<Trace, Fail> {
 fn many_cases(alloc: Global) -> Result<Vec<Settings>, Fail> {
     let mut cases = Vec::new(alloc);
     for number in 0..256u64 {
-        let mut asked = *case(4, 1)?.asked();
-        asked.min = 1 + number % 100;
-        asked.max = 100 + number;
-        asked.skip = number % 2 == 1;
-        cases.push(Settings::new(asked)?)?;
+        cases.push(Settings::new(Asked {
+            min: 1 + number % 100,
+            max: 100 + number,
+            skip: number % 2 == 1,
+            ..asked()
+        })?)?;
     }
     Ok(cases)
 }

@@ -1,9 +1,7 @@
 -- How the program ends where it has not done what the words ask for.
-use Rattle.std.specs.Prelude.{◌≡◌, ◌≢◌, ◌↔◌, ◌++◌, ◌∷◌, [], ℕ, Bool, List, Option, true, codes, string_bytes, ⊤}
+use Rattle.std.specs.Prelude.{◌≡◌, ◌≢◌, ◌↔◌, ℕ, Bool, List, Option, true}
 use Rattle.std.specs.Io.KnownBytes.{Keeps}
 use Rattle.job_kinds.specs.declared.job.Job.{Job}
-use Rattle.job_words.specs.declared.command.WordsError.{WordsError}
-use Rattle.job_words.specs.declared.command.WordsError.TheVariants as words_errors
 use Rattle.migration_jobs.specs.Output.{IsOutput, IsRefusalOf, RefusesRun}
 use Rattle.migration_jobs.specs.Sink.{AppendsPart}
 use Rattle.migration_jobs.specs.declared.error.RunError.{RunError}
@@ -21,14 +19,3 @@ pub record HasFailed (known : Option (List ℕ)) (job : Job) (unread unwritten :
   pub write_failed : (error ≡ errors.Write) ↔ (unwritten ≡ true)
   pub part : error ≡ errors.Write → (output : List ℕ) × IsOutput known job output × AppendsPart old new output
   pub kept : error ≢ errors.Write → Keeps old new
-
--- the text of a request for help
-abbrev pub IsHelpText : WordsError → List ℕ → Type 0
-IsHelpText (words_errors.Help text) shown = shown ≡ string_bytes text
-IsHelpText words_errors.Memory shown = ⊥
-IsHelpText (words_errors.Usage text) shown = ⊥
-IsHelpText (words_errors.Refused refusal) shown = ⊥
-
--- the line of a want of memory while the words are read
-abbrev pub memory_line : List ℕ
-memory_line = codes "precopy: memory" ++ 10 ∷ []

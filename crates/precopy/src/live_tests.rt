@@ -1,7 +1,8 @@
 //! Live runs by the command line.
 
-use crate::tests::{MEMORY, MEMORY_AT_2000, changed, told, whole};
+use crate::tests::{changed, told, whole};
 use std::test::Fail;
+use worked_guest::{MEMORY, MEMORY_AT_2000};
 
 #[test]
 fn runs_live_by_the_command_line(rt: HostRuntime) -> Result<(), Fail> {

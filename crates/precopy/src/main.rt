@@ -11,9 +11,10 @@ mod sweep_tests;
 #[cfg(test)]
 mod tests;
 
-use crate::starting::{refuse, start};
+use crate::starting::start;
 use job_words::words;
 use migration_jobs::FromWrite;
+use program_edge::{Program, refuse};
 use std::process::ExitCode;
 use trace_codec::FromRead;
 
@@ -23,7 +24,7 @@ fn main(rt: HostRuntime) -> ExitCode {
     let mut faults = FromWrite::new(rt.stderr());
     let status = match words(&rt) {
         Ok(words) => start(&rt, rt.alloc(), words, &mut source, &mut sink, &mut faults),
-        Err(error) => refuse(error, &mut sink, &mut faults),
+        Err(error) => refuse(Program::Precopy, error, &mut sink, &mut faults),
     };
     ExitCode::from(status)
 }

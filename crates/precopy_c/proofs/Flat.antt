@@ -1,11 +1,14 @@
 -- Flat memory, as frames come to it.
-use Rattle.std.proofs.Common.{◌⊎◌, ◌≡◌, ◌≢◌, ℕ, inl, inr, ◌+◌, ◌-◌, ◌*◌, ◌^◌, ◌<◌, ◌≤◌, cond, eqb, Bool, true, false, List, [], ◌∷◌, ◌++◌, length, get_or, set, take, drop, map, replicate, Option, Some, None, refl, sym, subst, ap, ◌∙◌, arith}
+use Rattle.std.proofs.Common.{◌⊎◌, ◌≡◌, ◌≢◌, ℕ, inl, inr, ◌+◌, ◌-◌, ◌*◌, ◌^◌, ◌<◌, ◌≤◌, cond, eqb, Bool, true, false}
+use Rattle.std.proofs.Common.{List, [], ◌∷◌, ◌++◌, length, get_or, set, take, drop, map, replicate, Option, Some, None}
+use Rattle.std.proofs.Common.{refl, sym, subst, ap, ◌∙◌, arith}
 use Rattle.std.specs.List.{range_with_len}
 use Rattle.std.proofs.Math.ListN.{drop_of_length-le}
 use Rattle.std.proofs.Math.Nat.{mul-le-mul_right, one-le-pow}
 use Rattle.std.proofs.lemmas.Bool.{cases_eq, cond-true, cond-false, eq-eqb, ne_eqb}
 use Rattle.std.proofs.lemmas.Grind.{get_or-set_at}
-use Rattle.std.proofs.lemmas.List.{append-nil, ext_get_or, drop-drop, get_or-set_other, length-set, set-get_or, length-replicate}
+use Rattle.std.proofs.lemmas.List.{append-nil, ext_get_or, drop-drop, get_or-set_other, length-set, set-get_or}
+use Rattle.std.proofs.lemmas.List.{length-replicate}
 use Rattle.std.proofs.lemmas.List.Edits.{length-between}
 use Rattle.std.proofs.lemmas.List.Elements.{All-cons, All-nil}
 use Rattle.std.proofs.lemmas.List.FromFn.{get_or-map-range_with_len, length-map-range_with_len}
@@ -21,21 +24,19 @@ use Rattle.collector.proofs.Taken.{Takes-more, Takes-nothing, Takes-one}
 use Rattle.precopy_c.specs.declared.flat_memory.PageState.{PageState}
 use Rattle.precopy_c.specs.declared.flat_memory.StreamTaken.{StreamTaken}
 use Rattle.precopy_c.specs.FlatMemory.{IsFlat, KeepsOthers, TakesFlat, copy_in_state, flat_part, not_come}
+use Rattle.image_build.proofs.Joined.{size_of}
 
 -- ---- the bytes of pages
 
--- how many bytes the page of a frame has
-size_of : (n : ℕ) (body : Option (List ℕ)) → IfSome body (λ bytes. (length bytes ≡ n) × ¬ IsZeros bytes) → length (unwrap_or body (replicate n 0)) ≡ n
-size_of n None fits = length-replicate n 0
-size_of n (Some bytes) fits = fits.0
-
-pub length-content : (shape : GuestShape) (frame : PageFrame) → IsFrame shape frame → length (content_of shape frame) ≡ 2 ^ shape.shift
+pub length-content : (shape : GuestShape) (frame : PageFrame) → IsFrame shape frame
+    → length (content_of shape frame) ≡ 2 ^ shape.shift
 length-content shape frame fits = size_of (2 ^ shape.shift) frame.body fits.body
 
 abbrev bytes_at : GuestShape → List ℕ → ℕ → List ℕ
 bytes_at shape bytes page = page_of (memory_with shape.shift shape.pages bytes) page
 
-length-bytes_at : (shape : GuestShape) (bytes : List ℕ) (page : ℕ) → page < shape.pages → length bytes ≡ shape.pages * 2 ^ shape.shift
+length-bytes_at : (shape : GuestShape) (bytes : List ℕ) (page : ℕ) → page < shape.pages
+    → length bytes ≡ shape.pages * 2 ^ shape.shift
     → length (bytes_at shape bytes page) ≡ 2 ^ shape.shift
 length-bytes_at shape bytes page low len =
     let n = 2 ^ shape.shift in
@@ -58,9 +59,11 @@ page_put shape bytes content page other low within len whole =
     let fits : IsGuestWrite 1 shape.shift shape.pages write =
     record { tick = omega arith; page = low; some = inl some; within = omega (arith, whole) } in
     let own : bytes_put shape.shift write ≡ content =
-    cond-false (eqb (length content) 0) (replicate n 0) content (ne_eqb (length content) 0 (λ is. absurd (omega (arith, is, some)))) in
+    cond-false (eqb (length content) 0) (replicate n 0) content
+    (ne_eqb (length content) 0 (λ is. absurd (omega (arith, is, some)))) in
     let step = pages_fold 1 shape.shift shape.pages (write ∷ []) bytes other within len
-    (All-cons (IsGuestWrite 1 shape.shift shape.pages) write [] fits (All-nil (IsGuestWrite 1 shape.shift shape.pages))) in
+    (All-cons (IsGuestWrite 1 shape.shift shape.pages) write [] fits
+    (All-nil (IsGuestWrite 1 shape.shift shape.pages))) in
     let place : page * n ≡ page * n + 0 = omega arith in
     ap (λ (k : ℕ). bytes_at shape (put bytes k content) other) place
     ∙ ap (λ (c : List ℕ). bytes_at shape (put bytes (page * n + 0) c) other) (sym own)
@@ -79,7 +82,8 @@ page_put_own shape bytes content page low len whole =
     ∙ ap (λ (l : List ℕ). content ++ l) none
     ∙ append-nil content
 
-pub page_put_other : (shape : GuestShape) (bytes content : List ℕ) (page other : ℕ) → page < shape.pages → other < shape.pages → other ≢ page
+pub page_put_other : (shape : GuestShape) (bytes content : List ℕ) (page other : ℕ) → page < shape.pages
+    → other < shape.pages → other ≢ page
     → length bytes ≡ shape.pages * 2 ^ shape.shift → length content ≡ 2 ^ shape.shift
     → bytes_at shape (put bytes (page * 2 ^ shape.shift) content) other ≡ bytes_at shape bytes other
 page_put_other shape bytes content page other low within apart len whole =
@@ -90,24 +94,29 @@ page_put_other shape bytes content page other low within apart len whole =
 -- ---- what a state says of a page
 
 -- a frame that is newer, or the first of its page, is the later copy
-pub later_new : (shape : GuestShape) (bytes : List ℕ) (page : ℕ) (state : PageState) (copy : PageCopy) → (state.came ≡ 0) ⊎ (state.stamp < copy.stamp)
+pub later_new : (shape : GuestShape) (bytes : List ℕ) (page : ℕ) (state : PageState) (copy : PageCopy)
+    → (state.came ≡ 0) ⊎ (state.stamp < copy.stamp)
     → later (copy_in_state shape bytes page state) (Some copy) ≡ Some copy
 later_new shape bytes page state copy why =
     let kept : PageCopy = record { stamp = state.stamp; content = bytes_at shape bytes page } in
     elim (cases_eq state.came 0) [
       | inl none ↦
-          ap (λ (o : Option PageCopy). later o (Some copy)) (cond-true (eqb state.came 0) None (Some kept) (eq-eqb state.came 0 none))
+          ap (λ (o : Option PageCopy). later o (Some copy)) (cond-true (eqb state.came 0) None (Some kept)
+          (eq-eqb state.came 0 none))
       | inr came ↦
-          ap (λ (o : Option PageCopy). later o (Some copy)) (cond-false (eqb state.came 0) None (Some kept) (ne_eqb state.came 0 came))
+          ap (λ (o : Option PageCopy). later o (Some copy)) (cond-false (eqb state.came 0) None (Some kept)
+          (ne_eqb state.came 0 came))
           ∙ (elim why [ inl none ↦ absurd (came none) | inr newer ↦ later_second kept copy newer ])
     ]
 
 -- of one that is not, the copy that is there stays
-pub later_old : (shape : GuestShape) (bytes : List ℕ) (page : ℕ) (state : PageState) (copy : PageCopy) → state.came ≢ 0 → copy.stamp ≤ state.stamp
+pub later_old : (shape : GuestShape) (bytes : List ℕ) (page : ℕ) (state : PageState) (copy : PageCopy) → state.came ≢ 0
+    → copy.stamp ≤ state.stamp
     → later (copy_in_state shape bytes page state) (Some copy) ≡ copy_in_state shape bytes page state
 later_old shape bytes page state copy came old =
     let kept : PageCopy = record { stamp = state.stamp; content = bytes_at shape bytes page } in
-    let is : copy_in_state shape bytes page state ≡ Some kept = cond-false (eqb state.came 0) None (Some kept) (ne_eqb state.came 0 came) in
+    let is : copy_in_state shape bytes page state ≡ Some kept =
+    cond-false (eqb state.came 0) None (Some kept) (ne_eqb state.came 0 came) in
     ap (λ (o : Option PageCopy). later o (Some copy)) is ∙ later_first kept copy old ∙ sym is
 
 -- ---- a frame more
@@ -115,10 +124,12 @@ later_old shape bytes page state copy came old =
 pub flat_copy : (shape : GuestShape) (bytes : List ℕ) (states : List PageState) (page : ℕ) → page < shape.pages
     → copy_at (flat_part shape bytes states) page ≡ copy_in_state shape bytes page (get_or states page not_come)
 flat_copy shape bytes states page low =
-    get_or-map-range_with_len (λ p. copy_in_state shape bytes p (get_or states p not_come)) 0 shape.pages page page None low (omega arith)
+    get_or-map-range_with_len (λ p. copy_in_state shape bytes p (get_or states p not_come)) 0 shape.pages page page None
+    low (omega arith)
 
 -- a frame whose page is there as late leaves the part as it is
-pub flat_kept : (shape : GuestShape) (bytes : List ℕ) (states : List PageState) (frame : PageFrame) → IsFrame shape frame
+pub flat_kept : (shape : GuestShape) (bytes : List ℕ) (states : List PageState) (frame : PageFrame)
+    → IsFrame shape frame
     → (get_or states frame.page not_come).came ≢ 0 → frame.stamp ≤ (get_or states frame.page not_come).stamp
     → flat_part shape bytes states ≡ with_frame (flat_part shape bytes states) frame
 flat_kept shape bytes states frame fits came old =
@@ -135,10 +146,12 @@ abbrev pub came_with : ℕ → PageState
 came_with stamp = record { came = 1; stamp = stamp }
 
 -- one that is taken stands in the part
-pub flat_taken : (shape : GuestShape) (bytes new : List ℕ) (states : List PageState) (frame : PageFrame) → IsFlat shape bytes states → IsFrame shape frame
+pub flat_taken : (shape : GuestShape) (bytes new : List ℕ) (states : List PageState) (frame : PageFrame)
+    → IsFlat shape bytes states → IsFrame shape frame
     → new ≡ put bytes (frame.page * 2 ^ shape.shift) (content_of shape frame)
     → ((get_or states frame.page not_come).came ≡ 0) ⊎ ((get_or states frame.page not_come).stamp < frame.stamp)
-    → flat_part shape new (set states frame.page (came_with frame.stamp)) ≡ with_frame (flat_part shape bytes states) frame
+    → flat_part shape new (set states frame.page (came_with frame.stamp))
+    ≡ with_frame (flat_part shape bytes states) frame
 flat_taken shape bytes new states frame flat fits is why =
     let part : GuestPart = flat_part shape bytes states in
     let copy : PageCopy = copy_in shape frame in
@@ -146,42 +159,53 @@ flat_taken shape bytes new states frame flat fits is why =
     let whole = length-content shape frame fits in
     let there : frame.page < length states = omega (arith, fits.page, flat.states_are) in
     let count = length-map-range_with_len (λ p. copy_in_state shape bytes p (get_or states p not_come)) 0 shape.pages in
-    let count_after = length-map-range_with_len (λ p. copy_in_state shape new p (get_or after p not_come)) 0 shape.pages in
+    let count_after = length-map-range_with_len (λ p. copy_in_state shape new p (get_or after p not_come)) 0
+    shape.pages in
     let late : later (copy_at part frame.page) (Some copy) ≡ Some copy =
     ap (λ (o : Option PageCopy). later o (Some copy)) (flat_copy shape bytes states frame.page fits.page)
     ∙ later_new shape bytes frame.page (get_or states frame.page not_come) copy why in
     ap (part_with shape)
-    (ext_get_or None (flat_part shape new after).copies (set part.copies frame.page (later (copy_at part frame.page) (Some copy)))
+    (ext_get_or None (flat_part shape new after).copies (set part.copies frame.page
+    (later (copy_at part frame.page) (Some copy)))
     (count_after ∙ sym (length-set part.copies frame.page (later (copy_at part frame.page) (Some copy)) ∙ count))
     (λ page low.
     let within : page < shape.pages = omega (arith, low, count_after) in
     flat_copy shape new after page within
     ∙ (elim (cases_eq page frame.page) [
       | inl same ↦
-          let state : get_or after page not_come ≡ came_with frame.stamp = get_or-set_at states frame.page page (came_with frame.stamp) not_come same there in
+          let state : get_or after page not_come ≡ came_with frame.stamp =
+          get_or-set_at states frame.page page (came_with frame.stamp) not_come same there in
           let own : bytes_at shape new page ≡ copy.content =
           ap (bytes_at shape new) same ∙ ap (λ (b : List ℕ). bytes_at shape b frame.page) is
           ∙ page_put_own shape bytes (content_of shape frame) frame.page fits.page flat.bytes_are whole in
-          let right : get_or (set part.copies frame.page (later (copy_at part frame.page) (Some copy))) page None ≡ Some copy =
-          get_or-set_at part.copies frame.page page (later (copy_at part frame.page) (Some copy)) None same (omega (arith, fits.page, count)) ∙ late in
+          let right : get_or (set part.copies frame.page (later (copy_at part frame.page) (Some copy))) page None
+          ≡ Some copy =
+          get_or-set_at part.copies frame.page page (later (copy_at part frame.page) (Some copy)) None same
+          (omega (arith, fits.page, count)) ∙ late in
           ap (copy_in_state shape new page) state
-          ∙ ap (λ (c : PageCopy). Some c) (same_copy (record { stamp = frame.stamp; content = bytes_at shape new page }) copy refl own)
+          ∙ ap (λ (c : PageCopy). Some c) (same_copy (record { stamp = frame.stamp; content = bytes_at shape new page })
+          copy refl own)
           ∙ sym right
       | inr apart ↦
-          let state : get_or after page not_come ≡ get_or states page not_come = get_or-set_other states frame.page page (came_with frame.stamp) not_come apart in
+          let state : get_or after page not_come ≡ get_or states page not_come =
+          get_or-set_other states frame.page page (came_with frame.stamp) not_come apart in
           let own : bytes_at shape new page ≡ bytes_at shape bytes page =
           ap (λ (b : List ℕ). bytes_at shape b page) is
-          ∙ page_put_other shape bytes (content_of shape frame) frame.page page fits.page within apart flat.bytes_are whole in
+          ∙ page_put_other shape bytes (content_of shape frame) frame.page page fits.page within apart flat.bytes_are
+          whole in
           let old : PageState = get_or states page not_come in
-          let right : get_or (set part.copies frame.page (later (copy_at part frame.page) (Some copy))) page None ≡ copy_in_state shape bytes page old =
-          get_or-set_other part.copies frame.page page (later (copy_at part frame.page) (Some copy)) None apart ∙ flat_copy shape bytes states page within in
+          let right : get_or (set part.copies frame.page (later (copy_at part frame.page) (Some copy))) page None
+          ≡ copy_in_state shape bytes page old =
+          get_or-set_other part.copies frame.page page (later (copy_at part frame.page) (Some copy)) None apart
+          ∙ flat_copy shape bytes states page within in
           ap (copy_in_state shape new page) state
           ∙ ap (λ (c : List ℕ). cond (eqb old.came 0) None (Some (record { stamp = old.stamp; content = c }))) own
           ∙ sym right
     ])))
 
 -- and other pages keep their bytes
-pub others_kept : (shape : GuestShape) (bytes new : List ℕ) (states : List PageState) (frame : PageFrame) → IsFlat shape bytes states → IsFrame shape frame
+pub others_kept : (shape : GuestShape) (bytes new : List ℕ) (states : List PageState) (frame : PageFrame)
+    → IsFlat shape bytes states → IsFrame shape frame
     → new ≡ put bytes (frame.page * 2 ^ shape.shift) (content_of shape frame)
     → KeepsOthers shape bytes new (set states frame.page (came_with frame.stamp))
 others_kept shape bytes new states frame flat fits is page low none =
@@ -192,7 +216,8 @@ others_kept shape bytes new states frame flat fits is page low none =
           absurd (omega (arith, none, ap (λ (s : PageState). s.came) state))
       | inr apart ↦
           ap (λ (b : List ℕ). bytes_at shape b page) is
-          ∙ page_put_other shape bytes (content_of shape frame) frame.page page fits.page low apart flat.bytes_are (length-content shape frame fits)
+          ∙ page_put_other shape bytes (content_of shape frame) frame.page page fits.page low apart flat.bytes_are
+          (length-content shape frame fits)
     ]
 
 -- ---- frames of a stream
@@ -207,15 +232,27 @@ taken_with frames bytes = record { frames = frames; bytes = bytes }
 pub TakesFlat-nothing : (shape : GuestShape) (bytes : List ℕ) (states : List PageState) (stream : List ℕ)
     → TakesFlat shape bytes bytes states states stream (taken_with 0 0) stream
 TakesFlat-nothing shape bytes states stream =
-    record { takes = Takes-nothing (flat_part shape bytes states) stream; rest_is = refl; others = λ page low none. refl }
+    record {
+      takes = Takes-nothing (flat_part shape bytes states) stream;
+      rest_is = refl;
+      others =
+          λ page low none. refl;
+    }
 
-pub TakesFlat-more : (shape : GuestShape) (old mid new : List ℕ) (old_states mid_states new_states : List PageState) (stream rest : List ℕ) (taken : StreamTaken)
-    (frame : PageFrame) (size : ℕ) → TakesFlat shape old mid old_states mid_states stream taken rest → SpellsFrame shape (take size rest) frame
-    → flat_part shape new new_states ≡ with_frame (flat_part shape mid mid_states) frame → KeepsOthers shape mid new new_states → ComeLater mid_states new_states
-    → TakesFlat shape old new old_states new_states stream (taken_with (taken.frames + 1) (taken.bytes + size)) (drop size rest)
-TakesFlat-more shape old mid new old_states mid_states new_states stream rest taken frame size before spells kept others later_come = record {
-  takes = Takes-more (flat_part shape old old_states) (flat_part shape mid mid_states) (flat_part shape new new_states) stream rest (drop size rest) taken.frames before.takes
-      (Takes-one (flat_part shape mid mid_states) (flat_part shape new new_states) rest size frame spells kept);
-  rest_is = ap (drop size) before.rest_is ∙ drop-drop size taken.bytes stream;
-  others = λ page low none. others page low none ∙ before.others page low (later_come page none);
-}
+pub TakesFlat-more : (shape : GuestShape) (old mid new : List ℕ) (old_states mid_states new_states : List PageState)
+    (stream rest : List ℕ) (taken : StreamTaken)
+    (frame : PageFrame) (size : ℕ) → TakesFlat shape old mid old_states mid_states stream taken rest
+    → SpellsFrame shape (take size rest) frame
+    → flat_part shape new new_states ≡ with_frame (flat_part shape mid mid_states) frame
+    → KeepsOthers shape mid new new_states → ComeLater mid_states new_states
+    → TakesFlat shape old new old_states new_states stream (taken_with (taken.frames + 1) (taken.bytes + size))
+    (drop size rest)
+TakesFlat-more shape old mid new old_states mid_states new_states stream rest taken frame size before spells kept others
+    later_come = record {
+      takes = Takes-more (flat_part shape old old_states) (flat_part shape mid mid_states)
+          (flat_part shape new new_states)
+          stream rest (drop size rest) taken.frames before.takes
+          (Takes-one (flat_part shape mid mid_states) (flat_part shape new new_states) rest size frame spells kept);
+      rest_is = ap (drop size) before.rest_is ∙ drop-drop size taken.bytes stream;
+      others = λ page low none. others page low none ∙ before.others page low (later_come page none);
+    }

@@ -1,11 +1,13 @@
 -- Items over the front of a buffer.
-use Rattle.std.proofs.Common.{◌≡◌, ℕ, ◌+◌, ◌<◌, ◌≤◌, List, [], ◌∷◌, ◌++◌, length, get_or, set, take, drop, map, refl, sym, ap, ◌∙◌, arith}
+use Rattle.std.proofs.Common.{◌≡◌, ℕ, ◌+◌, ◌<◌, ◌≤◌, List, [], ◌∷◌, ◌++◌, length, get_or, set, take, drop, map, refl}
+use Rattle.std.proofs.Common.{sym, ap, ◌∙◌, arith}
 use Rattle.std.proofs.lemmas.List.{length-map, length-take-le, map_more}
 use Rattle.std.proofs.Math.Seq.{take-length}
 use Rattle.precopy_c.specs.Buffers.{over}
 
 -- one more item behind those at the front
-over_more : {X : Type 0} (items old : List X) (y : X) → length items < length old → set (over items old) (length items) y ≡ over (items ++ y ∷ []) old
+over_more : {X : Type 0} (items old : List X) (y : X) → length items < length old
+    → set (over items old) (length items) y ≡ over (items ++ y ∷ []) old
 over_more [] [] y low = absurd (omega (arith, low))
 over_more [] (z ∷ old) y low = refl
 over_more (x ∷ items) [] y low = absurd (omega (arith, low))
@@ -26,5 +28,7 @@ front_more {X} {Y} f xs i x y old room low fits at is before =
     ∙ ap (λ (l : List Y). over l old) (sym (map_more f xs i x low))
 
 -- all of them
-pub front_all : {X Y : Type 0} (f : X → Y) (xs : List X) (i : ℕ) (old : List Y) → i ≡ length xs → over (map f (take i xs)) old ≡ over (map f xs) old
-front_all {X} {Y} f xs i old all = ap (λ (l : List X). over (map f l) old) (ap (λ (n : ℕ). take n xs) all ∙ take-length xs)
+pub front_all : {X Y : Type 0} (f : X → Y) (xs : List X) (i : ℕ) (old : List Y) → i ≡ length xs
+    → over (map f (take i xs)) old ≡ over (map f xs) old
+front_all {X} {Y} f xs i old all = ap (λ (l : List X). over (map f l) old)
+    (ap (λ (n : ℕ). take n xs) all ∙ take-length xs)

@@ -1,5 +1,6 @@
 -- Memory on the way through the writes, of which those before a tick count.
-use Rattle.std.proofs.Common.{◌≡◌, ℕ, ◌+◌, ◌*◌, ◌^◌, ◌<◌, ◌≤◌, cond, ltb, List, [], ◌∷◌, length, inl, inr, refl, ap, subst, ◌∙◌, arith}
+use Rattle.std.proofs.Common.{◌≡◌, ℕ, ◌+◌, ◌*◌, ◌^◌, ◌<◌, ◌≤◌, cond, ltb, List, [], ◌∷◌, length, inl, inr, refl, ap}
+use Rattle.std.proofs.Common.{subst, ◌∙◌, arith}
 use Rattle.std.specs.List.{All, filter}
 use Rattle.std.proofs.lemmas.Bool.{cond-true, cond-false, lt-ltb, le-ltb}
 use Rattle.std.proofs.lemmas.List.Elements.{All-head, All-tail}
@@ -12,34 +13,48 @@ abbrev pub before_tick : ℕ → List GuestWrite → List GuestWrite
 before_tick tick writes = filter (λ write. ltb write.tick tick) writes
 
 -- a write before the tick is put
-pub Becomes-put : (version shift pages tick : ℕ) (memory next : List ℕ) (write : GuestWrite) (left : List GuestWrite) (whole : GuestMemory)
-    → Becomes shift pages memory (before_tick tick (write ∷ left)) whole → IsGuestWrite version shift pages write → write.tick < tick
+pub Becomes-put : (version shift pages tick : ℕ) (memory next : List ℕ) (write : GuestWrite) (left : List GuestWrite)
+    (whole : GuestMemory)
+    → Becomes shift pages memory (before_tick tick (write ∷ left)) whole → IsGuestWrite version shift pages write
+    → write.tick < tick
     → next ≡ put memory (write.page * 2 ^ shift + write.offset) (bytes_put shift write)
     → Becomes shift pages next (before_tick tick left) whole
 Becomes-put version shift pages tick memory next write left whole before fits low is =
     let counts : before_tick tick (write ∷ left) ≡ write ∷ before_tick tick left =
-    cond-true (ltb write.tick tick) (write ∷ before_tick tick left) (before_tick tick left) (lt-ltb write.tick tick low) in
+    cond-true (ltb write.tick tick) (write ∷ before_tick tick left) (before_tick tick left)
+    (lt-ltb write.tick tick low) in
     Becomes-next version shift pages memory next write (before_tick tick left) whole
     (subst (λ (l : List GuestWrite). Becomes shift pages memory l whole) counts before) fits is
 
 -- one at the tick or behind it is left out
-pub Becomes-left_out : (shift pages tick : ℕ) (memory : List ℕ) (write : GuestWrite) (left : List GuestWrite) (whole : GuestMemory)
+pub Becomes-left_out : (shift pages tick : ℕ) (memory : List ℕ) (write : GuestWrite) (left : List GuestWrite)
+    (whole : GuestMemory)
     → Becomes shift pages memory (before_tick tick (write ∷ left)) whole → tick ≤ write.tick
     → Becomes shift pages memory (before_tick tick left) whole
 Becomes-left_out shift pages tick memory write left whole before high =
     subst (λ (l : List GuestWrite). Becomes shift pages memory l whole)
-    (cond-false (ltb write.tick tick) (write ∷ before_tick tick left) (before_tick tick left) (le-ltb write.tick tick high)) before
+    (cond-false (ltb write.tick tick) (write ∷ before_tick tick left) (before_tick tick left)
+    (le-ltb write.tick tick high)) before
 
 -- all writes are before a tick that no write has
-all_before : (version shift pages tick : ℕ) (writes : List GuestWrite) → All (IsGuestWrite version shift pages) writes → 2 ^ 40 ≤ tick
+all_before : (version shift pages tick : ℕ) (writes : List GuestWrite) → All (IsGuestWrite version shift pages) writes
+    → 2 ^ 40 ≤ tick
     → before_tick tick writes ≡ writes
 all_before version shift pages tick [] fits high = refl
 all_before version shift pages tick (write ∷ writes) fits high =
-    let low : write.tick < tick = omega (arith, (All-head (IsGuestWrite version shift pages) write writes fits).tick, high) in
-    cond-true (ltb write.tick tick) (write ∷ before_tick tick writes) (before_tick tick writes) (lt-ltb write.tick tick low)
-    ∙ ap (λ (l : List GuestWrite). write ∷ l) (all_before version shift pages tick writes (All-tail (IsGuestWrite version shift pages) write writes fits) high)
+    let low : write.tick < tick = omega (
+      arith,
+      (All-head (IsGuestWrite version shift pages) write writes fits).tick,
+      high,
+    ) in
+    cond-true (ltb write.tick tick) (write ∷ before_tick tick writes) (before_tick tick writes)
+    (lt-ltb write.tick tick low)
+    ∙ ap (λ (l : List GuestWrite). write ∷ l) (all_before version shift pages tick writes
+    (All-tail (IsGuestWrite version shift pages) write writes fits) high)
 
 -- so the memory before it is that after all writes
-pub image_before_end : (trace : GuestTrace) (tick : ℕ) → IsTrace trace → 2 ^ 40 ≤ tick → image_before trace tick ≡ image_of trace
+pub image_before_end : (trace : GuestTrace) (tick : ℕ) → IsTrace trace → 2 ^ 40 ≤ tick
+    → image_before trace tick ≡ image_of trace
 image_before_end trace tick is high =
-    ap (replay trace.shift trace.pages) (all_before trace.version trace.shift trace.pages tick trace.writes is.writes.each high)
+    ap (replay trace.shift trace.pages) (all_before trace.version trace.shift trace.pages tick trace.writes
+    is.writes.each high)

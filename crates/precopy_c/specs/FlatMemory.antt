@@ -1,6 +1,7 @@
 -- Flat memory of a caller that frames come to: the bytes of all pages, and a state for each page. It holds a part, in
 -- the sense of the definitions, and what a stream of frames does to it is said of that part. This project's own.
-use Rattle.std.specs.Prelude.{◌≡◌, ◌≢◌, ℕ, ◌*◌, ◌^◌, ◌==◌, ◌<◌, if◌then◌else◌, List, length, map, drop, Option, Some, None}
+use Rattle.std.specs.Prelude.{◌≡◌, ◌≢◌, ℕ, ◌*◌, ◌^◌, ◌==◌, ◌<◌, if◌then◌else◌, List, length, map, drop, Option, Some}
+use Rattle.std.specs.Prelude.{None}
 use Rattle.std.specs.Prelude.{slice_index_or, ⊤}
 use Rattle.std.specs.List.{range_with_len}
 use Rattle.migration_model.specs.Frames.{GuestShape}

@@ -43,7 +43,8 @@ pub struct StreamTaken {
 fn put_at_page(memory: &mut [u8], shape: &Shape, view: &FrameView<'_>)
     requires fits { IsFrame (shape_of shape.now) view.now }
     requires whole { length memory.old ≡ shape.now.pages * 2 ^ shape.now.shift }
-    ensures { memory.new ≡ put memory.old (view.now.page * 2 ^ shape.now.shift) (content_of (shape_of shape.now) view.now) }
+    ensures { memory.new ≡ put memory.old (view.now.page * 2 ^ shape.now.shift)
+        (content_of (shape_of shape.now) view.now) }
 {
     let start = view.page as usize * shape.page_size();
     let (_, rest) = memory.split_at_mut(start);
@@ -122,9 +123,10 @@ fn flat_shape(sizes: &GuestSizes, memory: &[u8], states: &[PageState]) -> Result
     Ok(shape)
 }
 
-/// Takes a stream of frames into flat memory, in which each page gets the bytes of the frame with the greatest stamp that
-/// came, whatever the order. It tells how many frames were taken, and how many bytes they have. The first frame that is
-/// refused ends it; the frames in front of it are taken, and `taken.bytes` is where it begins. It allocates nothing.
+/// Takes a stream of frames into flat memory, in which each page gets the bytes of the frame with the greatest stamp
+/// that came, whatever the order. It tells how many frames were taken, and how many bytes they have. The first frame
+/// that is refused ends it; the frames in front of it are taken, and `taken.bytes` is where it begins. It allocates
+/// nothing.
 #[unsafe(no_mangle)]
 pub extern "C" fn precopy_accept(
     sizes: &GuestSizes,

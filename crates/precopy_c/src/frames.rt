@@ -1,6 +1,7 @@
 //! Frames: one encoded, and one decoded.
 
-ghost use Rattle.std.specs.Prelude.{◌≡◌, ◌≢◌, ◌↔◌, ◌^◌, ◌<◌, ◌≤◌, ◌++◌, ℕ, List, IfErr, IfOk, IsOk, IsTrue, OnErr, length, take};
+ghost use Rattle.std.specs.Prelude.{◌≡◌, ◌≢◌, ◌↔◌, ◌^◌, ◌<◌, ◌≤◌, ◌++◌, ℕ, List, IfErr, IfOk, IsOk, IsTrue, OnErr};
+ghost use Rattle.std.specs.Prelude.{length, take};
 ghost use Rattle.std.specs.List.{All};
 ghost use Rattle.migration_model.specs.Frames.{IsFrame, IsGuestShape, PageFrame, SpellsFrame, content_of, frame_text};
 ghost use Rattle.page_message.specs.Framing.{IsFrameOf};
@@ -57,8 +58,8 @@ fn encoded(
     Ok(text)
 }
 
-/// Answers the encoding of the frame of a page at a stamp, with these bytes of the page, over the front of a buffer, and
-/// tells how many bytes it has. Where the buffer is too short for them, it tells how many, and writes none.
+/// Answers the encoding of the frame of a page at a stamp, with these bytes of the page, over the front of a buffer,
+/// and tells how many bytes it has. Where the buffer is too short for them, it tells how many, and writes none.
 #[unsafe(no_mangle)]
 pub extern "C" fn precopy_encode_frame(
     alloc: Global,
@@ -122,8 +123,8 @@ fn decoded(sizes: &GuestSizes, bytes: &[u8], content: &mut [u8]) -> Result<Frame
     })
 }
 
-/// Decodes the frame at the front of some bytes: answers the bytes of its page over the front of a buffer, and what else
-/// it has. It allocates nothing.
+/// Decodes the frame at the front of some bytes: answers the bytes of its page over the front of a buffer, and what
+/// else it has. It allocates nothing.
 #[unsafe(no_mangle)]
 pub extern "C" fn precopy_decode_frame(
     sizes: &GuestSizes,

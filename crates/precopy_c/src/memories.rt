@@ -87,8 +87,8 @@ fn answer_before(trace: &[u8], tick: u64, memory: &mut [u8], needed: &mut usize)
     }
 }
 
-/// Answers the memory after all writes of a trace, page after page, over the front of a buffer, and tells how many bytes
-/// it has. Where the buffer is too short for them, it tells how many, and writes none. It allocates nothing.
+/// Answers the memory after all writes of a trace, page after page, over the front of a buffer, and tells how many
+/// bytes it has. Where the buffer is too short for them, it tells how many, and writes none. It allocates nothing.
 #[unsafe(no_mangle)]
 pub extern "C" fn precopy_memory(trace: &[u8], memory: &mut [u8], needed: &mut usize) -> u32
     ensures made { result ≡ 0 → (t : GuestTrace) × Spells trace.now t × (needed.new ≡ memory_length t)

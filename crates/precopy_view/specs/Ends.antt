@@ -1,24 +1,19 @@
 -- How words end that make no view.
 use Rattle.std.specs.Prelude.{ℕ, List, ⊤}
-use Rattle.job_words.specs.declared.command.WordsError.TheVariants as errors
+use Rattle.job_words.specs.Commands.{IsWordsRefusal}
+use Rattle.program_edge.specs.Ends.{IsHelpText}
 use Rattle.view_words.specs.Views.{WordsFail}
 use Rattle.view_words.specs.declared.command.ViewWordsError.{ViewWordsError}
 use Rattle.view_words.specs.declared.command.ViewWordsError.TheVariants as asked
 
 -- a request for help
 abbrev pub IsHelp : ViewWordsError → Type 0
-IsHelp (asked.Words (errors.Help text)) = ⊤
-IsHelp (asked.Words errors.Memory) = ⊥
-IsHelp (asked.Words (errors.Usage text)) = ⊥
-IsHelp (asked.Words (errors.Refused refusal)) = ⊥
+IsHelp (asked.Words e) = (text : List ℕ) × IsHelpText e text
 IsHelp (asked.Limits refusal) = ⊥
 
 -- words that are not taken, or refused
 abbrev pub IsRefusal : ViewWordsError → Type 0
-IsRefusal (asked.Words (errors.Help text)) = ⊥
-IsRefusal (asked.Words errors.Memory) = ⊥
-IsRefusal (asked.Words (errors.Usage text)) = ⊤
-IsRefusal (asked.Words (errors.Refused refusal)) = ⊤
+IsRefusal (asked.Words e) = IsWordsRefusal e
 IsRefusal (asked.Limits refusal) = ⊤
 
 -- words make no view, for an error of this kind

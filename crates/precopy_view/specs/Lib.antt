@@ -1,3 +1,3 @@
 pub mod Ends
 pub mod Fitting
-pub mod Shown
+pub mod Written

@@ -4,6 +4,7 @@ use rate_limit::{Asked, Reason, Settings};
 use std::test::Fail;
 use sweep_report::Line;
 use trace_views::{Advice, Budget, advise};
+use worked_guest::asked;
 
 /// A case with this downtime and so many pages sent.
 fn case(down: u64, total: u64) -> Result<Line, Fail> {
@@ -13,15 +14,7 @@ fn case(down: u64, total: u64) -> Result<Line, Fail> {
         increment: 500,
         threshold: 64,
         rounds: 30,
-        start: 0,
-        window: 1000,
-        hot: 2,
-        workers: 1,
-        streams: 1,
-        replayers: 1,
-        lane: 1024,
-        skip: false,
-        base: None,
+        ..asked()
     })?;
     Ok(Line {
         settings,

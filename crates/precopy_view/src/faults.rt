@@ -4,15 +4,14 @@ ghost use Rattle.std.specs.Prelude.{◌≡◌, ◌≤◌, IfErr, OnOk, false, tr
 ghost use Rattle.precopy_view.specs.Ends.{IsHelp, IsRefusal};
 ghost use Rattle.precopy_view.specs.Fitting.{FitsScale, IsMisfit};
 
-use arrayvec::ArrayString;
 use guest_units::Scale;
-use migration_jobs::{RunError, Sink, write_out};
-use std::fmt::Write;
+use migration_jobs::{RunError, Sink};
+use program_edge::{Program, tell_line};
 use thiserror::Error;
 use trace_codec::TraceError;
 use trace_readers::TouchLog;
 use trace_views::ViewError;
-use view_words::{LimitsRefusal, ViewWordsError, WordsError, WordsRefusal};
+use view_words::ViewWordsError;
 
 /// Why a view was not shown. It is written behind `precopy-view: ` in a fault line.
 #[derive(Clone, Copy, Debug, PartialEq, Eq, Error)]
@@ -51,13 +50,6 @@ pub(crate) fn check_scale(scale: &Option<Scale>, log: &TouchLog) -> Result<(), S
     Ok(())
 }
 
-/// Writes a text of faults. Where that fails nobody can be told.
-fn tell<E: Sink>(faults: &mut E, text: &str)
-    requires { E.has_failed faults.old ≡ false }
-{
-    let _ = write_out(faults, text.as_bytes());
-}
-
 /// Returns what is wrong with a trace, in words.
 fn cause_of(error: &TraceError) -> &'static str {
     match error {
@@ -81,55 +73,23 @@ fn cause_of(error: &TraceError) -> &'static str {
     }
 }
 
+/// A refused trace, with what is wrong with it in words.
+#[derive(Clone, Copy, Debug, PartialEq, Eq, Error)]
+#[error("trace {0}: {1}")]
+struct ExplainedTrace(TraceError, &'static str);
+
 /// Writes the fault line of an error, and returns the error's status, 1. It allocates nothing.
 pub(crate) fn fault<E: Sink>(faults: &mut E, error: &ShowError) -> u8
     requires { E.has_failed faults.old ≡ false }
     ensures { result ≡ 1 }
 {
-    let mut line = ArrayString::<128>::new();
-    let _ = match error {
+    match error {
         ShowError::Run(RunError::Trace(trace)) => {
-            write!(line, "precopy-view: trace {trace}: {}\n", cause_of(trace))
+            let explained = ExplainedTrace(*trace, cause_of(trace));
+            program_edge::fault(Program::PrecopyView, &explained, faults)
         }
-        other => write!(line, "precopy-view: {other}\n"),
-    };
-    tell(faults, line.as_str());
-    1
-}
-
-/// Writes the text of a request for help, and returns the program's status.
-fn run_help<K: Sink, E: Sink>(text: &str, sink: &mut K, faults: &mut E) -> u8
-    requires unwritten { K.has_failed sink.old ≡ false }
-    requires untold { E.has_failed faults.old ≡ false }
-    ensures status { result ≤ 1 }
-    ensures flushed { result ≡ 0 → K.is_flushed sink.new ≡ true }
-{
-    match write_out(sink, text.as_bytes()) {
-        Ok(()) => 0,
-        Err(error) => fault(faults, &ShowError::Run(error)),
+        other => program_edge::fault(Program::PrecopyView, other, faults),
     }
-}
-
-/// Writes the line of refused words, and returns the program's status, 2. It allocates nothing.
-fn refuse_line<E: Sink>(refusal: &WordsRefusal, faults: &mut E) -> u8
-    requires { E.has_failed faults.old ≡ false }
-    ensures { result ≡ 2 }
-{
-    let mut line = ArrayString::<64>::new();
-    let _ = write!(line, "precopy-view: {refusal}\n");
-    tell(faults, line.as_str());
-    2
-}
-
-/// Writes the line of refused limits, and returns the program's status, 2. It allocates nothing.
-fn refuse_limits<E: Sink>(refusal: &LimitsRefusal, faults: &mut E) -> u8
-    requires { E.has_failed faults.old ≡ false }
-    ensures { result ≡ 2 }
-{
-    let mut line = ArrayString::<128>::new();
-    let _ = write!(line, "precopy-view: {refusal}\n");
-    tell(faults, line.as_str());
-    2
 }
 
 /// Writes why words make no view, and returns the program's status.
@@ -142,15 +102,12 @@ pub fn refuse<K: Sink, E: Sink>(error: ViewWordsError, sink: &mut K, faults: &mu
     ensures refused { result ≡ 2 → IsRefusal error × (sink.new ≡ sink.old) }
 {
     match error {
-        ViewWordsError::Words(WordsError::Help(text)) => run_help(text.as_str(), sink, faults),
-        ViewWordsError::Words(WordsError::Memory) => {
-            fault(faults, &ShowError::Run(RunError::Memory))
+        ViewWordsError::Words(error) => {
+            program_edge::refuse(Program::PrecopyView, error, sink, faults)
         }
-        ViewWordsError::Words(WordsError::Usage(text)) => {
-            tell(faults, text.as_str());
+        ViewWordsError::Limits(refusal) => {
+            tell_line(Program::PrecopyView, &refusal, faults);
             2
         }
-        ViewWordsError::Words(WordsError::Refused(refusal)) => refuse_line(&refusal, faults),
-        ViewWordsError::Limits(refusal) => refuse_limits(&refusal, faults),
     }
 }

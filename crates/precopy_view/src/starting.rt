@@ -1,10 +1,11 @@
 //! The program over words, a source and two sinks.
 
-ghost use Rattle.std.specs.Prelude.{◌≡◌, ◌≢◌, ◌≤◌, ◌⊎◌, Bool, List, ℕ, IfErr, IfOk, OnOk, false, map, string_bytes, true};
+ghost use Rattle.std.specs.Prelude.{◌≡◌, ◌≢◌, ◌≤◌, ◌⊎◌, Bool, List, ℕ, IfErr, IfOk, OnOk, false, map, string_bytes};
+ghost use Rattle.std.specs.Prelude.{true};
 ghost use Rattle.std.specs.Io.KnownBytes.{Appends};
 ghost use Rattle.migration_jobs.specs.Sink.{AppendsPart};
 ghost use Rattle.precopy_view.specs.Ends.{FailsAs, IsHelp, IsRefusal};
-ghost use Rattle.precopy_view.specs.Shown.{IsShown, RefusesShow, ShowsBy, ShowsPartBy};
+ghost use Rattle.precopy_view.specs.Written.{MakesView, RefusesAskedView, WritesView, WritesViewPart};
 ghost use Rattle.view_words.specs.Views.{WordsAsk};
 
 use crate::faults::{ShowError, check_scale, fault, refuse};
@@ -13,7 +14,7 @@ use std::alloc::Global;
 use std::thread::Threads;
 use trace_codec::Source;
 use trace_readers::TouchLog;
-use trace_views::{Shown, ViewError, view_text};
+use trace_views::{ViewError, ViewText, view_text};
 use view_words::{AskedView, view_of};
 
 /// Returns a view of the trace that a source holds, or why there is none.
@@ -22,10 +23,10 @@ fn text_of<R: Threads + Sync, S: Source>(
     alloc: Global,
     asked: &AskedView,
     source: &mut S,
-) -> Result<Shown, ShowError>
+) -> Result<ViewText, ShowError>
     requires { S.has_failed source.old ≡ false }
-    ensures made { IfOk result (λ v. IsShown (S.remaining source.old) asked.now v.text.items v.is_kept) }
-    ensures refused { IfErr result (RefusesShow (S.remaining source.old) asked.now) }
+    ensures made { IfOk result (λ v. MakesView (S.remaining source.old) asked.now v.text.items v.is_kept) }
+    ensures refused { IfErr result (RefusesAskedView (S.remaining source.old) asked.now) }
     ensures unwritten { IfErr result (λ e. e ≢ ShowError.Run RunError.Write) }
 {
     let log = match TouchLog::read(alloc, source) {
@@ -51,11 +52,11 @@ fn run_view<R: Threads + Sync, S: Source, K: Sink>(
 ) -> Result<bool, ShowError>
     requires unread { S.has_failed source.old ≡ false }
     requires unwritten { K.has_failed sink.old ≡ false }
-    ensures written { IfOk result (λ kept. ShowsBy (S.remaining source.old) asked.now kept (K.contents sink.old)
+    ensures written { IfOk result (λ kept. WritesView (S.remaining source.old) asked.now kept (K.contents sink.old)
         (K.contents sink.new)) }
     ensures flushed { OnOk result (K.is_flushed sink.new ≡ true) }
-    ensures refused { IfErr result (RefusesShow (S.remaining source.old) asked.now) }
-    ensures part { IfErr result (λ e. (sink.new ≡ sink.old) ⊎ ShowsPartBy (S.remaining source.old) asked.now
+    ensures refused { IfErr result (RefusesAskedView (S.remaining source.old) asked.now) }
+    ensures part { IfErr result (λ e. (sink.new ≡ sink.old) ⊎ WritesViewPart (S.remaining source.old) asked.now
         (K.contents sink.old) (K.contents sink.new)) }
 {
     let shown = text_of(rt, alloc, asked, source)?;
@@ -79,11 +80,11 @@ fn show<R: Threads + Sync, S: Source, K: Sink, E: Sink>(
     requires untold { E.has_failed faults.old ≡ false }
     ensures status { (result ≡ 0) ⊎ ((result ≡ 1) ⊎ (result ≡ 3)) }
     ensures flushed { (result ≡ 0) ⊎ (result ≡ 3) → K.is_flushed sink.new ≡ true }
-    ensures written { result ≡ 0 → ShowsBy (S.remaining source.old) asked.now true (K.contents sink.old)
+    ensures written { result ≡ 0 → WritesView (S.remaining source.old) asked.now true (K.contents sink.old)
         (K.contents sink.new) }
-    ensures missed { result ≡ 3 → ShowsBy (S.remaining source.old) asked.now false (K.contents sink.old)
+    ensures missed { result ≡ 3 → WritesView (S.remaining source.old) asked.now false (K.contents sink.old)
         (K.contents sink.new) }
-    ensures part { result ≡ 1 → (sink.new ≡ sink.old) ⊎ ShowsPartBy (S.remaining source.old) asked.now
+    ensures part { result ≡ 1 → (sink.new ≡ sink.old) ⊎ WritesViewPart (S.remaining source.old) asked.now
         (K.contents sink.old) (K.contents sink.new) }
 {
     match run_view(rt, alloc, asked, source, sink) {
@@ -115,18 +116,18 @@ pub fn start<R: Threads + Sync, S: Source, K: Sink, E: Sink>(
     // What was written is the view of what was read that the words ask for, and its limit is kept; or else they ask for
     // help, and nothing was read.
     ensures written { result ≡ 0 → ((asked : AskedView) × WordsAsk (map string_bytes words.items) asked
-        × ShowsBy (S.remaining source.old) asked true (K.contents sink.old) (K.contents sink.new))
+        × WritesView (S.remaining source.old) asked true (K.contents sink.old) (K.contents sink.new))
         ⊎ (FailsAs IsHelp (map string_bytes words.items) × (source.new ≡ source.old)) }
     // What was written is the view of what was read that the words ask for, and its limit is not kept.
     ensures missed { result ≡ 3 → (asked : AskedView) × WordsAsk (map string_bytes words.items) asked
-        × ShowsBy (S.remaining source.old) asked false (K.contents sink.old) (K.contents sink.new) }
+        × WritesView (S.remaining source.old) asked false (K.contents sink.old) (K.contents sink.new) }
     // Words are refused before any byte of the trace is read, and nothing is written then.
     ensures refused { result ≡ 2 → FailsAs IsRefusal (map string_bytes words.items) × (source.new ≡ source.old)
         × (sink.new ≡ sink.old) }
     // Nothing was written, or a beginning of the view of what was read that the words ask for, or else of a text of
     // help, and nothing was read.
     ensures part { result ≡ 1 → ((sink.new ≡ sink.old) ⊎ ((asked : AskedView) × WordsAsk
-        (map string_bytes words.items) asked × ShowsPartBy (S.remaining source.old) asked (K.contents sink.old)
+        (map string_bytes words.items) asked × WritesViewPart (S.remaining source.old) asked (K.contents sink.old)
         (K.contents sink.new))) ⊎ (source.new ≡ source.old) }
 {
     match view_of(alloc, &words) {

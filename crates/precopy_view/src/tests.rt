@@ -8,17 +8,7 @@ use std::alloc::{AllocError, Global};
 use std::test::Fail;
 use std::thread::Threads;
 use trace_codec::TestSource;
-
-/// Pages of 16 bytes, 4 pages, 5 writes: of pages 0 and 1 at ticks 0 and 5, of page 1 at tick 1200, of pages 3 and 1 at
-/// tick 2500.
-static TRACE: [u8; 102] = [
-    0x50, 0x43, 0x57, 0x54, 1, 4, 0, 0, 4, 0, 0, 0, 5, 0, 0, 0, //
-    0, 0, 0, 0, 0, 0, 0, 0, 0, 0, 0, 0, 0, 0, 1, 0, 1, //
-    5, 0, 0, 0, 0, 0, 0, 0, 1, 0, 0, 0, 15, 0, 1, 0, 2, //
-    0xb0, 4, 0, 0, 0, 0, 0, 0, 1, 0, 0, 0, 0, 0, 1, 0, 3, //
-    0xc4, 9, 0, 0, 0, 0, 0, 0, 3, 0, 0, 0, 2, 0, 2, 0, 4, 5, //
-    0xc4, 9, 0, 0, 0, 0, 0, 0, 1, 0, 0, 0, 0, 0, 1, 0, 0,
-];
+use worked_guest::TRACE;
 
 fn sink(alloc: Global) -> TestSink
     ensures { result.has_failed ≡ false }
@@ -223,9 +213,9 @@ fn unknown_words_are_told(rt: HostRuntime) -> Result<(), Fail> {
 }
 
 /// A prediction for a guest of which one page in four was recorded, over a link of 64 pages of the guest in 1,000
-/// ticks: 16 of the trace. The first round sends 4 pages in 250 ticks. The 2 that are left take 125 ticks. The 4 pages are
-/// sent 2, 2, 1 and 1 times, so the square of the standard error is 16 * 12 * (4 * 10 - 6 * 6) / (4 * 4 * 3) = 16, and
-/// the same for the pages that are left. Such 4 pages of the guest take 62.5 ticks.
+/// ticks: 16 of the trace. The first round sends 4 pages in 250 ticks. The 2 that are left take 125 ticks. The 4 pages
+/// are sent 2, 2, 1 and 1 times, so the square of the standard error is 16 * 12 * (4 * 10 - 6 * 6) / (4 * 4 * 3) = 16,
+/// and the same for the pages that are left. Such 4 pages of the guest take 62.5 ticks.
 static PREDICTION: &str = "converges: yes, rounds: 1
 total time: 0.385 s
 sent: 0.00 MiB

@@ -42,8 +42,8 @@ fn shows_times_and_bytes(rt: HostRuntime) -> Result<(), Fail> {
     Ok(())
 }
 
-/// Advice for a downtime of 200 ticks: the rate is 16 pages in 1,000 ticks, at which 3 pages take less than that. Case 7
-/// sends 4 pages until tick 250, then 2 until tick 375, while none is dirtied.
+/// Advice for a downtime of 200 ticks: the rate is 16 pages in 1,000 ticks, at which 3 pages take less than that. Case
+/// 7 sends 4 pages until tick 250, then 2 until tick 375, while none is dirtied.
 static ADVICE: &str = "budget down 200
 grid start 0
 grid max 16

@@ -1,6 +1,7 @@
 -- How far chance moves a prediction where pages were sampled: standard errors. M pages of P were drawn without
 -- replacement, each set of M being as likely as any other. Of a number for each page, let S be the sum over the sampled
--- pages and Q that of the squares. Then P S / M is the estimate for all pages, and P (P - M) (M Q - S S) / (M M (M - 1))
+-- pages and Q that of the squares. Then P S / M is the estimate for all pages, and P (P - M) (M Q - S S) / (M M (M -
+-- 1))
 -- that of the square of its standard error. See Cochran, Sampling Techniques, section 2.6.
 use Rattle.std.specs.Prelude.{◌≡◌, ◌⊎◌, ℕ, ◌+◌, ◌-◌, ◌*◌, ◌<◌, ◌≤◌, ◌==◌, List, ◌++◌, length, Option, Some, None}
 use Rattle.std.specs.Int.{div_ceil}
@@ -42,13 +43,15 @@ pub record GuestErrors : Type 0 where
   pub bytes : ℕ
   pub downtime : ℕ
 
--- how long so many pages of the guest take at a rate of the trace, in pages per 1,000 ticks; in microseconds, rounded up
+-- how long so many pages of the guest take at a rate of the trace, in pages per 1,000 ticks; in microseconds, rounded
+-- up
 abbrev pub time_for : TraceScale → ℕ → ℕ → ℕ
 time_for scale rate pages = div_ceil (pages * scale.sampled * scale.tick * 1_000) (scale.guest * rate)
 
 -- The standard errors of a plan over a trace of so many pages, with this greatest rate. A page that is left at the stop
 -- counts once, and any other not at all.
-pub record AreErrorsOf (scale : TraceScale) (rate pages : ℕ) (plan : MigrationPlan) (errors : GuestErrors) : Type 0 where
+pub record AreErrorsOf (scale : TraceScale) (rate pages : ℕ) (plan : MigrationPlan) (errors : GuestErrors) : Type
+    0 where
   pub sent : ℕ
   pub sent_is : IsErrorOf scale (total_of plan) (squares_in pages (pages_sent plan)) sent
   pub bytes_is : errors.bytes ≡ sent * scale.page

@@ -42,8 +42,10 @@ ends_early rounds_done = true
 
 abbrev pub reason_words : StopReason → List ℕ
 reason_words few_remain = []
-reason_words too_fast = codes "warning: the plan ends with `fast`, so nothing bounds the downtime; give more of the link"
-reason_words rounds_done = codes "warning: the plan ends with `rounds`, so nothing bounds the downtime; allow more rounds"
+reason_words too_fast =
+    codes "warning: the plan ends with `fast`, so nothing bounds the downtime; give more of the link"
+reason_words rounds_done = codes
+    "warning: the plan ends with `rounds`, so nothing bounds the downtime; allow more rounds"
 
 -- what speaks against the prediction
 abbrev pub warnings : GuestPrediction → List ℕ

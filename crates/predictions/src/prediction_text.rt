@@ -31,7 +31,8 @@ fn ending_of(reason: &Reason) -> &'static str
 
 /// Appends the line on convergence.
 fn push_ending(text: &mut Vec<u8>, reason: &Reason, rounds: u64) -> Result<(), AllocError>
-    ensures { OnOk result (text.new.items ≡ text.old.items ++ line (field (ending (reason_of reason.now)) rounds ∷ [])) }
+    ensures { OnOk result (text.new.items ≡ text.old.items ++ line
+        (field (ending (reason_of reason.now)) rounds ∷ [])) }
 {
     push_field(text, ending_of(reason), rounds)?;
     end_line(text)

@@ -1,26 +1,20 @@
 -- Settings that are not refused are in range.
-use Rattle.std.proofs.Common.{◌≡◌, ℕ, ◌≤◌, Bool, true, false, cond, leb, not, ◌&&◌, ◌^◌, Option, Some, None, IfSome, refl, sym, ap, ◌∙◌}
-use Rattle.std.proofs.lemmas.Bool.{leb-true, leb-false, ltb-false, le-leb, le-ltb, lt-leb}
+use Rattle.std.proofs.Common.{◌≡◌, ℕ, ◌≤◌, Bool, true, false, cond, leb, not, ◌&&◌, ◌^◌, Option, Some, None, IfSome}
+use Rattle.std.proofs.Common.{refl, sym, ap, ◌∙◌}
+use Rattle.std.proofs.lemmas.Bool.{leb-true, leb-false, ltb-false, le-leb, le-ltb, lt-leb, not-false, and_parts}
 use Rattle.std.proofs.lemmas.Option.{none-some}
 use Rattle.migration_model.specs.Rates.{MigrationSettings, AreSettings}
 use Rattle.rate_limit.specs.Refusals.{is_between, is_late, is_parallelism, refusal_of}
 use Rattle.rate_limit.specs.declared.error.SettingsError.{SettingsError}
 
 -- a test that let something pass
-passed : (b : Bool) (e : SettingsError) (others : Option SettingsError) → cond b (Some e) others ≡ None → (b ≡ false) × (others ≡ None)
+passed : (b : Bool) (e : SettingsError) (others : Option SettingsError) → cond b (Some e) others ≡ None
+    → (b ≡ false) × (others ≡ None)
 passed true e others is = absurd cc
 passed false e others is = (refl, is)
 
-granted : (b : Bool) → not b ≡ false → b ≡ true
-granted true is = refl
-granted false is = absurd cc
-
-both : (a b : Bool) → (a && b) ≡ true → (a ≡ true) × (b ≡ true)
-both true b is = (refl, is)
-both false b is = absurd cc
-
 between : (low high n : ℕ) → is_between low high n ≡ true → (low ≤ n) × (n ≤ high)
-between low high n is = let two = both _ _ is in (leb-true _ _ two.0, leb-true _ _ two.1)
+between low high n is = let two = and_parts _ _ is in (leb-true _ _ two.0, leb-true _ _ two.1)
 
 in_time : (base : Option ℕ) (start : ℕ) → is_late base start ≡ false → IfSome base (λ tick. tick ≤ start)
 in_time None start is = tt
@@ -38,15 +32,15 @@ in_range_lem s none =
     let p8 = passed _ _ _ p7.1 in
     let p9 = passed _ _ _ p8.1 in
     let p10 = passed _ _ _ p9.1 in
-    let min = between _ _ _ (granted _ p1.0) in
-    let max = between _ _ _ (granted _ p2.0) in
-    let threshold = between _ _ _ (granted _ p4.0) in
-    let rounds = between _ _ _ (granted _ p5.0) in
-    let window = between _ _ _ (granted _ p6.0) in
-    let hot = between _ _ _ (granted _ p7.0) in
-    let all = both _ _ (granted _ p9.0) in
-    let three = both _ _ all.0 in
-    let two = both _ _ three.0 in
+    let min = between _ _ _ (not-false _ p1.0) in
+    let max = between _ _ _ (not-false _ p2.0) in
+    let threshold = between _ _ _ (not-false _ p4.0) in
+    let rounds = between _ _ _ (not-false _ p5.0) in
+    let window = between _ _ _ (not-false _ p6.0) in
+    let hot = between _ _ _ (not-false _ p7.0) in
+    let all = and_parts _ _ (not-false _ p9.0) in
+    let three = and_parts _ _ all.0 in
+    let two = and_parts _ _ three.0 in
     let workers = between _ _ _ two.0 in
     let streams = between _ _ _ two.1 in
     let replayers = between _ _ _ three.1 in
@@ -79,7 +73,8 @@ in_range_lem s none =
 
 -- ---- settings in range are not refused
 
-step : (b : Bool) (e : SettingsError) (others : Option SettingsError) → b ≡ false → others ≡ None → cond b (Some e) others ≡ None
+step : (b : Bool) (e : SettingsError) (others : Option SettingsError) → b ≡ false → others ≡ None
+    → cond b (Some e) others ≡ None
 step true e others is rest = absurd cc
 step false e others is rest = rest
 
@@ -100,8 +95,10 @@ not_late (Some base) start is = le-ltb start base is
 
 pub accepted_lem : (s : MigrationSettings) → AreSettings s → refusal_of s ≡ None
 accepted_lem s are =
-    let parallel : is_parallelism s ≡ true = all_of _ _ (all_of _ _ (all_of _ _ (within 1 16 s.workers are.workers_low are.workers_high)
-    (within 1 16 s.streams are.streams_low are.streams_high)) (within 1 16 s.replayers are.replayers_low are.replayers_high))
+    let parallel : is_parallelism s ≡ true = all_of _ _ (all_of _ _
+    (all_of _ _ (within 1 16 s.workers are.workers_low are.workers_high)
+    (within 1 16 s.streams are.streams_low are.streams_high))
+    (within 1 16 s.replayers are.replayers_low are.replayers_high))
     (within 1 65_536 s.lane are.lane_low are.lane_high) in
     step _ _ _ (not_out _ (within 1 1_000_000 s.min are.min_low are.min_high))
     (step _ _ _ (not_out _ (within s.min 1_000_000 s.max are.max_low are.max_high))

@@ -13,11 +13,19 @@ parts_of n rate ticks part low is = (
 sum_is : (n more rate : ℕ) → n + more ≡ (n / rate + more / rate) * rate + (n % rate + more % rate)
 sum_is n more rate = omega (arith, div-add-mod n rate, div-add-mod more rate)
 
-pub same_tick : (n more rate : ℕ) → n % rate + more % rate < rate → (n / rate + more / rate ≡ (n + more) / rate) × (n % rate + more % rate ≡ (n + more) % rate)
-same_tick n more rate low = parts_of (n + more) rate (n / rate + more / rate) (n % rate + more % rate) low (sum_is n more rate)
+pub same_tick : (n more rate : ℕ) → n % rate + more % rate < rate
+    → (n / rate + more / rate ≡ (n + more) / rate) × (n % rate + more % rate ≡ (n + more) % rate)
+same_tick n more rate low = parts_of (n + more) rate (n / rate + more / rate) (n % rate + more % rate) low
+    (sum_is n more rate)
 
 pub next_tick : (n more rate : ℕ) → 1 ≤ rate → rate ≤ n % rate + more % rate
     → (n / rate + more / rate + 1 ≡ (n + more) / rate) × (n % rate + more % rate - rate ≡ (n + more) % rate)
 next_tick n more rate some high =
-    let low : n % rate + more % rate - rate < rate = omega (arith, high, mod_below n rate some, mod_below more rate some) in
-    parts_of (n + more) rate (n / rate + more / rate + 1) (n % rate + more % rate - rate) low (omega (arith, sum_is n more rate, high))
+    let low : n % rate + more % rate - rate < rate = omega (
+      arith,
+      high,
+      mod_below n rate some,
+      mod_below more rate some,
+    ) in
+    parts_of (n + more) rate (n / rate + more / rate + 1) (n % rate + more % rate - rate) low
+    (omega (arith, sum_is n more rate, high))

@@ -53,7 +53,8 @@ pub record StandsAt (pages : ℕ) (touches : List GuestTouch)
   pub point : IsPoint touches coming.from now.next
 
 -- a round that may come, of which these are the numbers
-pub record IsStanding (pages : ℕ) (touches : List GuestTouch) (s : MigrationSettings) (now : RoundNumbers) : Type 0 where
+pub record IsStanding (pages : ℕ) (touches : List GuestTouch) (s : MigrationSettings) (now : RoundNumbers) : Type
+    0 where
   pub coming : NextRound
   pub at : StandsAt pages touches s coming now
 

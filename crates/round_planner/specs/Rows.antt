@@ -21,7 +21,8 @@ row_of round = record {
 abbrev pub rows_over : List PlannedRound → List RoundRow → List RoundRow
 rows_over rounds old = map row_of rounds ++ drop (length rounds) old
 
--- the plan of a guest of so many pages with these touches comes to this, and its rounds stand over the front of a buffer
+-- the plan of a guest of so many pages with these touches comes to this, and its rounds stand over the front of a
+-- buffer
 pub record IsPlanned (pages : ℕ) (touches : List GuestTouch)
     (s : MigrationSettings) (outcome : PlanOutcome) (old new : List RoundRow) : Type 0 where
   pub plan : MigrationPlan

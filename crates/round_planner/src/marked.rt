@@ -89,7 +89,8 @@ fn marked_round<T: Timeline>(
     }
 }
 
-/// Returns the sums of the plan that begins with a round, and writes the numbers of its rounds over the front of `rows`.
+/// Returns the sums of the plan that begins with a round, and writes the numbers of its rounds over the front of
+/// `rows`.
 pub(crate) fn marked_rounds<T: Timeline>(
     timeline: &T,
     settings: &Settings,

@@ -6,6 +6,7 @@ use Rattle.std.proofs.Math.Nat.{mod-lt}
 use Rattle.std.proofs.lemmas.Bool.{and_from, cases_eq, cases_lt, eq-eqb, ne_eqb, lt-ltb, le-ltb}
 use Rattle.std.proofs.lemmas.List.{get_or_default, get_or-set_same, get_or-set_other, length-set}
 use Rattle.std.proofs.lemmas.List.Elements.{All-head, All-tail}
+use Rattle.std.proofs.Math.Bool.{and-false}
 use Rattle.migration_model.specs.Final.{IsFinalCopy, TakesCurrent, current_copy, shape_of_trace}
 use Rattle.migration_model.specs.Frames.{GuestShape, PageFrame, IsFrame, shape_with}
 use Rattle.migration_model.specs.Parts.{GuestPart, IsPart, copy_at, copy_in, empty_part, later, with_frame}
@@ -35,10 +36,6 @@ dealt-step turn streams own next parts old new frame frames streams_is own_is ne
 abbrev below : (ℕ → Bool) → ℕ → ℕ → Bool
 below marked p q = marked q && ltb q p
 
-and_false : (b : Bool) → (b && false) ≡ false
-and_false true = refl
-and_false false = refl
-
 takes-same : (trace : GuestTrace) (versions : List ℕ) (t u : ℕ → Bool) (old new : GuestPart) → ((q : ℕ) → t q ≡ u q)
     → TakesCurrent trace versions t old new
     → TakesCurrent trace versions u old new
@@ -62,7 +59,7 @@ final-same trace versions t u old new same final = record {
 }
 
 none_below : (marked : ℕ → Bool) (q : ℕ) → below marked 0 q ≡ false
-none_below marked q = ap (λ (b : Bool). marked q && b) (le-ltb q 0 (omega arith)) ∙ and_false (marked q)
+none_below marked q = ap (λ (b : Bool). marked q && b) (le-ltb q 0 (omega arith)) ∙ and-false (marked q)
 
 final-none : (trace : GuestTrace) (versions : List ℕ) (marked : ℕ → Bool) (old : List GuestPart) → All IsPart old
     → IsFinalCopy trace versions (below marked 0) old old
@@ -87,7 +84,7 @@ below-other marked p q apart = elim (cases_lt q p) [
 ]
 
 below-itself : (marked : ℕ → Bool) (p : ℕ) → below marked p p ≡ false
-below-itself marked p = ap (λ (b : Bool). marked p && b) (le-ltb p p (omega arith)) ∙ and_false (marked p)
+below-itself marked p = ap (λ (b : Bool). marked p && b) (le-ltb p p (omega arith)) ∙ and-false (marked p)
 
 below-next : (marked : ℕ → Bool) (p : ℕ) → marked p ≡ true → below marked (p + 1) p ≡ true
 below-next marked p is = and_from (marked p) (ltb p (p + 1)) is (lt-ltb p (p + 1) (omega arith))
@@ -200,7 +197,7 @@ final-next trace versions marked old parts p s frame shapes final is low current
                   ap (λ k. below marked p k && eqb (final.receiver k) i) same ∙ before i
                   ∙ sym (ap (λ (b : Bool). below marked (p + 1) q && b)
                   (ne_eqb (receiver q) i (λ e. apart (sym e ∙ own_receiver p s final.receiver q same)))
-                  ∙ and_false (below marked (p + 1) q))
+                  ∙ and-false (below marked (p + 1) q))
               | inr not ↦ others i q not
             ]) (final.each i d inside))
       ];

@@ -1,5 +1,6 @@
 -- The grid of lanes, worker by worker.
-use Rattle.std.proofs.Common.{Vec, Global, ◌≡◌, ◌⊎◌, inl, inr, ℕ, zero, suc, ◌+◌, ◌<◌, List, [], ◌∷◌, ◌++◌, length, get_or, set, map, replicate, Some, refl, sym, ap, subst, ◌∙◌, arith}
+use Rattle.std.proofs.Common.{Vec, Global, ◌≡◌, ◌⊎◌, inl, inr, ℕ, zero, suc, ◌+◌, ◌<◌, List, [], ◌∷◌, ◌++◌, length}
+use Rattle.std.proofs.Common.{get_or, set, map, replicate, Some, refl, sym, ap, subst, ◌∙◌, arith}
 use Rattle.std.specs.List.{slice_get}
 use Rattle.std.proofs.lemmas.List.{length-map, length-replicate, length-set, get_or-map, get_or-replicate, length_push}
 use Rattle.std.proofs.lemmas.List.Elements.{All-push}
@@ -8,7 +9,8 @@ use Rattle.stream_lanes.specs.Ends.{OutView, InView}
 use Rattle.stream_lanes.specs.Grids.{IsNewLane, IsGrid, AddsLane, AddsWorker}
 
 -- what stands in a list with one more
-pub at_push : {X : Type 0} (xs : List X) (y x : X) (k : ℕ) → slice_get (xs ++ y ∷ []) k ≡ Some x → (slice_get xs k ≡ Some x) ⊎ ((k ≡ length xs) × (y ≡ x))
+pub at_push : {X : Type 0} (xs : List X) (y x : X) (k : ℕ) → slice_get (xs ++ y ∷ []) k ≡ Some x
+    → (slice_get xs k ≡ Some x) ⊎ ((k ≡ length xs) × (y ≡ x))
 at_push [] y x zero there = inr (refl, same_Some y x there)
 at_push [] y x (suc k) there = absurd (none-some x there)
 at_push (z ∷ zs) y x zero there = inl there
@@ -22,20 +24,25 @@ within [] k low = absurd (omega (arith, low))
 within (x ∷ xs) zero low = (x, refl)
 within (x ∷ xs) (suc k) low = within xs k (omega (arith, low))
 
-length_added : (capacity : ℕ) (out : OutView) (before after : List InView) → AddsLane capacity out before after → length after ≡ length before + 1
+length_added : (capacity : ℕ) (out : OutView) (before after : List InView) → AddsLane capacity out before after
+    → length after ≡ length before + 1
 length_added capacity out before after adds = ap length adds.added ∙ length_push before adds.end
 
 -- an end of a list with one more stood there before, or is that of the new lane
-at_added : (capacity : ℕ) (out : OutView) (before after : List InView) (end : InView) (worker : ℕ) → AddsLane capacity out before after
-    → slice_get after worker ≡ Some end → (slice_get before worker ≡ Some end) ⊎ ((worker ≡ length before) × IsNewLane capacity out end)
+at_added : (capacity : ℕ) (out : OutView) (before after : List InView) (end : InView) (worker : ℕ)
+    → AddsLane capacity out before after
+    → slice_get after worker ≡ Some end → (slice_get before worker ≡ Some end)
+    ⊎ ((worker ≡ length before) × IsNewLane capacity out end)
 at_added capacity out before after end worker adds there =
-    elim (at_push before adds.end end worker (ap (λ (ends : List InView). slice_get ends worker) (sym adds.added) ∙ there)) [
+    elim (at_push before adds.end end worker (ap (λ (ends : List InView). slice_get ends worker) (sym adds.added)
+    ∙ there)) [
       | inl kept ↦ inl kept
       | inr last ↦ inr (last.0, subst (λ (e : InView). IsNewLane capacity out e) last.1 adds.new)
     ]
 
 -- an element in a slot of one row is the element in that slot of an equal row
-same_out : (row other : Vec OutView Global) (stream : ℕ) (a b : OutView) → row ≡ other → slice_get row.items stream ≡ Some a
+same_out : (row other : Vec OutView Global) (stream : ℕ) (a b : OutView) → row ≡ other
+    → slice_get row.items stream ≡ Some a
     → slice_get other.items stream ≡ Some b → a ≡ b
 same_out row other stream a b same a_is b_is =
     same_Some a b (sym a_is ∙ ap (λ (r : Vec OutView Global). slice_get r.items stream) same ∙ b_is)
@@ -55,37 +62,45 @@ set_same (x ∷ xs) (suc n) zero y is low = absurd (omega (arith, is))
 set_same (x ∷ xs) (suc n) (suc k) y is low = set_same xs n k y (omega (arith, is)) (omega (arith, low))
 
 -- one more lane of a worker
-pub worker-more : (capacity : ℕ) (front : List OutView) (out : OutView) (first before : List (Vec InView Global)) (n : ℕ) (old new : Vec InView Global)
-    → n ≡ length front → n < length before → old ≡ get_or before n old → AddsLane capacity out old.items new.items → AddsWorker capacity front first before
+pub worker-more : (capacity : ℕ) (front : List OutView) (out : OutView) (first before : List (Vec InView Global))
+    (n : ℕ) (old new : Vec InView Global)
+    → n ≡ length front → n < length before → old ≡ get_or before n old → AddsLane capacity out old.items new.items
+    → AddsWorker capacity front first before
     → AddsWorker capacity (front ++ out ∷ []) first (set before n new)
 worker-more capacity front out first before n old new here low there lane adds = record {
   count = length-set before n new ∙ adds.count;
   added = λ stream o a b o_is a_is b_is. elim (at_push front out o stream o_is) [
     | inl earlier ↦
         let high = slice_get_within front stream o earlier in
-        adds.added stream o a b earlier a_is (sym (set_other before n stream new (λ e. omega (arith, high, here, e))) ∙ b_is)
+        adds.added stream o a b earlier a_is (sym (set_other before n stream new (λ e. omega (arith, high, here, e)))
+        ∙ b_is)
     | inr last ↦
         let same : stream ≡ n = last.0 ∙ sym here in
         let b_new : new ≡ b = same_Some new b (sym (set_same before n stream new same low) ∙ b_is) in
-        let old_there : slice_get before n ≡ Some old = slice_get-get_or before n old low ∙ ap (λ (v : Vec InView Global). Some v) (sym there) in
+        let old_there : slice_get before n ≡ Some old = slice_get-get_or before n old low
+        ∙ ap (λ (v : Vec InView Global). Some v) (sym there) in
         let a_old : old ≡ a =
-        same_Some old a (sym old_there ∙ ap (λ k. slice_get before k) (sym same) ∙ adds.rest stream (omega (arith, last.0)) ∙ a_is) in
+        same_Some old a (sym old_there ∙ ap (λ k. slice_get before k) (sym same)
+        ∙ adds.rest stream (omega (arith, last.0)) ∙ a_is) in
         subst (λ (e : OutView). AddsLane capacity e a.items b.items) last.1
         (subst (λ (v : Vec InView Global). AddsLane capacity out v.items b.items) a_old
         (subst (λ (v : Vec InView Global). AddsLane capacity out old.items v.items) b_new lane))
   ];
   rest = λ stream past.
       let long = length_push front out in
-      set_other before n stream new (λ e. omega (arith, past, long, here, e)) ∙ adds.rest stream (omega (arith, past, long));
+      set_other before n stream new (λ e. omega (arith, past, long, here, e))
+      ∙ adds.rest stream (omega (arith, past, long));
 }
 
 abbrev no_end : List InView
 no_end = []
 
-pub grid-none : (streams capacity : ℕ) (ins : List (Vec InView Global)) → map (λ row. row.items) ins ≡ replicate streams []
+pub grid-none : (streams capacity : ℕ) (ins : List (Vec InView Global))
+    → map (λ row. row.items) ins ≡ replicate streams []
     → IsGrid 0 streams capacity [] ins
 grid-none streams capacity ins empty =
-    let count : length ins ≡ streams = sym (length-map ins (λ (row : Vec InView Global). row.items)) ∙ ap length empty ∙ length-replicate streams no_end in
+    let count : length ins ≡ streams = sym (length-map ins (λ (row : Vec InView Global). row.items)) ∙ ap length empty
+    ∙ length-replicate streams no_end in
     record {
       workers_are = refl;
       streams_are = count;
@@ -97,14 +112,19 @@ grid-none streams capacity ins empty =
       lanes = λ worker stream out_row out in_row end out_row_is. absurd (none-some out_row out_row_is);
     }
 
-pub grid-more : (workers streams capacity : ℕ) (outs : List (Vec OutView Global)) (row : Vec OutView Global) (before after : List (Vec InView Global))
-    → IsGrid workers streams capacity outs before → length row.items ≡ length before → AddsWorker capacity row.items before after
+pub grid-more : (workers streams capacity : ℕ) (outs : List (Vec OutView Global)) (row : Vec OutView Global)
+    (before after : List (Vec InView Global))
+    → IsGrid workers streams capacity outs before → length row.items ≡ length before
+    → AddsWorker capacity row.items before after
     → IsGrid (workers + 1) streams capacity (outs ++ row ∷ []) after
 grid-more workers streams capacity outs row before after grid count adds =
-    let old_size : (stream : ℕ) (old : Vec InView Global) → slice_get before stream ≡ Some old → length old.items ≡ workers =
-    λ stream old is. ap (λ (r : Vec InView Global). length r.items) (sym (get_or_from_slice_get before stream old old is))
+    let old_size : (stream : ℕ) (old : Vec InView Global) → slice_get before stream ≡ Some old
+    → length old.items ≡ workers =
+    λ stream old is. ap (λ (r : Vec InView Global). length r.items)
+    (sym (get_or_from_slice_get before stream old old is))
     ∙ grid.in_rows stream old (slice_get_within before stream old is) in
-    let added : (stream : ℕ) (old new : Vec InView Global) → slice_get before stream ≡ Some old → slice_get after stream ≡ Some new
+    let added : (stream : ℕ) (old new : Vec InView Global) → slice_get before stream ≡ Some old
+    → slice_get after stream ≡ Some new
     → (out : OutView) × (slice_get row.items stream ≡ Some out) × AddsLane capacity out old.items new.items =
     λ stream old new old_is new_is.
     let low = slice_get_within before stream old old_is in
@@ -113,7 +133,8 @@ grid-more workers streams capacity outs row before after grid count adds =
     record {
       workers_are = length_push outs row ∙ ap (λ n. n + 1) grid.workers_are;
       streams_are = adds.count ∙ grid.streams_are;
-      out_rows = All-push (λ (r : Vec OutView Global). length r.items ≡ streams) outs row grid.out_rows (count ∙ grid.streams_are);
+      out_rows = All-push (λ (r : Vec OutView Global). length r.items ≡ streams) outs row grid.out_rows
+          (count ∙ grid.streams_are);
       in_rows = λ k d low.
           let old = within before k (omega (arith, low, adds.count)) in
           let lane = added k old.0 (get_or after k d) old.1 (slice_get-get_or after k d low) in
@@ -138,7 +159,8 @@ grid-more workers streams capacity outs row before after grid count adds =
                   | inl kept ↦
                       let high = slice_get_within old.0.items worker end kept in
                       absurd (omega (arith, high, new.0, size, grid.workers_are))
-                  | inr last ↦ subst (λ (o : OutView). IsNewLane capacity o end) (same_out row out_row stream lane.0 out new.1 lane.1 out_is) last.1
+                  | inr last ↦ subst (λ (o : OutView). IsNewLane capacity o end)
+                      (same_out row out_row stream lane.0 out new.1 lane.1 out_is) last.1
                 ]
           ];
     }

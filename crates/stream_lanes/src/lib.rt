@@ -4,13 +4,13 @@
 mod ends;
 mod error;
 mod grid;
-mod making;
+mod new_lanes;
 mod rest;
 mod turning;
 
 pub use ends::{LaneIn, LaneOut};
 pub use error::LaneError;
 pub use grid::Lanes;
-pub use making::lanes;
+pub use new_lanes::lanes;
 pub use rest::{Rest, drain};
 pub use turning::by_stream;

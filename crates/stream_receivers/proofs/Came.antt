@@ -31,7 +31,8 @@ later_of_two f c = elim (cases_lt f.stamp c.stamp) [
   ]
 ]
 
-later_comes : (o : Option PageCopy) (c : PageCopy) → (x : PageCopy) × (later o (Some c) ≡ Some x) × (c.stamp ≤ x.stamp)
+pub later_comes : (o : Option PageCopy) (c : PageCopy) → (x : PageCopy) × (later o (Some c) ≡ Some x)
+    × (c.stamp ≤ x.stamp)
 later_comes None c = (c, refl, omega arith)
 later_comes (Some f) c = let two = later_of_two f c in (two.0, two.1, two.3)
 

@@ -6,14 +6,10 @@ use Rattle.std.proofs.lemmas.List.{length-map}
 use Rattle.std.proofs.lemmas.Option.{slice_get_within, get_or_from_slice_get, slice_get-get_or, same_Some, none-some}
 use Rattle.stream_lanes.specs.Ends.{OutView, InView, LaneId}
 use Rattle.stream_lanes.specs.Grids.{IsGrid, AreColumns}
+use Rattle.stream_lanes.proofs.Grown.{within}
 use Rattle.stream_receivers.specs.Receivers.{AreEnds, AreNewEnds}
 
-some_at : {X : Type 0} (xs : List X) (k : ℕ) → k < length xs → (x : X) × (slice_get xs k ≡ Some x)
-some_at [] k low = absurd (omega (arith, low))
-some_at (x ∷ xs) zero low = (x, refl)
-some_at (x ∷ xs) (suc k) low = some_at xs k (omega (arith, low))
-
-holds_at : {X : Type 0} (P : X → Type 0) (xs : List X) (k : ℕ) (x : X) → All P xs → slice_get xs k ≡ Some x → P x
+pub holds_at : {X : Type 0} (P : X → Type 0) (xs : List X) (k : ℕ) (x : X) → All P xs → slice_get xs k ≡ Some x → P x
 holds_at P xs k x all there = subst P (get_or_from_slice_get xs k x x there) (all k x (slice_get_within xs k x there))
 
 -- a stream's column and its row are of the same lanes
@@ -32,14 +28,14 @@ new_ends workers streams capacity rows columns ins stream column row grid turned
         count = height ∙ grid.workers_are ∙ sym width;
         each = λ worker out end out_is end_is.
             let low = slice_get_within column.items worker out out_is in
-            let outs = some_at rows worker (omega (arith, low, height)) in
+            let outs = within rows worker (omega (arith, low, height)) in
             (grid.lanes worker stream outs.0 out row end outs.1
             (sym (turned.same worker stream outs.0 column outs.1 column_is) ∙ out_is) row_is end_is).lane;
       };
       nothing = λ worker end low.
           let there = slice_get-get_or row.items worker end low in
-          let outs = some_at rows worker (omega (arith, low, width, grid.workers_are)) in
-          let out = some_at column.items worker (omega (arith, low, width, height, grid.workers_are)) in
+          let outs = within rows worker (omega (arith, low, width, grid.workers_are)) in
+          let out = within column.items worker (omega (arith, low, width, height, grid.workers_are)) in
           (grid.lanes worker stream outs.0 out.0 row (get_or row.items worker end) outs.1
           (sym (turned.same worker stream outs.0 column outs.1 column_is) ∙ out.1) row_is there).taken;
     }

@@ -4,6 +4,7 @@ use Rattle.std.proofs.Common.{Some, None, option_map, Result, Ok, Err, IfErr, re
 use Rattle.std.proofs.lemmas.List.{take_all, length-drop}
 use Rattle.std.proofs.lemmas.List.Edits.{take-paste}
 use Rattle.std.specs.List.{copy_within}
+use Rattle.std.proofs.lemmas.Bool.{false≢true}
 use Rattle.migration_model.specs.Numbers.{text_of}
 use Rattle.migration_model.specs.Frames.{GuestShape, PageFrame, frame_with, frame_text, SpellsFrame}
 
@@ -35,9 +36,6 @@ owns_bytes shape text page stamp bytes spells =
     subst (λ (b : List ℕ). SpellsFrame shape text (frame_with page stamp (Some b)))
     (sym (ap (drop 9) spells.text ∙ body_behind page stamp bytes)) spells
 
-false_is_true : false ≡ true → ⊥
-false_is_true e = subst (λ (b : Bool). cond b ⊥ (Unit {0})) e tt
-
 -- a result that is refused isn't answered
 pub never_both : {X E : Type 0} (r : Result X E) (x : X) (e : E) → r ≡ Ok x → r ≡ Err e → ⊥
 never_both {X} {E} r x e good bad = subst (λ (q : Result X E). IfErr q (λ _. ⊥)) bad
@@ -46,7 +44,7 @@ never_both {X} {E} r x e good bad = subst (λ (q : Result X E). IfErr q (λ _. �
 some_body : (shape : GuestShape) (text : List ℕ) (page stamp : ℕ) (body : Option (List ℕ))
     → SpellsFrame shape text (frame_with page stamp body) → is_some body ≡ true
     → SpellsFrame shape text (frame_with page stamp (Some (drop 9 text))) × (9 ≤ length text)
-some_body shape text page stamp None spells some = absurd (false_is_true some)
+some_body shape text page stamp None spells some = absurd (false≢true some)
 some_body shape text page stamp (Some bytes) spells some = (
   owns_bytes shape text page stamp bytes spells,
   subst (λ (t : List ℕ). 9 ≤ length t) (sym spells.text)

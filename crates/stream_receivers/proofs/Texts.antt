@@ -7,10 +7,7 @@ use Rattle.std.proofs.lemmas.List.Sums.{fold-append}
 use Rattle.migration_model.specs.Frames.{GuestShape, PageFrame, IsFrame, frame_text}
 use Rattle.migration_model.specs.Parts.{GuestPart, with_frame, with_frames}
 use Rattle.stream_receivers.specs.Texts.{TakesText, TakesTexts}
-
-pub shape-with_frames : (part : GuestPart) (frames : List PageFrame) → (with_frames part frames).shape ≡ part.shape
-shape-with_frames part [] = refl
-shape-with_frames part (frame ∷ frames) = shape-with_frames (with_frame part frame) frames
+use Rattle.collector.proofs.Taken.{shape-with_frames}
 
 pub texts_none : (part : GuestPart) → TakesTexts part part []
 texts_none part = record { frames = []; are_frames = All-nil (IsFrame part.shape); spelled = refl; part = refl }

@@ -1,4 +1,4 @@
-//! Frames to streams.
+//! Frames to streams. No program runs it: it serves users of the library, and tests.
 
 ghost use Rattle.std.specs.Prelude.{◌≡◌, ◌≤◌, ◌++◌, IfOk, OnOk, replicate, map, []};
 ghost use Rattle.std.specs.List.{All};

@@ -1,5 +1,6 @@
 -- What a trace that is read in place says of its bytes.
-use Rattle.std.proofs.Common.{◌≡◌, ℕ, zero, suc, List, ◌++◌, length, get_or, drop, None, refl, sym, ap, ◌∙◌, append_assoc, inl, inr}
+use Rattle.std.proofs.Common.{◌≡◌, ℕ, zero, suc, List, ◌++◌, length, get_or, drop, None, refl, sym, ap, ◌∙◌}
+use Rattle.std.proofs.Common.{append_assoc, inl, inr}
 use Rattle.std.specs.Int.{w32}
 use Rattle.std.specs.List.{flat_map}
 use Rattle.std.proofs.lemmas.List.{append-nil}
@@ -13,19 +14,24 @@ use Rattle.trace_codec.specs.declared.error.TraceError.{TraceError}
 use Rattle.trace_codec.proofs.Headers.{IsHeader-from_none}
 
 -- bytes that hold so many writes are the encodings of those, and the bytes behind them
-pub texts_read : (n : ℕ) (bytes : List ℕ) → IsBytes bytes → HoldsWrites n bytes → bytes ≡ flat_map write_text (writes_in n bytes) ++ rest_of n bytes
+pub texts_read : (n : ℕ) (bytes : List ℕ) → IsBytes bytes → HoldsWrites n bytes
+    → bytes ≡ flat_map write_text (writes_in n bytes) ++ rest_of n bytes
 texts_read zero bytes fits holds = refl
 texts_read (suc n) bytes fits holds =
     text_read bytes fits holds.0
-    ∙ ap (λ (x : List ℕ). write_text (write_in bytes) ++ x) (texts_read n (rest_after bytes) (IsBytes-rest_after bytes fits) holds.1)
-    ∙ sym (append_assoc (write_text (write_in bytes)) (flat_map write_text (writes_in n (rest_after bytes))) (rest_of n (rest_after bytes)))
+    ∙ ap (λ (x : List ℕ). write_text (write_in bytes) ++ x) (texts_read n (rest_after bytes)
+    (IsBytes-rest_after bytes fits) holds.1)
+    ∙ sym (append_assoc (write_text (write_in bytes)) (flat_map write_text (writes_in n (rest_after bytes)))
+    (rest_of n (rest_after bytes)))
 
 -- the trace that the bytes encode
 abbrev pub trace_in : List ℕ → GuestTrace
-trace_in bytes = trace_with (get_or bytes 4 0) (get_or bytes 5 0) (number_in w32 (drop 8 bytes)) (writes_in (number_in w32 (drop 12 bytes)) (drop 16 bytes))
+trace_in bytes = trace_with (get_or bytes 4 0) (get_or bytes 5 0) (number_in w32 (drop 8 bytes))
+    (writes_in (number_in w32 (drop 12 bytes)) (drop 16 bytes))
 
 pub is_spelled : (bytes : List ℕ) → IsBytes bytes → header_refusal bytes ≡ None
-    → IsBody (get_or bytes 4 0) (get_or bytes 5 0) (number_in w32 (drop 8 bytes)) (number_in w32 (drop 12 bytes)) (drop 16 bytes)
+    → IsBody (get_or bytes 4 0) (get_or bytes 5 0) (number_in w32 (drop 8 bytes)) (number_in w32 (drop 12 bytes))
+    (drop 16 bytes)
     → Spells bytes (trace_in bytes)
 unfolding trace_text
 is_spelled bytes fits none body =
@@ -37,8 +43,10 @@ is_spelled bytes fits none body =
     ∙ ap (λ (rest : List ℕ). flat_map write_text (writes_in count (drop 16 bytes)) ++ rest) body.all ∙ append-nil _ in
     let text : bytes ≡ trace_text (trace_in bytes) =
     header.text
-    ∙ ap (λ (rest : List ℕ). header_text (get_or bytes 4 0) (get_or bytes 5 0) (number_in w32 (drop 8 bytes)) count ++ rest) texts
-    ∙ ap (λ (n : ℕ). header_text (get_or bytes 4 0) (get_or bytes 5 0) (number_in w32 (drop 8 bytes)) n ++ flat_map write_text (writes_in count (drop 16 bytes))) (sym len) in
+    ∙ ap (λ (rest : List ℕ). header_text (get_or bytes 4 0) (get_or bytes 5 0) (number_in w32 (drop 8 bytes)) count
+    ++ rest) texts
+    ∙ ap (λ (n : ℕ). header_text (get_or bytes 4 0) (get_or bytes 5 0) (number_in w32 (drop 8 bytes)) n
+    ++ flat_map write_text (writes_in count (drop 16 bytes))) (sym len) in
     record {
       is_trace = record {
         version_low = header.version_low;
@@ -53,7 +61,8 @@ is_spelled bytes fits none body =
 
 -- the bytes begin with these writes
 begins : (n last : ℕ) (bytes rest : List ℕ) → IsBytes bytes → header_refusal bytes ≡ None
-    → ReadsTo (get_or bytes 4 0) (get_or bytes 5 0) (number_in w32 (drop 8 bytes)) n (drop 16 bytes) last rest → Begins bytes
+    → ReadsTo (get_or bytes 4 0) (get_or bytes 5 0) (number_in w32 (drop 8 bytes)) n (drop 16 bytes) last rest
+    → Begins bytes
 begins n last bytes rest fits none reads =
     let header = IsHeader-from_none bytes fits none in
     record {
@@ -70,13 +79,15 @@ begins n last bytes rest fits none reads =
       few = header.few;
       fit = reads.fit;
       parts = header.text
-          ∙ ap (λ (x : List ℕ). header_text (get_or bytes 4 0) (get_or bytes 5 0) (number_in w32 (drop 8 bytes)) (number_in w32 (drop 12 bytes)) ++ x)
+          ∙ ap (λ (x : List ℕ). header_text (get_or bytes 4 0) (get_or bytes 5 0) (number_in w32 (drop 8 bytes))
+          (number_in w32 (drop 12 bytes)) ++ x)
           (texts_read n (drop 16 bytes) (IsBytes-drop 16 bytes fits) reads.holds
           ∙ ap (λ (x : List ℕ). flat_map write_text (writes_in n (drop 16 bytes)) ++ x) (sym reads.rest_is));
     }
 
 pub is_refused : (bytes : List ℕ) (e : TraceError) → IsBytes bytes → header_refusal bytes ≡ None
-    → RefusesBody (get_or bytes 4 0) (get_or bytes 5 0) (number_in w32 (drop 8 bytes)) (number_in w32 (drop 12 bytes)) (drop 16 bytes) e
+    → RefusesBody (get_or bytes 4 0) (get_or bytes 5 0) (number_in w32 (drop 8 bytes)) (number_in w32 (drop 12 bytes))
+    (drop 16 bytes) e
     → Refuses bytes e
 unfolding begins
 is_refused bytes e fits none refused =
@@ -95,18 +106,23 @@ is_refused bytes e fits none refused =
 
 -- ---- these facts by the names that the code has for the parts
 
-pub cut_spelled : (bytes : List ℕ) (version shift pages count : ℕ) (body : List ℕ) → IsCut bytes version shift pages count body → IsBody version shift pages count body
+pub cut_spelled : (bytes : List ℕ) (version shift pages count : ℕ) (body : List ℕ)
+    → IsCut bytes version shift pages count body → IsBody version shift pages count body
     → Spells bytes (trace_with version shift pages (writes_in count body))
 cut_spelled bytes version shift pages count body cut is =
     rw (cut.version_is, cut.shift_is, cut.pages_is, cut.count_is, cut.body_is)
-    (is_spelled bytes cut.fits cut.header (rw (cut.version_is, cut.shift_is, cut.pages_is, cut.count_is, cut.body_is) at is))
+    (is_spelled bytes cut.fits cut.header (rw (cut.version_is, cut.shift_is, cut.pages_is, cut.count_is, cut.body_is) at
+    is))
 
-pub cut_viewed : (bytes : List ℕ) (version shift pages count : ℕ) (body : List ℕ) → IsCut bytes version shift pages count body → IsBody version shift pages count body
+pub cut_viewed : (bytes : List ℕ) (version shift pages count : ℕ) (body : List ℕ)
+    → IsCut bytes version shift pages count body → IsBody version shift pages count body
     → IsView version shift pages count body
 cut_viewed bytes version shift pages count body cut is =
     record { is_trace = (cut_spelled bytes version shift pages count body cut is).is_trace; holds = is.holds }
 
-pub cut_refused : (bytes : List ℕ) (version shift pages count : ℕ) (body : List ℕ) (e : TraceError) → IsCut bytes version shift pages count body
+pub cut_refused : (bytes : List ℕ) (version shift pages count : ℕ) (body : List ℕ) (e : TraceError)
+    → IsCut bytes version shift pages count body
     → RefusesBody version shift pages count body e → Refuses bytes e
 cut_refused bytes version shift pages count body e cut refused =
-    is_refused bytes e cut.fits cut.header (rw (cut.version_is, cut.shift_is, cut.pages_is, cut.count_is, cut.body_is) at refused)
+    is_refused bytes e cut.fits cut.header (rw (cut.version_is, cut.shift_is, cut.pages_is, cut.count_is, cut.body_is)
+    at refused)

@@ -1,5 +1,6 @@
 -- How a reader on its way goes on, and ends.
-use Rattle.std.proofs.Common.{◌≡◌, ℕ, ◌+◌, ◌<◌, List, [], ◌∷◌, ◌++◌, length, drop, Some, None, refl, sym, ap, subst, ◌∙◌, inl, inr, arith}
+use Rattle.std.proofs.Common.{◌≡◌, ℕ, ◌+◌, ◌<◌, List, [], ◌∷◌, ◌++◌, length, drop, Some, None, refl, sym, ap, subst}
+use Rattle.std.proofs.Common.{◌∙◌, inl, inr, arith}
 use Rattle.std.proofs.lemmas.List.{nil_from_length}
 use Rattle.migration_model.specs.Trace.{GuestWrite, Spells, trace_with}
 use Rattle.migration_model.specs.TraceReading.{tick_in, write_in, rest_after, writes_in}
@@ -12,31 +13,39 @@ use Rattle.trace_codec.proofs.Found.{cut_refused, cut_spelled}
 use Rattle.trace_codec.proofs.Steps.{IsRight-from_none, ReadsTo-more}
 
 -- how many writes a reader has read
-pub read_count : (state : ReaderState) (bytes : List ℕ) (version shift pages count n : ℕ) → reader_state bytes version shift pages count (writes_in n (drop 16 bytes)) ≡ state
+pub read_count : (state : ReaderState) (bytes : List ℕ) (version shift pages count n : ℕ)
+    → reader_state bytes version shift pages count (writes_in n (drop 16 bytes)) ≡ state
     → length state.writes ≡ n
-read_count state bytes version shift pages count n is = sym (ap (λ (s : ReaderState). length s.writes) is) ∙ length-writes_in n (drop 16 bytes)
+read_count state bytes version shift pages count n is = sym (ap (λ (s : ReaderState). length s.writes) is)
+    ∙ length-writes_in n (drop 16 bytes)
 
-pub reads_on : (bytes : List ℕ) (version shift pages count n last : ℕ) (rest : List ℕ) → IsReading bytes version shift pages count n last rest → n < count
-    → write_refusal version shift pages last n rest ≡ None → IsReading bytes version shift pages count (n + 1) (tick_in rest) (rest_after rest)
+pub reads_on : (bytes : List ℕ) (version shift pages count n last : ℕ) (rest : List ℕ)
+    → IsReading bytes version shift pages count n last rest → n < count
+    → write_refusal version shift pages last n rest ≡ None → IsReading bytes version shift pages count (n + 1)
+    (tick_in rest) (rest_after rest)
 reads_on bytes version shift pages count n last rest on more none =
     record {
       cut = on.cut;
-      reads = ReadsTo-more version shift pages n (drop 16 bytes) last rest on.reads (IsRight-from_none version shift pages last n rest none);
+      reads = ReadsTo-more version shift pages n (drop 16 bytes) last rest on.reads
+          (IsRight-from_none version shift pages last n rest none);
       few = omega arith;
     }
 
-pub read_refused : (bytes : List ℕ) (version shift pages count n last : ℕ) (rest : List ℕ) (e : TraceError) → IsReading bytes version shift pages count n last rest
+pub read_refused : (bytes : List ℕ) (version shift pages count n last : ℕ) (rest : List ℕ) (e : TraceError)
+    → IsReading bytes version shift pages count n last rest
     → n < count → write_refusal version shift pages last n rest ≡ Some e → Refuses bytes e
 read_refused bytes version shift pages count n last rest e on more is =
     cut_refused bytes version shift pages count (drop 16 bytes) e on.cut (inl (n, last, rest, more, on.reads, is))
 
-pub end_refused : (bytes : List ℕ) (version shift pages count n last : ℕ) (rest : List ℕ) → IsReading bytes version shift pages count n last rest → n ≡ count
+pub end_refused : (bytes : List ℕ) (version shift pages count n last : ℕ) (rest : List ℕ)
+    → IsReading bytes version shift pages count n last rest → n ≡ count
     → 0 < length rest → Refuses bytes TrailingBytes
 end_refused bytes version shift pages count n last rest on all more =
     cut_refused bytes version shift pages count (drop 16 bytes) TrailingBytes on.cut
     (inr (last, rest, subst (λ k. ReadsTo version shift pages k (drop 16 bytes) last rest) all on.reads, more, refl))
 
-pub end_spelled : (bytes : List ℕ) (version shift pages count n last : ℕ) (rest : List ℕ) → IsReading bytes version shift pages count n last rest → n ≡ count
+pub end_spelled : (bytes : List ℕ) (version shift pages count n last : ℕ) (rest : List ℕ)
+    → IsReading bytes version shift pages count n last rest → n ≡ count
     → length rest ≡ 0 → Spells bytes (trace_with version shift pages (writes_in n (drop 16 bytes)))
 end_spelled bytes version shift pages count n last rest on all none =
     let reads = subst (λ k. ReadsTo version shift pages k (drop 16 bytes) last rest) all on.reads in
@@ -44,10 +53,14 @@ end_spelled bytes version shift pages count n last rest on all none =
     (record { holds = reads.holds; fit = reads.fit; all = sym reads.rest_is ∙ nil_from_length rest none }))
 
 -- the state after one more write
-pub state_more : (state : ReaderState) (bytes : List ℕ) (version shift pages count n last : ℕ) (rest : List ℕ) (write : GuestWrite)
+pub state_more : (state : ReaderState) (bytes : List ℕ) (version shift pages count n last : ℕ) (rest : List ℕ)
+    (write : GuestWrite)
     → IsReading bytes version shift pages count n last rest
     → reader_state bytes version shift pages count (writes_in n (drop 16 bytes)) ≡ state → write ≡ write_in rest
-    → reader_state bytes version shift pages count (writes_in (n + 1) (drop 16 bytes)) ≡ record state { writes = state.writes ++ write ∷ [] }
+    → reader_state bytes version shift pages count (writes_in (n + 1) (drop 16 bytes))
+    ≡ record state { writes = state.writes ++ write ∷ [] }
 state_more state bytes version shift pages count n last rest write on is read =
-    ap (reader_state bytes version shift pages count) (writes_in_more n (drop 16 bytes) ∙ ap (λ (w : GuestWrite). writes_in n (drop 16 bytes) ++ w ∷ []) (ap write_in (sym on.reads.rest_is) ∙ sym read))
+    ap (reader_state bytes version shift pages count) (writes_in_more n (drop 16 bytes)
+    ∙ ap (λ (w : GuestWrite). writes_in n (drop 16 bytes) ++ w ∷ [])
+    (ap write_in (sym on.reads.rest_is) ∙ sym read))
     ∙ ap (λ (s : ReaderState). record s { writes = s.writes ++ write ∷ [] }) is

@@ -1,11 +1,15 @@
 -- What one more write that is read adds.
-use Rattle.std.proofs.Common.{◌≡◌, ℕ, zero, suc, ◌+◌, ◌-◌, ◌^◌, ◌<◌, ◌≤◌, ltb, Bool, true, false, not, ◌&&◌, ◌⊎◌, inl, inr, eqb, cond, List, [], ◌∷◌, ◌++◌, length, take, drop, Option, Some, None, refl, sym, ap, ◌∙◌, add-one, arith}
+use Rattle.std.proofs.Common.{◌≡◌, ℕ, zero, suc, ◌+◌, ◌-◌, ◌^◌, ◌<◌, ◌≤◌, ltb, Bool, true, false, not, ◌&&◌, ◌⊎◌, inl}
+use Rattle.std.proofs.Common.{inr, eqb, cond, List, [], ◌∷◌, ◌++◌, length, take, drop, Option, Some, None, refl, sym}
+use Rattle.std.proofs.Common.{ap, ◌∙◌, add-one, arith}
 use Rattle.std.specs.List.{All}
 use Rattle.std.proofs.lemmas.List.{length-take, length-drop, take_all}
 use Rattle.std.proofs.lemmas.List.Elements.{All-push}
-use Rattle.std.proofs.lemmas.Bool.{and_parts, cases_Bool, cases_eq, eq-eqb, eqb-true, le-ltb, lt-leb, lt-ltb, ltb-false, leb-false, ne_eqb}
+use Rattle.std.proofs.lemmas.Bool.{and_parts, cases_Bool, cases_eq, eq-eqb, eqb-true, le-ltb, lt-leb, lt-ltb, ltb-false}
+use Rattle.std.proofs.lemmas.Bool.{leb-false, ne_eqb}
 use Rattle.migration_model.specs.Trace.{IsGuestWrite}
-use Rattle.migration_model.specs.TraceReading.{tick_in, page_in, offset_in, length_in, write_in, rest_after, writes_in, rest_of}
+use Rattle.migration_model.specs.TraceReading.{tick_in, page_in, offset_in, length_in, write_in, rest_after, writes_in}
+use Rattle.migration_model.specs.TraceReading.{rest_of}
 use Rattle.migration_model.proofs.Writes.{writes_in_more, rest_of_more}
 use Rattle.migration_model.proofs.Order.{last_by-push, in_order-push}
 use Rattle.trace_codec.specs.Reading.{HoldsWrites, ReadsTo}
@@ -14,21 +18,25 @@ use Rattle.trace_codec.specs.declared.error.TraceError.{TraceError}
 use Rattle.trace_codec.specs.declared.error.TraceError.TheVariants.{OutOfPage}
 
 -- a test that let something pass
-pub passed : (b : Bool) (e : TraceError) (others : Option TraceError) → cond b (Some e) others ≡ None → (b ≡ false) × (others ≡ None)
+pub passed : (b : Bool) (e : TraceError) (others : Option TraceError) → cond b (Some e) others ≡ None
+    → (b ≡ false) × (others ≡ None)
 passed true e others is = absurd cc
 passed false e others is = (refl, is)
 
 -- a write that is not refused for having no bytes has some, or is a release
-pub some_or_release : (version offset len : ℕ) → is_empty_write version offset len ≡ false → (1 ≤ len) ⊎ ((version ≡ 2) × (offset ≡ 0))
+pub some_or_release : (version offset len : ℕ) → is_empty_write version offset len ≡ false
+    → (1 ≤ len) ⊎ ((version ≡ 2) × (offset ≡ 0))
 some_or_release version offset len is = elim (cases_eq len 0) [
   | inr some ↦ inl (omega (arith, some))
   | inl none ↦ elim (cases_Bool (eqb version 2 && eqb offset 0)) [
-    | inl release ↦ let parts = and_parts (eqb version 2) (eqb offset 0) release in inr (eqb-true version 2 parts.0, eqb-true offset 0 parts.1)
+    | inl release ↦ let parts = and_parts (eqb version 2) (eqb offset 0) release in inr
+        (eqb-true version 2 parts.0, eqb-true offset 0 parts.1)
     | inr other ↦ absurd (let refused : true ≡ false = sym (rw (eq-eqb len 0 none, other) refl) ∙ is in cc refused)
   ]
 ]
 
-pub passes_empty : (version offset len : ℕ) → (1 ≤ len) ⊎ ((version ≡ 2) × (offset ≡ 0)) → is_empty_write version offset len ≡ false
+pub passes_empty : (version offset len : ℕ) → (1 ≤ len) ⊎ ((version ≡ 2) × (offset ≡ 0))
+    → is_empty_write version offset len ≡ false
 passes_empty version offset len (inl some) = rw (ne_eqb len 0 (λ none. omega (arith, some, none))) refl
 passes_empty version offset len (inr release) = elim (cases_eq len 0) [
   | inl none ↦ rw (eq-eqb len 0 none, eq-eqb version 2 release.0, eq-eqb offset 0 release.1) refl
@@ -49,8 +57,10 @@ abbrev pub end_test : ℕ → ℕ → List ℕ → Option TraceError
 end_test shift i bytes = cond (ltb (2 ^ shift) (offset_in bytes + length_in bytes)) (Some (OutOfPage i)) None
 
 -- where all other tests are passed, it is the one that decides
-pub last_test : (version shift pages before i : ℕ) (bytes : List ℕ) → 16 ≤ length bytes → 16 + length_in bytes ≤ length bytes → before ≤ tick_in bytes
-    → tick_in bytes < 2 ^ 40 → page_in bytes < pages → is_empty_write version (offset_in bytes) (length_in bytes) ≡ false
+pub last_test : (version shift pages before i : ℕ) (bytes : List ℕ) → 16 ≤ length bytes
+    → 16 + length_in bytes ≤ length bytes → before ≤ tick_in bytes
+    → tick_in bytes < 2 ^ 40 → page_in bytes < pages → is_empty_write version (offset_in bytes) (length_in bytes)
+    ≡ false
     → write_refusal version shift pages before i bytes ≡ end_test shift i bytes
 last_test version shift pages before i bytes long whole order tick page some =
     skip _ _ _ _ (le-ltb (length bytes) 16 long)
@@ -60,10 +70,12 @@ last_test version shift pages before i bytes long whole order tick page some =
     (skip _ _ _ _ (lt-leb pages (page_in bytes) page)
     (skip _ _ _ _ some refl)))))
 
-pub out_of_page : (shift i : ℕ) (bytes : List ℕ) → 2 ^ shift < offset_in bytes + length_in bytes → end_test shift i bytes ≡ Some (OutOfPage i)
+pub out_of_page : (shift i : ℕ) (bytes : List ℕ) → 2 ^ shift < offset_in bytes + length_in bytes
+    → end_test shift i bytes ≡ Some (OutOfPage i)
 out_of_page shift i bytes past = rw (lt-ltb (2 ^ shift) (offset_in bytes + length_in bytes) past) refl
 
-pub within_page : (shift i : ℕ) (bytes : List ℕ) → offset_in bytes + length_in bytes ≤ 2 ^ shift → end_test shift i bytes ≡ None
+pub within_page : (shift i : ℕ) (bytes : List ℕ) → offset_in bytes + length_in bytes ≤ 2 ^ shift
+    → end_test shift i bytes ≡ None
 within_page shift i bytes within = rw (le-ltb (2 ^ shift) (offset_in bytes + length_in bytes) within) refl
 
 -- what a write that is not refused is
@@ -72,7 +84,8 @@ pub record IsRight (version shift pages before : ℕ) (bytes : List ℕ) : Type 
   pub order : before ≤ tick_in bytes
   pub fits : IsGuestWrite version shift pages (write_in bytes)
 
-pub IsRight-from_none : (version shift pages before i : ℕ) (bytes : List ℕ) → write_refusal version shift pages before i bytes ≡ None → IsRight version shift pages before bytes
+pub IsRight-from_none : (version shift pages before i : ℕ) (bytes : List ℕ)
+    → write_refusal version shift pages before i bytes ≡ None → IsRight version shift pages before bytes
 unfolding write_in
 IsRight-from_none version shift pages before i bytes none =
     let head = passed _ _ _ none in
@@ -96,20 +109,25 @@ IsRight-from_none version shift pages before i bytes none =
       };
     }
 
-HoldsWrites-next : (n : ℕ) (bytes : List ℕ) → HoldsWrites n bytes → 16 + length_in (rest_of n bytes) ≤ length (rest_of n bytes) → HoldsWrites (suc n) bytes
+HoldsWrites-next : (n : ℕ) (bytes : List ℕ) → HoldsWrites n bytes
+    → 16 + length_in (rest_of n bytes) ≤ length (rest_of n bytes) → HoldsWrites (suc n) bytes
 HoldsWrites-next zero bytes holds long = (long, tt)
 HoldsWrites-next (suc n) bytes holds long = (holds.0, HoldsWrites-next n (rest_after bytes) holds.1 long)
 
-pub ReadsTo-more : (version shift pages n : ℕ) (bytes : List ℕ) (last : ℕ) (rest : List ℕ) → ReadsTo version shift pages n bytes last rest → IsRight version shift pages last rest
+pub ReadsTo-more : (version shift pages n : ℕ) (bytes : List ℕ) (last : ℕ) (rest : List ℕ)
+    → ReadsTo version shift pages n bytes last rest → IsRight version shift pages last rest
     → ReadsTo version shift pages (n + 1) bytes (tick_in rest) (rest_after rest)
 unfolding write_in
 ReadsTo-more version shift pages n bytes last rest so_far right =
-    let here : writes_in (n + 1) bytes ≡ writes_in n bytes ++ write_in rest ∷ [] = rw so_far.rest_is (writes_in_more n bytes) in
-    let below : All (λ w. w.tick ≤ tick_in rest) (writes_in n bytes) = λ k d low. omega (arith, so_far.below k d low, right.order) in
+    let here : writes_in (n + 1) bytes ≡ writes_in n bytes ++ write_in rest ∷ [] =
+    rw so_far.rest_is (writes_in_more n bytes) in
+    let below : All (λ w. w.tick ≤ tick_in rest) (writes_in n bytes) =
+    λ k d low. omega (arith, so_far.below k d low, right.order) in
     record {
       holds = rw add-one (HoldsWrites-next n bytes so_far.holds (rw so_far.rest_is at right.whole));
       fit = rw here (record {
-        each = All-push (IsGuestWrite version shift pages) (writes_in n bytes) (write_in rest) so_far.fit.each right.fits;
+        each = All-push (IsGuestWrite version shift pages) (writes_in n bytes) (write_in rest) so_far.fit.each
+            right.fits;
         in_order = in_order-push (λ w. w.tick) (writes_in n bytes) (write_in rest) so_far.fit.in_order below;
       });
       last_is = rw here (sym (last_by-push (λ w. w.tick) (writes_in n bytes) (write_in rest)));

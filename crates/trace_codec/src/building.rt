@@ -1,4 +1,4 @@
-//! Tests of writes that are not encoded yet.
+//! Tests of writes that are not encoded yet. No program runs it: it serves users of the library, and tests.
 
 ghost use Rattle.std.specs.Prelude.{◌≡◌, ℕ, length, IfErr, IfOk, OnOk, Some, None};
 ghost use Rattle.migration_model.specs.Trace.{AreGuestWrites, IsTrace, trace_with};

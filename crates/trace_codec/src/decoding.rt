@@ -1,4 +1,4 @@
-//! A trace from its bytes.
+//! A trace from its bytes. No program runs it: it serves users of the library, and tests.
 
 ghost use Rattle.std.specs.Prelude.{◌≡◌, IfErr, IfOk, MatchResult};
 ghost use Rattle.migration_model.specs.Trace.{GuestTrace, Spells};

@@ -1,4 +1,4 @@
-//! A trace as bytes.
+//! A trace as bytes. No program runs it: it serves users of the library, and tests.
 
 ghost use Rattle.std.specs.Prelude.{◌≡◌, ◌++◌, ◌^◌, ◌<◌, IfErr, IfOk, OnOk, length};
 ghost use Rattle.std.specs.Int.{w16, w32, w64};

@@ -1,4 +1,4 @@
-//! A trace that owns its writes.
+//! A trace that owns its writes. No program runs it: it serves users of the library, and tests.
 
 ghost use Rattle.std.specs.Prelude.{◌≡◌, length, IfErr, IfOk, IsOk};
 ghost use Rattle.migration_model.specs.Trace.{GuestTrace, IsTrace, trace_with};

@@ -1,5 +1,7 @@
 -- What more bytes behind some bytes change of what is read at their front: nothing, where it stands there whole.
-use Rattle.std.proofs.Common.{◌≡◌, ℕ, zero, suc, ◌+◌, ◌^◌, ◌<◌, ◌≤◌, Bool, true, false, cond, List, ◌∷◌, ◌++◌, length, get_or, take, drop, Option, Some, None, refl, sym, ap, subst, ◌∙◌, append_assoc, inl, inr, arith}
+use Rattle.std.proofs.Common.{◌≡◌, ℕ, zero, suc, ◌+◌, ◌^◌, ◌<◌, ◌≤◌, Bool, true, false, cond, List, ◌∷◌, ◌++◌, length}
+use Rattle.std.proofs.Common.{get_or, take, drop, Option, Some, None, refl, sym, ap, subst, ◌∙◌, append_assoc, inl, inr}
+use Rattle.std.proofs.Common.{arith}
 use Rattle.std.specs.Int.{w16, w32, w64}
 use Rattle.std.specs.List.{flat_map}
 use Rattle.std.proofs.lemmas.Bool.{cases_lt, lt-ltb, le-ltb, ltb-false}
@@ -16,27 +18,36 @@ use Rattle.trace_codec.specs.Reading.{HoldsWrites, IsReading}
 use Rattle.trace_codec.specs.Refusals.{header_refusal, write_refusal, Begins, Refuses, in_header, in_write, behind}
 use Rattle.trace_readers.specs.Texts.{ArePositions}
 use Rattle.trace_codec.specs.declared.error.TraceError.{TraceError}
-use Rattle.trace_codec.specs.declared.error.TraceError.TheVariants.{ShortHeader, ShortRecord, TickOrder, TickTooLarge, PageOutOfRange, EmptyWrite, OutOfPage, ReadFault}
+use Rattle.trace_codec.specs.declared.error.TraceError.TheVariants.{ShortHeader, ShortRecord, TickOrder, TickTooLarge}
+use Rattle.trace_codec.specs.declared.error.TraceError.TheVariants.{PageOutOfRange, EmptyWrite, OutOfPage, ReadFault}
 
 -- ---- numbers
 
 at : (k : ℕ) (bytes more : List ℕ) → k < length bytes → get_or (bytes ++ more) k 0 ≡ get_or bytes k 0
 at k bytes more low = get_or_append_left bytes more 0 k low
 
-number16 : (k : ℕ) (bytes more : List ℕ) → k + 2 ≤ length bytes → number_in w16 (drop k (bytes ++ more)) ≡ number_in w16 (drop k bytes)
+number16 : (k : ℕ) (bytes more : List ℕ) → k + 2 ≤ length bytes
+    → number_in w16 (drop k (bytes ++ more)) ≡ number_in w16 (drop k bytes)
 unfolding number_in
 number16 k bytes more long =
     let here = drop-append-le k bytes more (omega arith) in
     let low : 2 ≤ length (drop k bytes) = omega (arith, length-drop k bytes) in
     rw here (omega (arith, at 0 (drop k bytes) more (omega arith), at 1 (drop k bytes) more (omega arith)))
 
-number32 : (k : ℕ) (bytes more : List ℕ) → k + 4 ≤ length bytes → number_in w32 (drop k (bytes ++ more)) ≡ number_in w32 (drop k bytes)
+number32 : (k : ℕ) (bytes more : List ℕ) → k + 4 ≤ length bytes
+    → number_in w32 (drop k (bytes ++ more)) ≡ number_in w32 (drop k bytes)
 unfolding number_in
 number32 k bytes more long =
     let here = drop-append-le k bytes more (omega arith) in
     let low : 4 ≤ length (drop k bytes) = omega (arith, length-drop k bytes) in
     let f = drop k bytes in
-    rw here (omega (arith, at 0 f more (omega arith), at 1 f more (omega arith), at 2 f more (omega arith), at 3 f more (omega arith)))
+    rw here (omega (
+      arith,
+      at 0 f more (omega arith),
+      at 1 f more (omega arith),
+      at 2 f more (omega arith),
+      at 3 f more (omega arith),
+    ))
 
 number64 : (bytes more : List ℕ) → 8 ≤ length bytes → number_in w64 (bytes ++ more) ≡ number_in w64 bytes
 unfolding number_in
@@ -59,17 +70,20 @@ number64 bytes more low =
 abbrev Each : (TraceError → Type 0) → Option TraceError → Type 0
 Each P cause = (e : TraceError) → cause ≡ Some e → P e
 
-each_or : (P : TraceError → Type 0) (b : Bool) (x : TraceError) (others : Option TraceError) → P x → Each P others → Each P (cond b (Some x) others)
+each_or : (P : TraceError → Type 0) (b : Bool) (x : TraceError) (others : Option TraceError) → P x → Each P others
+    → Each P (cond b (Some x) others)
 each_or P true x others here there e is = let same : x ≡ e = cc in subst P same here
 each_or P false x others here there e is = there e is
 
 -- where a test passes
-each_else : (P : TraceError → Type 0) (b : Bool) (x : TraceError) (others : Option TraceError) → b ≡ false → Each P others → Each P (cond b (Some x) others)
+each_else : (P : TraceError → Type 0) (b : Bool) (x : TraceError) (others : Option TraceError) → b ≡ false
+    → Each P others → Each P (cond b (Some x) others)
 each_else P true x others is there = absurd cc
 each_else P false x others is there = there
 
 -- where a test does not pass
-each_here : (P : TraceError → Type 0) (b : Bool) (x : TraceError) (others : Option TraceError) → b ≡ true → P x → Each P (cond b (Some x) others)
+each_here : (P : TraceError → Type 0) (b : Bool) (x : TraceError) (others : Option TraceError) → b ≡ true → P x
+    → Each P (cond b (Some x) others)
 each_here P true x others is here e same = let back : x ≡ e = cc in subst P back here
 each_here P false x others is here e same = absurd cc
 
@@ -85,7 +99,8 @@ known : (e : TraceError) → wants_bytes e ≡ false → (e ≡ ReadFault → �
 known e some fault = record { some = some; fault = fault }
 
 -- why a write is refused that stands whole
-whole_causes : (version shift pages before i : ℕ) (bytes : List ℕ) → 16 + length_in bytes ≤ length bytes → Each IsKnown (write_refusal version shift pages before i bytes)
+whole_causes : (version shift pages before i : ℕ) (bytes : List ℕ) → 16 + length_in bytes ≤ length bytes
+    → Each IsKnown (write_refusal version shift pages before i bytes)
 whole_causes version shift pages before i bytes long =
     each_else IsKnown _ _ _ (le-ltb (length bytes) 16 (omega arith))
     (each_else IsKnown _ _ _ (le-ltb (length bytes) (16 + length_in bytes) long)
@@ -99,7 +114,8 @@ whole_causes version shift pages before i bytes long =
 abbrev IsCutOff : ℕ → TraceError → Type 0
 IsCutOff i e = e ≡ ShortRecord i
 
-cut_short : (version shift pages before i : ℕ) (bytes : List ℕ) → length bytes < 16 + length_in bytes → Each (IsCutOff i) (write_refusal version shift pages before i bytes)
+cut_short : (version shift pages before i : ℕ) (bytes : List ℕ) → length bytes < 16 + length_in bytes
+    → Each (IsCutOff i) (write_refusal version shift pages before i bytes)
 cut_short version shift pages before i bytes cut =
     each_or (IsCutOff i) _ _ _ refl
     (each_here (IsCutOff i) _ _ _ (lt-ltb (length bytes) (16 + length_in bytes) cut) refl)
@@ -109,7 +125,8 @@ pub record IsRecordCause (bytes : List ℕ) (e : TraceError) : Type 0 where
   pub room : wants_bytes e ≡ true → length bytes < 65_551
   pub fault : e ≡ ReadFault → ⊥
 
-pub record_cause : (version shift pages before i : ℕ) (bytes : List ℕ) (e : TraceError) → IsBytes bytes → write_refusal version shift pages before i bytes ≡ Some e → IsRecordCause bytes e
+pub record_cause : (version shift pages before i : ℕ) (bytes : List ℕ) (e : TraceError) → IsBytes bytes
+    → write_refusal version shift pages before i bytes ≡ Some e → IsRecordCause bytes e
 record_cause version shift pages before i bytes e fits is =
     let low : length_in bytes < 65_536 = wide16.below (drop 14 bytes) (IsBytes-drop 14 bytes fits) in
     elim (cases_lt (length bytes) (16 + length_in bytes)) [
@@ -123,7 +140,8 @@ record_cause version shift pages before i bytes e fits is =
 
 -- ---- the causes in longer bytes
 
-header_longer : (bytes more : List ℕ) → 16 ≤ length bytes → length (bytes ++ more) ≤ 2 ^ 28 → header_refusal (bytes ++ more) ≡ header_refusal bytes
+header_longer : (bytes more : List ℕ) → 16 ≤ length bytes → length (bytes ++ more) ≤ 2 ^ 28
+    → header_refusal (bytes ++ more) ≡ header_refusal bytes
 header_longer bytes more long short =
     let size = length-append bytes more in
     rw (
@@ -186,21 +204,26 @@ begins_longer bytes more short b =
     }
 
 -- A cause that does not want more bytes is the first in all longer bytes too.
-pub stays : (bytes more : List ℕ) (e : TraceError) → Refuses bytes e → wants_bytes e ≡ false → length (bytes ++ more) ≤ 2 ^ 28 → Refuses (bytes ++ more) e
+pub stays : (bytes more : List ℕ) (e : TraceError) → Refuses bytes e → wants_bytes e ≡ false
+    → length (bytes ++ more) ≤ 2 ^ 28 → Refuses (bytes ++ more) e
 unfolding begins_longer
 stays bytes more e (in_header is) some short = elim (cases_lt (length bytes) 16) [
   | inl low ↦
       let none : header_refusal bytes ≡ Some ShortHeader =
-      rw (le-ltb (2 ^ 28) (length bytes) (omega (arith, length-append bytes more)), lt-ltb (length bytes) 16 low) refl in
+      rw (le-ltb (2 ^ 28) (length bytes) (omega (arith, length-append bytes more)), lt-ltb (length bytes) 16 low)
+      refl in
       let same : Some ShortHeader ≡ Some e = sym none ∙ is in absurd cc
   | inr long ↦ in_header (header_longer bytes more long short ∙ is)
 ]
 stays bytes more e (in_write b left is) some short = elim (cases_lt (length b.rest) (16 + length_in b.rest)) [
-  | inl cut ↦ let short : e ≡ ShortRecord (length b.writes) = cut_short b.version b.shift b.pages (last_tick b.writes) (length b.writes) b.rest cut e is in absurd cc
+  | inl cut ↦ let short : e ≡ ShortRecord (length b.writes) =
+      cut_short b.version b.shift b.pages (last_tick b.writes) (length b.writes) b.rest cut e is in absurd cc
   | inr long ↦
-      in_write (begins_longer bytes more short b) left (write_longer b.version b.shift b.pages (last_tick b.writes) (length b.writes) b.rest more long ∙ is)
+      in_write (begins_longer bytes more short b) left (write_longer b.version b.shift b.pages (last_tick b.writes)
+      (length b.writes) b.rest more long ∙ is)
 ]
-stays bytes more e (behind b all left is) some short = behind (begins_longer bytes more short b) all (omega (arith, length-append b.rest more)) is
+stays bytes more e (behind b all left is) some short = behind (begins_longer bytes more short b) all
+    (omega (arith, length-append b.rest more)) is
 
 -- a header that is not refused stands there whole
 pub header_long : (bytes : List ℕ) → header_refusal bytes ≡ None → 16 ≤ length bytes
@@ -216,15 +239,18 @@ record SameFront (n : ℕ) (bytes more : List ℕ) : Type 0 where
   pub writes : writes_in n (bytes ++ more) ≡ writes_in n bytes
   pub rest : rest_of n (bytes ++ more) ≡ rest_of n bytes ++ more
 
-rest_longer : (bytes more : List ℕ) → 16 + length_in bytes ≤ length bytes → rest_after (bytes ++ more) ≡ rest_after bytes ++ more
+rest_longer : (bytes more : List ℕ) → 16 + length_in bytes ≤ length bytes
+    → rest_after (bytes ++ more) ≡ rest_after bytes ++ more
 unfolding rest_after
 rest_longer bytes more long =
-    ap (λ n. drop (16 + n) (bytes ++ more)) (length_longer bytes more (omega arith)) ∙ drop-append-le (16 + length_in bytes) bytes more long
+    ap (λ n. drop (16 + n) (bytes ++ more)) (length_longer bytes more (omega arith))
+    ∙ drop-append-le (16 + length_in bytes) bytes more long
 
 first_longer : (bytes more : List ℕ) → 16 + length_in bytes ≤ length bytes → write_in (bytes ++ more) ≡ write_in bytes
 unfolding write_in
 first_longer bytes more long =
-    same_write _ _ (number64 bytes more (omega arith)) (number32 8 bytes more (omega arith)) (number16 12 bytes more (omega arith))
+    same_write _ _ (number64 bytes more (omega arith)) (number32 8 bytes more (omega arith))
+    (number16 12 bytes more (omega arith))
     (ap (λ n. take n (drop 16 (bytes ++ more))) (length_longer bytes more (omega arith))
     ∙ ap (take (length_in bytes)) (drop-append-le 16 bytes more (omega arith))
     ∙ take-append-le (length_in bytes) (drop 16 bytes) more (omega (arith, length-drop 16 bytes)))
@@ -242,7 +268,8 @@ SameFront-from (suc n) bytes more holds =
     }
 
 -- what was read of some bytes is read of longer ones
-pub reading_longer : (bytes more : List ℕ) (version shift pages count n last : ℕ) (rest : List ℕ) → IsReading bytes version shift pages count n last rest
+pub reading_longer : (bytes more : List ℕ) (version shift pages count n last : ℕ) (rest : List ℕ)
+    → IsReading bytes version shift pages count n last rest
     → 16 ≤ length bytes → IsBytes (bytes ++ more) → length (bytes ++ more) ≤ 2 ^ 28
     → IsReading (bytes ++ more) version shift pages count n last (rest ++ more)
 reading_longer bytes more version shift pages count n last rest on long fits short =
@@ -268,17 +295,23 @@ reading_longer bytes more version shift pages count n last rest on long fits sho
       few = on.few;
     }
 
-pub writes_longer : (bytes more : List ℕ) (n : ℕ) → 16 ≤ length bytes → HoldsWrites n (drop 16 bytes) → writes_in n (drop 16 (bytes ++ more)) ≡ writes_in n (drop 16 bytes)
+pub writes_longer : (bytes more : List ℕ) (n : ℕ) → 16 ≤ length bytes → HoldsWrites n (drop 16 bytes)
+    → writes_in n (drop 16 (bytes ++ more)) ≡ writes_in n (drop 16 bytes)
 writes_longer bytes more n long holds =
     ap (writes_in n) (drop-append-le 16 bytes more long) ∙ (SameFront-from n (drop 16 bytes) more holds).writes
 
 holds_fewer : (count n : ℕ) (bytes : List ℕ) → HoldsWrites count bytes → n ≤ count → HoldsWrites n bytes
 holds_fewer count zero bytes holds few = tt
 holds_fewer zero (suc n) bytes holds few = absurd (omega arith)
-holds_fewer (suc count) (suc n) bytes holds few = (holds.0, holds_fewer count n (rest_after bytes) holds.1 (omega arith))
+holds_fewer (suc count) (suc n) bytes holds few = (
+  holds.0,
+  holds_fewer count n (rest_after bytes) holds.1
+      (omega arith),
+)
 
 -- and longer bytes have the same offsets
-pub positions_longer : (bytes more : List ℕ) (count : ℕ) (positions : List ℕ) → ArePositions bytes count positions → 16 ≤ length bytes
+pub positions_longer : (bytes more : List ℕ) (count : ℕ) (positions : List ℕ) → ArePositions bytes count positions
+    → 16 ≤ length bytes
     → HoldsWrites count (drop 16 bytes) → ArePositions (bytes ++ more) count positions
 positions_longer bytes more count positions are long holds =
     record {

@@ -47,14 +47,17 @@ fn visit_record<'a, V: WriteVisitor>(
     requires can { CanVisit (V.takes visitor.old) taken.old.header }
     ensures header { taken.new.header ≡ taken.old.header }
     ensures can { CanVisit (V.takes visitor.new) taken.new.header }
-    ensures visited { IfOk result (λ rest. (start : V) (text : List ℕ) → IsVisited (V.makes start visitor.old) text taken.old bytes.now
+    ensures visited { IfOk result (λ rest. (start : V) (text : List ℕ)
+        → IsVisited (V.makes start visitor.old) text taken.old bytes.now
         → IsVisited (V.makes start visitor.new) text taken.new rest.now) }
     ensures within { IfOk result (λ rest. length rest.now ≤ length bytes.now) }
     ensures rest { IfOk result (λ rest. rest.now ≡ drop (length bytes.now - length rest.now) bytes.now) }
     ensures more { OnOk result (taken.new.count ≡ taken.old.count + 1) }
-    ensures kept { OnErr result ((start : V) (text : List ℕ) → IsVisited (V.makes start visitor.old) text taken.old bytes.now
+    ensures kept { OnErr result ((start : V) (text : List ℕ)
+        → IsVisited (V.makes start visitor.old) text taken.old bytes.now
         → IsVisited (V.makes start visitor.new) text taken.new bytes.now) }
-    ensures refused { IfErr result (λ e. (start : V) (text : List ℕ) → IsVisited (V.makes start visitor.old) text taken.old bytes.now
+    ensures refused { IfErr result (λ e. (start : V) (text : List ℕ)
+        → IsVisited (V.makes start visitor.old) text taken.old bytes.now
         → RefusesUnlessMemory text e) }
     ensures room { IfErr result (λ e. wants_bytes e ≡ true → length bytes.now < 65_551) }
     ensures fault { IfErr result (λ e. e ≢ TraceError.ReadFault) }
@@ -80,10 +83,12 @@ fn visit_records<V: WriteVisitor>(
     ensures within { result.0 ≤ length bytes.now }
     ensures visited { (start : V) (text : List ℕ) → IsVisited (V.makes start visitor.old) text taken.old bytes.now
         → IsVisited (V.makes start visitor.new) text taken.new (drop result.0 bytes.now) }
-    ensures all { OnOk result.1 ((start : V) (text : List ℕ) → IsVisited (V.makes start visitor.old) text taken.old bytes.now
+    ensures all { OnOk result.1 ((start : V) (text : List ℕ)
+        → IsVisited (V.makes start visitor.old) text taken.old bytes.now
         → taken.new.count ≡ taken.new.header.shape.writes) }
     ensures none { OnOk result.1 (drop result.0 bytes.now ≡ []) }
-    ensures refused { IfErr result.1 (λ e. (start : V) (text : List ℕ) → IsVisited (V.makes start visitor.old) text taken.old bytes.now
+    ensures refused { IfErr result.1 (λ e. (start : V) (text : List ℕ)
+        → IsVisited (V.makes start visitor.old) text taken.old bytes.now
         → RefusesUnlessMemory text e) }
     ensures room { IfErr result.1 (λ e. wants_bytes e ≡ true → length (drop result.0 bytes.now) < 65_551) }
     ensures fault { IfErr result.1 (λ e. e ≢ TraceError.ReadFault) }
@@ -168,7 +173,8 @@ fn visit_piece<S: Source, V: WriteVisitor>(
         → IsVisiting (V.makes start visitor.old) old (S.remaining source.old) taken.old pieces.old
         → IsAllVisited (V.makes start visitor.new) old taken.new.header) }
     ensures refused { IfErr result (λ e. (start : V) (old : Option (List ℕ))
-        → IsVisiting (V.makes start visitor.old) old (S.remaining source.old) taken.old pieces.old → SourceRefuses old e) }
+        → IsVisiting (V.makes start visitor.old) old (S.remaining source.old) taken.old pieces.old
+        → SourceRefuses old e) }
     ensures failed { (result ≡ Err TraceError.ReadFault) ↔ (S.has_failed source.new ≡ true) }
 {
     let (count, end) = visit_records(taken, visitor, pieces.rest());

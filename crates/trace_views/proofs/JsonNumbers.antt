@@ -1,5 +1,7 @@
 -- Decimal digits, with a fraction behind them or without one, are a number of JSON.
-use Rattle.std.proofs.Common.{◌≡◌, ℕ, zero, suc, ◌+◌, ◌/◌, ◌%◌, ◌^◌, ◌<◌, ◌≤◌, Bool, false, cond, ◌==◌, List, [], ◌∷◌, ◌++◌, length, drop, get_or, Option, Some, option_and_then, decimal, refl, ap, subst, sym, ◌∙◌, arith}
+use Rattle.std.proofs.Common.{◌≡◌, ℕ, zero, suc, ◌+◌, ◌/◌, ◌%◌, ◌^◌, ◌<◌, ◌≤◌, Bool, false, cond, ◌==◌, List, [], ◌∷◌}
+use Rattle.std.proofs.Common.{◌++◌, length, drop, get_or, Option, Some, option_and_then, decimal, refl, ap, subst, sym}
+use Rattle.std.proofs.Common.{◌∙◌, arith}
 use Rattle.std.specs.Prelude.{⊤}
 use Rattle.std.proofs.lemmas.Bool.{ne_eqb, le-leb, and_from}
 use Rattle.std.proofs.lemmas.List.{append-nil}
@@ -25,11 +27,13 @@ are_digits (d ∷ ds) each = (
 )
 
 -- digits in front of a text that does not begin with one
-digits_in_front : (ds rest : List ℕ) → AreDigits ds → prefix_len is_ascii_digit rest ≡ 0 → prefix_len is_ascii_digit (ds ++ rest) ≡ length ds
+digits_in_front : (ds rest : List ℕ) → AreDigits ds → prefix_len is_ascii_digit rest ≡ 0
+    → prefix_len is_ascii_digit (ds ++ rest) ≡ length ds
 digits_in_front [] rest digits none = none
 digits_in_front (d ∷ ds) rest digits none =
     let more = digits_in_front ds rest digits.2 none in
-    ap (λ (b : Bool). cond b (1 + prefix_len is_ascii_digit (ds ++ rest)) 0) (and_from _ _ (le-leb 48 d digits.0) (le-leb d 57 digits.1)) ∙ omega arith
+    ap (λ (b : Bool). cond b (1 + prefix_len is_ascii_digit (ds ++ rest)) 0)
+    (and_from _ _ (le-leb 48 d digits.0) (le-leb d 57 digits.1)) ∙ omega arith
 
 drop_front : (ds rest : List ℕ) → drop (length ds) (ds ++ rest) ≡ rest
 drop_front [] rest = refl
@@ -40,7 +44,8 @@ record BeginsWell (n : ℕ) (ds : List ℕ) : Type 0 where
   some : 0 < length ds
   first : 0 < n → 48 < get_or ds 0 0
 
-begins_as : (ds : List ℕ) (x : ℕ) → 0 < length ds → (get_or (ds ++ x ∷ []) 0 0 ≡ get_or ds 0 0) × (0 < length (ds ++ x ∷ []))
+begins_as : (ds : List ℕ) (x : ℕ) → 0 < length ds → (get_or (ds ++ x ∷ []) 0 0 ≡ get_or ds 0 0)
+    × (0 < length (ds ++ x ∷ []))
 begins_as [] x low = absurd (omega arith)
 begins_as (d ∷ ds) x low = (refl, omega arith)
 
@@ -63,31 +68,48 @@ whole_above [] first digits = absurd (omega arith)
 whole_above (d ∷ ds) first digits = record {
   behind = λ rest none.
       let all = digits_in_front (d ∷ ds) rest digits none in
-      rw (ne_eqb d 48 (λ e. omega arith), all, ne_eqb (suc (length ds)) 0 (λ e. omega arith)) (ap Some (drop_front (d ∷ ds) rest));
+      rw (ne_eqb d 48 (λ e. omega arith), all, ne_eqb (suc (length ds)) 0 (λ e. omega arith))
+      (ap Some (drop_front (d ∷ ds) rest));
   no_sign = λ rest. ne_eqb d 45 (λ e. omega arith);
 }
 
 whole_decimal : (n : ℕ) → n < 10 ^ 64 → IsWholePart (decimal n)
 whole_decimal zero low = subst IsWholePart (sym (decimal_digit 0 (omega arith))) whole_zero
 whole_decimal (suc n) low =
-    whole_above (decimal (suc n)) ((begins_well (suc n) low).first (omega arith)) (are_digits _ (λ i inside. digit_at _ i (decimal_is_IsNumeral_wide (suc n) low).0.1 inside))
+    whole_above (decimal (suc n)) ((begins_well (suc n) low).first (omega arith))
+    (are_digits _ (λ i inside. digit_at _ i (decimal_is_IsNumeral_wide (suc n) low).0.1 inside))
 
 number_of : (ds rest : List ℕ) → IsWholePart ds → prefix_len is_ascii_digit rest ≡ 0
     → option_and_then after_exponent (after_fraction rest) ≡ Some [] → IsNumber (ds ++ rest)
 unfolding after_number
 number_of ds rest whole none fraction =
-    ap (λ (b : Bool). option_and_then after_exponent (option_and_then after_fraction (after_whole (cond b (drop 1 (ds ++ rest)) (ds ++ rest))))) (whole.no_sign rest)
-    ∙ ap (λ (o : Option (List ℕ)). option_and_then after_exponent (option_and_then after_fraction o)) (whole.behind rest none) ∙ fraction
+    ap (λ (b : Bool). option_and_then after_exponent (option_and_then after_fraction
+    (after_whole (cond b (drop 1 (ds ++ rest)) (ds ++ rest))))) (whole.no_sign rest)
+    ∙ ap (λ (o : Option (List ℕ)). option_and_then after_exponent (option_and_then after_fraction o))
+    (whole.behind rest none) ∙ fraction
 
 pub IsNumber-decimal_wide : (n : ℕ) → n < 10 ^ 64 → IsNumber (decimal n)
-IsNumber-decimal_wide n low = subst IsNumber (append-nil (decimal n)) (number_of (decimal n) [] (whole_decimal n low) refl refl)
+IsNumber-decimal_wide n low = subst IsNumber (append-nil (decimal n))
+    (number_of (decimal n) [] (whole_decimal n low) refl refl)
 
 six_are_digits : (n : ℕ) → n < 1_000_000 → AreDigits (six_digits n)
 unfolding six_digits
 six_are_digits n low = (
   omega arith,
   omega arith,
-  (omega arith, omega arith, (omega arith, omega arith, (omega arith, omega arith, (omega arith, omega arith, (omega arith, omega arith, tt))))),
+  (
+    omega arith,
+    omega arith,
+    (
+      omega arith,
+      omega arith,
+      (
+        omega arith,
+        omega arith,
+        (omega arith, omega arith, (omega arith, omega arith, tt)),
+      ),
+    ),
+  ),
 )
 
 six_long : (n : ℕ) → length (six_digits n) ≡ 6
@@ -105,5 +127,6 @@ after_six n low =
 pub IsNumber-millionths : (n : ℕ) → n < 10 ^ 64 → IsNumber (millionths_text n)
 unfolding millionths_text
 IsNumber-millionths n low =
-    number_of (decimal (n / 1_000_000)) (46 ∷ six_digits (n % 1_000_000)) (whole_decimal (n / 1_000_000) (omega arith)) refl
+    number_of (decimal (n / 1_000_000)) (46 ∷ six_digits (n % 1_000_000)) (whole_decimal (n / 1_000_000) (omega arith))
+    refl
     (ap (option_and_then after_exponent) (after_six (n % 1_000_000) (omega arith)))

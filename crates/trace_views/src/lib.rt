@@ -25,5 +25,5 @@ pub use grid::Grid;
 pub use report_document::json_report;
 pub use starts_document::json_starts;
 pub use sweep_document::json_sweep;
-pub use view::{AskedStarts, Measured, Shown, StartsForm, View};
+pub use view::{AskedStarts, Measured, StartsForm, View, ViewText};
 pub use viewing::view_text;

@@ -6,7 +6,7 @@ ghost use Rattle.trace_views.specs.PredictionViews.{IsPredictionView, predicted_
 
 use crate::advice_writing::push_live;
 use crate::error::ViewError;
-use crate::view::Shown;
+use crate::view::ViewText;
 use guest_log::Timeline;
 use guest_units::{Limits, Scale};
 use predictions::{Errors, Prediction, push_hosts, push_prediction};
@@ -56,7 +56,7 @@ pub(crate) fn prediction_view(
     scale: &Scale,
     limits: &Limits,
     log: &TouchLog,
-) -> Result<Shown, ViewError>
+) -> Result<ViewText, ViewError>
     ensures made { IfOk result (λ shown. IsPredictionView log.now settings.now scale.now limits.now shown.text.items
         shown.is_kept) }
     ensures refused { IfErr result (λ e. e ≡ ViewError.Memory) }
@@ -65,7 +65,7 @@ pub(crate) fn prediction_view(
     let asked = settings.asked();
     let prediction = Prediction::new(scale, limits, asked.start, &plan, last_tick(log));
     let errors = Errors::of_plan(alloc, scale, asked.max, log.page_count(), &plan)?;
-    Ok(Shown {
+    Ok(ViewText {
         text: predicted(alloc, settings, limits, &prediction, &errors)?,
         is_kept: is_kept(&prediction),
     })

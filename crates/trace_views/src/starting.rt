@@ -9,7 +9,7 @@ use crate::error::ViewError;
 use crate::predicting::last_tick;
 use crate::starts_document::json_starts;
 use crate::sweeping::planned;
-use crate::view::{AskedStarts, Shown, StartsForm};
+use crate::view::{AskedStarts, StartsForm, ViewText};
 use migration_starts::{
     StartCost, best_start, known_starts, start_costs, starts_text, worst_start,
 };
@@ -115,13 +115,13 @@ pub(crate) fn starts_view<R: Threads + Sync>(
     alloc: Global,
     asked: &AskedStarts,
     log: &TouchLog,
-) -> Result<Shown, ViewError>
+) -> Result<ViewText, ViewError>
     ensures made { IfOk result (λ shown. IsStartsView log.now asked.now shown.text.items shown.is_kept) }
     ensures refused { IfErr result (RefusesStartsView log.now asked.now.starts) }
 {
     let found = starts_found(rt, alloc, asked, log)?;
     let text = formed(alloc, asked, &found, log)?;
-    Ok(Shown {
+    Ok(ViewText {
         text,
         is_kept: is_kept(&found.best),
     })

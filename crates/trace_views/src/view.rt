@@ -85,7 +85,7 @@ pub enum View {
 
 /// A view as a text.
 #[derive(Drop)]
-pub struct Shown {
+pub struct ViewText {
     /// The text.
     pub text: Vec<u8>,
     /// Whether the limit is kept: that of a prediction, or from the best of some starts. Of any other view it is true.

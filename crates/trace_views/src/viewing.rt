@@ -14,7 +14,7 @@ use crate::report_document::json_report;
 use crate::starting::starts_view;
 use crate::sweep_document::json_sweep;
 use crate::sweeping::planned;
-use crate::view::{Measured, Shown, View};
+use crate::view::{Measured, View, ViewText};
 use guest_units::Scale;
 use predictions::Cost;
 use rate_limit::Settings;
@@ -126,11 +126,11 @@ fn advice_view<R: Threads + Sync>(
 }
 
 /// Returns the view with this text, which has no limit to keep.
-fn shown(text: Result<Vec<u8>, ViewError>) -> Result<Shown, ViewError>
+fn shown(text: Result<Vec<u8>, ViewError>) -> Result<ViewText, ViewError>
     ensures made { IfOk result (λ shown. (shown.is_kept ≡ true) × (text ≡ Ok shown.text)) }
     ensures refused { IfErr result (λ e. text ≡ Err e) }
 {
-    Ok(Shown {
+    Ok(ViewText {
         text: text?,
         is_kept: true,
     })
@@ -142,7 +142,7 @@ pub fn view_text<R: Threads + Sync>(
     alloc: Global,
     view: &View,
     log: &TouchLog,
-) -> Result<Shown, ViewError>
+) -> Result<ViewText, ViewError>
     ensures made { IfOk result (λ shown. IsView log.now view.now shown.text.items shown.is_kept) }
     ensures refused { IfErr result (RefusesView log.now view.now) }
 {

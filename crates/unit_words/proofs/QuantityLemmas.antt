@@ -1,5 +1,6 @@
 -- Words that are no number with a unit behind it.
-use Rattle.std.proofs.Common.{◌≡◌, ℕ, zero, suc, map, ◌*◌, ◌<◌, ◌≤◌, ◌^◌, List, [], ◌∷◌, ◌++◌, length, get_or, Option, Some, None, sym, ap, subst, ◌∙◌, arith, inl, inr}
+use Rattle.std.proofs.Common.{◌≡◌, ℕ, zero, suc, map, ◌*◌, ◌<◌, ◌≤◌, ◌^◌, List, [], ◌∷◌, ◌++◌, length, get_or, Option}
+use Rattle.std.proofs.Common.{Some, None, sym, ap, subst, ◌∙◌, arith, inl, inr}
 use Rattle.std.specs.Prelude.{◌≢◌, IfNone, MatchOption}
 use Rattle.std.specs.Borrow.{Bor}
 use Rattle.std.specs.Str.Pattern.{FindsTextSuffix, StripsSuffix}
@@ -19,15 +20,18 @@ if_none (Some x) P holds = tt
 pub stripped : (word name x : List ℕ) → StripsSuffix (FindsTextSuffix name) word x → word ≡ x ++ name
 stripped word name x is = is.1.1 ∙ ap (λ (t : List ℕ). t ++ name) (sym is.2)
 
-pub not_whole : (word name text : List ℕ) (factor : ℕ) → word ≡ text ++ name → ((m : ℕ) → ¬ IsWhole text m) → (n : ℕ) → ¬ IsCounted word name factor n
+pub not_whole : (word name text : List ℕ) (factor : ℕ) → word ≡ text ++ name → ((m : ℕ) → ¬ IsWhole text m) → (n : ℕ)
+    → ¬ IsCounted word name factor n
 not_whole word name text factor is never n counted =
     let same : counted.text ≡ text = append_cancel_right counted.text text name (sym counted.word_is ∙ is) in
     never counted.count (subst (λ (t : List ℕ). IsWhole t counted.count) same counted.whole)
 
-pub not_small : (word name text : List ℕ) (factor m : ℕ) → word ≡ text ++ name → IsWhole text m → 2 ^ 64 ≤ m * factor → (n : ℕ) → ¬ IsCounted word name factor n
+pub not_small : (word name text : List ℕ) (factor m : ℕ) → word ≡ text ++ name → IsWhole text m → 2 ^ 64 ≤ m * factor
+    → (n : ℕ) → ¬ IsCounted word name factor n
 not_small word name text factor m is whole high n counted =
     let same : counted.text ≡ text = append_cancel_right counted.text text name (sym counted.word_is ∙ is) in
-    let count : counted.count ≡ m = sym counted.whole.value ∙ ap (λ (t : List ℕ). digits_value 10 (without_leading_plus t)) same ∙ whole.value in
+    let count : counted.count ≡ m = sym counted.whole.value ∙ ap
+    (λ (t : List ℕ). digits_value 10 (without_leading_plus t)) same ∙ whole.value in
     let product : n ≡ m * factor = counted.is_product ∙ ap (λ (k : ℕ). k * factor) count in
     omega (arith, counted.fits)
 
@@ -52,31 +56,51 @@ no_slash text n i whole low = elim (cases_eq (get_or text 0 0) 43) [
   | inr other ↦ plain_digit text n i whole other low
 ]
 
-pub no_sample : (word : List ℕ) (r : Option (Bor (List ℕ) × Bor (List ℕ))) → IsSplitOnceResult 47 word r → (sampled guest : ℕ) → IsSample word sampled guest
+pub no_sample : (word : List ℕ) (r : Option (Bor (List ℕ) × Bor (List ℕ))) → IsSplitOnceResult 47 word r
+    → (sampled guest : ℕ) → IsSample word sampled guest
     → MatchOption r ⊥ (λ x. IsWhole x.0.now sampled × IsWhole x.1.now guest)
-no_sample word None split sampled guest is = split_after 47 word is.before is.behind None split (omega arith) is.word_is (λ i low. no_slash is.before sampled i is.sampled_is low)
+no_sample word None split sampled guest is = split_after 47 word is.before is.behind None split (omega arith) is.word_is
+    (λ i low. no_slash is.before sampled i is.sampled_is low)
 no_sample word (Some x) split sampled guest is =
-    let parts = split_after 47 word is.before is.behind (Some x) split (omega arith) is.word_is (λ i low. no_slash is.before sampled i is.sampled_is low) in
-    (subst (λ (t : List ℕ). IsWhole t sampled) (sym parts.0) is.sampled_is, subst (λ (t : List ℕ). IsWhole t guest) (sym parts.1) is.guest_is)
+    let parts = split_after 47 word is.before is.behind (Some x) split (omega arith) is.word_is
+    (λ i low. no_slash is.before sampled i is.sampled_is low) in (
+      subst (λ (t : List ℕ). IsWhole t sampled) (sym parts.0) is.sampled_is,
+      subst (λ (t : List ℕ). IsWhole t guest) (sym parts.1) is.guest_is,
+    )
 
 -- a unit as the code has it
 abbrev pub unit_of : Bor (List ℕ) × ℕ → Unit
 unit_of u = unit_with u.0.now u.1
 
 -- what holds of some unit of a list, and of what it is mapped to
-pub quantity_at : (units : List (Bor (List ℕ) × ℕ)) (word : List ℕ) (n k : ℕ) (u : Bor (List ℕ) × ℕ) → k < length units → get_or units k u ≡ u → IsCounted word u.0.now u.1 n → IsQuantity (map unit_of units) word n
-quantity_at units word n k u low is counted = (k, unit_of u, simp length-map low, get_or-map unit_of units k u (unit_of u) low ∙ ap unit_of is, counted)
+pub quantity_at : (units : List (Bor (List ℕ) × ℕ)) (word : List ℕ) (n k : ℕ) (u : Bor (List ℕ) × ℕ) → k < length units
+    → get_or units k u ≡ u → IsCounted word u.0.now u.1 n → IsQuantity (map unit_of units) word n
+quantity_at units word n k u low is counted = (
+  k,
+  unit_of u,
+  simp length-map low,
+  get_or-map unit_of units k u (unit_of u) low ∙ ap unit_of is,
+  counted,
+)
 
-pub quantity_here : (units : List (Bor (List ℕ) × ℕ)) (word : List ℕ) (n i : ℕ) (d e : Bor (List ℕ) × ℕ) → i < length units → IsCounted word (get_or units i d).0.now (get_or units i e).1 n → IsQuantity (map unit_of units) word n
+pub quantity_here : (units : List (Bor (List ℕ) × ℕ)) (word : List ℕ) (n i : ℕ) (d e : Bor (List ℕ) × ℕ)
+    → i < length units → IsCounted word (get_or units i d).0.now (get_or units i e).1 n
+    → IsQuantity (map unit_of units) word n
 quantity_here units word n i d e low counted =
     let same : get_or units i d ≡ get_or units i e = get_or_default units i d e low in
     quantity_at units word n i (get_or units i e) low (get_or_default units i (get_or units i e) e low)
     (subst (λ (u : Bor (List ℕ) × ℕ). IsCounted word u.0.now (get_or units i e).1 n) same counted)
 
-pub quantity_in : (units : List (Bor (List ℕ) × ℕ)) (word : List ℕ) (n : ℕ) → IsQuantity (map unit_of units) word n → (k : ℕ) × (u : Bor (List ℕ) × ℕ) × (k < length units) × (get_or units k u ≡ u) × IsCounted word u.0.now u.1 n
+pub quantity_in : (units : List (Bor (List ℕ) × ℕ)) (word : List ℕ) (n : ℕ) → IsQuantity (map unit_of units) word n
+    → (k : ℕ) × (u : Bor (List ℕ) × ℕ) × (k < length units) × (get_or units k u ≡ u) × IsCounted word u.0.now u.1 n
 quantity_in [] word n some = absurd (omega (arith, some.2))
 quantity_in (x ∷ xs) word n some =
     let low : some.0 < length (x ∷ xs) = simp length-map at some.2 in
     let is : unit_of (get_or (x ∷ xs) some.0 x) ≡ some.1 =
-    sym (get_or-map unit_of (x ∷ xs) some.0 x some.1 low) ∙ some.3 in
-    (some.0, get_or (x ∷ xs) some.0 x, low, get_or_default (x ∷ xs) some.0 (get_or (x ∷ xs) some.0 x) x low, subst (λ (v : Unit). IsCounted word v.name v.factor n) (sym is) some.4)
+    sym (get_or-map unit_of (x ∷ xs) some.0 x some.1 low) ∙ some.3 in (
+      some.0,
+      get_or (x ∷ xs) some.0 x,
+      low,
+      get_or_default (x ∷ xs) some.0 (get_or (x ∷ xs) some.0 x) x low,
+      subst (λ (v : Unit). IsCounted word v.name v.factor n) (sym is) some.4,
+    )

@@ -25,7 +25,8 @@ abbrev pub AreUnsaid : List Row → Type 0
 AreUnsaid rows = Says rows (codes "min") None × Says rows (codes "max") None × Says rows (codes "threshold") None
 
 -- the settings of limits, with the others and the increment that the options say
-pub record AsksForLimited (rows : List Row) (said : Said) (limits : Limits) (settings : MigrationSettings) : Type 0 where
+pub record AsksForLimited (rows : List Row) (said : Said) (limits : Limits) (settings : MigrationSettings) : Type
+    0 where
   pub unsaid : AreUnsaid rows
   pub increment : Option ℕ
   pub says_increment : Says rows (codes "inc") increment

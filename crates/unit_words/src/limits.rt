@@ -1,6 +1,6 @@
 //! Limits in time and bytes, in place of rates and thresholds in ticks and pages.
 
-ghost use Rattle.std.specs.Prelude.{◌≡◌, IfErr, IfNone, IfOk, IfSome, None, Some, false, map, true};
+ghost use Rattle.std.specs.Prelude.{◌≡◌, ◌≢◌, IfErr, IfNone, IfOk, IfSome, None, Some, false, map, true};
 ghost use Rattle.clap.specs.Simple.{new_rule};
 ghost use Rattle.clap.specs.Walk.{first_of};
 ghost use Rattle.clap.specs.Words.{found_of, rows_of, rule_of};
@@ -8,7 +8,8 @@ ghost use Rattle.job_words.specs.Commands.{AddsRules};
 ghost use Rattle.guest_units.specs.Scales.{scale_refusal};
 ghost use Rattle.unit_words.specs.Quantities.{IsRate, IsTime};
 ghost use Rattle.unit_words.specs.Units.{AreLimitsSaid, HasNoUnits, IsNo, IsNoSample, IsSaid, RefusesWord, SaysBy};
-ghost use Rattle.unit_words.specs.Units.{SaysSample, has_units, is_incomplete, quantity_rule, scale_in, scale_rules, unit_rules};
+ghost use Rattle.unit_words.specs.Units.{SaysSample, has_units, is_incomplete, quantity_rule, scale_in, scale_rules};
+ghost use Rattle.unit_words.specs.Units.{unit_rules};
 
 use crate::quantities::{link_rate_of, sample_of, time_of};
 use clap::{Arg, ArgAction, ArgMatches, Command};
@@ -169,6 +170,7 @@ fn word_of<'a>(options: &ArgMatches<'a>, name: &str) -> Option<&'a str>
 /// Returns whether an option has a word.
 fn has_word(options: &ArgMatches, name: &str) -> bool
     ensures none { result ≡ false → first_of name.now (rows_of (found_of options.now)) ≡ None }
+    ensures some { result ≡ true → first_of name.now (rows_of (found_of options.now)) ≢ None }
 {
     word_of(options, name).is_some()
 }
@@ -176,6 +178,7 @@ fn has_word(options: &ArgMatches, name: &str) -> bool
 /// Returns whether some option of limits, or of what ticks and pages stand for, is given.
 pub fn says_units(options: &ArgMatches) -> bool
     ensures none { result ≡ false → HasNoUnits (rows_of (found_of options.now)) }
+    ensures some { result ≡ true → ¬ HasNoUnits (rows_of (found_of options.now)) }
 {
     has_word(options, "link")
         || has_word(options, "first")

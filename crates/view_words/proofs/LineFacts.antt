@@ -9,7 +9,8 @@ use Rattle.clap.specs.declared.builder.command.Command.TheViews.{out-Command as 
 use Rattle.job_words.specs.Commands.{IsLeaf, case_rule, flag_rule, leaf, report_rules, sweep_rules}
 use Rattle.job_words.proofs.HelpLemmas.{AreNamed}
 use Rattle.unit_words.specs.Units.{scale_rules, unit_rules}
-use Rattle.view_words.specs.Commands.{IsCommand, IsDocument, budget_rules, json_line, start_rules, style_rules, view_line}
+use Rattle.view_words.specs.Commands.{IsCommand, IsDocument, budget_rules, json_line, start_rules, style_rules}
+use Rattle.view_words.specs.Commands.{view_line}
 
 -- a command line of this name before any command stands in it
 abbrev pub bare : Text → App
@@ -21,23 +22,31 @@ requiring app = on_top (λ s. record s { subcommand_required = true }) app
 abbrev pub versioned : App → App
 versioned app = on_top (λ s. record s { has_version = true }) app
 
-pub after_required : (old new : Command) (app : App) → app_of old ≡ app → fields_of new ≡ record (fields_of old) { subcommand_required = true } → app_of new ≡ requiring app
+pub after_required : (old new : Command) (app : App) → app_of old ≡ app
+    → fields_of new ≡ record (fields_of old) { subcommand_required = true } → app_of new ≡ requiring app
 after_required old new app was is = ap app_of_fields is ∙ ap requiring was
 
-pub after_version : (old new : Command) (app : App) (text : _) → app_of old ≡ app → fields_of new ≡ record (fields_of old) { version = Some text } → app_of new ≡ versioned app
+pub after_version : (old new : Command) (app : App) (text : _) → app_of old ≡ app
+    → fields_of new ≡ record (fields_of old) { version = Some text } → app_of new ≡ versioned app
 after_version old new app text was is = ap app_of_fields is ∙ ap versioned was
 
-pub after_bin_name : (old new : Command) (app : App) (name : _) → app_of old ≡ app → fields_of new ≡ record (fields_of old) { bin_name = name } → app_of new ≡ app
+pub after_bin_name : (old new : Command) (app : App) (name : _) → app_of old ≡ app
+    → fields_of new ≡ record (fields_of old) { bin_name = name } → app_of new ≡ app
 after_bin_name old new app name was is = ap app_of_fields is ∙ was
 
-pub view_line_is : with_subcommand (with_subcommand (with_subcommand (with_subcommand (with_subcommand (with_subcommand (requiring (versioned (bare (codes "precopy-view"))))
-    (leaf (codes "predict") (report_rules ++ unit_rules))) (leaf (codes "when") (start_rules ++ flag_rule (codes "chart") ∷ []))) (leaf (codes "json") []))
-    (leaf (codes "advise") budget_rules)) (leaf (codes "show") style_rules)) (leaf (codes "chart") (report_rules ++ unit_rules)) ≡ view_line
+pub view_line_is : with_subcommand (with_subcommand (with_subcommand
+    (with_subcommand (with_subcommand (with_subcommand (requiring (versioned (bare (codes "precopy-view"))))
+    (leaf (codes "predict") (report_rules ++ unit_rules))) (leaf (codes "when")
+    (start_rules ++ flag_rule (codes "chart") ∷ []))) (leaf (codes "json") []))
+    (leaf (codes "advise") budget_rules)) (leaf (codes "show") style_rules))
+    (leaf (codes "chart") (report_rules ++ unit_rules)) ≡ view_line
 unfolding view_line
 view_line_is = refl
 
-pub json_line_is : with_subcommand (with_subcommand (with_subcommand (requiring (bare (codes "json"))) (leaf (codes "report") (report_rules ++ unit_rules)))
-    (leaf (codes "sweep") ((sweep_rules ++ case_rule ∷ []) ++ scale_rules))) (leaf (codes "when") start_rules) ≡ json_line
+pub json_line_is : with_subcommand (with_subcommand (with_subcommand (requiring (bare (codes "json")))
+    (leaf (codes "report") (report_rules ++ unit_rules)))
+    (leaf (codes "sweep") ((sweep_rules ++ case_rule ∷ []) ++ scale_rules))) (leaf (codes "when") start_rules)
+    ≡ json_line
 unfolding json_line
 json_line_is = refl
 
@@ -55,7 +64,31 @@ view_requires = refl
 
 pub view_is_named : AreNamed IsCommand (built view_line).subs
 unfolding view_line clap_on_literals
-view_is_named = (refl, inr (inl refl), (refl, inr (inr (inl refl)), (refl, inr (inr (inr (inl refl))), (refl, inr (inr (inr (inr (inl refl)))), (refl, inr (inr (inr (inr (inr (inl refl))))), (refl, inr (inr (inr (inr (inr (inr refl))))), (refl, inl refl, tt)))))))
+view_is_named = (
+  refl,
+  inr (inl refl),
+  (
+    refl,
+    inr (inr (inl refl)),
+    (
+      refl,
+      inr (inr (inr (inl refl))),
+      (
+        refl,
+        inr (inr (inr (inr (inl refl)))),
+        (
+          refl,
+          inr (inr (inr (inr (inr (inl refl))))),
+          (
+            refl,
+            inr (inr (inr (inr (inr (inr refl))))),
+            (refl, inl refl, tt),
+          ),
+        ),
+      ),
+    ),
+  ),
+)
 
 pub view_has_help : (built view_line).top.disable_help_subcommand ≡ false
 unfolding view_line clap_on_literals

@@ -10,11 +10,15 @@ use Rattle.job_words.specs.declared.command.WordsError.TheVariants.{Help, Memory
 use Rattle.job_words.specs.declared.command.WordsRefusal.TheVariants.{Case, CaseSettings, Settings, TooManyCases}
 use Rattle.view_words.specs.Views.{RefusesCases}
 
-pub refuses_cases : (rows : List Row) (options : MigrationSettings) (e : WordsError) → AsksForSweep rows options → RefusesWords options (case_words rows) e → RefusesCases rows e
+pub refuses_cases : (rows : List Row) (options : MigrationSettings) (e : WordsError) → AsksForSweep rows options
+    → RefusesWords options (case_words rows) e → RefusesCases rows e
 refuses_cases rows options Memory asked refused = tt
 refuses_cases rows options (Help text) asked refused = absurd refused
 refuses_cases rows options (Usage text) asked refused = absurd refused
-refuses_cases rows options (Refused TooManyCases) asked refused = record { options = options; asked = asked; refused = refused }
-refuses_cases rows options (Refused (Case place)) asked refused = record { options = options; asked = asked; refused = refused }
-refuses_cases rows options (Refused (CaseSettings place e)) asked refused = record { options = options; asked = asked; refused = refused }
+refuses_cases rows options (Refused TooManyCases) asked refused =
+    record { options = options; asked = asked; refused = refused }
+refuses_cases rows options (Refused (Case place)) asked refused =
+    record { options = options; asked = asked; refused = refused }
+refuses_cases rows options (Refused (CaseSettings place e)) asked refused =
+    record { options = options; asked = asked; refused = refused }
 refuses_cases rows options (Refused (Settings e)) asked refused = absurd refused

@@ -55,8 +55,8 @@ AsksForAdvice rows budget settings (Some known) scale =
 -- what the options of advice are refused for, where it is limits
 abbrev pub RefusesBudget : List Row → LimitsRefusal → Type 0
 RefusesBudget rows e = ((e ≡ refused.NoBudget) × HasNoUnits rows × Says rows (codes "down") None)
-    ⊎ (((e ≡ refused.TwoBudgets) × IsThere rows (codes "down"))
-    ⊎ (RefusesMeasure rows e ⊎ ((e ≡ refused.Missing) × LacksLimits rows)))
+    ⊎ ((¬ HasNoUnits rows) × (((e ≡ refused.TwoBudgets) × IsThere rows (codes "down"))
+    ⊎ (RefusesMeasure rows e ⊎ ((e ≡ refused.Missing) × LacksLimits rows))))
 
 -- the options of advice are refused for this
 abbrev pub RefusesAdvice : List Row → ViewWordsError → Type 0

@@ -85,6 +85,7 @@ fn measured_advice(options: &ArgMatches, settings: &Settings, measured: Measured
 
 /// Returns the advice that options in time and bytes ask for.
 fn advice_in_units(options: &ArgMatches) -> Result<AskedView, ViewWordsError>
+    requires { ¬ HasNoUnits (rows_of (found_of options.now)) }
     ensures made { IfOk result (λ asked. AsksForView (codes "advise") (rows_of (found_of options.now)) asked.view
         asked.scale) }
     ensures refused { IfErr result (RefusesAdvice (rows_of (found_of options.now))) }

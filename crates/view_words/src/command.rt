@@ -1,6 +1,7 @@
 //! The command line: words in, a view or a refusal out.
 
-ghost use Rattle.std.specs.Prelude.{◌≡◌, ◌⊎◌, ◌++◌, ◌∷◌, [], IfErr, IfNone, IfOk, IfSome, IsErrAnd, MatchOption, None, Ok, Some};
+ghost use Rattle.std.specs.Prelude.{◌≡◌, ◌⊎◌, ◌++◌, ◌∷◌, [], IfErr, IfNone, IfOk, IfSome, IsErrAnd, MatchOption, None};
+ghost use Rattle.std.specs.Prelude.{Ok, Some};
 ghost use Rattle.std.specs.Prelude.{codes, map, string_bytes, true};
 ghost use Rattle.clap.specs.Words.{app_of, found_of, rows_of};
 ghost use Rattle.job_words.specs.Commands.{AddsRules, IsLeaf, case_rule, flag_rule, report_rules, sweep_rules};
@@ -11,7 +12,8 @@ ghost use Rattle.view_words.specs.Views.{IsOutOfMemory};
 ghost use Rattle.job_words.specs.declared.command.WordsError.TheVariants.{Memory};
 ghost use Rattle.view_words.specs.Commands.{IsCommand, IsDocument, json_line, json_words, start_rules, view_line};
 ghost use Rattle.view_words.specs.Starts.{AsksForStarts, RefusesStarts};
-ghost use Rattle.view_words.specs.Views.{AreMissing, AsksForDocument, AsksForView, FailsOn, IsUsage, Names, RefusesCases};
+ghost use Rattle.view_words.specs.Views.{AreMissing, AsksForDocument, AsksForView, FailsOn, IsUsage, Names};
+ghost use Rattle.view_words.specs.Views.{RefusesCases};
 ghost use Rattle.view_words.specs.Views.{RefusesDocument, RefusesSettings, RefusesSweepWords, RefusesView, WordsAsk};
 ghost use Rattle.view_words.specs.Views.{WordsFail};
 ghost use Rattle.view_words.specs.declared.command.ViewWordsError.TheVariants.{Words};
@@ -21,7 +23,9 @@ use crate::options::{style_of, with_budget, with_style};
 use crate::starts::{form_of, starts_of, with_chart, with_starts};
 use clap::{ArgMatches, Command};
 use guest_units::{Limits, Scale};
-use job_words::{WordsError, cases_of, refusal_of, sweep_options, with_cases, with_report};
+use job_words::{
+    WordsError, cases_of, leaf_command, refusal_of, sweep_options, with_cases, with_report,
+};
 use std::alloc::{AllocError, Global};
 use trace_views::{AskedStarts, StartsForm, View};
 use unit_words::{LimitsRefusal, Measure, measure_of, scale_said, with_scale, with_units};
@@ -61,13 +65,6 @@ const VERSION: &str = "(precopy) 0.6.0";
 /// What is told of the commands below `json` behind its help.
 const JSON_COMMANDS: &str = "Commands: report, sweep, when. `precopy-view json --help` tells more.";
 
-/// Returns a command with no options yet.
-fn command<'a>(alloc: Global, name: &'a str, about: &'a str) -> Command<'a>
-    ensures { IsLeaf result name.entry.now [] }
-{
-    Command::new(alloc, name).about(about)
-}
-
 /// Returns the command with the options of a report, in either kind of words.
 fn with_either<'a>(alloc: Global, command: Command<'a>) -> Result<Command<'a>, AllocError>
     ensures { IfOk result (λ new. AddsRules command.entry (report_rules ++ unit_rules) new) }
@@ -88,10 +85,10 @@ fn with_scaled_cases<'a>(alloc: Global, command: Command<'a>) -> Result<Command<
 fn json_commands<'a>(alloc: Global) -> Result<Command<'a>, AllocError>
     ensures { IfOk result (λ line. app_of line ≡ json_line) }
 {
-    let report = command(alloc, "report", "Writes what `precopy report` tells");
-    let sweep = command(alloc, "sweep", "Writes what `precopy sweep` tells");
-    let when = command(alloc, "when", "Writes what `precopy-view when` tells");
-    command(
+    let report = leaf_command(alloc, "report", "Writes what `precopy report` tells");
+    let sweep = leaf_command(alloc, "sweep", "Writes what `precopy sweep` tells");
+    let when = leaf_command(alloc, "when", "Writes what `precopy-view when` tells");
+    leaf_command(
         alloc,
         "json",
         "Writes a JSON document about the trace on standard input",
@@ -107,7 +104,7 @@ fn json_commands<'a>(alloc: Global) -> Result<Command<'a>, AllocError>
 fn when_command<'a>(alloc: Global) -> Result<Command<'a>, AllocError>
     ensures { IfOk result (λ new. IsLeaf new (codes "when") (start_rules ++ flag_rule (codes "chart") ∷ [])) }
 {
-    let when = command(
+    let when = leaf_command(
         alloc,
         "when",
         "Writes what it costs to migrate at many times, and which is the best; status 3 where none keeps the limit",
@@ -119,7 +116,7 @@ fn when_command<'a>(alloc: Global) -> Result<Command<'a>, AllocError>
 fn json_command<'a>(alloc: Global) -> Command<'a>
     ensures { IsLeaf result (codes "json") [] }
 {
-    let json = command(
+    let json = leaf_command(
         alloc,
         "json",
         "Writes a JSON document about the trace on standard input",
@@ -131,28 +128,28 @@ fn json_command<'a>(alloc: Global) -> Command<'a>
 fn commands<'a>(alloc: Global) -> Result<Command<'a>, AllocError>
     ensures { IfOk result (λ line. app_of line ≡ view_line) }
 {
-    let predict = command(
+    let predict = leaf_command(
         alloc,
         "predict",
         "Writes what a migration will be, in time and bytes; status 3 where it misses its limit",
     );
     let json = json_command(alloc);
-    let advise = command(
+    let advise = leaf_command(
         alloc,
         "advise",
         "Writes which settings keep a downtime, over the trace on standard input",
     );
-    let show = command(
+    let show = leaf_command(
         alloc,
         "show",
         "Writes what `precopy report` tells as tables with bars, for a terminal",
     );
-    let chart = command(
+    let chart = leaf_command(
         alloc,
         "chart",
         "Writes what `precopy report` tells as a picture, in SVG",
     );
-    command(
+    leaf_command(
         alloc,
         "precopy-view",
         "Shows what precopy tells of a trace, for people and for programs",

@@ -1,8 +1,8 @@
 //! The options of starts, and what they ask for.
 
-ghost use Rattle.std.specs.Prelude.{[], ◌∷◌, ◌≡◌, IfErr, IfNone, IfOk, IfSome, Some, codes, false, map};
+ghost use Rattle.std.specs.Prelude.{[], ◌∷◌, ◌≡◌, IfErr, IfNone, IfOk, IfSome, Some, codes, false};
 ghost use Rattle.clap.specs.Words.{found_of, rows_of, rule_of};
-ghost use Rattle.job_words.specs.Commands.{AddsRules, flag_rule, number_rule};
+ghost use Rattle.job_words.specs.Commands.{AddsRules, flag_rule};
 ghost use Rattle.unit_words.specs.Measures.{AsksForMeasure};
 ghost use Rattle.view_words.specs.Commands.{from_rule, start_rules};
 ghost use Rattle.view_words.specs.Starts.{AreTicksRefused, AsksForForm, AsksForStarts, AsksForTicks, RefusesStarts};
@@ -10,7 +10,7 @@ ghost use Rattle.view_words.specs.Starts.{AreTicksRefused, AsksForForm, AsksForS
 use crate::command::{ViewWordsError, limited, usage};
 use clap::{Arg, ArgAction, ArgMatches, Command};
 use guest_units::{Limits, Scale};
-use job_words::{flag, is_flag, number, said};
+use job_words::{Number, flag, is_flag, said, with_numbers};
 use migration_starts::Starts;
 use std::alloc::{AllocError, Global};
 use trace_views::{AskedStarts, StartsForm};
@@ -18,9 +18,6 @@ use unit_words::{LimitsRefusal, Measure, measure_of, with_units};
 
 /// The first tick that is no start any more, `2^40`.
 const START_LIMIT: u64 = 1 << 40;
-
-/// An option that takes a whole number: its name, and its help.
-type Number<'a> = (&'a str, &'a str);
 
 /// At which ticks a migration begins, and how it is paced.
 const NUMBERS: [Number<'static>; 7] = [
@@ -56,21 +53,6 @@ fn from<'a>(alloc: Global) -> Arg<'a>
         .value_name("N")
         .action(ArgAction::Set)
         .value_parser(clap::value_parser!(u64))
-}
-
-/// Returns the command with options that take whole numbers.
-fn with_numbers<'a>(
-    alloc: Global,
-    command: Command<'a>,
-    numbers: &[Number<'a>],
-) -> Result<Command<'a>, AllocError>
-    ensures { IfOk result (λ new. AddsRules command.entry (map (λ n. number_rule n.0.now) numbers.now) new) }
-{
-    let mut command = command;
-    for (name, help) in numbers {
-        command = command.arg(number(alloc, name, help))?;
-    }
-    Ok(command)
 }
 
 /// Returns the command with the options of starts.

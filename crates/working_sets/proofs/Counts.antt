@@ -1,5 +1,6 @@
 -- Counts over runs of numbers.
-use Rattle.std.proofs.Common.{◌≡◌, ℕ, zero, suc, ◌+◌, ◌-◌, ◌<◌, ◌≤◌, Bool, false, cond, List, [], ◌∷◌, ◌++◌, map, refl, sym, ap, ◌∙◌, inl, inr, arith}
+use Rattle.std.proofs.Common.{◌≡◌, ℕ, zero, suc, ◌+◌, ◌-◌, ◌<◌, ◌≤◌, Bool, false, cond, List, [], ◌∷◌, ◌++◌, map, refl}
+use Rattle.std.proofs.Common.{sym, ap, ◌∙◌, inl, inr, arith}
 use Rattle.std.specs.List.{count_by, filter, range_with_len}
 use Rattle.std.proofs.lemmas.Bool.{cases_eq}
 use Rattle.std.proofs.lemmas.List.{append-nil}
@@ -7,11 +8,13 @@ use Rattle.std.proofs.lemmas.List.Sums.{sum_by-cons, count_by-le-length}
 use Rattle.std.proofs.lemmas.List.FromFn.{length-range_with_len, filter_of_map_range_with_len_more}
 use Rattle.working_sets.specs.Counting.{one_if}
 
-count_from : (f : ℕ → Bool) (a n : ℕ) → count_by f (range_with_len a (suc n)) ≡ one_if (f a) + count_by f (range_with_len (a + 1) n)
+count_from : (f : ℕ → Bool) (a n : ℕ) → count_by f (range_with_len a (suc n)) ≡ one_if (f a)
+    + count_by f (range_with_len (a + 1) n)
 count_from f a n = sum_by-cons (λ x. cond (f x) 1 0) a (range_with_len (a + 1) n)
 
 -- tests that agree count alike
-pub count_agree : (f g : ℕ → Bool) (a n : ℕ) → ((i : ℕ) → a ≤ i → i < a + n → g i ≡ f i) → count_by g (range_with_len a n) ≡ count_by f (range_with_len a n)
+pub count_agree : (f g : ℕ → Bool) (a n : ℕ) → ((i : ℕ) → a ≤ i → i < a + n → g i ≡ f i)
+    → count_by g (range_with_len a n) ≡ count_by f (range_with_len a n)
 count_agree f g a zero same = refl
 count_agree f g a (suc n) same =
     let head : one_if (g a) ≡ one_if (f a) = ap one_if (same a (omega arith) (omega arith)) in
@@ -43,7 +46,8 @@ count_none f a (suc n) fails =
     omega (arith, count_from f a n, head, tail)
 
 -- nothing that passes stands behind the first n numbers
-pub count_extend : (f : ℕ → Bool) (a n m : ℕ) → n ≤ m → ((i : ℕ) → a + n ≤ i → f i ≡ false) → count_by f (range_with_len a m) ≡ count_by f (range_with_len a n)
+pub count_extend : (f : ℕ → Bool) (a n m : ℕ) → n ≤ m → ((i : ℕ) → a + n ≤ i → f i ≡ false)
+    → count_by f (range_with_len a m) ≡ count_by f (range_with_len a n)
 count_extend f a zero m low fails = count_none f a m (λ i above. fails i (omega arith))
 count_extend f a (suc n) zero low fails = absurd (omega arith)
 count_extend f a (suc n) (suc m) low fails =
@@ -54,7 +58,8 @@ pub count_le : (f : ℕ → Bool) (a n : ℕ) → count_by f (range_with_len a n
 count_le f a n = omega (arith, count_by-le-length f (range_with_len a n), length-range_with_len a n)
 
 -- functions that agree make one list
-pub map_agree : {X : Type 0} (f g : ℕ → X) (a n : ℕ) → ((i : ℕ) → a ≤ i → i < a + n → g i ≡ f i) → map g (range_with_len a n) ≡ map f (range_with_len a n)
+pub map_agree : {X : Type 0} (f g : ℕ → X) (a n : ℕ) → ((i : ℕ) → a ≤ i → i < a + n → g i ≡ f i)
+    → map g (range_with_len a n) ≡ map f (range_with_len a n)
 map_agree f g a zero same = refl
 map_agree {X} f g a (suc n) same =
     let head = same a (omega arith) (omega arith) in
@@ -68,12 +73,15 @@ filter_behind {X} p f n zero fails =
     let none : n + 0 ≡ n = omega arith in
     ap (λ m. filter p (map f (range_with_len 0 m))) none
 filter_behind {X} p f n (suc k) fails =
-    let last : cond (p (f (n + k))) (f (n + k) ∷ []) [] ≡ [] = ap (λ b. cond b (f (n + k) ∷ []) []) (fails (n + k) (omega arith)) in
-    let more : filter p (map f (range_with_len 0 ((n + k) + 1))) ≡ filter p (map f (range_with_len 0 (n + k))) ++ cond (p (f (n + k))) (f (n + k) ∷ []) [] =
+    let last : cond (p (f (n + k))) (f (n + k) ∷ []) [] ≡ [] =
+    ap (λ b. cond b (f (n + k) ∷ []) []) (fails (n + k) (omega arith)) in
+    let more : filter p (map f (range_with_len 0 ((n + k) + 1))) ≡ filter p (map f (range_with_len 0 (n + k)))
+    ++ cond (p (f (n + k))) (f (n + k) ∷ []) [] =
     filter_of_map_range_with_len_more p f 0 (n + k) (n + k) (omega arith) in
     let next : n + suc k ≡ (n + k) + 1 = omega arith in
     ap (λ m. filter p (map f (range_with_len 0 m))) next
-    ∙ more ∙ ap (λ (l : List X). filter p (map f (range_with_len 0 (n + k))) ++ l) last ∙ append-nil _ ∙ filter_behind p f n k fails
+    ∙ more ∙ ap (λ (l : List X). filter p (map f (range_with_len 0 (n + k))) ++ l) last ∙ append-nil _
+    ∙ filter_behind p f n k fails
 
 pub filter_extend : {X : Type 0} (p : X → Bool) (f : ℕ → X) (n m : ℕ) → n ≤ m → ((i : ℕ) → n ≤ i → p (f i) ≡ false)
     → filter p (map f (range_with_len 0 m)) ≡ filter p (map f (range_with_len 0 n))

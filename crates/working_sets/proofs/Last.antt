@@ -1,11 +1,14 @@
 -- The last window that a page is in, and what it says of a window that is open.
-use Rattle.std.proofs.Common.{◌≡◌, ℕ, ◌+◌, ◌-◌, ◌*◌, ◌<◌, ◌≤◌, Bool, true, false, ◌&&◌, ltb, leb, List, [], ◌∷◌, ◌++◌, refl, sym, ap, ◌∙◌, ◌⊎◌, inl, inr, arith}
+use Rattle.std.proofs.Common.{◌≡◌, ℕ, ◌+◌, ◌-◌, ◌*◌, ◌<◌, ◌≤◌, Bool, true, false, ◌&&◌, ltb, leb, List, [], ◌∷◌, ◌++◌}
+use Rattle.std.proofs.Common.{refl, sym, ap, ◌∙◌, ◌⊎◌, inl, inr, arith}
 use Rattle.std.specs.List.{All}
 use Rattle.std.proofs.Math.Nat.{mul-le-mul_right}
-use Rattle.std.proofs.lemmas.Bool.{and_parts, and_from, and_left, and_right, leb-true, ltb-true, le-leb, lt-leb, lt-ltb, le-ltb}
+use Rattle.std.proofs.lemmas.Bool.{and_parts, and_from, and_left, and_right, leb-true, ltb-true, le-leb, lt-leb, lt-ltb}
+use Rattle.std.proofs.lemmas.Bool.{le-ltb}
 use Rattle.std.proofs.lemmas.List.Elements.{All-weaker}
 use Rattle.migration_model.specs.Touches.{GuestTouch}
-use Rattle.working_sets.proofs.Written.{hits, hits_push_other, hits_push_out, hits_push_in, hits_weaker, hits_none, hits_past}
+use Rattle.working_sets.proofs.Written.{hits, hits_push_other, hits_push_out, hits_push_in, hits_weaker, hits_none}
+use Rattle.working_sets.proofs.Written.{hits_past}
 
 -- the ticks of window j, of the window before it, and of all windows before it
 abbrev pub in_window : ℕ → ℕ → ℕ → Bool
@@ -18,7 +21,8 @@ abbrev pub in_earlier_window : ℕ → ℕ → ℕ → Bool
 in_earlier_window w j tick = leb 0 tick && ltb tick (j * w)
 
 pub in_window_is : (w j tick : ℕ) → in_window w j tick ≡ true → (j * w ≤ tick) × (tick < (j + 1) * w)
-in_window_is w j tick is = let both = and_parts (leb (j * w) tick) (ltb tick ((j + 1) * w)) is in (leb-true _ _ both.0, ltb-true _ _ both.1)
+in_window_is w j tick is = let both = and_parts (leb (j * w) tick) (ltb tick ((j + 1) * w))
+    is in (leb-true _ _ both.0, ltb-true _ _ both.1)
 
 pub in_window_from : (w j tick : ℕ) → j * w ≤ tick → tick < (j + 1) * w → in_window w j tick ≡ true
 in_window_from w j tick low high = and_from _ _ (le-leb _ _ low) (lt-ltb _ _ high)
@@ -45,7 +49,8 @@ pub IsLast_none : (w page : ℕ) → IsLast w [] page 0
 IsLast_none w page = record { none_after = refl; some = inl refl }
 
 -- in the open window already
-pub hits_already : (w j page last : ℕ) (writes : List GuestTouch) → IsLast w writes page last → last ≡ j + 1 → hits (in_window w j) page writes ≡ true
+pub hits_already : (w j page last : ℕ) (writes : List GuestTouch) → IsLast w writes page last → last ≡ j + 1
+    → hits (in_window w j) page writes ≡ true
 hits_already w j page last writes is same = elim is.some [
   | inl none ↦ absurd (omega arith)
   | inr some ↦ let here : last - 1 ≡ j = omega arith in ap (λ i. hits (in_window w i) page writes) (sym here) ∙ some
@@ -55,16 +60,20 @@ hits_already w j page last writes is same = elim is.some [
 after_last : (test : ℕ → Bool) (w page last : ℕ) (writes : List GuestTouch) → IsLast w writes page last
     → ((tick : ℕ) → test tick ≡ true → last * w ≤ tick) → hits test page writes ≡ false
 after_last test w page last writes is late =
-    hits_none test (λ tick. leb (last * w) tick) page writes (λ tick passes. le-leb _ _ (late tick passes)) is.none_after
+    hits_none test (λ tick. leb (last * w) tick) page writes (λ tick passes. le-leb _ _ (late tick passes))
+    is.none_after
 
 -- not yet in the open window
-pub hits_not_yet : (w j page last : ℕ) (writes : List GuestTouch) → IsLast w writes page last → last ≤ j → hits (in_window w j) page writes ≡ false
+pub hits_not_yet : (w j page last : ℕ) (writes : List GuestTouch) → IsLast w writes page last → last ≤ j
+    → hits (in_window w j) page writes ≡ false
 hits_not_yet w j page last writes is low =
     let mono : last * w ≤ j * w = mul-le-mul_right w low in
-    after_last (in_window w j) w page last writes is (λ tick passes. let both = in_window_is w j tick passes in omega arith)
+    after_last (in_window w j) w page last writes is (λ tick passes. let both =
+    in_window_is w j tick passes in omega arith)
 
 -- in the window before
-pub hits_before : (w j page last : ℕ) (writes : List GuestTouch) → IsLast w writes page last → last ≡ j → (last ≡ 0 → ⊥) → hits (in_window_before w j) page writes ≡ true
+pub hits_before : (w j page last : ℕ) (writes : List GuestTouch) → IsLast w writes page last → last ≡ j → (last ≡ 0 → ⊥)
+    → hits (in_window_before w j) page writes ≡ true
 hits_before w j page last writes is same nonzero = elim is.some [
   | inl none ↦ absurd (nonzero none)
   | inr some ↦
@@ -80,14 +89,17 @@ hits_before w j page last writes is same nonzero = elim is.some [
 ]
 
 -- not in the window before
-pub hits_not_before : (w j page last : ℕ) (writes : List GuestTouch) → IsLast w writes page last → last ≤ j - 1 → hits (in_window_before w j) page writes ≡ false
+pub hits_not_before : (w j page last : ℕ) (writes : List GuestTouch) → IsLast w writes page last → last ≤ j - 1
+    → hits (in_window_before w j) page writes ≡ false
 hits_not_before w j page last writes is low =
     let mono : last * w ≤ (j - 1) * w = mul-le-mul_right w low in
     after_last (in_window_before w j) w page last writes is
-    (λ tick passes. let both = and_parts (leb ((j - 1) * w) tick) (ltb tick (j * w)) passes in let at_least = leb-true _ _ both.0 in omega arith)
+    (λ tick passes. let both = and_parts (leb ((j - 1) * w) tick) (ltb tick (j * w)) passes in let at_least =
+    leb-true _ _ both.0 in omega arith)
 
 -- in an earlier window
-pub hits_earlier : (w j page last : ℕ) (writes : List GuestTouch) → IsLast w writes page last → last ≤ j → (last ≡ 0 → ⊥) → hits (in_earlier_window w j) page writes ≡ true
+pub hits_earlier : (w j page last : ℕ) (writes : List GuestTouch) → IsLast w writes page last → last ≤ j
+    → (last ≡ 0 → ⊥) → hits (in_earlier_window w j) page writes ≡ true
 hits_earlier w j page last writes is low nonzero = elim is.some [
   | inl none ↦ absurd (nonzero none)
   | inr some ↦
@@ -102,13 +114,15 @@ hits_earlier w j page last writes is low nonzero = elim is.some [
 ]
 
 -- in no earlier window
-pub hits_not_earlier : (w j page last : ℕ) (writes : List GuestTouch) → IsLast w writes page last → last ≡ 0 → hits (in_earlier_window w j) page writes ≡ false
+pub hits_not_earlier : (w j page last : ℕ) (writes : List GuestTouch) → IsLast w writes page last → last ≡ 0
+    → hits (in_earlier_window w j) page writes ≡ false
 hits_not_earlier w j page last writes is none =
     let zero_times : last * w ≡ 0 = ap (λ n. n * w) none ∙ omega arith in
     after_last (in_earlier_window w j) w page last writes is (λ tick passes. omega arith)
 
 -- one write more, in window j, to the page
-pub IsLast-push : (w j page last : ℕ) (writes : List GuestTouch) (write : GuestTouch) → All (λ x. x.tick < (j + 1) * w) writes
+pub IsLast-push : (w j page last : ℕ) (writes : List GuestTouch) (write : GuestTouch)
+    → All (λ x. x.tick < (j + 1) * w) writes
     → in_window w j write.tick ≡ true → write.page ≡ page → IsLast w (writes ++ write ∷ []) page (j + 1)
 IsLast-push w j page last writes write below inside same =
     let both = in_window_is w j write.tick inside in
@@ -118,8 +132,10 @@ IsLast-push w j page last writes write below inside same =
       none_after =
           hits_push_out (λ tick. leb ((j + 1) * w) tick) page writes write out
           ∙ hits_past (λ tick. leb ((j + 1) * w) tick) page writes
-          (All-weaker (λ x. x.tick < (j + 1) * w) (λ x. leb ((j + 1) * w) x.tick ≡ false) (λ x low. lt-leb _ _ low) writes below);
-      some = inr (ap (λ i. hits (in_window w i) page (writes ++ write ∷ [])) here ∙ hits_push_in (in_window w j) page writes write same inside);
+          (All-weaker (λ x. x.tick < (j + 1) * w) (λ x. leb ((j + 1) * w) x.tick ≡ false) (λ x low. lt-leb _ _ low)
+          writes below);
+      some = inr (ap (λ i. hits (in_window w i) page (writes ++ write ∷ [])) here
+          ∙ hits_push_in (in_window w j) page writes write same inside);
     }
 
 -- one write more to another page

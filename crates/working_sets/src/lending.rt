@@ -4,7 +4,8 @@ ghost use Rattle.std.specs.Prelude.{◌≡◌, ◌≤◌, ◌<◌, ◌+◌, ◌^
 ghost use Rattle.migration_model.specs.Trace.{last_by};
 ghost use Rattle.migration_model.specs.Windows.{rows_of};
 ghost use Rattle.working_sets.specs.Counting.{counted, HasRoom, marked};
-ghost use Rattle.working_sets.specs.Lending.{CanTurn, count_after, HasRows, mark_in, rows_after, rows_over, rows_turned};
+ghost use Rattle.working_sets.specs.Lending.{CanTurn, count_after, HasRows, mark_in, rows_after, rows_over};
+ghost use Rattle.working_sets.specs.Lending.{rows_turned};
 ghost use Rattle.working_sets.specs.Lending.{turned_open, unseen};
 
 use crate::counting::{Mark, blank_row, mark_after, row_after};
@@ -109,8 +110,8 @@ fn last_tick<T: Timeline>(timeline: &T) -> u64
     timeline.touch(count - 1).tick
 }
 
-/// Returns whether so many slots are enough for the rows of the windows of a trace: as many as it has writes, or as many
-/// as windows begin up to the last write.
+/// Returns whether so many slots are enough for the rows of the windows of a trace: as many as it has writes, or as
+/// many as windows begin up to the last write.
 pub fn has_rows<T: Timeline>(timeline: &T, settings: &Settings, slots: usize) -> bool
     ensures { IsTrue result ↔ HasRows (T.touches timeline.now) settings.now.window slots }
 {

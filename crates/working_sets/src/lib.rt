@@ -6,11 +6,11 @@ mod error;
 mod hot;
 mod laws;
 mod lending;
-mod making;
 mod window;
+mod window_tables;
 
 pub use error::TablesError;
 pub use laws::each_write_has_its_row;
 pub use lending::{PageSeen, WindowNumbers, has_rows, window_rows};
-pub use making::{par_tables, tables};
 pub use window::{Tables, Window};
+pub use window_tables::{par_tables, tables};

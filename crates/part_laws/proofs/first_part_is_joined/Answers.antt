@@ -6,4 +6,5 @@ use Rattle.part_laws.proofs.first_part_is_joined.Goals as goal
 
 pub returns : goal.returns
 returns c shape outs first frames part rest is_shape is_part same are agree sent back has =
-    ap (λ (joined : GuestPart). joined ∷ rest) (joined_to_first shape (IsSentOn outs) first frames part is_shape is_part same are agree sent back has)
+    ap (λ (joined : GuestPart). joined ∷ rest) (joined_to_first shape (IsSentOn outs) first frames part is_shape is_part
+    same are agree sent back has)

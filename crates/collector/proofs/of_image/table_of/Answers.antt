@@ -17,6 +17,8 @@ loop-page-preserved c =
     let own : IsFrameOf shape page (get_or stamps page 0) (page_at shape bytes page) frame =
     subst (λ xs. IsFrameOf shape page (get_or stamps page 0) xs frame) front c.in_ok-frame_at.ensures in
     record {
-      made = rw c.in_ok-push.ensures.items (page_more shape bytes stamps page c.loop-page.table.items frame before.made own);
-      left = rw c.page_size.ensures at c.split_at.ensures.back ∙ behind_page (2 ^ shape.shift) page bytes c.loop-page.rest.now before.left;
+      made = rw c.in_ok-push.ensures.items (page_more shape bytes stamps page c.loop-page.table.items frame before.made
+          own);
+      left = rw c.page_size.ensures at c.split_at.ensures.back
+          ∙ behind_page (2 ^ shape.shift) page bytes c.loop-page.rest.now before.left;
     }

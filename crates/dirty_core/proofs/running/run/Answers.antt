@@ -4,7 +4,8 @@ use Rattle.dirty_core.proofs.running.run.Goals as goal
 
 pub loop-index-preserved : goal.loop-index-preserved
 loop-index-preserved c =
-    Reached-more _ _ _ _ _ _ _ c.loop-index-test.true c.loop-index.invariant c.in_default.ensures.done c.step.ensures.sizes
+    Reached-more _ _ _ _ _ _ _ c.loop-index-test.true c.loop-index.invariant c.in_default.ensures.done
+    c.step.ensures.sizes
 
 pub returns-in-Err-step-clause-refused : goal.returns-in-Err-step-clause-refused
 returns-in-Err-step-clause-refused c =

@@ -15,12 +15,16 @@ loop-part-preserved c =
     let own : part.shape ≡ shape =
     ap (λ (p : GuestPart). p.shape) c.part-item.is ∙ c.requires c.loop-part.part-index part c.loop-part-test.true in
     let copy : option_map (λ f. copy_in shape f.now) frame ≡ copy_at part c.args.page =
-    subst (λ (s : GuestShape). option_map (λ f. copy_in s f.now) frame ≡ copy_at part c.args.page) own c.frame.ensures.copy in
+    subst (λ (s : GuestShape). option_map (λ f. copy_in s f.now) frame ≡ copy_at part c.args.page) own
+    c.frame.ensures.copy in
     record {
-      kept = kept-more c.args.page (option_map (λ f. copy_in shape f.now) c.loop-part.kept) (option_map (λ f. copy_in shape f.now) c.later_frame-kept.result)
-          c.args.parts.now part c.loop-part.part-index (kept_of c.args.page None c.args.parts.now) before.kept c.loop-part-test.true c.part-item.is
+      kept = kept-more c.args.page (option_map (λ f. copy_in shape f.now) c.loop-part.kept)
+          (option_map (λ f. copy_in shape f.now) c.later_frame-kept.result)
+          c.args.parts.now part c.loop-part.part-index (kept_of c.args.page None c.args.parts.now) before.kept
+          c.loop-part-test.true c.part-item.is
           (rw copy at (c.later_frame-kept.ensures.copy shape));
-      fits = c.later_frame-kept.ensures.fits shape before.fits (subst (λ (s : GuestShape). IfSome frame (λ f. IsFrame s f.now)) own c.frame.ensures.fits);
+      fits = c.later_frame-kept.ensures.fits shape before.fits
+          (subst (λ (s : GuestShape). IfSome frame (λ f. IsFrame s f.now)) own c.frame.ensures.fits);
     }
 
 pub returns-clause-copy : goal.returns-clause-copy

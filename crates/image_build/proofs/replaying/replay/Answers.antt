@@ -12,9 +12,15 @@ write_over-requires c =
     let items = c.deref-write-items.result.now in
     let same : items ≡ trace.writes = c.deref-write-items.ensures.value ∙ ap (λ t. t.writes) c.trace.view_is in
     let low : c.loop-write.write-index < length items = omega (arith, c.loop-write-test.true) in
-    let fits = item_fits trace shape.shift shape.pages items c.loop-write.write-index c.write-item.result (shown c.view.result) c.shape-shape.ensures.is_trace
+    let fits = item_fits trace shape.shift shape.pages items c.loop-write.write-index c.write-item.result
+    (shown c.view.result) c.shape-shape.ensures.is_trace
     c.shape-shape.ensures.shift c.shape-shape.ensures.pages same low c.write-item.is c.view.ensures in
-    omega (arith, write_fits trace.version shape.shift shape.pages c.loop-write.memory.items (shown c.view.result) c.loop-write.invariant.len fits, c.loop-write.memory.ok.0)
+    omega (
+      arith,
+      write_fits trace.version shape.shift shape.pages c.loop-write.memory.items (shown c.view.result)
+          c.loop-write.invariant.len fits,
+      c.loop-write.memory.ok.0,
+    )
 
 pub loop-write-preserved : goal.loop-write-preserved
 loop-write-preserved c =
@@ -23,7 +29,10 @@ loop-write-preserved c =
     let items = c.deref-write-items.result.now in
     let same : items ≡ trace.writes = c.deref-write-items.ensures.value ∙ ap (λ t. t.writes) c.trace.view_is in
     let low : c.loop-write.write-index < length items = omega (arith, c.loop-write-test.true) in
-    let fits = item_fits trace shape.shift shape.pages items c.loop-write.write-index c.write-item.result (shown c.view.result) c.shape-shape.ensures.is_trace
+    let fits = item_fits trace shape.shift shape.pages items c.loop-write.write-index c.write-item.result
+    (shown c.view.result) c.shape-shape.ensures.is_trace
     c.shape-shape.ensures.shift c.shape-shape.ensures.pages same low c.write-item.is c.view.ensures in
-    Becomes-item trace.version shape.shift shape.pages c.loop-write.memory.items c.write_over.new.memory.items items c.loop-write.write-index c.write-item.result
-    (shown c.view.result) (image_of trace) c.loop-write.invariant low c.write-item.is c.view.ensures fits c.write_over.ensures
+    Becomes-item trace.version shape.shift shape.pages c.loop-write.memory.items c.write_over.new.memory.items items
+    c.loop-write.write-index c.write-item.result
+    (shown c.view.result) (image_of trace) c.loop-write.invariant low c.write-item.is c.view.ensures fits
+    c.write_over.ensures

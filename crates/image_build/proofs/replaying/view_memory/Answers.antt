@@ -11,8 +11,14 @@ write_over-requires c =
     let shape = c.shape-shape.result in
     let version = c.args.trace.now.version in
     let before = rw c.in-Some.ensures.steps at c.loop-write.invariant.becomes in
-    let fits = All-head (IsGuestWrite version shape.shift shape.pages) (shown c.in-Some.write) c.next.new.self (rw c.in-Some.ensures.steps at c.loop-write.invariant.fit) in
-    omega (arith, write_fits version shape.shift shape.pages c.loop-write.memory.items (shown c.in-Some.write) before.len fits, c.loop-write.memory.ok.0)
+    let fits = All-head (IsGuestWrite version shape.shift shape.pages) (shown c.in-Some.write) c.next.new.self
+    (rw c.in-Some.ensures.steps at c.loop-write.invariant.fit) in
+    omega (
+      arith,
+      write_fits version shape.shift shape.pages c.loop-write.memory.items (shown c.in-Some.write)
+          before.len fits,
+      c.loop-write.memory.ok.0,
+    )
 
 pub loop-write-preserved : goal.loop-write-preserved
 loop-write-preserved c =
@@ -21,7 +27,8 @@ loop-write-preserved c =
     let fit = rw c.in-Some.ensures.steps at c.loop-write.invariant.fit in
     let fits = All-head (IsGuestWrite version shape.shift shape.pages) (shown c.in-Some.write) c.next.new.self fit in
     record {
-      becomes = Becomes-next version shape.shift shape.pages c.loop-write.memory.items c.write_over.new.memory.items (shown c.in-Some.write) c.next.new.self (image_of c.args.trace.now)
+      becomes = Becomes-next version shape.shift shape.pages c.loop-write.memory.items c.write_over.new.memory.items
+          (shown c.in-Some.write) c.next.new.self (image_of c.args.trace.now)
           (rw c.in-Some.ensures.steps at c.loop-write.invariant.becomes) fits c.write_over.ensures;
       fit = All-tail (IsGuestWrite version shape.shift shape.pages) (shown c.in-Some.write) c.next.new.self fit;
     }

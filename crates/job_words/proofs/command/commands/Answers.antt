@@ -6,11 +6,19 @@ use Rattle.job_words.proofs.command.commands.Goals as goal
 
 pub returns : goal.returns
 returns c =
-    let top = required_line c.command.result c.subcommand_required.result c.command.ensures c.subcommand_required.ensures in
-    let image = adds_leaf _ c.command-image.result c.in_ok-subcommand.field-0 _ _ _ top c.command-image.ensures c.in_ok-subcommand.ensures in
+    let top = required_line c.leaf_command.result c.subcommand_required.result c.leaf_command.ensures
+    c.subcommand_required.ensures in
+    let image = adds_leaf _ c.leaf_command-image.result c.in_ok-subcommand.field-0 _ _ _ top
+    c.leaf_command-image.ensures
+    c.in_ok-subcommand.ensures in
     let report = adds_leaf _ _ c.in_ok-subcommand-2.field-0 _ (codes "report") report_rules image
-    (leaf_with c.command-report.result c.in_ok-with_report.field-0 _ _ c.command-report.ensures c.in_ok-with_report.ensures) c.in_ok-subcommand-2.ensures in
+    (leaf_with c.leaf_command-report.result c.in_ok-with_report.field-0 _ _ c.leaf_command-report.ensures
+    c.in_ok-with_report.ensures) c.in_ok-subcommand-2.ensures in
     let live = adds_leaf _ _ c.in_ok-subcommand-3.field-0 _ (codes "live") live_rules report
-    (leaf_with c.command-live.result c.in_ok-with_live.field-0 _ _ c.command-live.ensures c.in_ok-with_live.ensures) c.in_ok-subcommand-3.ensures in
-    let sweep = leaf_with c.command-sweep.result c.in_ok-with_cases.field-0 _ _ c.command-sweep.ensures c.in_ok-with_cases.ensures in
-    IfOk-weaker c.subcommand-4.result _ _ (λ line added. adds_leaf _ _ line _ (codes "sweep") (sweep_rules ++ case_rule ∷ []) live sweep added ∙ precopy_line_is) c.subcommand-4.ensures
+    (leaf_with c.leaf_command-live.result c.in_ok-with_live.field-0 _ _ c.leaf_command-live.ensures
+    c.in_ok-with_live.ensures)
+    c.in_ok-subcommand-3.ensures in
+    let sweep = leaf_with c.leaf_command-sweep.result c.in_ok-with_cases.field-0 _ _ c.leaf_command-sweep.ensures
+    c.in_ok-with_cases.ensures in
+    IfOk-weaker c.subcommand-4.result _ _ (λ line added. adds_leaf _ _ line _ (codes "sweep")
+    (sweep_rules ++ case_rule ∷ []) live sweep added ∙ precopy_line_is) c.subcommand-4.ensures

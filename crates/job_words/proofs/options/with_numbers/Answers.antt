@@ -9,4 +9,5 @@ loop-name-preserved c =
     let P : List Rule → Type 0 = λ rules. AddsRules c.args.command rules c.in_ok-command.command in
     subst P (sym (map-take_more _ c.args.numbers.now c.loop-name.name-index _ (omega arith)))
     (adds_both c.args.command c.loop-name.command c.in_ok-command.command _ _ c.loop-name.invariant
-    (adds_arg c.loop-name.command c.in_ok-command.command c.number.result _ c.in_ok-command.ensures c.number.ensures.local c.number.ensures.rule))
+    (adds_arg c.loop-name.command c.in_ok-command.command c.number.result _ c.in_ok-command.ensures
+    c.number.ensures.local c.number.ensures.rule))

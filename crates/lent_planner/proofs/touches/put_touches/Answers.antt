@@ -10,5 +10,10 @@ loop-write-preserved c =
     let writes = c.args.trace.now.writes in
     let P : List GuestWrite → Type 0 = λ left. ArePut writes left at.count c.args.room.now at.room in
     let before : P (shown c.in-Some.write ∷ c.next.new.self) = subst P c.in-Some.ensures.steps at.invariant in
-    let low = put_low writes c.next.new.self (shown c.in-Some.write) at.count c.args.room.now at.room c.requires before in
-    put_more writes c.next.new.self (shown c.in-Some.write) (record { tick = c.in-Some.write.tick; page = c.in-Some.write.page }) at.count c.args.room.now at.room refl low.0 before
+    let low = put_low writes c.next.new.self (shown c.in-Some.write) at.count c.args.room.now at.room c.requires
+    before in
+    put_more writes c.next.new.self (shown c.in-Some.write) (record {
+      tick = c.in-Some.write.tick;
+      page =
+          c.in-Some.write.page;
+    }) at.count c.args.room.now at.room refl low.0 before

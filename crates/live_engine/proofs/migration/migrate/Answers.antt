@@ -4,7 +4,7 @@ use Rattle.std.specs.List.{All}
 use Rattle.migration_model.specs.Final.{shape_of_trace}
 use Rattle.migration_model.specs.Parts.{GuestPart}
 use Rattle.migration_model.specs.Rounds.{MigrationPlan}
-use Rattle.live_engine.specs.Runs.{AllArrived, AllCame}
+use Rattle.live_engine.specs.Runs.{AllArrived, AllSentArrived}
 use Rattle.stream_receivers.specs.First.{parts_with}
 use Rattle.live_engine.proofs.Arrived.{all_came, keeps_settings, still_crossed}
 use Rattle.live_engine.proofs.Begun.{all_begun, shapes_begun}
@@ -22,7 +22,8 @@ pub join_first-requires-clause-some : goal.join_first-requires-clause-some
 join_first-requires-clause-some g c =
     let trace = g.W.WriteLog.trace c.args.trace.now in
     let p = c.in_ok-progress.progress in
-    let came : AllCame trace c.args.settings.now.base c.of-team.result.streams p.closed c.in_ok-arrived.arrived.items =
+    let came : AllSentArrived trace c.args.settings.now.base c.of-team.result.streams p.closed
+    c.in_ok-arrived.arrived.items =
     all_came trace c.args.settings.now c.in_ok-plan.field-0.plan c.of-team.result c.in_ok-states.states.items
     p.states.items c.in_ok-states.receivers.items c.in_ok-progress.receivers.items
     p.closed p.rounds.items c.in_ok-arrived.arrived.items c.in_ok-states.ensures c.in_ok-progress.ensures
@@ -33,7 +34,8 @@ pub join_first-requires-clause-shapes : goal.join_first-requires-clause-shapes
 join_first-requires-clause-shapes g c =
     let trace = g.W.WriteLog.trace c.args.trace.now in
     let p = c.in_ok-progress.progress in
-    let came : AllCame trace c.args.settings.now.base c.of-team.result.streams p.closed c.in_ok-arrived.arrived.items =
+    let came : AllSentArrived trace c.args.settings.now.base c.of-team.result.streams p.closed
+    c.in_ok-arrived.arrived.items =
     all_came trace c.args.settings.now c.in_ok-plan.field-0.plan c.of-team.result c.in_ok-states.states.items
     p.states.items c.in_ok-states.receivers.items c.in_ok-progress.receivers.items
     p.closed p.rounds.items c.in_ok-arrived.arrived.items c.in_ok-states.ensures c.in_ok-progress.ensures
@@ -46,7 +48,8 @@ pub stop_and_copy-requires-clause-arrived : goal.stop_and_copy-requires-clause-a
 stop_and_copy-requires-clause-arrived g c κs within =
     let trace = g.W.WriteLog.trace c.args.trace.now in
     let p = c.in_ok-progress.progress in
-    let came : AllCame trace c.args.settings.now.base c.of-team.result.streams p.closed c.in_ok-arrived.arrived.items =
+    let came : AllSentArrived trace c.args.settings.now.base c.of-team.result.streams p.closed
+    c.in_ok-arrived.arrived.items =
     all_came trace c.args.settings.now c.in_ok-plan.field-0.plan c.of-team.result c.in_ok-states.states.items
     p.states.items c.in_ok-states.receivers.items c.in_ok-progress.receivers.items
     p.closed p.rounds.items c.in_ok-arrived.arrived.items c.in_ok-states.ensures c.in_ok-progress.ensures

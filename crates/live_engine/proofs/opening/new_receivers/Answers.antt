@@ -5,9 +5,10 @@ use Rattle.std.proofs.lemmas.List.{map-append}
 use Rattle.std.proofs.lemmas.List.Elements.{All-push}
 use Rattle.page_message.specs.Shapes.{shape_of}
 use Rattle.stream_lanes.specs.Ends.{InView, LaneId}
+use Rattle.stream_lanes.proofs.Turned.{next_holds}
 use Rattle.stream_receivers.specs.Receivers.{ReceiverView}
 use Rattle.live_engine.specs.Receiving.{lanes_in}
-use Rattle.live_engine.proofs.FirstSeats.{next_holds, rest_of}
+use Rattle.live_engine.proofs.FirstSeats.{rest_of}
 use Rattle.live_engine.proofs.opening.new_receivers.Goals as goal
 
 abbrev ids : Vec InView Global → List LaneId

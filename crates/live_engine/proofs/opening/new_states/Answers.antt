@@ -4,9 +4,10 @@ use Rattle.std.specs.Vec.Iter.{into_iter_items}
 use Rattle.std.proofs.lemmas.List.{map-append}
 use Rattle.std.proofs.lemmas.List.Elements.{All-push}
 use Rattle.stream_lanes.specs.Ends.{OutView}
+use Rattle.stream_lanes.proofs.Turned.{next_holds}
 use Rattle.live_tasks.specs.CopierStates.{CopierStateView, IsCopierState}
 use Rattle.live_engine.specs.Lists.{rows_of}
-use Rattle.live_engine.proofs.FirstSeats.{next_holds, rest_of}
+use Rattle.live_engine.proofs.FirstSeats.{rest_of}
 use Rattle.live_engine.proofs.opening.new_states.Goals as goal
 
 pub new-requires-clause-some : goal.new-requires-clause-some

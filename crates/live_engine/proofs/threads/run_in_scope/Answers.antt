@@ -16,7 +16,7 @@ returns-clause-guests g c =
     let seats = c.in_ok-guests.guests.items in
     let count = c.in_ok-guests.ensures.count in
     let kept = c.in_ok-guests.ensures.each in
-    elim c.match-start_guests.branch [
+    elim c.match-start_replayers.branch [
       | in-Ok w ↦ record {
         count = count ∙ w.in-Ok.ensures.count ∙ ap length c.requires.guests
             ∙ length-map-range_with_len (λ (n : ℕ). guest_view table.id (first_guest table.start n)) 0
@@ -38,7 +38,7 @@ returns-clause-copiers g c =
     let copied = c.in_ok-copied.field-0.items in
     let count = c.in_ok-copied.ensures.count in
     let kept = c.in_ok-copied.ensures.each in
-    elim c.match-start_guests.branch [
+    elim c.match-start_replayers.branch [
       | in-Ok w ↦
           let ok = sym w.started-is ∙ c.in_ok-started.was in
           let same = ap (λ v. v.items) w.copiers-is in

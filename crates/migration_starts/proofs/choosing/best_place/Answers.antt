@@ -14,8 +14,12 @@ loop-number-preserved c =
     elim c.if-is_better.branch [
       | then-is_better w ↦
           subst P (sym w.best-is)
-          (IsFirstBest-takes better_order costs i c.loop-number.best c.index-costs-number.result c.index-costs-best.result c.loop-number.invariant (omega arith) c.index-costs-number.is c.index-costs-best.is (sym c.is_better.ensures ∙ w.if-is_better.true))
+          (IsFirstBest-takes better_order costs i c.loop-number.best c.index-costs-number.result
+          c.index-costs-best.result c.loop-number.invariant (omega arith) c.index-costs-number.is
+          c.index-costs-best.is (sym c.is_better.ensures ∙ w.if-is_better.true))
       | else-is_better w ↦
           subst P (sym w.best-is)
-          (IsFirstBest-keeps better_order costs i c.loop-number.best c.index-costs-number.result c.index-costs-best.result c.loop-number.invariant (omega arith) c.index-costs-number.is c.index-costs-best.is (sym c.is_better.ensures ∙ w.if-is_better.false))
+          (IsFirstBest-keeps better_order costs i c.loop-number.best c.index-costs-number.result
+          c.index-costs-best.result c.loop-number.invariant (omega arith) c.index-costs-number.is
+          c.index-costs-best.is (sym c.is_better.ensures ∙ w.if-is_better.false))
     ]

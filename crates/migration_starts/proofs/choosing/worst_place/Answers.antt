@@ -14,8 +14,12 @@ loop-number-preserved c =
     elim c.if-is_better.branch [
       | then-is_better w ↦
           subst P (sym w.worst-is)
-          (IsFirstBest-takes worse_order costs i c.loop-number.worst c.index-costs-number.result c.index-costs-worst.result c.loop-number.invariant (omega arith) c.index-costs-number.is c.index-costs-worst.is (sym c.is_better.ensures ∙ w.if-is_better.true))
+          (IsFirstBest-takes worse_order costs i c.loop-number.worst c.index-costs-number.result
+          c.index-costs-worst.result c.loop-number.invariant (omega arith) c.index-costs-number.is
+          c.index-costs-worst.is (sym c.is_better.ensures ∙ w.if-is_better.true))
       | else-is_better w ↦
           subst P (sym w.worst-is)
-          (IsFirstBest-keeps worse_order costs i c.loop-number.worst c.index-costs-number.result c.index-costs-worst.result c.loop-number.invariant (omega arith) c.index-costs-number.is c.index-costs-worst.is (sym c.is_better.ensures ∙ w.if-is_better.false))
+          (IsFirstBest-keeps worse_order costs i c.loop-number.worst c.index-costs-number.result
+          c.index-costs-worst.result c.loop-number.invariant (omega arith) c.index-costs-number.is
+          c.index-costs-worst.is (sym c.is_better.ensures ∙ w.if-is_better.false))
     ]

@@ -1,4 +1,5 @@
-use Rattle.std.proofs.Common.{◌≡◌, ℕ, ◌+◌, ◌-◌, List, [], ◌∷◌, ◌++◌, length, replicate, sym, ap, ◌∙◌, append_assoc, arith}
+use Rattle.std.proofs.Common.{◌≡◌, ℕ, ◌+◌, ◌-◌, List, [], ◌∷◌, ◌++◌, length, replicate, sym, ap, ◌∙◌, append_assoc}
+use Rattle.std.proofs.Common.{arith}
 use Rattle.std.proofs.lemmas.List.{replicate-append-replicate}
 use Rattle.migration_starts.proofs.table.push_right.Goals as goal
 
@@ -10,7 +11,8 @@ loop-column-preserved c =
     let n = c.loop-column._column - length c.args.words.now in
     let old = c.args.text.now.items in
     record {
-      text = c.in_ok-push.ensures.items ∙ ap (λ (l : List ℕ). l ++ 32 ∷ []) c.loop-column.invariant.text ∙ append_assoc old (replicate {A = ℕ} n 32) (32 ∷ [])
+      text = c.in_ok-push.ensures.items ∙ ap (λ (l : List ℕ). l ++ 32 ∷ []) c.loop-column.invariant.text
+          ∙ append_assoc old (replicate {A = ℕ} n 32) (32 ∷ [])
           ∙ ap (λ (l : List ℕ). old ++ l) (sym (one_more _ n (omega (arith, c.loop-column.auto._column))));
       high = omega arith;
     }

@@ -23,7 +23,8 @@ loop-word-preserved c =
     let more = ap (λ (l : List ℕ). length l) (listed_more marks word) in
     let parts = length-append (listed marks word) (pages_of_word word (get_or marks word 0)) in
     record {
-      list = wrote.listed ∙ ap (λ (l : List ℕ). l ++ pages_of_word word (get_or marks word 0)) before.list ∙ sym (listed_more marks word);
+      list = wrote.listed ∙ ap (λ (l : List ℕ). l ++ pages_of_word word (get_or marks word 0)) before.list
+          ∙ sym (listed_more marks word);
       count = omega (arith, wrote.slot, before.count, more, parts);
       len = wrote.len ∙ before.len;
     }

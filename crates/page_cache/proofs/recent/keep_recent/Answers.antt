@@ -7,7 +7,8 @@ use Rattle.page_cache.proofs.Entries.{kept_put_at}
 use Rattle.page_cache.proofs.recent.keep_recent.Goals as goal
 
 pub returns-in_err-bytes_into-clause-kept : goal.returns-in_err-bytes_into-clause-kept
-returns-in_err-bytes_into-clause-kept g c = c.room_for_page-bytes.ensures.kept (g.W.WriteLog.trace c.args.trace.now) c.bring_kept.ensures.kept
+returns-in_err-bytes_into-clause-kept g c = c.room_for_page-bytes.ensures.kept (g.W.WriteLog.trace c.args.trace.now)
+    c.bring_kept.ensures.kept
 
 pub returns-in_err-put-clause-kept : goal.returns-in_err-put-clause-kept
 returns-in_err-put-clause-kept g c =
@@ -19,12 +20,14 @@ pub returns-clause-kept : goal.returns-clause-kept
 returns-clause-kept g c =
     let trace = g.W.WriteLog.trace c.args.trace.now in
     rw c.in_ok-put.ensures.entries
-    (kept_put_at trace c.room_for_page-bytes.new.kept c.args.page c.args.version (page_with c.args.version c.bytes_into.new.room.items)
+    (kept_put_at trace c.room_for_page-bytes.new.kept c.args.page c.args.version
+    (page_with c.args.version c.bytes_into.new.room.items)
     (c.room_for_page-bytes.ensures.kept trace c.bring_kept.ensures.kept) c.requires.page c.requires.version
     (ap (page_with c.args.version) c.in_ok-bytes_into.ensures))
 
 pub returns-clause-last : goal.returns-clause-last
 returns-clause-last g c =
     rw c.in_ok-put.ensures.entries
-    (lookup-put_entries nat_eq c.room_for_page-bytes.new.kept c.args.page (page_with c.args.version c.bytes_into.new.room.items) nat_eq_equiv
+    (lookup-put_entries nat_eq c.room_for_page-bytes.new.kept c.args.page
+    (page_with c.args.version c.bytes_into.new.room.items) nat_eq_equiv
     ∙ ap Some (ap (page_with c.args.version) c.in_ok-bytes_into.ensures))

@@ -14,7 +14,8 @@ returns-then-is_zero-clause-appended c = (
     fits = record { page = c.requires.page; stamp = c.requires.stamp; body = tt };
     page_is = refl;
     stamp_is = refl;
-    content = ap (λ (n : ℕ). replicate n 0) (sym c.requires.whole) ∙ all_same 0 c.args.bytes.now (c.is_zero.ensures.0 c.if-is_zero.true);
+    content = ap (λ (n : ℕ). replicate n 0) (sym c.requires.whole)
+        ∙ all_same 0 c.args.bytes.now (c.is_zero.ensures.0 c.if-is_zero.true);
   },
   rw (c.in_ok-extend_from_slice.ensures.items, c.head_of.ensures) refl,
 )
@@ -28,12 +29,23 @@ returns-clause-appended c =
     let bytes = c.args.bytes.now in (
       frame_with c.args.page c.args.stamp (Some bytes),
       record {
-        fits = record { page = c.requires.page; stamp = c.requires.stamp; body = (c.requires.whole, λ zeros. absurd (cc (c.if-is_zero.false, c.is_zero.ensures.1 zeros))) };
+        fits = record {
+          page = c.requires.page;
+          stamp = c.requires.stamp;
+          body =
+              (c.requires.whole, λ zeros. absurd (cc (c.if-is_zero.false, c.is_zero.ensures.1 zeros)));
+        };
         page_is = refl;
         stamp_is = refl;
         content = refl;
       },
-      rw (c.in_ok-extend_from_slice-3.ensures.items, c.in_ok-extend_from_slice-2.ensures.items, c.reserve.ensures.items, c.head_of-2.ensures)
+      rw (
+        c.in_ok-extend_from_slice-3.ensures.items,
+        c.in_ok-extend_from_slice-2.ensures.items,
+        c.reserve.ensures.items,
+        c.head_of-2.ensures,
+      )
           (append_assoc old (page ++ (stamp ++ 1 ∷ [])) bytes
-          ∙ ap (λ (text : List ℕ). old ++ text) (append_assoc page (stamp ++ 1 ∷ []) bytes ∙ ap (λ (text : List ℕ). page ++ text) (append_assoc stamp (1 ∷ []) bytes))),
+          ∙ ap (λ (text : List ℕ). old ++ text) (append_assoc page (stamp ++ 1 ∷ []) bytes
+          ∙ ap (λ (text : List ℕ). page ++ text) (append_assoc stamp (1 ∷ []) bytes))),
     )

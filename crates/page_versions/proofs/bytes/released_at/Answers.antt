@@ -11,5 +11,7 @@ returns-then-is_release-clause-lost g c =
     let places = c.args.places.now in
     let k : ℕ = c.loop-index.index - 1 in
     let none : length (write_at trace.writes (get_or places k 0)).bytes ≡ 0 =
-    ap (λ (w : GuestWrite). length w.bytes) (sym c.write.ensures) ∙ eqb-true _ _ (sym c.is_release.ensures ∙ c.if-is_release.true) in
-    lost_before trace places k c.requires.is_trace c.requires.places (omega (arith, c.loop-index.invariant, c.loop-index-test.true)) none
+    ap (λ (w : GuestWrite). length w.bytes) (sym c.write.ensures)
+    ∙ eqb-true _ _ (sym c.is_release.ensures ∙ c.if-is_release.true) in
+    lost_before trace places k c.requires.is_trace c.requires.places
+    (omega (arith, c.loop-index.invariant, c.loop-index-test.true)) none

@@ -5,6 +5,7 @@ use Rattle.page_versions.proofs.searching.count_to.Goals as goal
 pub returns : goal.returns
 returns c = (
   c.partition_point.ensures.bound,
-  IsPartitionPoint-from_clause (λ v. leb v c.args.version) c.args.places.now c.partition_point.result c.partition_point.ensures.partitioned
+  IsPartitionPoint-from_clause (λ v. leb v c.args.version) c.args.places.now c.partition_point.result
+      c.partition_point.ensures.partitioned
       (IsPartitionedBy-leb (λ v. v) c.args.places.now c.args.version c.requires) (λ a r f k. search (rules, of_calls)),
 )

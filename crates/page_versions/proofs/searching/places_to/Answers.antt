@@ -4,4 +4,5 @@ use Rattle.page_versions.proofs.searching.places_to.Goals as goal
 
 pub returns : goal.returns
 returns c =
-    sym (filter_front (λ v. leb v c.args.version) c.args.places.now c.count_to-count.result c.count_to-count.ensures.0 c.count_to-count.ensures.1)
+    sym (filter_front (λ v. leb v c.args.version) c.args.places.now c.count_to-count.result c.count_to-count.ensures.0
+    c.count_to-count.ensures.1)

@@ -12,6 +12,15 @@ pub returns-clause-failed : goal.returns-clause-failed
 returns-clause-failed g c one =
     let fails = rw c.deref.ensures.value at c.in-Err.ensures.failed in
     elim (c.refuse.ensures.failed one) [
-      | inl unshown ↦ inr (refl, inl (asked_for (map string_bytes c.args.words.items) c.in-Err.error unshown.1 fails unshown.2, unshown.0, unshown.1, unshown.3))
+      | inl unshown ↦ inr (
+        refl,
+        inl (
+          asked_for (map string_bytes c.args.words.items) c.in-Err.error unshown.1 fails
+              unshown.2,
+          unshown.0,
+          unshown.1,
+          unshown.3,
+        ),
+      )
       | inr memory ↦ inr (refl, inr (c.refuse.ensures.kept (no_text c.in-Err.error memory.0), memory.1))
     ]

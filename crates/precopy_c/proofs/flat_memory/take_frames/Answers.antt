@@ -18,9 +18,15 @@ loop-rest-preserved c =
     let some = some_size shape c.loop-rest.rest.now c.in_ok-view.size c.in_ok-view.view c.in_ok-view.ensures.found in
     record {
       takes = rw c.split_at.ensures.back
-          (TakesFlat-more shape c.args.memory.now c.loop-rest.memory c.accept_view.new.memory c.args.states.now c.loop-rest.states c.accept_view.new.states c.args.bytes.now c.loop-rest.rest.now
-          c.loop-rest.taken c.in_ok-view.view c.in_ok-view.size before.takes c.in_ok-view.ensures.found c.accept_view.ensures.kept c.accept_view.ensures.others c.accept_view.ensures.came);
-      flat = record { bytes_are = c.accept_view.auto.memory ∙ before.flat.bytes_are; states_are = c.accept_view.auto.states ∙ before.flat.states_are };
+          (TakesFlat-more shape c.args.memory.now c.loop-rest.memory c.accept_view.new.memory c.args.states.now
+          c.loop-rest.states c.accept_view.new.states c.args.bytes.now c.loop-rest.rest.now
+          c.loop-rest.taken c.in_ok-view.view c.in_ok-view.size before.takes c.in_ok-view.ensures.found
+          c.accept_view.ensures.kept c.accept_view.ensures.others c.accept_view.ensures.came);
+      flat = record {
+        bytes_are = c.accept_view.auto.memory ∙ before.flat.bytes_are;
+        states_are =
+            c.accept_view.auto.states ∙ before.flat.states_are;
+      };
       frames = omega (arith, before.frames, some);
       bytes = omega (arith, before.bytes, c.in_ok-view.ensures.within, c.split_at.ensures.back_len);
     }

@@ -10,5 +10,6 @@ returns-clause-made c zero =
       made.0,
       made.1,
       made.2,
-      made.3 ∙ ap (λ (m : GuestMemory). over m.bytes c.args.memory.now) (image_before_end made.0 1_099_511_627_776 made.1.is_trace (omega arith)),
+      made.3 ∙ ap (λ (m : GuestMemory). over m.bytes c.args.memory.now)
+          (image_before_end made.0 1_099_511_627_776 made.1.is_trace (omega arith)),
     )

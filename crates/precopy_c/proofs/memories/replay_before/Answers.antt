@@ -11,8 +11,13 @@ pub write_over-requires : goal.write_over-requires
 write_over-requires c =
     let shape = c.shape-shape.result in
     let version = c.args.trace.now.version in
-    let fits = All-head (IsGuestWrite version shape.shift shape.pages) (shown c.in-Some.write) c.next.new.self (rw c.in-Some.ensures.steps at c.loop-write.invariant.fit) in
-    omega (arith, write_fits version shape.shift shape.pages c.loop-write.memory (shown c.in-Some.write) c.loop-write.invariant.becomes.len fits)
+    let fits = All-head (IsGuestWrite version shape.shift shape.pages) (shown c.in-Some.write) c.next.new.self
+    (rw c.in-Some.ensures.steps at c.loop-write.invariant.fit) in
+    omega (
+      arith,
+      write_fits version shape.shift shape.pages c.loop-write.memory (shown c.in-Some.write)
+          c.loop-write.invariant.becomes.len fits,
+    )
 
 pub loop-write-preserved-then-write-tick : goal.loop-write-preserved-then-write-tick
 loop-write-preserved-then-write-tick c =
@@ -21,8 +26,10 @@ loop-write-preserved-then-write-tick c =
     let fit = rw c.in-Some.ensures.steps at c.loop-write.invariant.fit in
     let fits = All-head (IsGuestWrite version shape.shift shape.pages) (shown c.in-Some.write) c.next.new.self fit in
     record {
-      becomes = Becomes-put version shape.shift shape.pages c.args.tick c.loop-write.memory c.write_over.new.memory (shown c.in-Some.write) c.next.new.self
-          (image_before c.args.trace.now c.args.tick) (rw c.in-Some.ensures.steps at c.loop-write.invariant.becomes) fits c.if-write-tick.true c.write_over.ensures;
+      becomes = Becomes-put version shape.shift shape.pages c.args.tick c.loop-write.memory c.write_over.new.memory
+          (shown c.in-Some.write) c.next.new.self
+          (image_before c.args.trace.now c.args.tick) (rw c.in-Some.ensures.steps at c.loop-write.invariant.becomes)
+          fits c.if-write-tick.true c.write_over.ensures;
       fit = All-tail (IsGuestWrite version shape.shift shape.pages) (shown c.in-Some.write) c.next.new.self fit;
     }
 
@@ -32,7 +39,9 @@ loop-write-preserved c =
     let version = c.args.trace.now.version in
     let fit = rw c.in-Some.ensures.steps at c.loop-write.invariant.fit in
     record {
-      becomes = Becomes-left_out shape.shift shape.pages c.args.tick c.loop-write.memory (shown c.in-Some.write) c.next.new.self
-          (image_before c.args.trace.now c.args.tick) (rw c.in-Some.ensures.steps at c.loop-write.invariant.becomes) c.if-write-tick.false;
+      becomes = Becomes-left_out shape.shift shape.pages c.args.tick c.loop-write.memory (shown c.in-Some.write)
+          c.next.new.self
+          (image_before c.args.trace.now c.args.tick) (rw c.in-Some.ensures.steps at c.loop-write.invariant.becomes)
+          c.if-write-tick.false;
       fit = All-tail (IsGuestWrite version shape.shift shape.pages) (shown c.in-Some.write) c.next.new.self fit;
     }

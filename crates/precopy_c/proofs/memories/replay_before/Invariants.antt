@@ -7,6 +7,7 @@ use Rattle.precopy_c.proofs.memories.replay_before.Given as goal
 
 abbrev pub invariant-loop-write : goal.invariant-loop-write
 invariant-loop-write l = record {
-  becomes : Becomes l.shape.shift l.shape.pages l.memory (before_tick l.tick l.write-iterator) (image_before l.trace l.tick);
+  becomes : Becomes l.shape.shift l.shape.pages l.memory (before_tick l.tick l.write-iterator)
+      (image_before l.trace l.tick);
   fit : All (IsGuestWrite l.trace.version l.shape.shift l.shape.pages) l.write-iterator;
 }

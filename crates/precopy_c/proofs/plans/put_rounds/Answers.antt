@@ -5,8 +5,10 @@ use Rattle.precopy_c.proofs.plans.put_rounds.Goals as goal
 
 pub loop-number-preserved : goal.loop-number-preserved
 loop-number-preserved c =
-    front_more row_of c.args.rounds.now c.loop-number.number c.index-rounds-number.result c.row.result c.args.room.now c.loop-number.room
+    front_more row_of c.args.rounds.now c.loop-number.number c.index-rounds-number.result c.row.result c.args.room.now
+    c.loop-number.room
     (omega arith) c.requires c.index-rounds-number.is c.row.ensures c.loop-number.invariant
 
 pub returns : goal.returns
-returns c = c.loop-number.invariant ∙ front_all row_of c.args.rounds.now c.loop-number.number c.args.room.now (omega arith)
+returns c = c.loop-number.invariant ∙ front_all row_of c.args.rounds.now c.loop-number.number c.args.room.now
+    (omega arith)

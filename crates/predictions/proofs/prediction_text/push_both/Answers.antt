@@ -4,4 +4,12 @@ use Rattle.predictions.proofs.prediction_text.push_both.Goals as goal
 
 pub returns : goal.returns
 returns c =
-    rw (c.in_ok-end_line.ensures, c.in_ok-push_seconds.ensures, c.in_ok-extend_from_slice-2.ensures.items, c.as_bytes-2.ensures.value, c.in_ok-push_bytes.ensures, c.in_ok-extend_from_slice.ensures.items, c.as_bytes.ensures.value) (simp (append_assoc, append-nil))
+    rw (
+      c.in_ok-end_line.ensures,
+      c.in_ok-push_seconds.ensures,
+      c.in_ok-extend_from_slice-2.ensures.items,
+      c.as_bytes-2.ensures.value,
+      c.in_ok-push_bytes.ensures,
+      c.in_ok-extend_from_slice.ensures.items,
+      c.as_bytes.ensures.value,
+    ) (simp (append_assoc, append-nil))

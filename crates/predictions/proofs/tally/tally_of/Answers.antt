@@ -11,12 +11,16 @@ pub loop-round-preserved : goal.loop-round-preserved
 loop-round-preserved c =
     let i = c.loop-round.round-index in
     let rounds = c.deref-round-items.result.now in
-    let some : c.deref.result.now ≡ c.round-item.result.sent = c.deref.ensures.value ∙ ap (λ (r : PlannedRound). r.sent) c.round.view_is in
+    let some : c.deref.result.now ≡ c.round-item.result.sent = c.deref.ensures.value
+    ∙ ap (λ (r : PlannedRound). r.sent) c.round.view_is in
     let more = rounds_more rounds i c.round-item.result c.deref.result.now (omega arith) c.round-item.is some in
     let P : List ℕ → Type 0 = λ l. IsTally c.args.pages l c.add_all.new.self in
-    let small = c.plan.invariant.each i c.round-item.result (omega (arith, ap length c.deref-round-items.ensures.value)) in
+    let small = c.plan.invariant.each i c.round-item.result (omega
+    (arith, ap length c.deref-round-items.ensures.value)) in
     let same : length c.deref.result.now ≡ length (get_or c.plan.inside.rounds.items i c.round-item.result).sent =
-    ap length some ∙ ap (λ (r : PlannedRound). length r.sent) (c.round-item.is ∙ ap (λ (l : List PlannedRound). get_or l i c.round-item.result) c.deref-round-items.ensures.value) in
+    ap length some ∙ ap (λ (r : PlannedRound). length r.sent)
+    (c.round-item.is ∙ ap (λ (l : List PlannedRound). get_or l i c.round-item.result)
+    c.deref-round-items.ensures.value) in
     record {
       tally = subst P (sym more) (c.add_all.ensures.counted c.args.pages _ c.loop-round.invariant.tally);
       few = omega (arith, small, same, c.add_all.ensures.number, c.loop-round.invariant.few);
@@ -26,9 +30,11 @@ loop-round-preserved c =
 tallied : (c : goal.After-add_all-2) → IsTally c.args.pages (pages_sent c.args.plan.now) c.add_all-2.new.self
 tallied c =
     let f : PlannedRound → List ℕ = λ r. r.sent in
-    let rounds = take_all c.loop-round.round-index c.deref-round-items.result.now (omega arith) ∙ c.deref-round-items.ensures.value in
+    let rounds = take_all c.loop-round.round-index c.deref-round-items.result.now (omega arith)
+    ∙ c.deref-round-items.ensures.value in
     let P : List ℕ → Type 0 = λ l. IsTally c.args.pages l c.add_all-2.new.self in
-    let sent = ap (λ (l : List PlannedRound). flat_map f l ++ c.deref-2.result.now) rounds ∙ ap (λ (l : List ℕ). flat_map f c.plan.inside.rounds.items ++ l) c.deref-2.ensures.value
+    let sent = ap (λ (l : List PlannedRound). flat_map f l ++ c.deref-2.result.now) rounds
+    ∙ ap (λ (l : List ℕ). flat_map f c.plan.inside.rounds.items ++ l) c.deref-2.ensures.value
     ∙ ap pages_sent c.plan.view_is in
     subst P sent (c.add_all-2.ensures.counted c.args.pages _ c.loop-round.invariant.tally)
 

@@ -15,8 +15,10 @@ returns-clause-first g c =
     let asked = c.asked.view_is ∙ c.asked-asked.ensures.value in
     let start : c.asked.inside.start ≡ s.start = ap (λ (x : MigrationSettings). x.start) asked in
     let base = ap (λ (x : MigrationSettings). x.base) asked in
-    let point : IsPoint touches s.start c.before-2.result = subst (λ t. IsPoint touches t c.before-2.result) start c.before-2.ensures.point in
-    let listed : c.match-asked.listed ≡ length (pages_lacking pages touches s.base s.start) = elim c.match-asked.branch [
+    let point : IsPoint touches s.start c.before-2.result = subst (λ t. IsPoint touches t c.before-2.result) start
+    c.before-2.ensures.point in
+    let listed : c.match-asked.listed ≡ length (pages_lacking pages touches s.base s.start) =
+    elim c.match-asked.branch [
       | in-Some w ↦
           w.listed-is ∙ w.count_since-listed.ensures.count
           ∙ (λ i. length (pages_lacking pages touches ((sym w.in-Some.is ∙ base) i) (start i)))
@@ -25,5 +27,7 @@ returns-clause-first g c =
           ∙ ap (λ (o : Option ℕ). length (pages_lacking pages touches o s.start)) (sym w.in-None.is ∙ base)
     ] in
     let first = c.first.ensures in
-    first_is pages touches s c.first.result c.asked-asked.ensures.in_range (rw (sym c.page_count-all.ensures.pages) c.page_count-all.ensures.few) first.step first.total (first.listed ∙ listed)
+    first_is pages touches s c.first.result c.asked-asked.ensures.in_range
+    (rw (sym c.page_count-all.ensures.pages) c.page_count-all.ensures.few) first.step first.total
+    (first.listed ∙ listed)
     (rw first.next c.before-2.ensures.bound) (rw first.next point)

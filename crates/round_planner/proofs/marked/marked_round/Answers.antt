@@ -13,7 +13,11 @@ mark_until-next-requires g c =
     record { marks_len = has.within.scan.met.len; next_high = has.within.scan.bound }
 
 pub turn-dirtied-requires-clause-marks : goal.turn-dirtied-requires-clause-marks
-turn-dirtied-requires-clause-marks g c = omega (arith, c.mark_until-next.ensures.room.marks_len, c.requires.marks.is.at.can.list.few)
+turn-dirtied-requires-clause-marks g c = omega (
+  arith,
+  c.mark_until-next.ensures.room.marks_len,
+  c.requires.marks.is.at.can.list.few,
+)
 
 pub turn-dirtied-requires-clause-room : goal.turn-dirtied-requires-clause-room
 turn-dirtied-requires-clause-room g c =
@@ -21,8 +25,10 @@ turn-dirtied-requires-clause-room g c =
     let is = c.requires.marks.is in
     let has = c.sent_pages-sent.ensures coming is in
     let scan =
-    walked_on (g.T.Timeline.pages c.args.timeline.now) (g.T.Timeline.touches c.args.timeline.now) coming.from coming.rate c.sent_pages-sent.result.0 c.duration.result
-    (c.args.now.now.step.from + c.duration.result) _ _ _ _ (ap (λ t. t + c.duration.result) is.at.from_is) (rw (is.at.rate_is) at c.duration.ensures.enough) has.within c.mark_until-next.ensures.walked in
+    walked_on (g.T.Timeline.pages c.args.timeline.now) (g.T.Timeline.touches c.args.timeline.now) coming.from
+    coming.rate c.sent_pages-sent.result.0 c.duration.result
+    (c.args.now.now.step.from + c.duration.result) _ _ _ _ (ap (λ t. t + c.duration.result) is.at.from_is)
+    (rw (is.at.rate_is) at c.duration.ensures.enough) has.within c.mark_until-next.ensures.walked in
     omega (arith, marked_few _ _ coming.from _ _ _ scan, is.room_len)
 
 pub returns-clause-room : goal.returns-clause-room
@@ -38,9 +44,11 @@ returns-clause-turned g c =
     let to = c.args.now.now.step.from + c.duration.result in
     let next = c.mark_until-next.result in
     let scan =
-    walked_on pages touches coming.from coming.rate c.sent_pages-sent.result.0 c.duration.result to _ _ _ _ (ap (λ t. t + c.duration.result) at.from_is)
+    walked_on pages touches coming.from coming.rate c.sent_pages-sent.result.0 c.duration.result to _ _ _ _
+    (ap (λ t. t + c.duration.result) at.from_is)
     (rw (at.rate_is) at c.duration.ensures.enough) has.within c.mark_until-next.ensures.walked in
-    subst (λ (from : ℕ). IsTurned pages touches from to c.turn-dirtied.result next c.turn-dirtied.new.marks c.turn-dirtied.new.room) (sym at.from_is)
+    subst (λ (from : ℕ). IsTurned pages touches from to c.turn-dirtied.result next c.turn-dirtied.new.marks
+    c.turn-dirtied.new.room) (sym at.from_is)
     (c.turn-dirtied.ensures.turned pages coming.from to next touches scan)
 
 pub returns-clause-ran : goal.returns-clause-ran
@@ -55,14 +63,25 @@ returns-clause-ran g c coming is =
     let next = c.mark_until-next.result in
     let marks = c.mark_until-next.new.marks in
     let scan =
-    walked_on pages touches coming.from coming.rate c.sent_pages-sent.result.0 ticks to _ _ _ _ refl (rw (at.rate_is) at c.duration.ensures.enough) has.within (rw to_is at c.mark_until-next.ensures.walked) in
+    walked_on pages touches coming.from coming.rate c.sent_pages-sent.result.0 ticks to _ _ _ _ refl
+    (rw (at.rate_is) at c.duration.ensures.enough) has.within (rw to_is at c.mark_until-next.ensures.walked) in
     let dirtied = pages_written pages touches coming.from to in
-    let round : PlannedRound = record { from = coming.from; to = to; rate = coming.rate; pages = coming.pages; sent = has.list; dirtied = length dirtied } in
-    let ticks_are : ticks ≡ duration_of (length has.list) coming.rate = c.duration.ensures.value ∙ (λ i. duration_of (has.count_is i) (at.rate_is i)) in
+    let round : PlannedRound = record {
+      from = coming.from;
+      to = to;
+      rate = coming.rate;
+      pages = coming.pages;
+      sent =
+          has.list;
+      dirtied = length dirtied;
+    } in
+    let ticks_are : ticks ≡ duration_of (length has.list) coming.rate = c.duration.ensures.value
+    ∙ (λ i. duration_of (has.count_is i) (at.rate_is i)) in
     record {
       round = round;
       dirtied = dirtied;
-      run = ran pages touches c.args.settings.now coming round dirtied ticks at.can has.sent refl refl refl refl ticks_are (rw (has.count_is, at.rate_is) at c.duration.ensures.enough)
+      run = ran pages touches c.args.settings.now coming round dirtied ticks at.can has.sent refl refl refl refl
+          ticks_are (rw (has.count_is, at.rate_is) at c.duration.ensures.enough)
           (rw (has.count_is, at.rate_is) at c.duration.ensures.least) refl refl;
       to_is = to_is;
       sent_is = has.count_is;

@@ -4,4 +4,5 @@ use Rattle.round_planner.proofs.planning.first_pages.Goals as goal
 
 pub loop-page-preserved : goal.loop-page-preserved
 loop-page-preserved c =
-    c.in_ok-push.ensures.items ∙ ap (λ (l : List ℕ). l ++ c.loop-page.page ∷ []) c.loop-page.invariant ∙ sym (range_more c.loop-page.page)
+    c.in_ok-push.ensures.items ∙ ap (λ (l : List ℕ). l ++ c.loop-page.page ∷ []) c.loop-page.invariant
+    ∙ sym (range_more c.loop-page.page)

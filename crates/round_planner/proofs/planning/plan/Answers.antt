@@ -17,7 +17,8 @@ loop-rounds-init g c =
     let s = c.args.settings.now in
     let asked = c.asked.view_is ∙ c.asked-asked.ensures.value in
     let start : c.asked.inside.start ≡ s.start = ap (λ (x : MigrationSettings). x.start) asked in
-    let list = c.in_ok-scan.ensures.pages ∙ ap (λ (x : MigrationSettings). pages_lacking pages touches x.base x.start) asked in
+    let list = c.in_ok-scan.ensures.pages ∙ ap (λ (x : MigrationSettings). pages_lacking pages touches x.base x.start)
+    asked in
     let step = c.first-step.result in
     let step_is = c.first-step.ensures in
     let first : next_round step c.in_ok-scan.pages.items ≡ first_round pages touches s =
@@ -37,8 +38,16 @@ ended-requires g c =
     let ran = c.in_ok-round.ensures.ran in
     let pushed = c.in_ok-push.ensures.items in
     record {
-      few = omega (arith, ap length pushed, length_push c.loop-rounds.rounds.items c.in_ok-round.round, before.count, before.can.done_low, before.can.rounds_few);
-      each = rw pushed (All-push (λ (r : PlannedRound). length r.sent ≤ 65_536) c.loop-rounds.rounds.items c.in_ok-round.round before.few ran.few);
+      few = omega (
+        arith,
+        ap length pushed,
+        length_push c.loop-rounds.rounds.items c.in_ok-round.round,
+        before.count,
+        before.can.done_low,
+        before.can.rounds_few,
+      );
+      each = rw pushed (All-push (λ (r : PlannedRound). length r.sent ≤ 65_536) c.loop-rounds.rounds.items
+          c.in_ok-round.round before.few ran.few);
       rest = list_few _ _ (written_list _ _ _ _ _ ran.small ran.dirtied_are);
     }
 
@@ -54,8 +63,10 @@ returns-in-Stop-clause-answer g c =
     let from : round.from ≡ step.from = c.in_ok-round.ensures.ran.is_round.from_is in
     let tests = sym c.round.view_is in
     let after = (λ i. after_round s (tests i).dirtied ((tests i).to - from i) (step.done + 1)) ∙ told in
-    follows_end _ _ s now c.loop-rounds.rounds.items c.push.new.self.items round c.in_ok-round.dirtied.items (reason_of c.in-Stop.reason) _ c.in_ok-round.ensures.ran after pushed
-    (c.ended.ensures ∙ ap (λ t. plan_with c.push.new.self.items (reason_of c.in-Stop.reason) t c.in_ok-round.dirtied.items (duration_of (length c.in_ok-round.dirtied.items) s.max)) to)
+    follows_end _ _ s now c.loop-rounds.rounds.items c.push.new.self.items round c.in_ok-round.dirtied.items
+    (reason_of c.in-Stop.reason) _ c.in_ok-round.ensures.ran after pushed
+    (c.ended.ensures ∙ ap (λ t. plan_with c.push.new.self.items (reason_of c.in-Stop.reason) t
+    c.in_ok-round.dirtied.items (duration_of (length c.in_ok-round.dirtied.items) s.max)) to)
     c.loop-rounds.invariant.follows
 
 pub loop-rounds-preserved : goal.loop-rounds-preserved
@@ -78,9 +89,19 @@ loop-rounds-preserved g c =
     let is : next_round next c.in_ok-round.dirtied.items ≡ round_after pages touches now round next.rate =
     λ i. record { done = told.1.0 i; from = to i; rate = next.rate; pages = ran.dirtied_are i } in
     record {
-      can = can_go_on pages touches s now _ round c.in_ok-round.dirtied.items (round.to - round.from) next.rate c.asked-asked.ensures.in_range before.can ran after is;
+      can = can_go_on pages touches s now _ round c.in_ok-round.dirtied.items (round.to - round.from) next.rate
+          c.asked-asked.ensures.in_range before.can ran after is;
       scan = rw to (c.restart.ensures pages step.from round.to touches c.in_ok-round.ensures.scan);
-      follows = follows_more pages touches s now _ c.loop-rounds.rounds.items c.push.new.self.items round c.in_ok-round.dirtied.items next.rate ran after is pushed before.follows;
-      count = omega (arith, pushed, ap length pushed, length_push c.loop-rounds.rounds.items round, before.count, told.1.0);
-      few = rw pushed (All-push (λ (r : PlannedRound). length r.sent ≤ 65_536) c.loop-rounds.rounds.items round before.few ran.few);
+      follows = follows_more pages touches s now _ c.loop-rounds.rounds.items c.push.new.self.items round
+          c.in_ok-round.dirtied.items next.rate ran after is pushed before.follows;
+      count = omega (
+        arith,
+        pushed,
+        ap length pushed,
+        length_push c.loop-rounds.rounds.items round,
+        before.count,
+        told.1.0,
+      );
+      few = rw pushed (All-push (λ (r : PlannedRound). length r.sent ≤ 65_536) c.loop-rounds.rounds.items round
+          before.few ran.few);
     }

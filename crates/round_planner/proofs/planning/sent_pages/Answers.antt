@@ -15,4 +15,5 @@ returns-clause-sent g c =
     let touches = g.T.Timeline.touches c.args.timeline.now in
     let sent = c.in_ok-sent.sent.items in
     let no = sym c.may_skip.ensures ∙ c.if-may_skip.false in
-    subst (λ b. IsSent b touches step.from step.rate pages sent) (sym no) (all_is_sent touches step.from step.rate pages sent c.in_ok-sent.ensures.items)
+    subst (λ b. IsSent b touches step.from step.rate pages sent) (sym no)
+    (all_is_sent touches step.from step.rate pages sent c.in_ok-sent.ensures.items)

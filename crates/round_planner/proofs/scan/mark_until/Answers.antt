@@ -11,7 +11,8 @@ loop-page-preserved g c =
     let before = c.loop-page.invariant in
     record {
       room = record { marks_len = c.add_page.ensures.len ∙ before.room.marks_len; next_high = omega (arith, next.low) };
-      walking = λ from upto le scan. walk_on _ _ from c.args.tick c.loop-page.at c.in-Some.page c.loop-page.marks c.add_page.new.words next c.add_page.ensures.len c.add_page.ensures.pages (before.walking from upto le scan);
+      walking = λ from upto le scan. walk_on _ _ from c.args.tick c.loop-page.at c.in-Some.page c.loop-page.marks
+          c.add_page.new.words next c.add_page.ensures.len c.add_page.ensures.pages (before.walking from upto le scan);
     }
 
 pub returns-clause-walked : goal.returns-clause-walked

@@ -6,7 +6,8 @@ use Rattle.round_planner.proofs.scan.mark_until.Given as goal
 abbrev pub invariant-loop-page : goal.invariant-loop-page
 invariant-loop-page g l = record {
   room : HasRoom (g.T.Timeline.pages l.timeline) (g.T.Timeline.touches l.timeline) l.at l.marks;
-  walking : (from upto : ℕ) → upto ≤ l.tick → IsScan (g.T.Timeline.pages l.timeline) (g.T.Timeline.touches l.timeline) from upto l.fn.next l.fn.marks
+  walking : (from upto : ℕ) → upto ≤ l.tick → IsScan (g.T.Timeline.pages l.timeline) (g.T.Timeline.touches l.timeline)
+      from upto l.fn.next l.fn.marks
       → IsWalking (g.T.Timeline.pages l.timeline) (g.T.Timeline.touches l.timeline) from l.tick l.at l.marks;
 }
 

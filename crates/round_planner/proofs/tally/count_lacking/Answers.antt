@@ -35,7 +35,8 @@ returns-in-Some-clause-count g c =
     points_rise touches c.in-Some.base s.start low c.args.next early before.bound before.point c.requires.point in
     c.first_touches.ensures
     ∙ sym (pages_counted pages touches c.args.index.now.earlier c.in-Some.base s.start low c.args.next index.earlier_len
-    index.earlier (λ i inside. (index.fits.each i no_touch inside).page) before.point c.requires.point order c.requires.bound)
+    index.earlier (λ i inside. (index.fits.each i no_touch inside).page) before.point c.requires.point order
+    c.requires.bound)
     ∙ ap (λ (o : Option ℕ). length (pages_lacking pages touches o s.start)) (sym base)
 
 pub returns-in-None-clause-count : goal.returns-in-None-clause-count

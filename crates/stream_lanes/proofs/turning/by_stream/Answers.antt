@@ -17,9 +17,12 @@ loop-row-preserved c =
     let rest = into_iter_items c.next.new.self in
     let steps = c.in-Some.ensures.steps.0 in
     let size : length row.items ≡ c.args.streams =
-    next_holds (λ (r : Vec OutView Global). length r.items ≡ c.args.streams) c.loop-row.yielded (into_iter_items c.loop-row.row-iterator) rest c.args.rows.items row steps before.all c.requires in
+    next_holds (λ (r : Vec OutView Global). length r.items ≡ c.args.streams) c.loop-row.yielded
+    (into_iter_items c.loop-row.row-iterator) rest c.args.rows.items row steps before.all c.requires in
     record {
-      all = append_assoc c.loop-row.yielded (row ∷ []) rest ∙ ap (λ xs. c.loop-row.yielded ++ xs) (sym steps) ∙ before.all;
-      columns = columns-more c.args.streams c.loop-row.yielded row c.loop-row.columns.items c.add_row.new.columns.items before.columns
+      all = append_assoc c.loop-row.yielded (row ∷ []) rest ∙ ap (λ xs. c.loop-row.yielded ++ xs) (sym steps)
+          ∙ before.all;
+      columns = columns-more c.args.streams c.loop-row.yielded row c.loop-row.columns.items c.add_row.new.columns.items
+          before.columns
           (size ∙ sym before.columns.count) c.in_ok-add_row.ensures;
     }

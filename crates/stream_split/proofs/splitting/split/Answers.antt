@@ -5,7 +5,11 @@ use Rattle.stream_split.proofs.Streams.{streams_of-nil, length_held, held-more}
 use Rattle.stream_split.proofs.splitting.split.Goals as goal
 
 pub loop-frame-init : goal.loop-frame-init
-loop-frame-init c = record { turn = c.new-dealer.ensures ∙ ap (turn_with c.args.streams) (sym (zero-mod c.args.streams)); held = c.in_ok-outs.ensures ∙ sym (streams_of-nil c.args.streams) }
+loop-frame-init c = record {
+  turn = c.new-dealer.ensures ∙ ap (turn_with c.args.streams)
+      (sym (zero-mod c.args.streams));
+  held = c.in_ok-outs.ensures ∙ sym (streams_of-nil c.args.streams);
+}
 
 pub index_mut-requires : goal.index_mut-requires
 index_mut-requires c =
@@ -23,6 +27,8 @@ loop-frame-preserved c =
     record {
       turn = c.deal-stream.ensures.turn ∙ ap (λ (t : Turn). turn_with t.streams ((t.next + 1) % t.streams)) before.turn
           ∙ ap (turn_with streams) (mod-add-mod i streams 1);
-      held = held-more streams i c.deal-stream.result c.loop-frame.outs.items c.index_mut.result.now c.add_frame.new.stream c.deref-frame-items.result.now c.frame-item.result
-          some (omega arith) (c.deal-stream.ensures.next ∙ own) before.held c.frame-item.is c.index_mut.ensures.value c.in_ok-add_frame.ensures;
+      held = held-more streams i c.deal-stream.result c.loop-frame.outs.items c.index_mut.result.now
+          c.add_frame.new.stream c.deref-frame-items.result.now c.frame-item.result
+          some (omega arith) (c.deal-stream.ensures.next ∙ own) before.held c.frame-item.is c.index_mut.ensures.value
+          c.in_ok-add_frame.ensures;
     }

@@ -5,4 +5,5 @@ use Rattle.sweep_report.specs.Lines.{round_line}
 use Rattle.sweep_report.proofs.report.push_rounds.Given as goal
 
 abbrev pub invariant-loop-number : goal.invariant-loop-number
-invariant-loop-number l = l.text.items ≡ l.fn.text.items ++ flat_map (λ (at : ℕ × PlannedRound). round_line at.0 at.1) (take l.number (enumerate_from 0 l.rounds))
+invariant-loop-number l = l.text.items ≡ l.fn.text.items ++ flat_map (λ (at : ℕ × PlannedRound). round_line at.0 at.1)
+    (take l.number (enumerate_from 0 l.rounds))

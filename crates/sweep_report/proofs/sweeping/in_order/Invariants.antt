@@ -7,5 +7,6 @@ abbrev pub invariant-loop-number : goal.invariant-loop-number
 invariant-loop-number g l = record {
   taken : AreTaken (g.T.Timeline.pages l.timeline) (g.T.Timeline.touches l.timeline) l.cases l.taken.items;
   planner : l.planner ≡ g.T.Timeline.pages l.timeline;
-  lines : AreLines (g.T.Timeline.pages l.timeline) (g.T.Timeline.touches l.timeline) (take l.number l.cases) l.lines.items;
+  lines : AreLines (g.T.Timeline.pages l.timeline) (g.T.Timeline.touches l.timeline) (take l.number l.cases)
+      l.lines.items;
 }

@@ -8,6 +8,8 @@ use Rattle.sweep_report.proofs.sweeping.place.Given as goal
 abbrev pub invariant-loop-one : goal.invariant-loop-one
 invariant-loop-one l = record {
   low : All (λ one. one.number < length l.taken.items) l.one-iterator.rest.items;
-  all : (pages : ℕ) (touches : List GuestTouch) (cases : List MigrationSettings) → AreNumbered pages touches cases l.fn.made.items
-      → AreTaken pages touches cases l.fn.taken.items → AreNumbered pages touches cases l.one-iterator.rest.items × AreTaken pages touches cases l.taken.items;
+  all : (pages : ℕ) (touches : List GuestTouch) (cases : List MigrationSettings)
+      → AreNumbered pages touches cases l.fn.made.items
+      → AreTaken pages touches cases l.fn.taken.items → AreNumbered pages touches cases l.one-iterator.rest.items
+      × AreTaken pages touches cases l.taken.items;
 }

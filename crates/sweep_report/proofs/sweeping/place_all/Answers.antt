@@ -15,10 +15,12 @@ loop-some-preserved g c =
     let cases = c.args._cases.now in
     let W : Result (Vec CaseLine Global) SweepError → Type 0 = IsWork pages touches cases in
     let all : All W (c.in-Some.some ∷ c.next.new.self.rest.items) =
-    subst (λ (l : List (Result (Vec CaseLine Global) SweepError)). All W l) c.in-Some.ensures.steps.0 c.loop-some.invariant.left in
+    subst (λ (l : List (Result (Vec CaseLine Global) SweepError)). All W l) c.in-Some.ensures.steps.0
+    c.loop-some.invariant.left in
     let head : W c.in-Some.some = All-head W c.in-Some.some c.next.new.self.rest.items all in
     let numbered : AreNumbered pages touches cases c.in_ok-some.field-0.items =
-    subst (λ (r : Result (Vec CaseLine Global) SweepError). IfOk r (λ some. AreNumbered pages touches cases some.items)) c.in_ok-some.was head.lines in
+    subst (λ (r : Result (Vec CaseLine Global) SweepError). IfOk r (λ some. AreNumbered pages touches cases some.items))
+    c.in_ok-some.was head.lines in
     record {
       left = All-tail W c.in-Some.some c.next.new.self.rest.items all;
       taken = c.place.ensures pages touches cases numbered c.loop-some.invariant.taken;

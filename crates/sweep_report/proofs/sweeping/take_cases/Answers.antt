@@ -17,6 +17,11 @@ loop-preserved g c =
     let C : MigrationSettings → Type 0 = λ s. IsLineOf pages touches s c.line_by-line.result in
     record {
       planner = c.line_by-line.ensures.pages ∙ c.loop.invariant.planner;
-      made = rw c.in_ok-push.ensures.items (All-push (IsNumbered pages touches cases) c.loop.made.items _ c.loop.invariant.made
-          (record { low = low; line = λ d. subst C (c.index-cases-number.is ∙ get_or_default cases number case d low) c.line_by-line.ensures.line }));
+      made = rw c.in_ok-push.ensures.items (All-push (IsNumbered pages touches cases) c.loop.made.items _
+          c.loop.invariant.made
+          (record {
+            low = low;
+            line = λ d. subst C (c.index-cases-number.is ∙ get_or_default cases number case d low)
+                c.line_by-line.ensures.line;
+          }));
     }

@@ -7,9 +7,16 @@ loop-filled-preserved g c =
     let before = c.loop-filled.invariant in
     let read = c.in-Some.ensures in
     record {
-      within = omega (arith, read.bytes.0, length-drop c.loop-filled.filled c.read_behind.new.bytes.items, c.in_ok-bytes.ensures.room, read.len);
+      within = omega (
+        arith,
+        read.bytes.0,
+        length-drop c.loop-filled.filled c.read_behind.new.bytes.items,
+        c.in_ok-bytes.ensures.room,
+        read.len,
+      );
       bound = omega (arith, read.len, c.in_ok-bytes.ensures.bound);
-      taken = Consumes-front _ _ _ c.loop-filled.filled c.in-Some.count c.loop-filled.bytes.items c.in_ok-bytes.bytes.items c.read_behind.new.bytes.items
+      taken = Consumes-front _ _ _ c.loop-filled.filled c.in-Some.count c.loop-filled.bytes.items
+          c.in_ok-bytes.bytes.items c.read_behind.new.bytes.items
           before.taken c.in_ok-bytes.ensures.kept read.kept read.bytes.1;
       unfailed = read.failed;
     }

@@ -4,4 +4,5 @@ use Rattle.trace_readers.proofs.text_reading.tested_on.Goals as goal
 
 pub go_on-requires : goal.go_on-requires
 go_on-requires c =
-    tested_longer c.args.bytes.now c.in_ok-front.front c.in_ok-front.ensures (λ i. omega (arith, c.type_inv.bytes i)) (omega (arith, c.if-bytes-gt-MAX_LENGTH.false))
+    tested_longer c.args.bytes.now c.in_ok-front.front c.in_ok-front.ensures (λ i. omega (arith, c.type_inv.bytes i))
+    (omega (arith, c.if-bytes-gt-MAX_LENGTH.false))

@@ -21,7 +21,8 @@ invariant_of-result c =
     let before = c.loop.invariant in
     let reader = c.loop.reader in
     let spells = c.in_ok-finish.ensures.spelled in
-    let fits : AreTouches reader.pages (map touch_of reader.writes) = AreTouches-from_trace (trace_with reader.version reader.shift reader.pages reader.writes) spells.is_trace in (
+    let fits : AreTouches reader.pages (map touch_of reader.writes) =
+    AreTouches-from_trace (trace_with reader.version reader.shift reader.pages reader.writes) spells.is_trace in (
       omega (arith, ap length before.touched, length-map reader.writes touch_of, before.read, before.count),
       rw (before.touched, ← before.pages) fits,
     )

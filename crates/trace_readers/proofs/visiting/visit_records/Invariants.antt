@@ -6,7 +6,8 @@ abbrev pub invariant-loop-taken : goal.invariant-loop-taken
 invariant-loop-taken g l = record {
   header : l.taken.header ≡ l.fn.taken.header;
   can : CanVisit (g.V.WriteVisitor.takes l.visitor) l.taken.header;
-  visited : (start : g.row.V.Denot) (text : List ℕ) → IsVisited (g.V.WriteVisitor.makes start l.fn.visitor) text l.fn.taken l.bytes → IsVisited (g.V.WriteVisitor.makes start l.visitor) text l.taken l.rest;
+  visited : (start : g.row.V.Denot) (text : List ℕ) → IsVisited (g.V.WriteVisitor.makes start l.fn.visitor) text
+      l.fn.taken l.bytes → IsVisited (g.V.WriteVisitor.makes start l.visitor) text l.taken l.rest;
   within : length l.rest ≤ length l.bytes;
   rest_is : l.rest ≡ drop (length l.bytes - length l.rest) l.bytes;
 }

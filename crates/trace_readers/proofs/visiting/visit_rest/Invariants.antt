@@ -6,7 +6,9 @@ abbrev pub invariant-loop-taken : goal.invariant-loop-taken
 invariant-loop-taken g l = record {
   header : l.taken.header ≡ l.fn.taken.header;
   can : CanVisit (g.V.WriteVisitor.takes l.visitor) l.taken.header;
-  visiting : (start : g.row.V.Denot) (old : Option (List ℕ)) → IsVisiting (g.V.WriteVisitor.makes start l.fn.visitor) old (g.S.Source.remaining l.fn.source) l.fn.taken l.fn.pieces
+  visiting : (start : g.row.V.Denot) (old : Option (List ℕ))
+      → IsVisiting (g.V.WriteVisitor.makes start l.fn.visitor) old (g.S.Source.remaining l.fn.source) l.fn.taken
+      l.fn.pieces
       → IsVisiting (g.V.WriteVisitor.makes start l.visitor) old (g.S.Source.remaining l.source) l.taken l.pieces;
   unfailed : g.S.Source.has_failed l.source ≡ false;
 }

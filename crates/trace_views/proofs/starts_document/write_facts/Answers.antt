@@ -8,11 +8,14 @@ use Rattle.trace_views.specs.StartsJson.{chosen_member, start_object}
 use Rattle.trace_views.proofs.starts_document.write_facts.Goals as goal
 
 -- the tokens of an object with these members, one after another
-in_a_row : (limit starts best worst : List Token) (name : Token) → object_of (limit ∷ (name ∷ begin_array ∷ (starts ++ end_array ∷ [])) ∷ best ∷ worst ∷ [])
+in_a_row : (limit starts best worst : List Token) (name : Token)
+    → object_of (limit ∷ (name ∷ begin_array ∷ (starts ++ end_array ∷ [])) ∷ best ∷ worst ∷ [])
     ≡ begin_object ∷ (limit ++ (name ∷ begin_array ∷ (starts ++ (end_array ∷ (best ++ (worst ++ end_object ∷ []))))))
 in_a_row limit starts best worst name =
-    let inner : (starts ++ end_array ∷ []) ++ (best ++ (worst ++ [])) ≡ starts ++ (end_array ∷ (best ++ worst)) = simp (append_assoc, append-nil) in
-    let outer : (starts ++ (end_array ∷ (best ++ worst))) ++ end_object ∷ [] ≡ starts ++ (end_array ∷ (best ++ (worst ++ end_object ∷ []))) = simp append_assoc in
+    let inner : (starts ++ end_array ∷ []) ++ (best ++ (worst ++ [])) ≡ starts ++ (end_array ∷ (best ++ worst)) =
+    simp (append_assoc, append-nil) in
+    let outer : (starts ++ (end_array ∷ (best ++ worst))) ++ end_object ∷ [] ≡ starts
+    ++ (end_array ∷ (best ++ (worst ++ end_object ∷ []))) = simp append_assoc in
     simp (append_assoc, append-nil)
 
 pub returns : goal.returns
@@ -23,6 +26,17 @@ returns c =
     let best = chosen_member c.args.scale.now (codes "best") c.args.best.now in
     let worst = chosen_member c.args.scale.now (codes "worst") c.args.worst.now in
     let name = key (codes "starts") in
-    let flat : c.end_object.new.self ≡ old ++ (begin_object ∷ (limit ++ (name ∷ begin_array ∷ (starts ++ (end_array ∷ (best ++ (worst ++ end_object ∷ []))))))) =
-    rw (c.in_ok-end_object.ensures, c.in_ok-write_chosen-2.ensures, c.in_ok-write_chosen.ensures, c.in_ok-end_array.ensures, c.in_ok-write_starts.ensures, c.in_ok-begin_array.ensures, c.in_ok-key.ensures, c.in_ok-seconds_member.ensures, c.in_ok-begin_object.ensures) (simp append_assoc) in
+    let flat : c.end_object.new.self ≡ old ++ (begin_object ∷ (limit
+    ++ (name ∷ begin_array ∷ (starts ++ (end_array ∷ (best ++ (worst ++ end_object ∷ []))))))) =
+    rw (
+      c.in_ok-end_object.ensures,
+      c.in_ok-write_chosen-2.ensures,
+      c.in_ok-write_chosen.ensures,
+      c.in_ok-end_array.ensures,
+      c.in_ok-write_starts.ensures,
+      c.in_ok-begin_array.ensures,
+      c.in_ok-key.ensures,
+      c.in_ok-seconds_member.ensures,
+      c.in_ok-begin_object.ensures,
+    ) (simp append_assoc) in
     flat ∙ ap (λ (l : List Token). old ++ l) (sym (in_a_row limit starts best worst name))

@@ -6,7 +6,11 @@ use Rattle.unit_words.specs.Units.{scale_in}
 use Rattle.unit_words.proofs.measures.limited_settings.Goals as goal
 
 pub returns-then-is_mixed-clause-refused : goal.returns-then-is_mixed-clause-refused
-returns-then-is_mixed-clause-refused c = inr (c.args.limits.now, refl, inl (refl, c.is_mixed.ensures.mixed c.if-is_mixed.true))
+returns-then-is_mixed-clause-refused c = inr (
+  c.args.limits.now,
+  refl,
+  inl (refl, c.is_mixed.ensures.mixed c.if-is_mixed.true),
+)
 
 pub returns-in-Ok-settings-clause-made : goal.returns-in-Ok-settings-clause-made
 returns-in-Ok-settings-clause-made c = record {
@@ -15,6 +19,8 @@ returns-in-Ok-settings-clause-made c = record {
   says_increment = c.said-increment.ensures;
   others = c.in-Ok.settings;
   asks_others = c.in-Ok.ensures.made;
-  settings_are = c.in-Ok-settings.ensures.made ∙ ap (λ (s : TraceScale). settings_in s c.args.limits.now c.said-increment.result c.asked.result.now) c.requires
-      ∙ ap (λ (s : MigrationSettings). settings_in (scale_in c.args.said.now) c.args.limits.now c.said-increment.result s) c.asked.ensures.value;
+  settings_are = c.in-Ok-settings.ensures.made ∙ ap (λ (s : TraceScale). settings_in s c.args.limits.now
+      c.said-increment.result c.asked.result.now) c.requires
+      ∙ ap (λ (s : MigrationSettings). settings_in (scale_in c.args.said.now) c.args.limits.now c.said-increment.result
+      s) c.asked.ensures.value;
 }

@@ -4,6 +4,6 @@ use Rattle.view_words.proofs.command.json_command.Goals as goal
 
 pub returns : goal.returns
 returns c = record {
-  app = ap app_of_fields c.after_help.ensures ∙ c.command-json.ensures.app;
-  globals = ap (λ f. f.has_globals) c.after_help.ensures ∙ c.command-json.ensures.globals;
+  app = ap app_of_fields c.after_help.ensures ∙ c.leaf_command-json.ensures.app;
+  globals = ap (λ f. f.has_globals) c.after_help.ensures ∙ c.leaf_command-json.ensures.globals;
 }

@@ -9,11 +9,19 @@ use Rattle.view_words.proofs.command.json_commands.Goals as goal
 
 pub returns : goal.returns
 returns c =
-    let named = after_bin_name c.command.result c.in_ok-bin_name.field-0 (bare (codes "json")) _ c.command.ensures.app c.in_ok-bin_name.ensures.0 in
-    let top = after_required c.in_ok-bin_name.field-0 c.subcommand_required.result _ named c.subcommand_required.ensures in
+    let named = after_bin_name c.leaf_command.result c.in_ok-bin_name.field-0 (bare (codes "json")) _
+    c.leaf_command.ensures.app
+    c.in_ok-bin_name.ensures.0 in
+    let top = after_required c.in_ok-bin_name.field-0 c.subcommand_required.result _ named
+    c.subcommand_required.ensures in
     let report = adds_leaf _ _ c.in_ok-subcommand.field-0 _ (codes "report") (report_rules ++ unit_rules) top
-    (leaf_with c.command-report.result c.in_ok-with_either.field-0 _ _ c.command-report.ensures c.in_ok-with_either.ensures) c.in_ok-subcommand.ensures in
-    let sweep = adds_leaf _ _ c.in_ok-subcommand-2.field-0 _ (codes "sweep") ((sweep_rules ++ case_rule ∷ []) ++ scale_rules) report
-    (leaf_with c.command-sweep.result c.in_ok-with_scaled_cases.field-0 _ _ c.command-sweep.ensures c.in_ok-with_scaled_cases.ensures) c.in_ok-subcommand-2.ensures in
-    let when = leaf_with c.command-when.result c.in_ok-with_starts.field-0 _ _ c.command-when.ensures c.in_ok-with_starts.ensures in
-    IfOk-weaker c.subcommand-3.result _ _ (λ line added. adds_leaf _ _ line _ (codes "when") start_rules sweep when added ∙ json_line_is) c.subcommand-3.ensures
+    (leaf_with c.leaf_command-report.result c.in_ok-with_either.field-0 _ _ c.leaf_command-report.ensures
+    c.in_ok-with_either.ensures) c.in_ok-subcommand.ensures in
+    let sweep = adds_leaf _ _ c.in_ok-subcommand-2.field-0 _ (codes "sweep")
+    ((sweep_rules ++ case_rule ∷ []) ++ scale_rules) report
+    (leaf_with c.leaf_command-sweep.result c.in_ok-with_scaled_cases.field-0 _ _ c.leaf_command-sweep.ensures
+    c.in_ok-with_scaled_cases.ensures) c.in_ok-subcommand-2.ensures in
+    let when = leaf_with c.leaf_command-when.result c.in_ok-with_starts.field-0 _ _ c.leaf_command-when.ensures
+    c.in_ok-with_starts.ensures in
+    IfOk-weaker c.subcommand-3.result _ _ (λ line added. adds_leaf _ _ line _ (codes "when") start_rules sweep when
+    added ∙ json_line_is) c.subcommand-3.ensures

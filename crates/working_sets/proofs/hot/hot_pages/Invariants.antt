@@ -5,4 +5,5 @@ use Rattle.working_sets.specs.Counting.{unmarked}
 use Rattle.working_sets.proofs.hot.hot_pages.Given as goal
 
 abbrev pub invariant-loop-page : goal.invariant-loop-page
-invariant-loop-page l = l.pages.items ≡ filter (λ page. nat_le l.hot (slice_index_or l.marks page unmarked).windows) (range_with_len 0 l.page)
+invariant-loop-page l = l.pages.items ≡ filter (λ page. nat_le l.hot (slice_index_or l.marks page unmarked).windows)
+    (range_with_len 0 l.page)

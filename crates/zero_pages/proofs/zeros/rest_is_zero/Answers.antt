@@ -14,7 +14,8 @@ loop-byte-preserved c =
     let i = c.loop-byte.byte-index in
     let b : ℕ = get_or c.args.rest.now i 0 in (
       λ none.
-          below_more (λ (k : ℕ). get_or c.args.rest.now k 0 ≡ 0) i (c.loop-byte.invariant.0 (omega (arith, le_or_l a b))) (omega (arith, le_or_r a b)),
+          below_more (λ (k : ℕ). get_or c.args.rest.now k 0 ≡ 0) i
+          (c.loop-byte.invariant.0 (omega (arith, le_or_l a b))) (omega (arith, le_or_r a b)),
       λ each.
           both_zero a b
           (c.loop-byte.invariant.1 (λ k low. each k (omega arith)))
@@ -24,6 +25,7 @@ loop-byte-preserved c =
 pub returns : goal.returns
 returns c =
     let all : c.loop-byte.byte-index ≡ length c.args.rest.now = omega arith in (
-      λ none k d low. get_or_default c.args.rest.now k d 0 low ∙ c.loop-byte.invariant.0 (eqb-true c.loop-byte.seen 0 none) k (omega arith),
+      λ none k d low. get_or_default c.args.rest.now k d 0 low
+          ∙ c.loop-byte.invariant.0 (eqb-true c.loop-byte.seen 0 none) k (omega arith),
       λ each. eq-eqb c.loop-byte.seen 0 (c.loop-byte.invariant.1 (λ k low. each k 0 (omega arith))),
     )

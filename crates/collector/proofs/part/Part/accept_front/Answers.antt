@@ -9,8 +9,10 @@ pub returns-in-Ok-clause-taken : goal.returns-in-Ok-clause-taken
 returns-in-Ok-clause-taken c =
     let shape = ap (λ (p : GuestPart). p.shape) c.self.view_is in
     Takes-one _ _ c.args.bytes.now c.in_ok-view.size c.in_ok-view.view
-    (subst (λ (s : GuestShape). SpellsFrame s (take c.in_ok-view.size c.args.bytes.now) c.in_ok-view.view) shape c.in_ok-view.ensures.found) c.in-Ok.ensures.kept
+    (subst (λ (s : GuestShape). SpellsFrame s (take c.in_ok-view.size c.args.bytes.now) c.in_ok-view.view) shape
+    c.in_ok-view.ensures.found) c.in-Ok.ensures.kept
 
 pub returns-in-Ok-clause-some : goal.returns-in-Ok-clause-some
 returns-in-Ok-clause-some c =
-    some_size (shape_of c.self.inside.shape) c.args.bytes.now c.in_ok-view.size c.in_ok-view.view c.in_ok-view.ensures.found
+    some_size (shape_of c.self.inside.shape) c.args.bytes.now c.in_ok-view.size c.in_ok-view.view
+    c.in_ok-view.ensures.found

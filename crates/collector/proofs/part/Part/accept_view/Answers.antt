@@ -12,26 +12,35 @@ returns-in_err-make_place-in-None-clause-unchanged c =
     let p = err_from_is_err_and c.from_residual.result c.from_residual.ensures.1 in
     let grows = c.in_err-make_place-in-None.ensures.grows in
     let own : c.view.inside.page ≡ c.args.view.now.page = ap (λ (f : PageFrame). f.page) c.view.view_is in
-    let pages : c.self.inside.shape.pages ≡ c.args.self.now.shape.pages = ap (λ (g : GuestPart). g.shape.pages) c.self.view_is in
-    let few : length c.make_place.new.table.items ≤ c.self.inside.shape.pages = omega (arith, grows.bound, c.self.invariant.few, c.requires.page) in
-    rw p.1 (ap (part_with (shape_of c.self.inside.shape)) (same_part-grown (shape_of c.self.inside.shape) _ _ _ grows few) ∙ c.self.view_is)
+    let pages : c.self.inside.shape.pages ≡ c.args.self.now.shape.pages =
+    ap (λ (g : GuestPart). g.shape.pages) c.self.view_is in
+    let few : length c.make_place.new.table.items ≤ c.self.inside.shape.pages =
+    omega (arith, grows.bound, c.self.invariant.few, c.requires.page) in
+    rw p.1 (ap (part_with (shape_of c.self.inside.shape)) (same_part-grown (shape_of c.self.inside.shape) _ _ _ grows
+    few) ∙ c.self.view_is)
 
 pub returns-in_err-put_view-in-None-clause-unchanged :
     goal.returns-in_err-put_view-in-None-clause-unchanged
 returns-in_err-put_view-in-None-clause-unchanged c =
-    let p = err_from_is_err_and c.from_residual-in_err-put_view-in-None.result c.from_residual-in_err-put_view-in-None.ensures.1 in
+    let p = err_from_is_err_and c.from_residual-in_err-put_view-in-None.result
+    c.from_residual-in_err-put_view-in-None.ensures.1 in
     let grows = c.in_ok-make_place-in-None.ensures.grows in
     let own : c.view.inside.page ≡ c.args.view.now.page = ap (λ (f : PageFrame). f.page) c.view.view_is in
-    let pages : c.self.inside.shape.pages ≡ c.args.self.now.shape.pages = ap (λ (g : GuestPart). g.shape.pages) c.self.view_is in
-    let few : length c.make_place.new.table.items ≤ c.self.inside.shape.pages = omega (arith, grows.bound, c.self.invariant.few, c.requires.page) in
-    rw (p.1, c.in_err-put_view-in-None.ensures.unchanged) (ap (part_with (shape_of c.self.inside.shape)) (same_part-grown (shape_of c.self.inside.shape) _ _ _ grows few) ∙ c.self.view_is)
+    let pages : c.self.inside.shape.pages ≡ c.args.self.now.shape.pages =
+    ap (λ (g : GuestPart). g.shape.pages) c.self.view_is in
+    let few : length c.make_place.new.table.items ≤ c.self.inside.shape.pages =
+    omega (arith, grows.bound, c.self.invariant.few, c.requires.page) in
+    rw (p.1, c.in_err-put_view-in-None.ensures.unchanged) (ap (part_with (shape_of c.self.inside.shape))
+    (same_part-grown (shape_of c.self.inside.shape) _ _ _ grows few) ∙ c.self.view_is)
 
 pub returns-in_ok-put_view-in-None-clause-kept : goal.returns-in_ok-put_view-in-None-clause-kept
 returns-in_ok-put_view-in-None-clause-kept c =
     let grows = c.in_ok-make_place-in-None.ensures.grows in
     let own : c.view.inside.page ≡ c.args.view.now.page = ap (λ (f : PageFrame). f.page) c.view.view_is in
-    let pages : c.self.inside.shape.pages ≡ c.args.self.now.shape.pages = ap (λ (g : GuestPart). g.shape.pages) c.self.view_is in
-    taken_new (shape_of c.self.inside.shape) c.self.inside.frames.items c.make_place.new.table.items c.put_view.new.table.items c.args.view.now c.view.inside.page c.args.self.now
+    let pages : c.self.inside.shape.pages ≡ c.args.self.now.shape.pages =
+    ap (λ (g : GuestPart). g.shape.pages) c.self.view_is in
+    taken_new (shape_of c.self.inside.shape) c.self.inside.frames.items c.make_place.new.table.items
+    c.put_view.new.table.items c.args.view.now c.view.inside.page c.args.self.now
     c.self.view_is grows (omega (arith, grows.bound, c.self.invariant.few, c.requires.page))
     (omega (arith, c.in_ok-make_place-in-None.ensures.place, c.make_place.new.table.ok.0)) own
     (rw c.deref.ensures.value at (sym c.in-None.ensures.stamp)) c.in_ok-put_view-in-None.ensures.put
@@ -41,25 +50,31 @@ pub returns-in_ok-put_view-in-Some-clause-kept :
 returns-in_ok-put_view-in-Some-clause-kept c =
     let own : c.view.inside.page ≡ c.args.view.now.page = ap (λ (f : PageFrame). f.page) c.view.view_is in
     let stamp : c.view.inside.stamp ≡ c.args.view.now.stamp = ap (λ (f : PageFrame). f.stamp) c.view.view_is in
-    taken_newer (shape_of c.self.inside.shape) c.self.inside.frames.items c.put_view-in-Some.new.table.items c.args.view.now c.view.inside.page c.in-Some.stamp c.args.self.now
+    taken_newer (shape_of c.self.inside.shape) c.self.inside.frames.items c.put_view-in-Some.new.table.items
+    c.args.view.now c.view.inside.page c.in-Some.stamp c.args.self.now
     c.self.view_is (omega (arith, c.in-Some.ensures.within, c.deref.ensures.len, c.self.inside.frames.ok.0)) own
     (rw c.deref.ensures.value at (sym c.in-Some.ensures.stamp)) (omega arith) c.in_ok-put_view-in-Some.ensures.put
 
 pub returns-in_err-put_view-in-Some-clause-refused :
     goal.returns-in_err-put_view-in-Some-clause-refused
 returns-in_err-put_view-in-Some-clause-refused c =
-    let p = err_from_is_err_and c.from_residual-in_err-put_view-in-Some.result c.from_residual-in_err-put_view-in-Some.ensures.1 in
+    let p = err_from_is_err_and c.from_residual-in_err-put_view-in-Some.result
+    c.from_residual-in_err-put_view-in-Some.ensures.1 in
     let own : c.view.inside.page ≡ c.args.view.now.page = ap (λ (f : PageFrame). f.page) c.view.view_is in
     let shape = ap (λ (g : GuestPart). g.shape) c.self.view_is in
-    rw p.1 (refused_zeros (shape_of c.self.inside.shape) c.self.inside.frames.items c.args.view.now c.view.inside.page c.args.self.now
-    c.self.view_is c.self.invariant (subst (λ (s : GuestShape). IsFrame s c.args.view.now) (sym shape) c.requires) own c.in_err-put_view-in-Some.ensures.refused)
+    rw p.1 (refused_zeros (shape_of c.self.inside.shape) c.self.inside.frames.items c.args.view.now c.view.inside.page
+    c.args.self.now
+    c.self.view_is c.self.invariant (subst (λ (s : GuestShape). IsFrame s c.args.view.now) (sym shape) c.requires) own
+    c.in_err-put_view-in-Some.ensures.refused)
 
 pub invariant_of-self-in-None : goal.invariant_of-self-in-None
 invariant_of-self-in-None c =
     let grows = c.in_ok-make_place-in-None.ensures.grows in
     let own : c.view.inside.page ≡ c.args.view.now.page = ap (λ (f : PageFrame). f.page) c.view.view_is in
     let shape = ap (λ (g : GuestPart). g.shape) c.self.view_is in
-    let pages : c.self.inside.shape.pages ≡ c.args.self.now.shape.pages = ap (λ (g : GuestPart). g.shape.pages) c.self.view_is in
-    tabled_new (shape_of c.self.inside.shape) c.self.inside.frames.items c.make_place.new.table.items c.put_view.new.table.items c.args.view.now c.view.inside.page
+    let pages : c.self.inside.shape.pages ≡ c.args.self.now.shape.pages =
+    ap (λ (g : GuestPart). g.shape.pages) c.self.view_is in
+    tabled_new (shape_of c.self.inside.shape) c.self.inside.frames.items c.make_place.new.table.items
+    c.put_view.new.table.items c.args.view.now c.view.inside.page
     c.self.invariant grows (omega (arith, grows.bound, c.self.invariant.few, c.requires.page)) own
     (subst (λ (s : GuestShape). IsFrame s c.args.view.now) (sym shape) c.requires) c.in_ok-put_view-in-None.ensures.put

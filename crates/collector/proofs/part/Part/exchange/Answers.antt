@@ -12,17 +12,22 @@ returns-in_err-make_place-in-None-clause-unchanged c =
     let p = err_from_is_err_and c.from_residual.result c.from_residual.ensures.1 in
     let grows = c.in_err-make_place-in-None.ensures.grows in
     let own : c.frame.inside.page ≡ c.args.frame.page = ap (λ (f : PageFrame). f.page) c.frame.view_is in
-    let pages : c.self.inside.shape.pages ≡ c.args.self.now.shape.pages = ap (λ (g : GuestPart). g.shape.pages) c.self.view_is in
-    let few : length c.make_place.new.table.items ≤ c.self.inside.shape.pages = omega (arith, grows.bound, c.self.invariant.few, c.requires.page) in
-    rw p.1 (ap (part_with (shape_of c.self.inside.shape)) (same_part-grown (shape_of c.self.inside.shape) _ _ _ grows few) ∙ c.self.view_is)
+    let pages : c.self.inside.shape.pages ≡ c.args.self.now.shape.pages =
+    ap (λ (g : GuestPart). g.shape.pages) c.self.view_is in
+    let few : length c.make_place.new.table.items ≤ c.self.inside.shape.pages =
+    omega (arith, grows.bound, c.self.invariant.few, c.requires.page) in
+    rw p.1 (ap (part_with (shape_of c.self.inside.shape)) (same_part-grown (shape_of c.self.inside.shape) _ _ _ grows
+    few) ∙ c.self.view_is)
 
 pub returns-in_ok-make_place-in-None-clause-kept :
     goal.returns-in_ok-make_place-in-None-clause-kept
 returns-in_ok-make_place-in-None-clause-kept c =
     let grows = c.in_ok-make_place-in-None.ensures.grows in
     let own : c.frame.inside.page ≡ c.args.frame.page = ap (λ (f : PageFrame). f.page) c.frame.view_is in
-    let pages : c.self.inside.shape.pages ≡ c.args.self.now.shape.pages = ap (λ (g : GuestPart). g.shape.pages) c.self.view_is in
-    taken_new (shape_of c.self.inside.shape) c.self.inside.frames.items c.make_place.new.table.items c.put_frame.new.table.items c.args.frame c.frame.inside.page c.args.self.now
+    let pages : c.self.inside.shape.pages ≡ c.args.self.now.shape.pages =
+    ap (λ (g : GuestPart). g.shape.pages) c.self.view_is in
+    taken_new (shape_of c.self.inside.shape) c.self.inside.frames.items c.make_place.new.table.items
+    c.put_frame.new.table.items c.args.frame c.frame.inside.page c.args.self.now
     c.self.view_is grows (omega (arith, grows.bound, c.self.invariant.few, c.requires.page))
     (omega (arith, c.in_ok-make_place-in-None.ensures.place, c.make_place.new.table.ok.0)) own
     (rw c.deref.ensures.value at (sym c.in-None.ensures.stamp)) c.put_frame.ensures
@@ -31,6 +36,7 @@ pub returns-in-Some-clause-kept : goal.returns-in-Some-clause-kept
 returns-in-Some-clause-kept c =
     let own : c.frame.inside.page ≡ c.args.frame.page = ap (λ (f : PageFrame). f.page) c.frame.view_is in
     let stamp : c.frame.inside.stamp ≡ c.args.frame.stamp = ap (λ (f : PageFrame). f.stamp) c.frame.view_is in
-    taken_newer (shape_of c.self.inside.shape) c.self.inside.frames.items c.swap_frame.new.table.items c.args.frame c.frame.inside.page c.in-Some.stamp c.args.self.now
+    taken_newer (shape_of c.self.inside.shape) c.self.inside.frames.items c.swap_frame.new.table.items c.args.frame
+    c.frame.inside.page c.in-Some.stamp c.args.self.now
     c.self.view_is (omega (arith, c.in-Some.ensures.within, c.deref.ensures.len, c.self.inside.frames.ok.0)) own
     (rw c.deref.ensures.value at (sym c.in-Some.ensures.stamp)) (omega arith) c.swap_frame.ensures.put

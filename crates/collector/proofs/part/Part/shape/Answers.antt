@@ -7,4 +7,5 @@ use Rattle.collector.proofs.part.Part.shape.Goals as goal
 
 pub returns-clause-is_part : goal.returns-clause-is_part
 returns-clause-is_part c =
-    subst IsPart c.self.view_is (IsPart-from_table (shape_of c.self.inside.shape) c.self.inside.frames.items (IsGuestShape-from_shape c.self.inside.shape) c.self.invariant)
+    subst IsPart c.self.view_is (IsPart-from_table (shape_of c.self.inside.shape) c.self.inside.frames.items
+    (IsGuestShape-from_shape c.self.inside.shape) c.self.invariant)

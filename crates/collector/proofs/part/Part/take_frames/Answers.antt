@@ -12,7 +12,8 @@ loop-rest-preserved c =
     let before = c.loop-rest.invariant in
     record {
       takes = rw c.split_at.ensures.back
-          (Takes-more _ c.loop-rest.self c.accept_front.new.self c.args.bytes.now c.loop-rest.rest.now _ c.loop-rest.count before.takes c.in-Ok.ensures.taken);
+          (Takes-more _ c.loop-rest.self c.accept_front.new.self c.args.bytes.now c.loop-rest.rest.now _
+          c.loop-rest.count before.takes c.in-Ok.ensures.taken);
       bound = omega (arith, before.bound, c.split_at.ensures.back_len, c.in-Ok.ensures.some);
     }
 
@@ -22,7 +23,10 @@ returns-in-Err-clause-refused c =
     let rest = c.loop-rest.rest.now in
     let filled : length rest ≡ 0 → ⊥ = eqb-false _ _ (sym c.is_empty.ensures ∙ c.loop-rest-test.true) in (
       rest,
-      subst (λ (p : GuestPart). TakesFrames c.args.self.now p c.args.bytes.now c.loop-rest.count rest) (sym c.in-Err.ensures.unchanged) before.takes,
+      subst (λ (p : GuestPart). TakesFrames c.args.self.now p c.args.bytes.now c.loop-rest.count rest)
+          (sym c.in-Err.ensures.unchanged) before.takes,
       omega (arith, filled),
-      subst (λ (s : GuestShape). RefusesFrame s rest c.in-Err.error) (shape-taken _ c.loop-rest.self c.args.bytes.now c.loop-rest.count rest before.takes) c.in-Err.ensures.refused,
+      subst (λ (s : GuestShape). RefusesFrame s rest c.in-Err.error)
+          (shape-taken _ c.loop-rest.self c.args.bytes.now c.loop-rest.count rest before.takes)
+          c.in-Err.ensures.refused,
     )

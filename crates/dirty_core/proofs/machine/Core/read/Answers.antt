@@ -9,9 +9,11 @@ use Rattle.dirty_core.proofs.machine.Core.read.Goals as goal
 pub returns : goal.returns
 returns c =
     let inside = c.self.inside in
-    let owns : CopierOwnsPage (kept_sizes (kept_with inside.places.items inside.dirty.items inside.held.items inside.pending.items inside.copiers)) c.args.copier c.args.page =
+    let owns : CopierOwnsPage (kept_sizes (kept_with inside.places.items inside.dirty.items inside.held.items
+    inside.pending.items inside.copiers)) c.args.copier c.args.page =
     rw (← c.self.view_is) at (c.copier_owns_page.ensures.0 c.if-not-copier_owns_page.false) in
-    let held = whole_again inside.held.len c.remove_page.new.words inside.held.items (c.remove_page.ensures.len ∙ ap length c.deref_mut.ensures.value)
+    let held = whole_again inside.held.len c.remove_page.new.words inside.held.items
+    (c.remove_page.ensures.len ∙ ap length c.deref_mut.ensures.value)
     (grind (arith, c.remove_page.ensures.len ∙ ap length c.deref_mut.ensures.value)) in
     rw (← c.self.view_is, held)
     (read_place (kept_with inside.places.items inside.dirty.items inside.held.items inside.pending.items inside.copiers)

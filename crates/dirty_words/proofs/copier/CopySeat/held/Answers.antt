@@ -13,7 +13,8 @@ returns-clause-within c bits fits all =
     let owns : OwnsWord facts c.args.word = subst (λ f. OwnsWord f c.args.word) (sym e) c.requires in
     let low : c.args.word < length facts.start.dirty = own_word_low facts c.args.word c.self.invariant.is_start owns in
     let kept : CopyFits facts = c.self.invariant.fits in
-    let within : c.args.word < length c.self.inside.held.items = let n = kept.held_words in let m = ap length c.self.invariant.held in omega arith in
+    let within : c.args.word < length c.self.inside.held.items = let n = kept.held_words in let m =
+    ap length c.self.invariant.held in omega arith in
     let is : c.index.result.now ≡ get_or c.args.self.now.facts.held c.args.word 0 =
     c.index.ensures ∙ get_or_default c.self.inside.held.items c.args.word c.index.result.now 0 within
     ∙ ap (λ ws. get_or ws c.args.word 0) (c.self.invariant.held ∙ ap (λ f. f.held) e) in

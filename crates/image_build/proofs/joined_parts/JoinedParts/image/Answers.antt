@@ -10,8 +10,10 @@ pub loop-page-preserved : goal.loop-page-preserved
 loop-page-preserved c =
     let whole = c.args.self.now in
     let same = ap (λ (w : WholeParts). w.shape) c.self.view_is in
-    let text = c.in_ok-push_body.ensures ∙ ap (λ (s : GuestShape). c.loop-page.memory.items ++ (copy_in s c.frame.result.now).content) same in
-    Makes-more whole c.loop-page.page (copy_in whole.shape c.frame.result.now) c.loop-page.memory.items c.push_body.new.memory.items c.loop-page.invariant
+    let text = c.in_ok-push_body.ensures ∙ ap (λ (s : GuestShape). c.loop-page.memory.items
+    ++ (copy_in s c.frame.result.now).content) same in
+    Makes-more whole c.loop-page.page (copy_in whole.shape c.frame.result.now) c.loop-page.memory.items
+    c.push_body.new.memory.items c.loop-page.invariant
     c.frame.ensures.copy (size_in whole.shape c.frame.result.now c.frame.ensures.fits) text
 
 pub returns : goal.returns

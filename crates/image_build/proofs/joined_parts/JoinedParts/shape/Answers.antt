@@ -9,8 +9,10 @@ returns-clause-shape c = ap (λ (w : WholeParts). w.shape) c.self.view_is
 
 pub returns-clause-shift : goal.returns-clause-shift
 returns-clause-shift c =
-    ap (λ (w : WholeParts). w.shape.shift) c.self.view_is ∙ ap (λ (s : GuestShape). s.shift) (sym (shape-join_all c.args.self.now.shape c.args.self.now.parts))
+    ap (λ (w : WholeParts). w.shape.shift) c.self.view_is ∙ ap (λ (s : GuestShape). s.shift)
+    (sym (shape-join_all c.args.self.now.shape c.args.self.now.parts))
 
 pub returns-clause-pages : goal.returns-clause-pages
 returns-clause-pages c =
-    ap (λ (w : WholeParts). w.shape.pages) c.self.view_is ∙ ap (λ (s : GuestShape). s.pages) (sym (shape-join_all c.args.self.now.shape c.args.self.now.parts))
+    ap (λ (w : WholeParts). w.shape.pages) c.self.view_is ∙ ap (λ (s : GuestShape). s.pages)
+    (sym (shape-join_all c.args.self.now.shape c.args.self.now.parts))

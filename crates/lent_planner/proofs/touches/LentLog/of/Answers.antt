@@ -10,4 +10,9 @@ invariant_of-result c =
     let fits = AreTouches-from_trace c.args.trace.now shape.is_trace in
     let same : map touch_in c.split_at.result.0.now ≡ touches_of c.args.trace.now =
     ap (map touch_in) (c.split_at.ensures.front ∙ ap (λ n. take n c.args.room.now) shape.writes) ∙ c.requires.touches in
-    record { some = c.shape-shape.result.pages_low; few = c.shape-shape.result.pages_high; fits = rw (shape.pages, same) fits }
+    record {
+      some = c.shape-shape.result.pages_low;
+      few = c.shape-shape.result.pages_high;
+      fits =
+          rw (shape.pages, same) fits;
+    }

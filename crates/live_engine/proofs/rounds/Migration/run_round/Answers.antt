@@ -10,7 +10,7 @@ use Rattle.dirty_words.specs.Seats.{ClosedView, copy_view}
 use Rattle.live_tasks.specs.declared.copier.Copier.{Copier}
 use Rattle.live_tasks.specs.CopierStates.{CopierStateView, IsCopierState}
 use Rattle.live_tasks.specs.Replays.{OpensAt}
-use Rattle.live_engine.specs.Joining.{AreJoined, HavePosted, IsRound, lanes_of}
+use Rattle.live_engine.specs.Joining.{AreJoined, HavePosted, IsLiveRound, lanes_of}
 use Rattle.live_engine.specs.Lists.{lists_of, rows_of}
 use Rattle.live_engine.specs.Seated.{AreReplayed}
 use Rattle.live_engine.proofs.Rounding.{idle_guests, idle_copiers, all_states, opens_so, round_done}
@@ -56,7 +56,7 @@ returns g c =
     let replayed : AreReplayed trace table plan.from plan.to c.in_ok-guests.guests.items =
     subst (λ (p : PlannedRound). AreReplayed trace table p.from p.to c.in_ok-guests.guests.items) c.planned.view_is
     c.in_ok-guests.ensures.guests in
-    let done : IsRound trace skip team.copiers old.dirty plan.from plan.to new (lists_of states)
+    let done : IsLiveRound trace skip team.copiers old.dirty plan.from plan.to new (lists_of states)
     × HavePosted trace team.copiers (lists_of states) (rows_of first) (rows_of states) =
     round_done trace skip table plan.from plan.to team.streams team.replayers team.copiers first
     c.in_ok-guests.guests.items c.in_ok-guests.copiers.items

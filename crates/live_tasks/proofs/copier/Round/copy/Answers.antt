@@ -10,15 +10,18 @@ use Rattle.live_tasks.proofs.Copying.{copy_begins}
 use Rattle.live_tasks.proofs.copier.Round.copy.Goals as goal
 
 -- how many words there are
-words : (word end count pages : ℕ) → word ≤ end → end ≤ word → end ≡ (count + 63) / 64 → count ≡ pages → word ≡ (pages + 63) / 64
+words : (word end count pages : ℕ) → word ≤ end → end ≤ word → end ≡ (count + 63) / 64 → count ≡ pages
+    → word ≡ (pages + 63) / 64
 words word end count pages up down is same = omega (arith, up, down, is, ap (λ n. (n + 63) / 64) same)
 
 pub loop-word-init : goal.loop-word-init
 loop-word-init g c =
     let state = c.open.result in
     let outs = ap (λ (d : RoundStateView). d.outs) c.open.ensures in
-    let begins = copy_begins (g.W.WriteLog.trace c.args.self.now.trace.now) c.args.self.now.skip c.args.self.now.table.now.start c.args.seat.facts.number
-    c.args.seat.facts c.args.state.outs state.outs state.log c.requires.idle (ap (λ (d : RoundStateView). d.log) c.open.ensures) outs in
+    let begins = copy_begins (g.W.WriteLog.trace c.args.self.now.trace.now) c.args.self.now.skip
+    c.args.self.now.table.now.start c.args.seat.facts.number
+    c.args.seat.facts c.args.state.outs state.outs state.log c.requires.idle
+    (ap (λ (d : RoundStateView). d.log) c.open.ensures) outs in
     let lanes = ap (λ (l : List OutView). length l) outs ∙ c.requires.state.lanes_are in
     let turns = ap (λ (d : RoundStateView). d.turn.streams) c.open.ensures ∙ c.requires.state.turns in
     let trace = ap (λ (d : RoundStateView). d.cache.trace) c.open.ensures in
@@ -68,7 +71,8 @@ returns g c =
       held = rest.held;
       scanned = rw log
           (subst (λ (n : ℕ). IsScanned c.args.self.now.skip n copier.seat.facts copier.state.log)
-          (words c.loop-word.word _ _ _ c.loop-word.auto.word-end c.loop-word-test.false c.word_count-word-end.ensures c.shape-shape.ensures.pages) rest.scanned);
+          (words c.loop-word.word _ _ _ c.loop-word.auto.word-end c.loop-word-test.false c.word_count-word-end.ensures
+          c.shape-shape.ensures.pages) rest.scanned);
       posted = subst (λ (o : RoundLogView). IsPosted trace c.args.state.outs o c.close.result.outs) (sym log)
           (subst (λ (l : List OutView). IsPosted trace c.args.state.outs copier.state.log l) (sym outs) rest.posted);
     }

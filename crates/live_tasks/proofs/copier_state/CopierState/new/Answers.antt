@@ -6,7 +6,8 @@ use Rattle.live_tasks.proofs.copier_state.CopierState.new.Goals as goal
 pub returns-clause-state : goal.returns-clause-state
 returns-clause-state c =
     λ trace. record {
-      kept = subst (λ (pages : GuestPages). AreKept trace pages.entries) (sym c.in_ok-pages.ensures) (All-nil (λ (entry : ℕ × KeptPage). IsKept trace entry.0 entry.1));
+      kept = subst (λ (pages : GuestPages). AreKept trace pages.entries) (sym c.in_ok-pages.ensures)
+          (All-nil (λ (entry : ℕ × KeptPage). IsKept trace entry.0 entry.1));
       capacity_is = ap (λ (pages : GuestPages). pages.capacity) c.in_ok-pages.ensures;
       turns = search rules;
       lanes_are = refl;

@@ -5,7 +5,8 @@ use Rattle.std.specs.List.{range_with_len}
 use Rattle.migration_model.specs.Rates.{MigrationSettings}
 use Rattle.migration_starts.proofs.starts.Starts.cases.Goals as goal
 
-within : (from last every number : ℕ) → 1 ≤ every → from ≤ last → number ≤ (last - from) / every → from + number * every ≤ last
+within : (from last every number : ℕ) → 1 ≤ every → from ≤ last → number ≤ (last - from) / every
+    → from + number * every ≤ last
 within from last every number some order low = omega (arith, mul-le-mul_left every low)
 
 pub tick_at-tick-requires : goal.tick_at-tick-requires
@@ -14,13 +15,19 @@ tick_at-tick-requires c =
     let every = c.spacing-every.ensures in
     let low : c.loop-number.number ≤ (c.last-last.result - c.args.self.now.from) / c.spacing-every.result =
     rw (last, every) (omega (arith, c.count-count.ensures)) in
-    within c.args.self.now.from c.last-last.result c.spacing-every.result c.loop-number.number (omega (arith, every)) (omega (arith, last)) low
+    within c.args.self.now.from c.last-last.result c.spacing-every.result c.loop-number.number (omega (arith, every))
+    (omega (arith, last)) low
 
 pub loop-number-preserved : goal.loop-number-preserved
 loop-number-preserved c =
     let n = c.loop-number.number in
-    let at : ℕ → MigrationSettings = λ k. record c.args.settings.now { start = c.args.self.now.from + k * c.spacing-every.result } in
+    let at : ℕ → MigrationSettings = λ k. record c.args.settings.now {
+      start =
+          c.args.self.now.from + k * c.spacing-every.result;
+    } in
     let before : List MigrationSettings = map at (range_with_len 0 n) in
     let tick = ap (λ (t : ℕ). record c.args.settings.now { start = t }) c.tick_at-tick.ensures in
-    c.in_ok-push-in-Ok.ensures.items ∙ ap (λ (l : List MigrationSettings). l ++ c.in-Ok.case ∷ []) c.loop-number.invariant
-    ∙ ap (λ (case : MigrationSettings). before ++ case ∷ []) (c.in-Ok.ensures ∙ tick) ∙ sym (map-range_with_len_more at 0 n n (omega arith))
+    c.in_ok-push-in-Ok.ensures.items ∙ ap (λ (l : List MigrationSettings). l ++ c.in-Ok.case ∷ [])
+    c.loop-number.invariant
+    ∙ ap (λ (case : MigrationSettings). before ++ case ∷ []) (c.in-Ok.ensures ∙ tick)
+    ∙ sym (map-range_with_len_more at 0 n n (omega arith))

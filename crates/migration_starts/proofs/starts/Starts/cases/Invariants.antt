@@ -3,4 +3,5 @@ use Rattle.std.specs.List.{range_with_len}
 use Rattle.migration_starts.proofs.starts.Starts.cases.Given as goal
 
 abbrev pub invariant-loop-number : goal.invariant-loop-number
-invariant-loop-number l = l.cases.items ≡ map (λ k. record l.settings { start = l.self.from + k * l.every }) (range_with_len 0 l.number)
+invariant-loop-number l = l.cases.items ≡ map (λ k. record l.settings { start = l.self.from + k * l.every })
+    (range_with_len 0 l.number)

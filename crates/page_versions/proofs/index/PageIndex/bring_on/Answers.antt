@@ -18,7 +18,8 @@ places_between-writes-requires-clause-rising g c = rw c.part.ensures (places_ris
 pub put_writes-requires-clause-room : goal.put_writes-requires-clause-room
 put_writes-requires-clause-room g c =
     let trace = g.W.WriteLog.trace c.args.trace.now in
-    ap length c.requires.bytes ∙ length-page_at trace c.args.page c.args.from.version c.shape.ensures.is_trace (omega (arith, c.requires.page, c.requires.of.0))
+    ap length c.requires.bytes ∙ length-page_at trace c.args.page c.args.from.version c.shape.ensures.is_trace
+    (omega (arith, c.requires.page, c.requires.of.0))
 
 pub put_writes-requires-clause-places : goal.put_writes-requires-clause-places
 put_writes-requires-clause-places g c =
@@ -45,14 +46,20 @@ pub returns-clause-bytes : goal.returns-clause-bytes
 returns-clause-bytes g c =
     let trace = g.W.WriteLog.trace c.args.trace.now in
     let from = c.args.from.version in
-    let step : List GuestWrite → List ℕ → ℕ → List ℕ = λ writes bytes place. overwrite trace.shift bytes (write_at writes place) in
+    let step : List GuestWrite → List ℕ → ℕ → List ℕ = λ writes bytes place. overwrite trace.shift bytes
+    (write_at writes place) in
     let between : List ℕ → List ℕ = λ l. filter (λ (v : ℕ). leb v c.args.to) (filter (λ (v : ℕ). ltb from v) l) in
     c.put_writes.ensures
-    ∙ ap (λ (l : List ℕ). fold (step trace.writes) c.args.bytes.now l) (c.places_between-writes.ensures.places ∙ ap between c.part.ensures)
-    ∙ ap (λ (b : List ℕ). fold (step trace.writes) b (between (places_in c.args.self.now.touches c.args.page))) c.requires.bytes
-    ∙ later_page trace c.args.self.now c.args.page from c.args.to c.shape.ensures.is_trace c.requires.of c.requires.page c.requires.later (omega (arith, c.requires.later, c.requires.version))
+    ∙ ap (λ (l : List ℕ). fold (step trace.writes) c.args.bytes.now l)
+    (c.places_between-writes.ensures.places ∙ ap between c.part.ensures)
+    ∙ ap (λ (b : List ℕ). fold (step trace.writes) b (between (places_in c.args.self.now.touches c.args.page)))
+    c.requires.bytes
+    ∙ later_page trace c.args.self.now c.args.page from c.args.to c.shape.ensures.is_trace c.requires.of c.requires.page
+    c.requires.later (omega (arith, c.requires.later, c.requires.version))
 
 pub returns-clause-writes : goal.returns-clause-writes
 returns-clause-writes g c =
     c.places_between-writes.ensures.count
-    ∙ ap (λ (l : List ℕ). length (filter (λ (v : ℕ). leb v c.args.to) l)) (c.part.ensures ∙ places_of_index c.args.self.now (g.W.WriteLog.trace c.args.trace.now) c.args.page c.requires.of)
+    ∙ ap (λ (l : List ℕ). length (filter (λ (v : ℕ). leb v c.args.to) l))
+    (c.part.ensures ∙ places_of_index c.args.self.now (g.W.WriteLog.trace c.args.trace.now) c.args.page
+    c.requires.of)

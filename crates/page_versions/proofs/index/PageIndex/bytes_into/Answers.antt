@@ -20,4 +20,5 @@ pub returns : goal.returns
 returns g c =
     let places = c.places_to.ensures ∙ ap (λ (l : List ℕ). filter (λ (v : ℕ). leb v c.args.version) l) c.part.ensures in
     on_ok_weaker c.put_bytes.result (λ is. is ∙ ap (bytes_by (g.W.WriteLog.trace c.args.trace.now)) places
-    ∙ page_at_is (g.W.WriteLog.trace c.args.trace.now) c.args.self.now c.args.page c.args.version c.put_bytes.ensures.is_trace c.requires.of c.requires.page) c.put_bytes.ensures.bytes
+    ∙ page_at_is (g.W.WriteLog.trace c.args.trace.now) c.args.self.now c.args.page c.args.version
+    c.put_bytes.ensures.is_trace c.requires.of c.requires.page) c.put_bytes.ensures.bytes

@@ -14,13 +14,16 @@ pub greatest_before-requires-clause-order : goal.greatest_before-requires-clause
 greatest_before-requires-clause-order c =
     let view = ap (λ (i : GuestIndex). i.touches) c.self.view_is in
     let same : c.deref.result.now ≡ c.args.self.now.touches = c.deref.ensures.value ∙ view in
-    rw (c.part.ensures, same) (ticks_rise c.self.inside.pages c.args.self.now.touches c.args.page (rw view at c.self.invariant.fits))
+    rw (c.part.ensures, same) (ticks_rise c.self.inside.pages c.args.self.now.touches c.args.page
+    (rw view at c.self.invariant.fits))
 
 pub returns : goal.returns
 returns c = λ trace is.
     let view = ap (λ (i : GuestIndex). i.touches) c.self.view_is in
     let same : c.deref.result.now ≡ c.args.self.now.touches = c.deref.ensures.value ∙ view in
     c.greatest_before.ensures
-    ∙ ap (λ (l : List GuestTouch). fold max 0 (filter (λ (v : ℕ). ltb (tick_at l v) c.args.tick) c.part.result.now)) same
-    ∙ ap (λ (l : List ℕ). fold max 0 (filter (λ (v : ℕ). ltb (tick_at c.args.self.now.touches v) c.args.tick) l)) c.part.ensures
+    ∙ ap (λ (l : List GuestTouch). fold max 0 (filter (λ (v : ℕ). ltb (tick_at l v) c.args.tick) c.part.result.now))
+    same
+    ∙ ap (λ (l : List ℕ). fold max 0 (filter (λ (v : ℕ). ltb (tick_at c.args.self.now.touches v) c.args.tick) l))
+    c.part.ensures
     ∙ version_is c.args.self.now trace c.args.page c.args.tick is

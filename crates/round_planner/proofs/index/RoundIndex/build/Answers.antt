@@ -17,12 +17,20 @@ loop-number-preserved g c =
     let page_is : p ≡ at.page = ap (λ (t : GuestTouch). t.page) (c.page.view_is ∙ c.touch.ensures) in
     let low : p < pages = omega (arith, page_is, (c.touch_count-count.ensures.fits.each n no_touch inside).page) in
     let last = c.loop-number.last.items in
-    let read : c.index.result.now ≡ get_or last p 0 = c.index.ensures ∙ get_or_default last p c.index.result.now 0 (omega (arith, low, before.last_len)) in
+    let read : c.index.result.now ≡ get_or last p 0 = c.index.ensures
+    ∙ get_or_default last p c.index.result.now 0 (omega (arith, low, before.last_len)) in
     let here : IsLast touches n at.page c.index.result.now =
-    subst (λ x. IsLast touches n at.page x) (sym read) (subst (λ q. IsLast touches n q (get_or last p 0)) page_is (before.last p low)) in
+    subst (λ x. IsLast touches n at.page x) (sym read) (subst (λ q. IsLast touches n q (get_or last p 0)) page_is
+    (before.last p low)) in
     record {
-      earlier_len = omega (arith, ap length c.in_ok-push.ensures.items, length_push c.loop-number.earlier.items c.index.result.now, before.earlier_len);
+      earlier_len = omega (
+        arith,
+        ap length c.in_ok-push.ensures.items,
+        length_push c.loop-number.earlier.items c.index.result.now,
+        before.earlier_len,
+      );
       last_len = omega (arith, length-set last p (n + 1), before.last_len);
-      earlier = push_more (λ i x. IsLast touches i (get_or touches i no_touch).page x) c.loop-number.earlier.items _ n c.index.result.now before.earlier_len c.in_ok-push.ensures.items before.earlier here;
+      earlier = push_more (λ i x. IsLast touches i (get_or touches i no_touch).page x) c.loop-number.earlier.items _ n
+          c.index.result.now before.earlier_len c.in_ok-push.ensures.items before.earlier here;
       last = λ page high. last_more touches n pages p page last inside before.last_len page_is before.last high;
     }

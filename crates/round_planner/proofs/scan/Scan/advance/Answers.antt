@@ -14,4 +14,5 @@ returns-clause-walked g c from upto le scan =
     let A : List ℕ → Type 0 = λ l. IsScan pages touches from c.args.tick c.mark_until-self.result l in
     let same : length new ≡ length old = omega (arith, walked.room.marks_len, scan.met.len) in
     let fits : length new ≤ c.args.self.now.marks.len = grind (arith, same) in
-    subst A (sym (whole_again c.args.self.now.marks.len new old same fits)) (walked.walked from upto le (subst B (sym c.deref_mut.ensures.value) scan))
+    subst A (sym (whole_again c.args.self.now.marks.len new old same fits))
+    (walked.walked from upto le (subst B (sym c.deref_mut.ensures.value) scan))

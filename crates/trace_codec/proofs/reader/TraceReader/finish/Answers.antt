@@ -23,4 +23,5 @@ returns-clause-spelled c =
     let count = ap (λ (s : ReaderState). s.count) c.self.view_is in
     let all : inside.index ≡ inside.header.shape.writes = omega (arith, c.requires, read, count) in
     subst (λ (s : ReaderState). Spells s.bytes (trace_with s.version s.shift s.pages s.writes)) c.self.view_is
-    (end_spelled _ _ _ _ _ _ _ inside.rest.now c.self.invariant all (eqb-true _ _ (sym c.is_empty.ensures ∙ c.if-not-is_empty.false)))
+    (end_spelled _ _ _ _ _ _ _ inside.rest.now c.self.invariant all
+    (eqb-true _ _ (sym c.is_empty.ensures ∙ c.if-not-is_empty.false)))

@@ -21,10 +21,12 @@ invariant_of-self c =
     let read = read_count c.args.self.now _ _ _ _ _ _ c.self.view_is in
     let count = ap (λ (s : ReaderState). s.count) c.self.view_is in
     let more : inside.index < inside.header.shape.writes = omega (arith, c.requires, read, count) in
-    rw (c.in_ok-tick.ensures.tick, c.in_ok-tick.ensures.rest) (reads_on _ _ _ _ _ _ _ _ c.self.invariant more c.in_ok-tick.ensures.accepted)
+    rw (c.in_ok-tick.ensures.tick, c.in_ok-tick.ensures.rest)
+    (reads_on _ _ _ _ _ _ _ _ c.self.invariant more c.in_ok-tick.ensures.accepted)
 
 pub returns-clause-read : goal.returns-clause-read
-returns-clause-read c = state_more c.args.self.now _ _ _ _ _ _ _ _ _ c.self.invariant c.self.view_is c.first_write.ensures.write
+returns-clause-read c = state_more c.args.self.now _ _ _ _ _ _ _ _ _ c.self.invariant c.self.view_is
+    c.first_write.ensures.write
 
 pub returns-clause-fits : goal.returns-clause-fits
 returns-clause-fits c =
@@ -32,7 +34,8 @@ returns-clause-fits c =
     let shift = ap (λ (s : ReaderState). s.shift) c.self.view_is in
     let pages = ap (λ (s : ReaderState). s.pages) c.self.view_is in
     rw (c.first_write.ensures.write, ← version, ← shift, ← pages)
-    (IsRight-from_none c.self.inside.header.version c.self.inside.header.shape.shift c.self.inside.header.shape.pages c.self.inside.last c.self.inside.index c.self.inside.rest.now c.in_ok-tick.ensures.accepted).fits
+    (IsRight-from_none c.self.inside.header.version c.self.inside.header.shape.shift c.self.inside.header.shape.pages
+    c.self.inside.last c.self.inside.index c.self.inside.rest.now c.in_ok-tick.ensures.accepted).fits
 
 pub returns-clause-order : goal.returns-clause-order
 returns-clause-order c =
@@ -43,5 +46,7 @@ returns-clause-order c =
     let version = ap (λ (s : ReaderState). s.version) c.self.view_is in
     let shift = ap (λ (s : ReaderState). s.shift) c.self.view_is in
     let pages = ap (λ (s : ReaderState). s.pages) c.self.view_is in
-    let writes = ap (λ (s : ReaderState). s.writes) (state_more c.args.self.now _ _ _ _ _ _ _ _ _ c.self.invariant c.self.view_is c.first_write.ensures.write) in
-    rw (← writes, ← version, ← shift, ← pages) (reads_on _ _ _ _ _ _ _ _ c.self.invariant more c.in_ok-tick.ensures.accepted).reads.fit
+    let writes = ap (λ (s : ReaderState). s.writes) (state_more c.args.self.now _ _ _ _ _ _ _ _ _ c.self.invariant
+    c.self.view_is c.first_write.ensures.write) in
+    rw (← writes, ← version, ← shift, ← pages) (reads_on _ _ _ _ _ _ _ _ c.self.invariant more
+    c.in_ok-tick.ensures.accepted).reads.fit

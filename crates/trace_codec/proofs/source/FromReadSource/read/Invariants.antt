@@ -4,4 +4,7 @@ use Rattle.trace_codec.proofs.source.FromReadSource.read.Given as goal
 
 abbrev pub invariant-loop : goal.invariant-loop
 invariant-loop g l =
-    record { kept : Keeps l.fn.self.remaining (g.R.Read.remaining l.self-inside.reader); unfailed : l.self-inside.has_failed ≡ false }
+    record {
+      kept : Keeps l.fn.self.remaining (g.R.Read.remaining l.self-inside.reader);
+      unfailed : l.self-inside.has_failed ≡ false;
+    }

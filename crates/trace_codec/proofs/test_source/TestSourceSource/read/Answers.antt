@@ -12,4 +12,5 @@ returns-clause-bytes c =
     let whole = c.deref.ensures.value in
     let span : inside.taken + n - inside.taken ≡ n = omega arith in
     rw (← state) (reads_from_memory inside.bytes.items c.args.buffer.now c.copy_from_slice.new.self inside.taken n
-    (omega arith) (omega (arith, size, c.self.invariant)) (c.copy_from_slice.ensures.after ∙ rw (whole, span) refl) (λ none room. omega (arith, size, c.self.invariant)))
+    (omega arith) (omega (arith, size, c.self.invariant)) (c.copy_from_slice.ensures.after ∙ rw (whole, span) refl)
+    (λ none room. omega (arith, size, c.self.invariant)))

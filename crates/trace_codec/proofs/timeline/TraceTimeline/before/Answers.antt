@@ -12,7 +12,8 @@ returns-clause-point c =
     let same : items ≡ trace.writes = c.as_slice.ensures.value ∙ ap (λ t. t.writes) c.self.view_is in
     let is : IsTrace trace = rw c.self.view_is at c.self.invariant in
     let order : IsNonDecreasingBy (λ (w : GuestWrite). w.tick) items = rw same is.writes.in_order in
-    let point = IsPartitionPoint-from_clause (λ (w : GuestWrite). ltb w.tick c.args.tick) items c.partition_point.result c.partition_point.ensures.partitioned
+    let point = IsPartitionPoint-from_clause (λ (w : GuestWrite). ltb w.tick c.args.tick) items c.partition_point.result
+    c.partition_point.ensures.partitioned
     (IsPartitionedBy-ltb (λ w. w.tick) items c.args.tick order) (λ a r f k. search (rules, of_calls)) in
     let few : c.partition_point.result ≤ length items = c.partition_point.ensures.bound in
     point_of_touches trace.writes c.args.tick c.partition_point.result (rw same at few) (rw same at point)

@@ -17,7 +17,8 @@ split_at-requires c =
 pub returns-clause-whole : goal.returns-clause-whole
 returns-clause-whole c =
     let low = within_count _ _ _ _ _ _ c.self.inside.bytes.items c.self.view_is c.requires in
-    rw (c.split_at.ensures.back, c.deref.ensures.value, c.index.ensures) (held_whole _ _ _ _ _ c.index.result.now _ _ c.self.invariant low)
+    rw (c.split_at.ensures.back, c.deref.ensures.value, c.index.ensures)
+    (held_whole _ _ _ _ _ c.index.result.now _ _ c.self.invariant low)
 
 pub returns-clause-write : goal.returns-clause-write
 returns-clause-write c =

@@ -7,7 +7,8 @@ invariant-loop-low l = record {
   order : l.low ≤ l.high;
   bound : l.high ≤ length (touches_of l.self);
   earlier : (k : ℕ) (d : GuestTouch) → k < l.low → (get_or (touches_of l.self) k d).tick < l.tick;
-  later : (k : ℕ) (d : GuestTouch) → l.high ≤ k → k < length (touches_of l.self) → l.tick ≤ (get_or (touches_of l.self) k d).tick;
+  later : (k : ℕ) (d : GuestTouch) → l.high ≤ k → k < length (touches_of l.self)
+      → l.tick ≤ (get_or (touches_of l.self) k d).tick;
 }
 
 abbrev pub decreases-loop-low : goal.decreases-loop-low

@@ -5,7 +5,8 @@ use Rattle.trace_readers.proofs.incoming_trace.IncomingTrace.read_to.Given as go
 
 abbrev pub invariant-loop-self : goal.invariant-loop-self
 invariant-loop-self g l = record {
-  came : (old : Option (List ℕ)) → Consumes old (g.S.Source.remaining l.fn.source) l.fn.self → Consumes old (g.S.Source.remaining l.source) l.self-inside.pieces.rest;
+  came : (old : Option (List ℕ)) → Consumes old (g.S.Source.remaining l.fn.source) l.fn.self
+      → Consumes old (g.S.Source.remaining l.source) l.self-inside.pieces.rest;
   whole : (l.self-inside.pieces.count ≡ length l.self-inside.pieces.rest) × IsBytes l.self-inside.pieces.rest;
   unfailed : g.S.Source.has_failed l.source ≡ false;
 }

@@ -11,6 +11,7 @@ returns-clause-refused g c =
     IfErr-weaker c.visit_rest.result _ _
     (λ e refused old came.
     refused visitor old
-    (visiting_none (g.V.WriteVisitor.makes visitor visitor) old _ c.args.self c.none.result c.take.new.self c.none.ensures.count c.none.ensures.last rest (record { came = came; count_is = count })
+    (visiting_none (g.V.WriteVisitor.makes visitor visitor) old _ c.args.self c.none.result c.take.new.self
+    c.none.ensures.count c.none.ensures.last rest (record { came = came; count_is = count })
     (rw c.none.ensures.header c.requires.header) c.requires.none))
     c.visit_rest.ensures.refused

@@ -16,5 +16,6 @@ returns-then-not-wants_bytes-clause-refused g c old text came (inr refused) =
 pub returns-clause-refused : goal.returns-clause-refused
 returns-clause-refused g c old text came (inl memory) = inl (inl memory)
 returns-clause-refused g c old text came (inr refused) =
-    let last = CameAs-end old _ _ text c.args.self.now _ c.in_ok-read_more.field-0 c.if-branch.false came c.in_ok-read_more.ensures.read in
+    let last = CameAs-end old _ _ text c.args.self.now _ c.in_ok-read_more.field-0 c.if-branch.false came
+    c.in_ok-read_more.ensures.read in
     ended_refused old _ text c.args.cause last.0 last.1 refused

@@ -11,7 +11,8 @@ returns-in-Some-clause-read g c =
     let read = c.in-Some.ensures in
     let rest = ap (λ (s : PiecesState). s.rest) c.self.view_is in
     let count = ap (λ (s : PiecesState). s.count) c.self.view_is in
-    read_behind_is _ _ 0 moved.result c.in-Some.count c.self.inside.count c.read_behind.new.bytes.items c.args.self.now read.fits read.bytes (omega arith)
+    read_behind_is _ _ 0 moved.result c.in-Some.count c.self.inside.count c.read_behind.new.bytes.items c.args.self.now
+    read.fits read.bytes (omega arith)
     (omega (
       arith,
       read.len,

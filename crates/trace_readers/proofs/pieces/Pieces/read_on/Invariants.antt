@@ -4,8 +4,10 @@ use Rattle.trace_readers.proofs.pieces.Pieces.read_on.Given as goal
 
 abbrev pub invariant-loop-count : goal.invariant-loop-count
 invariant-loop-count g l = record {
-  came : (more : List ℕ) × Consumes (g.S.Source.remaining l.fn.source) (g.S.Source.remaining l.source) more × (l.count ≡ l.fn.self.count + length more);
-  room : (l.self-inside.start ≤ l.self-inside.filled) × (l.self-inside.filled ≤ vec_len l.self-inside.room) × (262144 ≤ vec_len l.self-inside.room)
+  came : (more : List ℕ) × Consumes (g.S.Source.remaining l.fn.source) (g.S.Source.remaining l.source) more
+      × (l.count ≡ l.fn.self.count + length more);
+  room : (l.self-inside.start ≤ l.self-inside.filled) × (l.self-inside.filled ≤ vec_len l.self-inside.room)
+      × (262144 ≤ vec_len l.self-inside.room)
       × (vec_len l.self-inside.room ≤ l.self-inside.filled + 262144);
   bound : l.count ≤ 268435456 + vec_len l.self-inside.room;
   unfailed : g.S.Source.has_failed l.source ≡ false;

@@ -10,6 +10,7 @@ returns-clause-point c =
     let inside : items ≡ c.self.inside.touches.items = c.as_slice.ensures.value in
     let same : items ≡ c.args.self.now.touches = inside ∙ ap (λ t. t.touches) c.self.view_is in
     let order : IsNonDecreasingBy (λ (t : GuestTouch). t.tick) items = rw inside c.self.invariant.1.in_order in
-    let point = IsPartitionPoint-from_clause (λ (t : GuestTouch). ltb t.tick c.args.tick) items c.partition_point.result c.partition_point.ensures.partitioned
+    let point = IsPartitionPoint-from_clause (λ (t : GuestTouch). ltb t.tick c.args.tick) items c.partition_point.result
+    c.partition_point.ensures.partitioned
     (IsPartitionedBy-ltb (λ t. t.tick) items c.args.tick order) (λ a r f k. search (rules, of_calls)) in
     rw same at point

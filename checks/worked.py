@@ -1,0 +1,38 @@
+"""The worked guest of docs/FORMATS.md, as bytes: its trace, and what comes of it, by hand."""
+
+import struct
+
+
+def header(pages, writes, shift=4, magic=b"PCWT", version=1, reserved=b"\0\0"):
+    return magic + bytes([version, shift]) + reserved + struct.pack("<II", pages, writes)
+
+
+def record(tick, page, offset, data, length=None):
+    return struct.pack("<QIHH", tick, page, offset, len(data) if length is None else length) + data
+
+
+RECORDS = [
+    record(0, 0, 0, b"\x01"),
+    record(5, 1, 15, b"\x02"),
+    record(1200, 1, 0, b"\x03"),
+    record(2500, 3, 2, b"\x04\x05"),
+    record(2500, 1, 0, b"\x00"),
+]
+A = header(4, 5) + b"".join(RECORDS)
+assert len(A) == 102
+# The memory after all writes, and before tick 2000.
+A_IMAGE = b"\x01" + bytes(15) + bytes(15) + b"\x02" + bytes(16) + b"\x00\x00\x04\x05" + bytes(12)
+A_AT_2000 = b"\x01" + bytes(15) + b"\x03" + bytes(14) + b"\x02" + bytes(16) + bytes(16)
+# With the rates 2 to 4, the increment 1, the threshold 1 and 8 rounds at most.
+A_REPORT = b"""\
+trace pages 4 size 16 writes 5
+window 0 writes 2 pages 2 again 0 fresh 2
+window 1 writes 1 pages 1 again 1 fresh 0
+window 2 writes 2 pages 2 again 1 fresh 1
+hot 2 pages 1
+page 1
+round 0 from 0 to 2000 rate 2 pages 4 sent 4 dirtied 2
+round 1 from 2000 to 3000 rate 2 pages 2 sent 2 dirtied 2
+round 2 from 3000 to 3667 rate 3 pages 2 sent 2 dirtied 0
+stop few at 3667 pages 0 down 0 total 8
+"""

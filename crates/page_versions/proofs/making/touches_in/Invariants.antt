@@ -1,5 +1,0 @@
-use Rattle.std.proofs.Common.{◌≡◌, take}
-use Rattle.page_versions.proofs.making.touches_in.Given as goal
-
-abbrev pub invariant-loop-index : goal.invariant-loop-index
-invariant-loop-index g l = l.touches.items ≡ take l.index (g.T.Timeline.touches l.timeline)

@@ -1,0 +1,54 @@
+-- What the program writes, and why it does not.
+use Rattle.std.specs.Prelude.{◌≡◌, ℕ, Bool, List, Option}
+use Rattle.std.specs.Io.KnownBytes.{Appends}
+use Rattle.migration_jobs.specs.Output.{RefusesRun}
+use Rattle.migration_jobs.specs.Sink.{AppendsPart}
+use Rattle.migration_model.specs.Touches.{GuestTouches}
+use Rattle.precopy_view.specs.Fitting.{FitsScale, IsMisfit}
+use Rattle.precopy_view.specs.declared.faults.ShowError.{ShowError}
+use Rattle.precopy_view.specs.declared.faults.ShowError.TheVariants as errors
+use Rattle.trace_readers.specs.Pieces.{IsLogOf}
+use Rattle.trace_views.specs.Views.{IsView, RefusesView}
+use Rattle.trace_views.specs.declared.error.ViewError.{ViewError}
+use Rattle.view_words.specs.declared.command.AskedView.{AskedView}
+
+-- a view of the trace that a source held, and whether its limit is kept
+pub record MakesView (known : Option (List ℕ)) (asked : AskedView) (output : List ℕ) (is_kept : Bool) : Type 0 where
+  pub log : GuestTouches
+  pub is_log : IsLogOf known log
+  pub fits : FitsScale asked.scale log.shift log.pages
+  pub is_view : IsView log asked.view output is_kept
+
+-- the view was added to what a sink held, or a beginning of it
+pub record WritesView (known : Option (List ℕ)) (asked : AskedView) (is_kept : Bool)
+    (old new : Option (List ℕ)) : Type 0 where
+  pub output : List ℕ
+  pub is_shown : MakesView known asked output is_kept
+  pub added : Appends old new output
+
+pub record WritesViewPart (known : Option (List ℕ)) (asked : AskedView) (old new : Option (List ℕ)) : Type 0 where
+  pub output : List ℕ
+  pub is_kept : Bool
+  pub is_shown : MakesView known asked output is_kept
+  pub added : AppendsPart old new output
+
+-- the trace does not have the scale that is asked for
+pub record RefusesScale (known : Option (List ℕ)) (asked : AskedView) (e : ShowError) : Type 0 where
+  pub log : GuestTouches
+  pub is_log : IsLogOf known log
+  pub misfit : IsMisfit asked.scale log.shift log.pages e
+
+-- the view that is asked for cannot be made of the trace
+pub record RefusesMaking (known : Option (List ℕ)) (asked : AskedView) (e : ViewError) : Type 0 where
+  pub log : GuestTouches
+  pub is_log : IsLogOf known log
+  pub fits : FitsScale asked.scale log.shift log.pages
+  pub refused : RefusesView log asked.view e
+
+-- A trace is refused only for a cause in what the source held, or for one outside of it, or for its scale
+-- or for what the view asks of it.
+abbrev pub RefusesAskedView : Option (List ℕ) → AskedView → ShowError → Type 0
+RefusesAskedView known asked (errors.Run e) = RefusesRun known e
+RefusesAskedView known asked (errors.PageSize size) = RefusesScale known asked (errors.PageSize size)
+RefusesAskedView known asked (errors.TooManyPages pages) = RefusesScale known asked (errors.TooManyPages pages)
+RefusesAskedView known asked (errors.View e) = RefusesMaking known asked e

@@ -1,5 +1,0 @@
-use Rattle.working_sets.proofs.Whole.{PassesTo}
-use Rattle.working_sets.proofs.making.tables.Given as goal
-
-abbrev pub invariant-loop-index : goal.invariant-loop-index
-invariant-loop-index g l = PassesTo (g.T.Timeline.pages l.timeline) (g.T.Timeline.touches l.timeline) l.settings l.index l.pass
