@@ -21,7 +21,7 @@ class Trace:
 
 @dataclass(frozen=True)
 class Job:
-    """A job has the words that `words` makes of a trace. Its output has to be that of `same_as`, if given."""
+    """A job has the words that `words` makes of a trace. Its output must be that of `same_as`, if given."""
 
     name: str
     words: object

@@ -76,7 +76,7 @@ def run(words, env, trace, output, limit):
         output.ended()
         errors.seek(0)
         message = errors.read(400).decode(errors="replace").strip()
-    # Linux tells this in units of 1,024 bytes, others in bytes.
+    # Linux gives this in units of 1,024 bytes, others in bytes.
     memory = usage.ru_maxrss * (1 if sys.platform == "darwin" else 1024)
     processor = usage.ru_utime + usage.ru_stime
     return Run(wall, processor, memory, os.waitstatus_to_exitcode(status), message)

@@ -41,7 +41,7 @@ def cases_round(asked, down):
 
 
 def choice_of(plans, down, total):
-    """Returns the advised case of some plans, and the line that tells why."""
+    """Returns the advised case of some plans, and the line that says why."""
     within = [case for case in plans if case["down"] <= down]
     fitting = [case for case in within if total is None or case["total"] <= total]
 
@@ -65,7 +65,7 @@ def live_line(case, start, base):
 
 
 def advised_lines(precopy, trace, asked, budget, words, limits=None):
-    """Returns the last lines of advice: why, what the case costs where limits are known, the case, and its words."""
+    """Returns the last lines of advice: why, what the case costs if limits are known, the case, and its words."""
     given = facts([part for word in words for part in word[2:].split("=")])
     start, base, down = given.get("start", 0), given.get("base"), budget["down"]
     cases = cases_round(asked, down)
@@ -149,13 +149,13 @@ def measured_tries(paths):
         tries.append((check_measured_sweep, Limits(draw, some), cases, some))
     limits = ["--link=10Gbit", "--downtime=300ms"]
     for words, line in [
-        ([], "--down is needed, or --link and --downtime, as --link 10Gbit --downtime 300ms"),
-        (["--max=4"], "--down is needed, or --link and --downtime, as --link 10Gbit --downtime 300ms"),
-        (["--down=3", *limits], "--down does not stand beside --link and --downtime"),
-        (["--max=3", *limits], "--min, --max and --threshold do not stand beside --link and --downtime"),
-        (["--tick=1ms"], "--link and --downtime are needed, as --link 10Gbit --downtime 300ms"),
-        (["--down=3", "--tick=1ms"], "--down does not stand beside --link and --downtime"),
-        (limits[:1], "--link and --downtime stand together, and --first and --reserve beside them"),
+        ([], "--down is needed, or --link and --downtime, as in --link 10Gbit --downtime 300ms"),
+        (["--max=4"], "--down is needed, or --link and --downtime, as in --link 10Gbit --downtime 300ms"),
+        (["--down=3", *limits], "--down cannot be used with --link and --downtime"),
+        (["--max=3", *limits], "--min, --max and --threshold cannot be used with --link and --downtime"),
+        (["--tick=1ms"], "--link and --downtime are needed, as in --link 10Gbit --downtime 300ms"),
+        (["--down=3", "--tick=1ms"], "--down cannot be used with --link and --downtime"),
+        (limits[:1], "--link and --downtime go together, and --first and --reserve need them"),
     ]:
         tries.append((check_refused_advice, words, line, known[0]))
     return tries

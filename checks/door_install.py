@@ -18,7 +18,7 @@ SECONDS = 120
 
 
 def make(*words, **more):
-    """Runs make without a toolchain on the path: the built programs have to be enough."""
+    """Runs make without a toolchain on the path: the built programs must be enough."""
     path = os.pathsep.join(it for it in os.environ["PATH"].split(os.pathsep) if not os.path.exists(f"{it}/rt"))
     how = {"stdin": subprocess.DEVNULL, "stdout": subprocess.PIPE, "stderr": subprocess.STDOUT, "timeout": SECONDS}
     environment = {**os.environ, "PATH": path, **more}
@@ -139,7 +139,7 @@ def words_of_manual(text):
 
 
 def check_program(tally, program):
-    """The manual names just the options and the commands that the help tells, and docs/COMMANDS.md all options."""
+    """The manual names exactly the options and the commands of the help, and docs/COMMANDS.md all options."""
     name = program.words[0]
     with open(os.path.join(TOP, "man", f"{name}.1"), encoding="utf-8") as file:
         named, commands = words_of_manual(file.read())
@@ -163,7 +163,7 @@ def check_tools(tally):
 
 
 def check_version(tally):
-    """The newest entry of the changes has the version and the date that the tools tell."""
+    """The newest entry of the changes has the version and the date of the tools."""
     with open(os.path.join(TOP, "CHANGELOG.md"), encoding="utf-8") as file:
         newest = re.search(r"^## (\S+), (\S+)$", file.read(), re.M)
     tally.add(newest and newest.groups() == (version.VERSION, version.DATE), f"CHANGELOG.md begins with {newest}")

@@ -181,7 +181,7 @@ def numbers_of(printed):
 
 
 def reported(program, trace, weight, factor=1):
-    """The plan of `precopy report` for LINK, over a trace whose ticks are so many times longer."""
+    """The plan of `precopy report` for LINK, over a trace whose ticks are `factor` times longer."""
     writes = [(tick // factor, page) for tick, page, *_ in trace.records()]
     text = forecast.encoded(forecast.Pages(trace.pages, weight, list(dict.fromkeys(writes)) if factor > 1 else writes))
     rate = int(8192 * factor / weight)

@@ -3,9 +3,9 @@
     python3 checks/known_pages.py private|shared|huge PAGES [filtered|watched|changing]
 
 It prints the address of its pages, one of which in three is zero. For each line of numbers it writes the bytes that
-stand there again, on these pages, and prints how many of its calls of poll(2) ended with anything but one ready file.
+are there again, on these pages, and prints how many of its calls of poll(2) ended with anything but one ready file.
 A line `anew N M` maps pages N to M - 1 anew. With `filtered` a userfaultfd of its own would kill it, by seccomp; with
-`watched` it has one over its pages already; with `changing` it writes other bytes than stand there. A write is one byte,
+`watched` it has one over its pages already; with `changing` it writes other bytes than are there. A write is one byte,
 in another place of each page.
 """
 

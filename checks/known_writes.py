@@ -1,4 +1,4 @@
-"""A process that writes known pages at a known pace, for checks/recording, and what its memory has to be.
+"""A process that writes known pages at a known pace, for checks/recording, and what its memory must be.
 
     python3 checks/known_writes.py FILE        FILE is its memory; - is memory of its own
 """
@@ -43,7 +43,7 @@ def address_of(mapping):
 
 
 def writer(path):
-    """Tells where its memory is, waits for a line, and makes its steps."""
+    """Prints where its memory is, waits for a line, and makes its steps."""
     if path == "-":
         mapping = mmap.mmap(-1, PAGES * PAGE, flags=mmap.MAP_PRIVATE | mmap.MAP_ANONYMOUS)
     else:

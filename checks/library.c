@@ -4,7 +4,7 @@
  *     library TRACE TICK
  *
  * Each input lies in memory that cannot be written. Each buffer ends where memory ends, so that one byte read or
- * written behind it stops the program, and has bytes of one pattern in front. malloc and realloc are wrapped: one of
+ * written after it stops the program, and has bytes of one pattern in front. malloc and realloc are wrapped: one of
  * them can be refused, and what is not given back is counted. It prints what is wrong, and at last how many trials
  * there were.
  */
@@ -73,7 +73,7 @@ void __wrap_free(void *old) {
     __real_free(old);
 }
 
-/* ---- buffers with a fence behind them */
+/* ---- buffers with a fence after them */
 
 struct room {
     uint8_t *at;
@@ -128,7 +128,7 @@ struct guest {
     uint64_t tick;
 };
 
-/* What a call writes: its long buffer, its states of pages, and what it tells. */
+/* What a call writes: its long buffer, its states of pages, and what it reports. */
 struct outputs {
     struct room room, states, told;
 };
@@ -249,7 +249,7 @@ static void try_lengths(const struct guest *guest, const struct trial *trial) {
 struct turn {
     const struct guest *guest;
     const struct trial *trial;
-    struct outputs whole; /* what one thread alone wrote */
+    struct outputs whole; /* what one thread wrote on its own */
     _Atomic int differing;
 };
 

@@ -114,7 +114,7 @@ static void traces(void) {
 static void frames(void) {
     static const struct precopy_sizes sizes = {4, 2, 5};
     static const uint8_t page[16] = {0, 0, 0, 0, 0, 0, 0, 0, 0, 0, 0, 0, 0, 0, 0, 2}, zeros[16];
-    /* Page 1 at stamp 5, and behind it page 1 at stamp 3, zeros. */
+    /* Page 1 at stamp 5, and after it page 1 at stamp 3, zeros. */
     static const uint8_t stream[34] = {1, 0, 0, 0, 5, 0, 0, 0, 1, 0, 0, 0, 0, 0, 0, 0, 0,
                                        0, 0, 0, 0, 0, 0, 0, 2, 1, 0, 0, 0, 3, 0, 0, 0, 0};
     uint8_t text[25], content[16];

@@ -41,7 +41,7 @@ def generated(chosen):
 
 
 def damaged(chosen, trace):
-    """A trace with some bytes others, cut off, or with more bytes behind it; some of these are traces still."""
+    """A trace with some bytes changed, cut off, or with more bytes after it; some of these are still traces."""
     text = bytearray(trace)
     for _ in range(chosen.randint(1, 3)):
         kind = chosen.randrange(4)
@@ -125,7 +125,7 @@ def ends_of(frames):
 
 
 def decoded(sizes, text):
-    """The frames at the front of a stream, what is behind them, and the cause why that is no frame."""
+    """The frames at the front of a stream, the bytes after them, and why those are no frame."""
     whole = []
     while text:
         if len(text) < 9:

@@ -1,4 +1,4 @@
-"""Cases of checks/view about limits in time and bytes: what precopy-view tells is computed again from precopy's lines."""
+"""Cases of checks/view about limits in time and bytes: precopy-view's answers, computed again from precopy's lines."""
 
 import bisect
 import collections
@@ -64,7 +64,7 @@ class Limits:
         return size * self.tick * self.sampled // (1_000 * self.page * self.guest)
 
     def settings(self):
-        """Returns the options of `precopy report`, or None where a limit is out of its range."""
+        """Returns the options of `precopy report`, or None if a limit is out of its range."""
         most, least = self.rate(self.link[1]), self.rate((self.first or self.link)[1])
         threshold = (self.downtime - self.reserve) // self.tick * most // 1_000 + 1
         if not 1 <= most <= 1_000_000 or not 1 <= least <= most or threshold > 65_536:
@@ -129,7 +129,7 @@ def pages_sent(report, known):
 
 
 def error_lines(limits, lists):
-    """Returns the line on standard errors, where there is one."""
+    """Returns the line on standard errors, if there is one."""
     if not 2 <= limits.sampled <= 65_536 or limits.sampled >= limits.guest:
         return []
     times = collections.Counter(page for some in lists for page in some)
@@ -140,8 +140,8 @@ def error_lines(limits, lists):
 
 
 def ran_in_range(view, command, words, limits, known):
-    """Returns the status and the text of a command; where its limits make no settings, it has to refuse them, and the
-    status is None."""
+    """Returns the status and the text of a command; if its limits make no settings, it must refuse them, and the status
+    is None."""
     status, text, faults = ran(view, [command, *words], known.path)
     if limits.settings() is not None:
         return status, text
@@ -237,7 +237,7 @@ def preference(cost):
 
 
 def row_of(limits, cost):
-    mark = "ends behind the trace" if not cost["known"] else "kept" if cost["kept"] else "not kept"
+    mark = "ends after the trace" if not cost["known"] else "kept" if cost["kept"] else "not kept"
     cells = [str(cost["start"]), seconds(cost["start"] * limits.tick), seconds(cost["time"]), size_text(cost["sent"]),
              seconds(cost["down"])]
     return "".join(cell.rjust(14) for cell in cells) + f"  {mark}"

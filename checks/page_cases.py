@@ -1,4 +1,4 @@
-"""Cases of checks/page: traces and their damages, and random settings with the facts that the page has to show of them.
+"""Cases of checks/page: traces and their damages, and random settings with the facts that the page must show of them.
 
 The facts are worked out from the lines of `precopy report` and `precopy sweep`, by the rules of docs/COMMANDS.md.
 """

@@ -51,7 +51,7 @@ CONTRAST = """
 })()
 """
 
-# Texts of pictures that stand outside of their picture, or over another text.
+# Texts of pictures that are outside of their picture, or over another text.
 OVERLAPS = """
 [...document.querySelectorAll("svg")].flatMap((picture) => {
   const whole = picture.getBoundingClientRect();
@@ -87,7 +87,7 @@ def fill(page):
 
 
 def check_widths(page, folder):
-    """Nothing is wider than the page, nor over another text; each text can be told from its ground."""
+    """Nothing is wider than the page, nor over another text; each text can be read on its ground."""
     browser = page.browser
     for is_dark in (False, True):
         for width in WIDTHS:
@@ -176,7 +176,7 @@ def check_drop(page):
 
 
 def check_old_browser(page):
-    """Where memory of 64-bit addresses is missing, the page says so in a sentence."""
+    """If memory of 64-bit addresses is missing, the page says so in a sentence."""
     script = page.browser.call("Page.addScriptToEvaluateOnNewDocument", source="WebAssembly.validate = () => false;")
     page.open()
     said = page.browser.value("textOf('trace-state')")

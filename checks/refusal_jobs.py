@@ -1,4 +1,4 @@
-"""What checks/refusals runs, and what it has to write. That is worked out by hand from docs/FORMATS.md and the rules of
+"""What checks/refusals runs, and what it must write. That is worked out by hand from docs/FORMATS.md and the rules of
 the plan, not by the program; except for help, which is what the program writes if nothing is refused."""
 
 from worked import A, A_AT_2000, A_IMAGE, A_REPORT, header, record
@@ -62,7 +62,7 @@ WRITE_FAILED = b"precopy: write\n"
 
 
 class Job:
-    """A command over a trace, what it has to write, and how many of its threads only save time: of a live run, one.
+    """A command over a trace, what it must write, and how many of its threads only save time: of a live run, one.
     Some that it needs start before: the planner, and in a warm start the thread that makes memory."""
 
     status, faults = 0, b""
@@ -113,7 +113,7 @@ WIDE_WORDS = ["--workers", "2", *MANY_CASES.split()]
 WIDE_REPORT = Job(f"report, {WIDE}", ["report", *PLAN, *TABLES, "--workers", "2"], MANY_REPORT, "many", savers=1)
 WIDE_SWEEP = Job(f"sweep, {WIDE}", ["sweep", *WIDE_WORDS], MANY_SWEEP, "many", savers=1)
 
-# What help has to write is None here: checks/words looks at it.
+# What help must write is None here: checks/words looks at it.
 HELPS = [Job("--help", ["--help"], None), Job("live --help", ["live", "--help"], None)]
 MISUSES = [
     Misuse("guess", "unrecognized subcommand 'guess'", "<COMMAND>"),

@@ -15,7 +15,7 @@ SECONDS = 20
 # A part ends after this many failures, and all of them after this many runs that did not end.
 MOST_FAILURES = 20
 MOST_HANGS = 4
-# If threads run side by side, the number of growths varies. This many runs in a row have to end without a refusal.
+# If threads run side by side, the number of growths varies. This many runs in a row must end without a refusal.
 LAST_RUNS = 3
 
 
@@ -39,8 +39,8 @@ class Run:
 
 
 COUNTS = "growths threads inner reads writes faults refused".split()
-# After the counts: whether a refused growth is told, how many starts of threads came before it, whether one after it
-# is told, whether that was granted; then of both the size, whether it moves an older room, and six addresses; and the
+# After the counts: whether a refused growth is named, how many starts of threads came before it, whether one after it
+# is named, whether that was granted; then of both the size, whether it moves an older room, and six addresses; and the
 # program that was run.
 TOLD = struct.Struct("<8Q4Q8Q8Q1024s")
 SHARED = 4096
@@ -56,7 +56,7 @@ class Runner:
         self.functions = {}
 
     def gives_up(self, tally):
-        """Whether so much failed that more runs would tell nothing new."""
+        """Whether so much failed that more runs would show nothing new."""
         if len(tally.failures) < MOST_FAILURES and self.runs["hung"] < MOST_HANGS:
             return False
         if not tally.gave_up:
@@ -80,7 +80,7 @@ class Runner:
         return self.functions[program]
 
     def tell(self, run):
-        """Reads what the shim told of the run that has just ended."""
+        """Reads what the shim reported about the run that has just ended."""
         numbers = TOLD.unpack(os.pread(self.local.file.fileno(), TOLD.size, 0))
         run.counts = dict(zip(COUNTS, numbers))
         is_told, run.started, is_next, is_granted = numbers[8:12]
@@ -91,7 +91,7 @@ class Runner:
                 run.again = Growth(numbers[20:28], functions)
 
     def run(self, job, **refused):
-        """Runs a job with what is refused; with nothing named, nothing stands between it and the C library."""
+        """Runs a job with what is refused; with nothing named, nothing is between it and the C library."""
         environment = {"PATH": os.environ.get("PATH", "")}
         if refused:
             environment.update({name: str(value) for name, value in refused.items()})

@@ -17,7 +17,7 @@
  *     REFUSE_WITHIN=1   growths and starts of threads count only after the first write to standard output, and until
  *                       the second one begins: for a program that prints a line, makes a call, and prints the next
  *     ONE_BYTE=1        reads of standard input and writes to standard output move one byte a call
- *     REFUSE_COUNTS=F   the counts stand in the file F, of 4096 bytes at least, as numbers of 8 bytes: growths,
+ *     REFUSE_COUNTS=F   the counts are in the file F, of 4096 bytes at least, as numbers of 8 bytes: growths,
  *                       threads, inner growths, reads, writes, writes to standard error, refusals, 0. They are right
  *                       at each moment, so also if the program dies. After them comes who asked, `struct told`.
  *
@@ -115,7 +115,7 @@ __attribute__((constructor)) static void begin(void) {
     if (path && *path) {
         int file = open(path, O_RDWR | O_CLOEXEC);
         void *at = file < 0 ? MAP_FAILED : mmap(NULL, sizeof own_room, PROT_READ | PROT_WRITE, MAP_SHARED, file, 0);
-        if (at == MAP_FAILED) _exit(125); /* a run whose counts nobody sees would tell nothing */
+        if (at == MAP_FAILED) _exit(125); /* a run whose counts nobody sees would show nothing */
         counts = ((struct room *)at)->counts;
         told = &((struct room *)at)->told;
         close(file);
@@ -137,7 +137,7 @@ static int is_within(void) { return !refuse_within || atomic_load(&counts[WRITE]
 
 static int is_own(uintptr_t address) { return address >= low && address < high; }
 
-/* Whether a call may stand right before an address. */
+/* Whether there may be a call right before an address. */
 static int follows_call(uintptr_t address) {
     if (!is_own(address) || address < low + 7) return 0;
 #ifdef __x86_64__

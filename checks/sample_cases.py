@@ -21,7 +21,7 @@ STEPS, WRITES = 5, 60
 
 
 class Pages:
-    """The process of checks/known_pages.py, and what of it has to be the same after a recording as before."""
+    """The process of checks/known_pages.py, and what of it must be the same after a recording as before."""
 
     def __init__(self, kind, pages=PAGES, *more):
         command = [sys.executable, os.path.join(TOP, "checks", "known_pages.py"), kind, str(pages), *more]
@@ -238,7 +238,7 @@ def mapped_anew(_, folder):
         found = times_written(drawn)
         expect_exact({place: 1 for place in known if place < anew}, {p: n for p, n in found.items() if p < anew})
         later = {place for place in known if place >= anew}
-        # Other pages than before, so all of them may be told once more.
+        # Other pages than before, so all of them may be reported once more.
         once = max((times for place, times in found.items() if place >= anew and place not in later), default=0)
         missed = sum(found.get(place, 0) <= once for place in later)
         expect(not missed and len(later) >= 20, f"{missed} of {len(later)} writes missed")
@@ -251,7 +251,7 @@ def mapped_anew(_, folder):
 
 
 def killed_recorder(_, folder):
-    """Killed at any moment, the process goes on as it was, and no trace stands there."""
+    """Killed at any moment, the process goes on as it was, and there is no trace."""
     draws = random.Random(47)
     with Pages("private") as pages:
         for _ in range(30):
@@ -268,7 +268,7 @@ def killed_recorder(_, folder):
 
 
 def killed_recorder_while_opening(_, folder):
-    """As before, in the milliseconds in which the process stands still for its system call."""
+    """As before, in the milliseconds in which the process is stopped for its system call."""
     with Pages("shared") as pages:
         for number in range(30):
             waiting = f"import os, sys, time; sys.path.insert(0, {os.path.dirname(RECORD)!r}); import remote; " \

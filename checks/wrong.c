@@ -31,13 +31,13 @@ enum wrong {
     OTHER_LINE,      /* another line in place of `memory` */
     ONE_MORE,        /* a byte more if a write is refused */
     ONE_LESS,        /* a byte less if a write is refused */
-    TWICE,           /* the line of a refusal told twice */
+    TWICE,           /* the line of a refusal written twice */
     ASKING_AGAIN,    /* a growth of its own, which it asks for again if it is refused */
     CARELESS,        /* a growth of its own, without which it goes on */
     CALL_NOTHING,    /* what the calls give, as it is */
     CALL_REFUSING,   /* a call that is refused always */
     CALL_ANSWERED,   /* the whole output in place of a call's refusal */
-    CALL_FORGETFUL,  /* nothing stands after a call's refusal, until it is made again */
+    CALL_FORGETFUL,  /* nothing is left after a call's refusal, until it is made again */
     CALL_STUCK,      /* a call that was refused is refused with ample memory too */
     CALL_PAST,       /* a frame after the refused one is named */
     CALL_STALE,      /* after a refusal the cache gives other bytes of a page */
@@ -99,7 +99,7 @@ static void refuse(const char *line) {
     memcpy(faults, line, fault_size);
 }
 
-/* Where a text stands in the output. */
+/* Where a text is in the output. */
 static char *place_of(const char *text) { return memmem(output, output_size, text, strlen(text)); }
 
 /* Whether a call was refused, as the output tells it. */

@@ -7,18 +7,18 @@
  *
  * What holds for every function:
  *
- * - It returns PRECOPY_OK, which is 0, or another number of enum precopy_status. Where it isn't PRECOPY_OK, the
- *   function has written nothing but what its comment names.
+ * - It returns PRECOPY_OK, which is 0, or another number of enum precopy_status. If it isn't PRECOPY_OK, the
+ *   function has written only what its comment names.
  * - It keeps nothing between two calls, starts no thread, and doesn't block. Any number of threads may call at
  *   once.
- * - All memory is the caller's. A function that needs memory of its own takes it by malloc, gives it back before it
- *   returns, and returns PRECOPY_NO_MEMORY where there is none. Its comment says if it takes any.
- * - A buffer that is longer than needed keeps what is behind. One that is too short gets nothing: the function
- *   returns PRECOPY_SHORT_BUFFER, and tells the length that it needs.
+ * - All memory is the caller's. A function that needs memory of its own gets it from malloc, frees it before it
+ *   returns, and returns PRECOPY_NO_MEMORY if there is none. Its comment says whether it takes any.
+ * - A buffer that is longer than needed keeps the rest of its contents. One that is too short gets nothing: the
+ *   function returns PRECOPY_SHORT_BUFFER, and sets the length that it needs.
  *
- * What nothing checks, and a caller has to keep:
+ * What nothing checks, and a caller must ensure:
  *
- * - No pointer is null, also where its length is 0. A pointer is aligned as its type is.
+ * - No pointer is null, even if its length is 0. Each pointer is aligned for its type.
  * - The memory that a pointer and its length describe is there, and all of an input is initialized.
  * - What a function writes overlaps nothing else that is passed to it, and no other thread reads or writes it
  *   meanwhile. No thread writes an input meanwhile.
@@ -35,7 +35,7 @@
 extern "C" {
 #endif
 
-/* The number in the name libprecopy.so.1: it changes where a program has to be compiled again. */
+/* The number in the name libprecopy.so.1: it changes when programs must be recompiled. */
 #define PRECOPY_ABI 1
 
 /* What functions return. The names E1, S1 and F1 are those that the program precopy writes. */
@@ -51,12 +51,12 @@ enum precopy_status {
     PRECOPY_BAD_PAGES = 6,          /* E6: pages are not 1 to 65,536; so too in struct precopy_sizes */
     PRECOPY_TOO_MANY_WRITES = 7,    /* E7: writes are more than 1,048,576; so too in struct precopy_sizes */
     PRECOPY_SHORT_RECORD = 8,       /* E8: a record is cut off */
-    PRECOPY_TICK_ORDER = 9,         /* E9: a tick is below that of the record before */
+    PRECOPY_TICK_ORDER = 9,         /* E9: a tick is below that of the previous record */
     PRECOPY_TICK_TOO_LARGE = 10,    /* E10: a tick is 2^40 or more */
     PRECOPY_PAGE_OUT_OF_RANGE = 11, /* E11: a page is not below the number of pages */
     PRECOPY_EMPTY_WRITE = 12,       /* E12: a length is 0, and the record releases no page */
-    PRECOPY_OUT_OF_PAGE = 13,       /* E13: a write ends behind its page */
-    PRECOPY_TRAILING_BYTES = 14,    /* E14: bytes stand behind the last record */
+    PRECOPY_OUT_OF_PAGE = 13,       /* E13: a write ends after its page */
+    PRECOPY_TRAILING_BYTES = 14,    /* E14: bytes follow the last record */
     PRECOPY_TOO_LONG = 15,          /* E15: more than 2^28 bytes */
 
     PRECOPY_NO_MEMORY = 16, /* E16: malloc returned null */
@@ -81,8 +81,8 @@ enum precopy_status {
 
     /* A buffer or a number of pages does not fit. */
     PRECOPY_SHORT_BUFFER = 61,  /* a buffer is too short for what belongs there */
-    PRECOPY_PAGE_LENGTH = 62,   /* the bytes of a page are not as many as a page has */
-    PRECOPY_MEMORY_LENGTH = 63, /* memory has not as many bytes as all pages */
+    PRECOPY_PAGE_LENGTH = 62,   /* the number of bytes is not that of a page */
+    PRECOPY_MEMORY_LENGTH = 63, /* the length of memory is not that of all pages */
     PRECOPY_PAGE_COUNT = 64,    /* there is not a struct precopy_page for each page */
     PRECOPY_PAGE_MISSING = 65   /* a page did not come */
 };
@@ -95,7 +95,7 @@ const char *precopy_version(void);
 
 /* ---- traces */
 
-/* The sizes of a trace, which stand in its header. */
+/* The sizes of a trace, from its header. */
 struct precopy_sizes {
     uint32_t shift;  /* a page has 2^shift bytes; 4 to 12 */
     uint32_t pages;  /* 1 to 65,536 */
@@ -103,10 +103,10 @@ struct precopy_sizes {
 };
 
 /*
- * Tests the bytes of a trace, and tells its sizes.
+ * Tests the bytes of a trace, and sets *sizes.
  *
- * Where they are refused for a record, PRECOPY_SHORT_RECORD to PRECOPY_OUT_OF_PAGE, *record is its number, from 0.
- * Of several causes the first one is told. It takes no memory.
+ * If they are refused for a record, PRECOPY_SHORT_RECORD to PRECOPY_OUT_OF_PAGE, *record is its number, from 0. Of
+ * several causes the first is returned. It takes no memory.
  */
 uint32_t precopy_check_trace(const uint8_t *trace, size_t trace_length, struct precopy_sizes *sizes, uint32_t *record);
 
@@ -121,23 +121,23 @@ struct precopy_settings {
     uint64_t rounds;    /* the most rounds */
     uint64_t start;     /* the tick at which the first round begins */
     uint64_t window;    /* of a report: the ticks of a window */
-    uint64_t hot;       /* of a report: a page is hot that is written in so many windows */
-    uint64_t base;      /* the destination begins with the memory before this tick, where has_base isn't 0 */
+    uint64_t hot;       /* of a report: a page written in this many windows is hot */
+    uint64_t base;      /* the destination begins with the memory before this tick, if has_base isn't 0 */
     uint32_t has_base;  /* 0: the destination begins with nothing */
-    uint32_t skip;      /* 0: all pages of a round are sent, also those that were written again */
+    uint32_t skip;      /* 0: all pages of a round are sent, even those that were written again */
 };
 
-/* Settings to begin with: those that the program precopy has where no option is given. */
+/* Settings to begin with: those that the program precopy uses if no option is given. */
 #define PRECOPY_SETTINGS_DEFAULT {1000, 5000, 500, 64, 30, 0, 1000, 2, 0, 0, 0}
 
 /* Why pre-copying ends. */
 enum precopy_reason {
     PRECOPY_FEW = 0,       /* fewer pages than the threshold were dirtied */
     PRECOPY_FAST = 1,      /* the next rate would be above the greatest */
-    PRECOPY_ALL_ROUNDS = 2 /* as many rounds as were asked for are done */
+    PRECOPY_ALL_ROUNDS = 2 /* all requested rounds are done */
 };
 
-/* What a plan comes to. */
+/* The sums of a plan. */
 struct precopy_sums {
     uint64_t rounds; /* how many rounds there are */
     uint64_t reason; /* of enum precopy_reason */
@@ -146,21 +146,21 @@ struct precopy_sums {
     uint64_t total;  /* the pages that are sent, over all rounds and after the stop */
 };
 
-/* A round of a plan: from a tick on, and before another. */
+/* A round of a plan: from one tick to before another. */
 struct precopy_round {
     uint64_t from;    /* its first tick */
-    uint64_t to;      /* the first tick behind it */
+    uint64_t to;      /* the first tick after it */
     uint64_t rate;    /* its rate */
-    uint64_t pages;   /* the pages that it has */
-    uint64_t sent;    /* those of them that it sends */
-    uint64_t dirtied; /* the pages that are written meanwhile */
+    uint64_t pages;   /* its number of pages */
+    uint64_t sent;    /* how many of them it sends */
+    uint64_t dirtied; /* how many pages are written meanwhile */
 };
 
-/* Tests settings: returns PRECOPY_OK, or what the first of them is refused for. It takes no memory. */
+/* Tests settings: returns PRECOPY_OK, or why the first bad one is refused. It takes no memory. */
 uint32_t precopy_check_settings(const struct precopy_settings *settings);
 
 /*
- * Plans the migration of a trace, and writes what the plan comes to into *sums.
+ * Plans the migration of a trace, and writes the plan's sums into *sums.
  *
  * The settings are tested first, and then the trace. It takes 16 bytes for each write, and 8 for each page of each
  * round.
@@ -171,30 +171,29 @@ uint32_t precopy_plan(const uint8_t *trace, size_t trace_length, const struct pr
 /*
  * Plans the migration of a trace, and writes its rounds into an array, in order. *count is how many there are.
  *
- * Where the array has fewer elements, it returns PRECOPY_SHORT_BUFFER and writes *count and no round. There are at
- * most 64 rounds. It takes memory as precopy_plan does.
+ * If the array has fewer elements, it returns PRECOPY_SHORT_BUFFER and writes only *count. There are at most 64 rounds.
+ * It takes memory as precopy_plan does.
  */
 uint32_t precopy_rounds(const uint8_t *trace, size_t trace_length, const struct precopy_settings *settings,
                         struct precopy_round *rounds, size_t rounds_length, size_t *count);
 
 /*
- * Writes the report on a trace, as `precopy report` writes it: ASCII, without a 0 at the end. *needed is its
- * length.
+ * Writes the report on a trace, as `precopy report` does: ASCII, without a 0 at the end. *needed is its length.
  *
- * Where the buffer is shorter, it returns PRECOPY_SHORT_BUFFER and writes *needed and no text. It takes memory as
- * precopy_plan does, and for the text.
+ * If the buffer is shorter, it returns PRECOPY_SHORT_BUFFER and writes only *needed. It takes memory as precopy_plan
+ * does, and for the text.
  */
 uint32_t precopy_report(const uint8_t *trace, size_t trace_length, const struct precopy_settings *settings,
                         uint8_t *text, size_t text_length, size_t *needed);
 
 /*
- * Plans the migration of a trace with each of some settings. sums[i] is what the plan of cases[i] comes to. *best
- * is the number of the best case: the first with the least downtime, and of these the first with the fewest pages
- * sent. Of no cases it is 0.
+ * Plans the migration of a trace with each of some settings. sums[i] are the sums of the plan of cases[i]. *best is the
+ * number of the best case: the first with the least downtime, and of these the first with the fewest pages sent. With
+ * no cases it is 0.
  *
- * Where there are fewer sums than cases, it returns PRECOPY_SHORT_BUFFER; the length that it needs is that of the
- * cases. The first case that is out of range is what it refuses; precopy_check_settings tells which that is. It
- * takes 20 bytes for each write, and memory for each case.
+ * If there are fewer sums than cases, it returns PRECOPY_SHORT_BUFFER; it needs as many sums as cases. It refuses the
+ * first case that is out of range; precopy_check_settings finds which that is. It takes 20 bytes for each write, and
+ * memory for each case.
  */
 uint32_t precopy_sweep(const uint8_t *trace, size_t trace_length, const struct precopy_settings *cases,
                        size_t cases_length, struct precopy_sums *sums, size_t sums_length, size_t *best);
@@ -205,22 +204,21 @@ uint32_t precopy_sweep(const uint8_t *trace, size_t trace_length, const struct p
  * Writes the memory after all writes of a trace, as `precopy image` does. *needed is its length, pages times
  * 2^shift.
  *
- * Where the buffer is shorter, it returns PRECOPY_SHORT_BUFFER and writes *needed and no memory. It takes no
- * memory.
+ * If the buffer is shorter, it returns PRECOPY_SHORT_BUFFER and writes only *needed. It takes no memory.
  */
 uint32_t precopy_memory(const uint8_t *trace, size_t trace_length, uint8_t *memory, size_t memory_length,
                         size_t *needed);
 
 /*
- * Writes the memory before a tick, after the writes of all lower ticks; else as precopy_memory. A migration that
- * stops its guest at that tick has to leave this memory.
+ * Writes the memory before a tick, after the writes of all lower ticks; otherwise like precopy_memory. A migration that
+ * stops its guest at that tick must leave this memory.
  */
 uint32_t precopy_memory_before(const uint8_t *trace, size_t trace_length, uint64_t tick, uint8_t *memory,
                                size_t memory_length, size_t *needed);
 
 /* ---- frames */
 
-/* What a frame has beside the bytes of its page. */
+/* What a frame has besides the bytes of its page. */
 struct precopy_frame {
     uint32_t page;  /* the number of the page */
     uint32_t stamp; /* the place of the last write in its bytes, or 0 */
@@ -231,8 +229,7 @@ struct precopy_frame {
  * Encodes the frame of a page at a stamp, with these bytes of the page. *needed is how many bytes the frame has: 9
  * for a page of zeros, or 9 and those of the page.
  *
- * Where the buffer is shorter, it returns PRECOPY_SHORT_BUFFER and writes *needed and no frame. It takes memory for
- * one frame.
+ * If the buffer is shorter, it returns PRECOPY_SHORT_BUFFER and writes only *needed. It takes memory for one frame.
  */
 uint32_t precopy_encode_frame(const struct precopy_sizes *sizes, uint32_t page, uint32_t stamp, const uint8_t *bytes,
                               size_t bytes_length, uint8_t *frame, size_t frame_length, size_t *needed);
@@ -241,34 +238,33 @@ uint32_t precopy_encode_frame(const struct precopy_sizes *sizes, uint32_t page, 
  * Decodes the frame at the front of some bytes: writes what it has into *frame, and the bytes of its page to
  * `content`.
  *
- * Bytes behind the frame are left: the next frame begins at bytes + frame->size. Where `content` is shorter than a
- * page, it returns PRECOPY_SHORT_BUFFER. It takes no memory.
+ * Bytes after the frame are left: the next frame begins at bytes + frame->size. If `content` is shorter than a page, it
+ * returns PRECOPY_SHORT_BUFFER. It takes no memory.
  */
 uint32_t precopy_decode_frame(const struct precopy_sizes *sizes, const uint8_t *bytes, size_t bytes_length,
                               struct precopy_frame *frame, uint8_t *content, size_t content_length);
 
-/* What is known of a page of flat memory. With all bytes 0, the page did not come. */
+/* What is known about a page of flat memory. If the struct is all zeros, the page did not come. */
 struct precopy_page {
-    uint32_t came;  /* 0: no frame of the page came, and its bytes in memory stand for nothing */
-    uint32_t stamp; /* else the stamp of the frame that its bytes are of */
+    uint32_t came;  /* 0: no frame of the page came, and its bytes in memory mean nothing */
+    uint32_t stamp; /* else the stamp of the frame of its bytes */
 };
 
 /* How much of a stream was taken. */
 struct precopy_taken {
     size_t frames; /* how many frames */
-    size_t bytes;  /* how many bytes they have together */
+    size_t bytes;  /* how many bytes they have in total */
 };
 
 /*
- * Takes a stream of frames into flat memory: `memory` has the bytes of all pages, and `pages` an element for each
- * page. Both begin as zeros, and are the caller's to keep from call to call. Of the frames of a page the one with
- * the greatest stamp stays, in whatever order they come, however often and in however many calls; of equal stamps
- * the first.
+ * Takes a stream of frames into flat memory: `memory` has the bytes of all pages, and `pages` an element for each page.
+ * Both begin as zeros, and are the caller's to keep from call to call. The frame of a page with the greatest stamp
+ * stays, in whatever order they come, however often and in however many calls; of equal stamps the first.
  *
- * It returns PRECOPY_OK where all bytes of the stream are frames, or what the first frame is refused for that is
- * none, PRECOPY_FRAME_SHORT to PRECOPY_FRAME_ZEROS. In both cases the frames in front are taken, and *taken tells
- * how many they are; stream + taken->bytes is where the refused one begins. So of a stream that comes in pieces,
- * keep what PRECOPY_FRAME_SHORT leaves, and put the next piece behind it.
+ * It returns PRECOPY_OK if all bytes of the stream are frames, or else why the first that is no frame is refused,
+ * PRECOPY_FRAME_SHORT to PRECOPY_FRAME_ZEROS. In both cases the frames before it are taken, and *taken says how many
+ * there are; stream + taken->bytes is where the refused one begins. So if a stream comes in pieces, keep what
+ * PRECOPY_FRAME_SHORT leaves, and append the next piece to it.
  *
  * Any other status leaves memory, pages and *taken as they were. It takes no memory.
  */
@@ -277,12 +273,12 @@ uint32_t precopy_accept(const struct precopy_sizes *sizes, const uint8_t *stream
                         struct precopy_taken *taken);
 
 /*
- * Returns PRECOPY_OK where each page came, or PRECOPY_PAGE_MISSING, and then *page is the first that did not. It
+ * Returns PRECOPY_OK if each page came, or PRECOPY_PAGE_MISSING, and then *page is the first that did not. It
  * takes no memory.
  */
 uint32_t precopy_missing(const struct precopy_page *pages, size_t pages_length, size_t *page);
 
-/* Returns whether each byte is 0; so it is of no bytes. It takes no memory. */
+/* Returns whether each byte is 0; with no bytes it is true. It takes no memory. */
 bool precopy_is_zero(const uint8_t *bytes, size_t bytes_length);
 
 #ifdef __cplusplus

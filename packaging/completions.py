@@ -2,7 +2,7 @@
 
 import re
 
-# What stands for the value of an option or for a word: files and processes by the word, some numbers by the option.
+# What is offered for the value of an option or for a word: files and processes by the word, some numbers by the option.
 FILES = {"PATH", "FILE", "SOCKET", "TRACE", "TEXT", "OUTPUT", "INPUT", "FOLDER", "IMAGE", "MAP"}
 PROCESSES = {"PID"}
 NUMBERS = {
@@ -105,7 +105,7 @@ def quoted(word):
 
 
 def zsh_text(text):
-    """Help as it may stand in a description: no quotes, and with brackets and colons escaped."""
+    """Help as a description may have it: no quotes, and with brackets and colons escaped."""
     return re.sub(r"([\[\]:\\])", r"\\\1", text.replace("'", "’").strip())
 
 

@@ -94,7 +94,7 @@ def named_commands():
 
 
 def told_by_help():
-    """Returns what each program's help tells, and then what each tool's does."""
+    """Returns what each program's help says, and then what each tool's does."""
     with named_commands() as folder:
         programs = [options.read(os.path.join(folder, name)) for name in PROGRAMS]
         tools = [options.read(os.path.join(folder, f"precopy-{name}")) for name in TOOLS]

@@ -15,7 +15,7 @@ FOLDER = os.path.join(contents.TOP, "out", "library")
 NAME = "libprecopy.so.1"
 # The packages that it goes into: for programs that are linked with it, and for those who link them.
 RUNTIME, DEVELOPMENT = "libprecopy1", "libprecopy-dev"
-# What it is made of beside the archive.
+# What it is made of besides the archive.
 PARTS = ("include/precopy.h", "packaging/messages.c", "packaging/library.map", "tools/version.py")
 CONFIG = """\
 prefix={prefix}
@@ -85,7 +85,7 @@ def is_current():
 
 
 def make(_asked):
-    """Builds the library, where it is not built or something has changed."""
+    """Builds the library if it is not built or something has changed."""
     if subprocess.run([os.path.join(contents.TOP, "tools", "build"), "--if-needed", "precopy_c"]).returncode:
         raise contents.NotBuilt("the library could not be built")
     if not is_current():
@@ -109,7 +109,7 @@ def pack(room, whole, versions):
 
 
 def config(prefix, lib, include):
-    """The text for pkg-config, with folders as a compiler is told them."""
+    """The text for pkg-config, with folders as a compiler takes them."""
     return CONFIG.format(prefix=prefix, lib=lib, include=include, version=contents.version.VERSION)
 
 

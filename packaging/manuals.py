@@ -12,7 +12,7 @@ STATUS = re.compile(r"^(The )?status is ", re.I)
 
 
 def escaped(text):
-    """Text as it may stand in a line of mdoc. What was in backquotes is set as it is typed."""
+    """Text as a line of mdoc may have it. What was in backquotes is set as it is typed."""
     text = text.replace("\\", "\\e")
     text = re.sub(r"`([^`]*)`", r"\\fB\1\\fR", text).replace("-", "\\-")
     return f"\\&{text}" if text.startswith((".", "'")) else text
@@ -82,7 +82,7 @@ def listed(command):
 
 
 def manual(command, date):
-    """Returns the manual page of a tool, whose help begins with one sentence that tells what it does."""
+    """Returns the manual page of a tool, whose help begins with one sentence that says what it does."""
     name = command.words[0]
     (_, first), *rest = paragraphs(command.about)
     about = " ".join(first).rstrip(".:")

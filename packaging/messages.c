@@ -30,7 +30,7 @@ const char *precopy_strerror(uint32_t status) {
     case PRECOPY_SHORT_RECORD:
         return "trace E8: a record is cut off";
     case PRECOPY_TICK_ORDER:
-        return "trace E9: a tick is below that of the record before";
+        return "trace E9: a tick is below that of the previous record";
     case PRECOPY_TICK_TOO_LARGE:
         return "trace E10: a tick is 2^40 or more";
     case PRECOPY_PAGE_OUT_OF_RANGE:
@@ -38,9 +38,9 @@ const char *precopy_strerror(uint32_t status) {
     case PRECOPY_EMPTY_WRITE:
         return "trace E12: a length is 0, and the record releases no page";
     case PRECOPY_OUT_OF_PAGE:
-        return "trace E13: a write ends behind its page";
+        return "trace E13: a write ends after its page";
     case PRECOPY_TRAILING_BYTES:
-        return "trace E14: bytes stand behind the last record";
+        return "trace E14: bytes follow the last record";
     case PRECOPY_TOO_LONG:
         return "trace E15: more than 2^28 bytes";
     case PRECOPY_NO_MEMORY:
@@ -76,9 +76,9 @@ const char *precopy_strerror(uint32_t status) {
     case PRECOPY_SHORT_BUFFER:
         return "a buffer is too short for what belongs there";
     case PRECOPY_PAGE_LENGTH:
-        return "the bytes of a page are not as many as a page has";
+        return "the number of bytes is not that of a page";
     case PRECOPY_MEMORY_LENGTH:
-        return "memory has not as many bytes as all pages";
+        return "the length of memory is not that of all pages";
     case PRECOPY_PAGE_COUNT:
         return "there is not a struct precopy_page for each page";
     case PRECOPY_PAGE_MISSING:

@@ -12,7 +12,7 @@ from dataclasses import dataclass, field
 from typing import Iterator, List, NamedTuple, Optional, Tuple
 
 SECONDS = 20
-# Headings of help, and what stands below them.
+# Headings of help, and what is below them.
 HEADINGS = {
     "Commands:": "commands",
     "Arguments:": "operands",
@@ -52,7 +52,7 @@ class Operand(NamedTuple):
 
 @dataclass
 class Command:
-    """A program, or a command of it: the words that it is called by, and what its help tells."""
+    """A program, or a command of it: the words that it is called by, and what its help says."""
 
     words: Tuple[str, ...]
     about: str = ""
@@ -69,7 +69,7 @@ class Command:
 
 
 class Unread(Exception):
-    """A program told no help that can be read; the text says of which, and why."""
+    """A program printed no help that can be read; the text says which, and why."""
 
 
 def help_of(path, words):
@@ -82,7 +82,7 @@ def help_of(path, words):
 
 
 def entries(text):
-    """Yields what stands below the headings: (kind, what is named, its help)."""
+    """Yields what is below the headings: (kind, what is named, its help)."""
     kind, named, told = None, None, []
     for line in text.split("\n"):
         entry = ENTRY.fullmatch(line) if kind else None
@@ -127,7 +127,7 @@ def usage_of(text):
 
 
 def about_of(text):
-    """Returns what the help says beside usage and entries, as it stands there."""
+    """Returns what the help says besides usage and entries, as it is there."""
     lines, about = text.split("\n"), []
     for line in lines:
         if line in HEADINGS:

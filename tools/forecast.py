@@ -1,7 +1,7 @@
 """What a migration of a guest will be, from a sample of its pages: plans, and their standard errors.
 
 `precopy-view` plans by the limits of the guest, and by how many of its pages are drawn. Rates are whole numbers,
-rounded down, so ticks are made longer where a rate would be small. The standard error is a bootstrap (Efron 1979):
+rounded down, so ticks are made longer if a rate would be small. The standard error is a bootstrap (Efron 1979):
 pages are drawn again from the sample, with replacement, and planned as the sample is.
 """
 
@@ -80,7 +80,7 @@ class Forecast:
             self.found = set(range(sample.trace_pages))
 
     def begin_at(self, later: int) -> None:
-        """Plans begin so many ticks later. Pages written up to then are not zero."""
+        """Plans begin this many ticks later. Pages written up to then are not zero."""
         self.start = self.sample.first_tick + later
 
     def tick(self) -> int:
@@ -91,12 +91,12 @@ class Forecast:
         return tick
 
     def scale(self, factor: int, weight: float) -> plans.Scale:
-        """That of a trace of the sample in longer ticks, where a page stands for so many."""
+        """The same for a trace of the sample in longer ticks, in which a page stands for several."""
         sampled = self.sample.sampled_pages
         return plans.Scale(self.tick() * factor, self.page_size, sampled, max(sampled, round(sampled * weight)))
 
     def factor(self, link: Link) -> int:
-        """By how much ticks are made longer: for a rate of 500 or more, where they fit the downtime limit."""
+        """By how much ticks are made longer: for a rate of 500 or more, if they fit the downtime limit."""
         downtime, tick = round(1e6 * link.downtime), self.tick()
         fitting = [each for each in FACTORS if downtime % (tick * each) == 0 and tick * each <= LONGEST_TICK] or [1]
         rate = self.scale(1, self.sample.weight).rate(link.bandwidth)
@@ -122,7 +122,7 @@ class Forecast:
         return Outcome(plan.sent * size, stop + downtime, downtime, plan.why, plan.rounds, stop, known)
 
     def host_words(self, link: Link) -> list[str]:
-        """The lines that give QEMU and libvirt the same limits; none where all of the guest fits the downtime."""
+        """The lines that give QEMU and libvirt the same limits; none if all of the guest fits the downtime."""
         factor = self.factor(link)
         pages, words = self.coarse(factor), self.limits(link, factor, self.sample.weight)
         if f"{round(1e6 * link.downtime)}us" not in words:

@@ -3,8 +3,8 @@
        guest-writer HOT HOT_RATE COLD COLD_RATE [same]
 
    HOT pages are written in a random order at HOT_RATE pages a second, and COLD pages one after the other at COLD_RATE.
-   Each write changes 64 bytes of its page; with "same" it writes the bytes that stand there. All pages are filled
-   first, with other bytes each. Then it prints READY. Of time in which it did not run it makes up a tenth of a second.
+   Each write changes 64 bytes of its page; with "same" it writes the bytes that are there. All pages are filled
+   first, with other bytes each. Then it prints READY. If it did not run for a time, it makes up at most 0.1 s.
 
    cc -O2 -static -o guest-writer guest-writer.c */
 

@@ -12,12 +12,12 @@ import os
 
 from memory import PAGE, ZEROS, Gone
 
-# So many pages are read at once: they stay in a processor's cache until they are compared.
+# How many pages are read at once: they stay in a processor's cache until they are compared.
 BLOCK = 64
 ZERO_PAGE = ZEROS[:PAGE]
 # In the last byte of an entry of /proc/PID/pagemap.
 PRESENT_OR_SWAPPED = 0xC0
-# Where they stand in /proc/PID/stat, after the name.
+# Their places in /proc/PID/stat, after the name.
 MINOR_FAULTS, MAJOR_FAULTS, RESIDENT = 7, 9, 21
 
 

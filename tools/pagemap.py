@@ -1,11 +1,11 @@
 """Which pages of a process were written since the last look, by the kernel's PAGEMAP_SCAN (Linux 6.7).
 
 A userfaultfd protects pages from writes. A write to a protected page takes the protection away, and the writer goes on
-at once. The scan tells pages without protection and protects them again, in one step for each page: no write is
+at once. The scan reports pages without protection and protects them again, in one step for each page: no write is
 lost, and nobody waits. Only the pages that are followed are protected. The kernel takes all of it back when the
 descriptor is closed, or its owner dies.
 
-Pages near one another are surveyed in one call: it tells which are protected still, and only the others are asked for.
+Pages near one another are surveyed in one call: it shows which are still protected, and only the others are asked for.
 A page with no other near is asked for by itself, which costs the same for a guest of any size.
 """
 
@@ -32,10 +32,10 @@ PROTECTING, ONLY_WATCHED = 1, 2
 WRITTEN, PRESENT, SWAPPED = 1 << 1, 1 << 3, 1 << 4
 REQUEST = struct.Struct("=12Q")
 REGION = struct.Struct("=3Q")
-# A survey takes some 5 nanoseconds for each page that it passes, and a call takes 900. So far apart may its pages be.
+# A survey takes some 5 nanoseconds for each page that it passes, and a call takes 900. Its pages may be this far apart.
 NEAR = 96 * PAGE
 REACH = {None: NEAR, "whole": 1 << 64, "pages": 0}
-# So many pages are surveyed at once: few enough that of most parts none was written since the last look.
+# How many pages are surveyed at once: few enough that in most parts none was written since the last look.
 PART = 32
 
 ioctl = fcntl.ioctl
@@ -58,7 +58,7 @@ def surveying(begin: int, end: int, into: int, regions: int) -> bytearray:
 
 
 def regions_of(places: list[int]) -> Iterator[bytes]:
-    """The regions that the kernel tells where these pages alone are protected: neighbours are one region."""
+    """The regions that the kernel names if only these pages are protected: neighbours are one region."""
     begin = places[0]
     for place, following in zip(places, [*places[1:], 0]):
         if following != place + PAGE:
@@ -78,7 +78,7 @@ def groups_of(ranges: list[tuple[int, int]], places: list[int], reach: int) -> I
 
 
 class Part(NamedTuple):
-    """Some pages, where in the buffer their regions are told, and what stands there where none was written."""
+    """Some pages, where in the buffer their regions come, and what is there if none was written."""
 
     number_at: dict[int, int]
     slot: slice
@@ -100,7 +100,7 @@ class Survey:
             self.requests.append(surveying(of[0], of[-1] + PAGE, into + slot.start, len(of)))
 
     def look(self, pagemap: int) -> list[int]:
-        """The numbers of the pages that are not known to be protected. It may tell more than were written."""
+        """The numbers of the pages that are not known to be protected. There may be more than were written."""
         self.told[:] = bytes(len(self.told))
         for request in self.requests:
             ioctl(pagemap, SCAN, request)
@@ -172,6 +172,8 @@ class WrittenPages:
         """The numbers of the places that were written since the last look, in order."""
         try:
             written = self._ask(self._unprotected())
+        except ProcessLookupError as fault:
+            raise Gone("the process ended") from fault
         except OSError as fault:
             raise Gone(f"the writes of the process cannot be read: {fault.strerror}") from fault
         except Unavailable as fault:

@@ -63,14 +63,14 @@ class Client:
 
 
 class Pause:
-    """How long the guest stood still, in seconds; known when it is over."""
+    """How long the guest was paused, in seconds; known when it is over."""
 
     seconds = 0.0
 
 
 @contextlib.contextmanager
 def paused(path):
-    """The guest stands still in the body. It goes on afterwards if it was running."""
+    """The guest is paused in the body. It goes on afterwards if it was running."""
     with Client(path) as client:
         pause = Pause()
         running = client.ask("query-status")["running"]

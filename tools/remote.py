@@ -81,7 +81,7 @@ def instruction_of(process: int) -> int:
 
 
 class StoppedThread:
-    """The main thread of a process while it stands still. It makes system calls, and goes on as it was."""
+    """The main thread of a process while it is stopped. It makes system calls, and goes on as it was."""
 
     def __init__(self, process: int, instruction: int, filtered: bool):
         self.process, self.instruction = process, instruction

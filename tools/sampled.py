@@ -135,7 +135,7 @@ class SampleRecorder:
         return ((number, 1, self.guest.places[page]) for page, number in self.numbers.items())
 
     def sample(self, text):
-        """What stands beside the trace, whose bytes are `text`."""
+        """What is written beside the trace, whose bytes are `text`."""
         return samples.Sample(
             format=samples.FORMAT,
             trace_sha256=samples.digest(text),

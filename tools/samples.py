@@ -16,7 +16,7 @@ import traces
 FORMAT = "precopy sample 1"
 MOST_PAGES = traces.Limits().pages
 DEFAULT_PAGES = 16_384
-# So many pages of the guest at most are looked at, to know how many are not zero.
+# At most this many pages of the guest are looked at, to know how many are not zero.
 MOST_COUNTED = 1 << 18
 MOST = 1 << 53
 METHODS = ("writes", "values", "trace")
@@ -27,7 +27,7 @@ class Refused(Exception):
 
 
 def draw(pages: int, wanted: int, seed: int) -> list[int]:
-    """So many of the pages 0 to pages - 1, drawn without replacement, in order."""
+    """`wanted` of the pages 0 to pages - 1, drawn without replacement, in order."""
     return sorted(random.Random(seed).sample(range(pages), min(wanted, pages)))
 
 
@@ -94,7 +94,7 @@ def is_moment(value: object) -> bool:
         return False
 
 
-# What a field has to be by itself.
+# What a field must be by itself.
 FIELDS = {
     "format": ("precopy sample 1", lambda value: value == FORMAT),
     "trace_sha256": ("64 digits", lambda value: isinstance(value, str) and len(value) == 64),
@@ -119,7 +119,7 @@ FIELDS = {
 
 
 def rules_of(sample: Sample, trace: traces.Trace, written: list[tuple[int, int]]) -> list[tuple[str, bool]]:
-    """What fields have to be beside one another and beside the trace; the names of fields stand in each rule."""
+    """What fields must be, by one another and by the trace; each rule names its fields."""
     found = {page for tick, page in written if tick < sample.first_tick}
     last = written[-1][0] if written else 0
     is_recorded = sample.method != "trace"
@@ -163,7 +163,7 @@ def parsed(path: str, text: bytes) -> Sample:
 
 
 def read(trace_path: str, trace: traces.Trace, written: list[tuple[int, int]]) -> Sample:
-    """The sample that stands beside a trace, whose writes are these ticks and pages."""
+    """The sample in the file beside a trace, whose writes are these ticks and pages."""
     path = path_beside(trace_path)
     try:
         with open(path, "rb") as file:

@@ -43,7 +43,7 @@ def told(fault):
 
 
 class Trace(NamedTuple):
-    """What a header says, and the bytes that it stands in."""
+    """What a header says, and all bytes of the trace."""
 
     version: int
     shift: int
@@ -162,7 +162,7 @@ class Pending:
 class Writer(Pending):
     """Writes a trace. Some writes are taken together, or none of them is; so the trace is valid after each call.
 
-    It has version 1 if no write is a release, unless finish() is told otherwise.
+    It has version 1 if no write is a release, unless finish() is given another.
     """
 
     def __init__(self, path, limits=Limits()):

@@ -31,7 +31,7 @@ class WholeRecorder:
         """Nothing is held of the guest."""
 
     def look(self, tick):
-        """What a guest that stands still has to stand still for: one look at all memory."""
+        """What a guest is paused for, if it is: one look at all memory."""
         begun = time.monotonic()
         if tick >= traces.TICKS:
             raise traces.Full("ticks of a trace are below 2^40")

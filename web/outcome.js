@@ -1,4 +1,4 @@
-// What a plan comes to: the verdict, the plan beside the one that is kept, its rounds as a table, and what was refused.
+// A plan's outcome: the verdict, the plan beside the one that is kept, its rounds as a table, and what was refused.
 
 import { html } from "./elements.js";
 import { bytesText, counted, countOf, secondsText, signed } from "./numbers.js";

@@ -15,7 +15,7 @@ import { embeddedBytes, exampleSource, piecesOf } from "./trace-source.js";
 import { amountOf, bytesOf, LimitRefusal, limitsOf, microsOf, TIME_UNITS } from "./units.js";
 import { WindowsView } from "./windows-view.js";
 
-/** How long the page waits for a change to be the last one until it tells it, in milliseconds. */
+/** How long the page waits for a change to be the last one until it announces it, in milliseconds. */
 const SETTLED = 400;
 
 /** The example that is shown if the address asks for nothing. */

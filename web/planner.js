@@ -47,7 +47,7 @@ function alignedUp(address) {
   return Math.ceil(address / 8) * 8;
 }
 
-/** Makes a memory longer by so many of its pages. Node 20 takes a number where others take a BigInt. */
+/** Makes a memory longer by this many of its pages. Node 20 takes a number where others take a BigInt. */
 function grow(memory, pages) {
   try {
     memory.grow(BigInt(pages));

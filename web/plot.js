@@ -46,7 +46,7 @@ export function widthOf(plot) {
   return seenWidths.get(plot);
 }
 
-/** The least step of 1, 2 or 5 times a power of ten that parts a span into no more than so many. */
+/** The least step of 1, 2 or 5 times a power of ten that parts a span into at most this many. */
 function stepFor(span, most) {
   const least = Math.max(span / Math.max(1, most), 1e-9);
   const power = 10 ** Math.floor(Math.log10(least));
@@ -167,7 +167,7 @@ export class Inspector {
     }
   }
 
-  /** Marks an item, and tells it. */
+  /** Marks an item, and announces it. */
   show(at) {
     this.at = at;
     this.plot.querySelector(".looked")?.remove();

@@ -1,4 +1,4 @@
-// Where sliders stand: rates and times on logarithmic scales, in round numbers and a unit that suits them.
+// Positions of sliders: rates and times on logarithmic scales, in round numbers and a unit that suits them.
 
 import { amountOf } from "./units.js";
 
@@ -10,7 +10,7 @@ const FAMILIES = [
   ["us", "ms", "s"], ["Kbit", "Mbit", "Gbit"], ["KB", "MB", "GB"], ["KiB", "MiB", "GiB"],
 ];
 
-/** The least count in which a slider tells an amount in a unit that does not divide it. */
+/** The least count in which a slider shows an amount in a unit that does not divide it. */
 const LEAST_COUNT = 10;
 
 /** A number of few digits near this one. */

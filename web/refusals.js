@@ -9,7 +9,7 @@ const TRACE_REFUSALS = {
   6: "The number of pages is not 1 to 65,536.",
   7: "The number of writes is more than 1,048,576.",
   8: "The file ends inside this record.",
-  9: "The tick is below the tick of the record before.",
+  9: "The tick is below that of the previous record.",
   10: "The tick is 2^40 or more.",
   11: "The page is not below the number of pages.",
   12: "The length is 0, and the record releases no page.",

@@ -10,7 +10,7 @@ const PAGES_HEIGHT = 130;
 const RATES_TOP = 196;
 const RATES_HEIGHT = 64;
 
-/** What a picture of plans has to reach: their ticks, pages and rates. Two plans side by side share one. */
+/** What a picture of plans must reach: their ticks, pages and rates. Two plans side by side share one. */
 export function reachOf(predictions) {
   const reach = { ticks: 1, pages: 1, rate: 1 };
   for (const { plan, settings } of predictions) {

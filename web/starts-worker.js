@@ -4,7 +4,7 @@
 import { embeddedBytes, piecesOf } from "./trace-source.js";
 import { Planner, Refusal } from "./planner.js";
 
-/** For how long the worker plans until it tells how far it is and looks for a new question, in milliseconds. */
+/** For how long the worker plans until it reports how far it is and looks for a new question, in milliseconds. */
 const SLICE = 60;
 
 /** Makes a worker of the page's own program. Its answers go to `answer`. */

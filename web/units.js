@@ -16,7 +16,7 @@ const MOST_RATE = 1_000_000n;
 const MOST_THRESHOLD = 65_536n;
 const MOST_GUEST_PAGES = 1n << 32n;
 
-/** The least unit in which the first round's rate is told: `Kbit`, in bytes a second. */
+/** The least unit in which the first round's rate is shown: `Kbit`, in bytes a second. */
 const RATE_GRAIN = 125n;
 
 /** Why limits make no settings: the option of `precopy-view` that is out of its range, and a sentence. */

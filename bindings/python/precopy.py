@@ -7,10 +7,10 @@
     print(precopy.plan(trace, precopy.Settings(min=500, max=4000, threshold=10)))
 
 A trace is the bytes of a recording of a guest's writes, with ticks as its unit of time. Rates are in pages per 1,000
-ticks. include/precopy.h says what each call does. A call that refuses raises a `Refused`, of the kind that is named.
+ticks. include/precopy.h says what each call does. A call that refuses raises a `Refused`, of the kind named.
 
-The library is found by the variable PRECOPY_LIBRARY, beside the sources where `make lib` puts it, or where the system
-looks for libraries.
+The library is found through the variable PRECOPY_LIBRARY, beside the sources where `make lib` puts it, or where the
+system looks for libraries.
 """
 
 from __future__ import annotations
@@ -114,7 +114,7 @@ class Refused(Exception):
 
 
 class TraceRefused(Refused):
-    """The bytes are no trace, or sizes are those of no guest. `record` is the record that is named, if one is."""
+    """The bytes are not a trace, or no guest has these sizes. `record` is the record that is named, if one is."""
 
     def __init__(self, status: int, record: Optional[int] = None):
         text = _LIBRARY.precopy_strerror(status).decode()
@@ -127,13 +127,13 @@ class SettingsRefused(Refused):
 
 
 class FrameRefused(Refused):
-    """Bytes begin with no frame. `taken` tells what was taken in front of it, of a stream."""
+    """Bytes begin with no frame. `taken` says what of a stream was taken before them."""
 
     taken: Optional[Taken] = None
 
 
 class BufferRefused(Refused):
-    """The bytes of a page are not as many as a page has."""
+    """The number of bytes is not that of a page."""
 
 
 class NoMemory(Refused, MemoryError):
@@ -175,7 +175,7 @@ class Sizes:
 
 @dataclass(frozen=True)
 class Settings:
-    """The settings of a plan, with the values that the program precopy has where no option is given. With a base the
+    """The settings of a plan, with the values that the program precopy uses if no option is given. With a base the
     destination begins with the memory before that tick."""
 
     min: int = 1000
@@ -198,7 +198,7 @@ class Settings:
 
 @dataclass(frozen=True)
 class Sums:
-    """What a plan comes to: rounds, why they end, the tick of the stop, the downtime in ticks, pages sent in all."""
+    """The sums of a plan: rounds, why they end, the tick of the stop, the downtime in ticks, pages sent in all."""
 
     rounds: int
     reason: Reason
@@ -209,7 +209,7 @@ class Sums:
 
 @dataclass(frozen=True)
 class Round:
-    """A round of a plan, from the tick `start` on and before `end`: how many pages it has, sends and leaves dirty."""
+    """A round of a plan, from the tick `start` to before `end`: how many pages it has, sends and leaves dirty."""
 
     start: int
     end: int
@@ -231,7 +231,7 @@ class Frame:
 
 @dataclass(frozen=True)
 class Taken:
-    """How much of a stream was taken: how many frames, and how many bytes they have together."""
+    """How much of a stream was taken: how many frames, and how many bytes they have in total."""
 
     frames: int
     bytes: int
@@ -252,7 +252,7 @@ def check_trace(trace: bytes) -> Sizes:
 
 
 def check_settings(settings: Settings) -> None:
-    """Raises `SettingsRefused` where a setting is out of its range."""
+    """Raises `SettingsRefused` if a setting is out of its range."""
     _check(_LIBRARY.precopy_check_settings(settings._as_c()))
 
 
@@ -261,7 +261,7 @@ def _sums(found: _Sums) -> Sums:
 
 
 def plan(trace: bytes, settings: Settings) -> Sums:
-    """Returns what the plan of a trace comes to."""
+    """Returns the sums of the plan of a trace."""
     found = _Sums()
     _check(_LIBRARY.precopy_plan(trace, len(trace), settings._as_c(), found))
     return _sums(found)
@@ -292,7 +292,7 @@ def report(trace: bytes, settings: Settings) -> str:
 
 
 def sweep(trace: bytes, cases: Sequence[Settings]) -> Tuple[List[Sums], int]:
-    """Returns what the plan of each case comes to, and the number of the best case."""
+    """Returns the sums of the plan of each case, and the number of the best case."""
     asked, best = (_Settings * len(cases))(*(case._as_c() for case in cases)), ctypes.c_size_t()
     found = (_Sums * len(cases))()
     _check(_LIBRARY.precopy_sweep(trace, len(trace), asked, len(cases), found, len(cases), best))
@@ -305,7 +305,7 @@ def memory(trace: bytes) -> bytearray:
 
 
 def memory_before(trace: bytes, tick: int) -> bytearray:
-    """Returns the memory before a tick: what a migration that stops the guest there has to leave."""
+    """Returns the memory before a tick: what a migration that stops the guest there must leave."""
     return _filled(_LIBRARY.precopy_memory_before, trace, len(trace), tick)
 
 
@@ -327,7 +327,7 @@ def is_zero(data: bytes) -> bool:
 
 
 class FlatMemory:
-    """The memory of a guest, as frames come to it in any order: of each page the frame with the greatest stamp."""
+    """The memory of a guest, as frames come to it in any order: for each page the frame with the greatest stamp."""
 
     def __init__(self, sizes: Sizes):
         self.sizes = sizes
@@ -336,7 +336,7 @@ class FlatMemory:
         self._pages = (_Page * sizes.pages)()
 
     def accept(self, stream: bytes) -> Taken:
-        """Takes a stream of frames. `FrameRefused` tells in `taken` what came in front of the frame that is none."""
+        """Takes a stream of frames. `FrameRefused` says in `taken` what came before the bytes that are no frame."""
         taken, length = _Taken(), len(self.memory)
         room = (ctypes.c_char * length).from_buffer(self.memory)
         words = (self.sizes._as_c(), stream, len(stream), room, length, self._pages, len(self._pages), taken)
@@ -350,11 +350,11 @@ class FlatMemory:
         return so_far
 
     def stamp(self, page: int) -> Optional[int]:
-        """Returns the stamp of a page, or None where it did not come."""
+        """Returns the stamp of a page, or None if it did not come."""
         state = self._pages[page]
         return state.stamp if state.came else None
 
     def missing(self) -> Optional[int]:
-        """Returns the first page that did not come, or None where all did."""
+        """Returns the first page that did not come, or None if all did."""
         page = ctypes.c_size_t()
         return page.value if _LIBRARY.precopy_missing(self._pages, len(self._pages), page) == _PAGE_MISSING else None

@@ -1,10 +1,10 @@
 /*
- * Reads a trace from standard input, and prints the rounds of its plan and what it comes to, as `precopy report` does.
+ * Reads a trace from standard input, and prints the rounds of its plan and their sums, as `precopy report` does.
  *
  *     cc -I include -o plan examples/c/plan.c out/library/libprecopy.a
  *     ./plan 500 4000 10 < examples/gzip.pcwt
  *
- * The words are the least rate, the greatest rate and the threshold.
+ * The arguments are the least rate, the greatest rate and the threshold.
  */
 #include "precopy.h"
 
@@ -12,10 +12,10 @@
 #include <stdio.h>
 #include <stdlib.h>
 
-/* A plan has no more rounds than its settings ask for, and these no more than 64. */
+/* A plan has no more rounds than its settings ask for, which is at most 64. */
 #define MOST_ROUNDS 64
 
-/* Reads a file to its end. *length is how many bytes it has. Returns null where memory runs out or a read fails. */
+/* Reads a file to its end. *length is how many bytes it has. Returns null if memory runs out or a read fails. */
 static uint8_t *read_all(FILE *file, size_t *length) {
     size_t room = 1 << 16;
     uint8_t *bytes = malloc(room);

@@ -22,7 +22,7 @@ struct stream {
     FILE *file;
     const char *name;
     uint8_t bytes[LONGEST + PIECE];
-    size_t length; /* how many bytes came and are not taken yet */
+    size_t length; /* how many bytes came and are not yet taken */
 };
 
 struct guest {
@@ -39,7 +39,7 @@ static int take_piece(struct guest *guest, struct stream *stream) {
     stream->length += came;
     uint32_t status = precopy_accept(&guest->sizes, stream->bytes, stream->length, guest->memory, guest->memory_length,
                                      guest->pages, guest->sizes.pages, &taken);
-    /* A frame that is cut off may go on in the next piece; at the end of the stream none comes. */
+    /* A frame that is cut off may continue in the next piece; at the end of the stream there is none. */
     if (status != PRECOPY_OK && (status != PRECOPY_FRAME_SHORT || came == 0)) {
         fprintf(stderr, "receiver: %s: %s\n", stream->name, precopy_strerror(status));
         exit(1);

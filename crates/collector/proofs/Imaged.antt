@@ -1,4 +1,4 @@
--- Tables that have the pages of some memory, and the parts that they are.
+-- Tables that have the pages of some memory, and the parts they represent.
 use Rattle.std.proofs.Common.{◌≡◌, ℕ, ◌^◌, ◌+◌, ◌-◌, ◌*◌, ◌<◌, inl, inr, List, [], ◌∷◌, ◌++◌, get_or, length, take}
 use Rattle.std.proofs.Common.{drop, Option, Some, None, IfSome, option_map, sym, ap, ◌∙◌, subst, arith}
 use Rattle.std.proofs.lemmas.Bool.{cases_lt, cases_eq}
@@ -14,16 +14,16 @@ use Rattle.page_message.specs.Framing.{IsFrameOf}
 use Rattle.collector.specs.Tables.{copies_of, IsTable, IsTableOf}
 use Rattle.collector.proofs.Tabled.{copy_at-table, length-copies_of}
 
--- ---- the bytes of the pages that are left
+-- ---- the bytes of the remaining pages
 
--- those behind the next page
+-- those after the next page
 pub behind_page : (size n : ℕ) (bytes rest : List ℕ) → rest ≡ drop (n * size) bytes
     → drop size rest ≡ drop ((n + 1) * size) bytes
 behind_page size n bytes rest is =
     let split : n * size + size ≡ (n + 1) * size = omega arith in
     ap (drop size) is ∙ drop-drop size (n * size) bytes ∙ ap (λ k. drop k bytes) split
 
--- the bytes of a page of the memory that has these
+-- the bytes of a page of the memory with these bytes
 abbrev pub page_at : GuestShape → List ℕ → ℕ → List ℕ
 page_at shape bytes page = page_of (memory_with shape.shift shape.pages bytes) page
 

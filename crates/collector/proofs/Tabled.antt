@@ -1,8 +1,7 @@
--- Tables of frames by page, and the parts that they are.
-use Rattle.std.proofs.Common.{◌≡◌, ℕ, zero, suc, ◌^◌, ltb, ◌+◌, ◌-◌, ◌<◌, ◌≤◌, List, [], ◌∷◌, ◌++◌, length, get_or, set}
+-- Tables of frames by page, and the parts they represent.
+use Rattle.std.proofs.Common.{◌≡◌, ℕ, zero, suc, ◌^◌, ◌+◌, ◌-◌, ◌<◌, ◌≤◌, List, [], ◌∷◌, ◌++◌, length, get_or, set}
 use Rattle.std.proofs.Common.{take, drop, map, replicate, Option, Some, None, IfSome, IsSomeAnd, ◌≢◌, option_map}
 use Rattle.std.proofs.Common.{unwrap_or, refl, sym, ap, ◌∙◌, subst, append_assoc, arith}
-use Rattle.std.proofs.lemmas.Bool.{cond-true, lt-ltb}
 use Rattle.std.proofs.lemmas.List.{append-nil, length-map, length-replicate, length-append, length-set, map-append}
 use Rattle.std.proofs.lemmas.List.{map-set, set-append_left, replicate-append-replicate, replicate_more}
 use Rattle.std.proofs.lemmas.List.{take-append-drop, drop_more, take_more, take_more_set, drop-set-lt}
@@ -44,7 +43,7 @@ at_page shape [] n page = get_or-replicate_default n page none_copy
 at_page shape (x ∷ xs) n zero = refl
 at_page shape (x ∷ xs) n (suc page) = at_page shape xs n page
 
--- what the part has of a page is what the table has of it
+-- what the part has for a page is what the table has for it
 pub copy_at-table : (shape : GuestShape) (table : List (Option PageFrame)) (page : ℕ)
     → get_or (copies_of shape table) page None ≡ option_map (copy_in shape) (get_or table page None)
 copy_at-table shape table page = at_page shape table (shape.pages - length table) page
@@ -65,7 +64,7 @@ nothing_mapped : (shape : GuestShape) (n : ℕ) → map (option_map (copy_in sha
 nothing_mapped shape zero = refl
 nothing_mapped shape (suc n) = ap (λ (x : List (Option PageCopy)). None ∷ x) (nothing_mapped shape n)
 
--- slots with nothing in them change nothing
+-- empty slots change nothing
 pub same_part-grown : (shape : GuestShape) (old new : List (Option PageFrame)) (page : ℕ) → Grows old new page
     → length new ≤ shape.pages
     → copies_of shape new ≡ copies_of shape old
@@ -104,7 +103,7 @@ nothing_kept : (o : Option PageFrame) → option_map (λ f. f.stamp) o ≡ None 
 nothing_kept None is = refl
 nothing_kept (Some f) is = absurd (cc is)
 
--- ---- a frame that comes, by what was kept of its page
+-- ---- a frame that comes, by what was kept for its page
 
 pub taken_new : (shape : GuestShape) (old new put : List (Option PageFrame)) (frame : PageFrame) (page : ℕ)
     (part : GuestPart)
@@ -152,7 +151,7 @@ tabled_new shape old new put frame page tabled grows few own fits is =
       own = λ n. grind (arith, common_steps, tabled.own n, grows.items, is);
     }
 
--- ---- a frame for which memory runs out, by what was kept of its page
+-- ---- a frame for which memory runs out, by what was kept for its page
 
 not_as_long : (size : ℕ) (own new : Option (List ℕ)) → IfSome own (λ bytes. (length bytes ≡ size) × ¬ IsZeros bytes)
     → IfSome new (λ bytes. (length bytes ≡ size) × ¬ IsZeros bytes)

@@ -74,7 +74,7 @@ Takes-more old mid new bytes rest behind count a b =
           ∙ sym (fold-append with_frame old a.frames b.frames);
     }
 
--- frames in front of a stream are the first of it, and behind them stand the others
+-- frames at the front of a stream are its first ones, and the others follow
 front_frames : (shape : GuestShape) (fs gs : List PageFrame) (rest : List ℕ) → IsGuestShape shape
     → All (IsFrame shape) fs → All (IsFrame shape) gs → 0 < length rest
     → flat_map frame_text fs ++ rest ≡ flat_map frame_text gs
@@ -92,7 +92,7 @@ front_frames shape (f ∷ fs) (g ∷ gs) rest is fits_f fits_g some same =
     front_frames shape fs gs rest is (All-tail (IsFrame shape) f fs fits_f) (All-tail (IsFrame shape) g gs fits_g) some
     front.1
 
--- so of a stream all is taken, unless memory runs out
+-- so all of a stream is taken, unless memory runs out
 pub takes_only : (old new : GuestPart) (bytes : List ℕ) (r : Result ℕ (ℕ × FrameError)) → IsGuestShape old.shape
     → IfOk r (λ count. TakesFrames old new bytes count []) → IfErr r (RefusesStream old new bytes)
     → (frames : List PageFrame) → SpellsStream old.shape bytes frames

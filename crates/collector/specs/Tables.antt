@@ -10,12 +10,12 @@ use Rattle.page_message.specs.Framing.{IsFrameOf}
 abbrev pub copies_of : GuestShape → List (Option PageFrame) → List (Option PageCopy)
 copies_of shape table = map (option_map (copy_in shape)) table ++ replicate (shape.pages - length table) None
 
--- each frame fits the shape and stands at its page
+-- each frame fits the shape and is in its page's slot
 pub record IsTable (shape : GuestShape) (table : List (Option PageFrame)) : Type 0 where
   pub few : length table ≤ shape.pages
   pub own : (page : ℕ) → IfSome (slice_index_or table page None) (λ frame. (frame.page ≡ page) × IsFrame shape frame)
 
--- the table has more slots than before, none of them past that of the page, and nothing in them
+-- the table has more slots than before, none of them past that of the page, and all empty
 pub record Grows (old new : List (Option PageFrame)) (page : ℕ) : Type 0 where
   pub more : ℕ
   pub items : new ≡ old ++ replicate more None
@@ -26,7 +26,7 @@ abbrev pub with_slot : GuestPart → Option PageFrame → GuestPart
 with_slot part None = part
 with_slot part (Some frame) = with_frame part frame
 
--- the first pages of the memory with these bytes stand in the table, so many, each with its stamp
+-- the first `count` pages of the memory with these bytes are in the table, each with its stamp
 pub record IsTableOf (shape : GuestShape) (bytes stamps : List ℕ) (count : ℕ)
     (table : List (Option PageFrame)) : Type 0 where
   pub count_is : length table ≡ count

@@ -7,13 +7,13 @@ ghost use Rattle.collector.specs.Fates.{IsFate};
 pub enum Fate {
     /// The part did not have the page, and has it now.
     New,
-    /// The frame's stamp is greater than that of the kept one, which it replaces.
+    /// The frame's stamp is greater than the kept one's, which it replaces.
     Newer,
-    /// The frame's stamp is not greater than that of the kept one, which stays.
+    /// The frame's stamp is not greater than the kept one's, which stays.
     Old,
 }
 
-/// Returns the fate of a frame with this stamp, where that stamp of its page was kept, or none.
+/// Returns the fate of a frame with this stamp, given the kept stamp of its page, if any.
 pub(crate) fn fate_of(kept: Option<u32>, stamp: u32) -> Fate
     ensures { IsFate kept stamp result }
 {

@@ -1,4 +1,4 @@
-//! Parts of a guest's memory, put together from frames in whatever order they come.
+//! Parts of a guest's memory, assembled from frames in whatever order they arrive.
 #![tactic(auto)]
 
 mod error;

@@ -1,4 +1,4 @@
-//! A part that begins with all of a guest's memory.
+//! A part that starts with all of a guest's memory.
 
 ghost use Rattle.std.specs.Prelude.{◌≡◌, ◌<◌, ◌≤◌, ◌*◌, ◌^◌, IfOk, length};
 ghost use Rattle.std.specs.List.{All};
@@ -15,7 +15,7 @@ use page_message::{Body, Frame};
 use std::alloc::{AllocError, Global};
 use zero_pages::is_zero;
 
-/// Returns the frame of these bytes of a page. It copies them once, or not at all where each is 0.
+/// Returns the frame with these page bytes. It copies them once, or not at all if each is 0.
 fn frame_at(
     alloc: Global,
     shape: &Shape,
@@ -59,9 +59,9 @@ fn table_of(
 }
 
 impl Part {
-    /// Returns the part that has each page of some memory, each with its stamp. The bytes are those of the pages, one
-    /// page after another. It copies each page once, and takes no memory for the bytes of a page of zeros. The only
-    /// error is that memory runs out.
+    /// Returns the part that has each page of some memory, with its stamp. The bytes are those of the pages, in order.
+    /// It copies each page once, and takes no memory for the bytes of a page of zeros. The only error is that memory
+    /// runs out.
     pub fn of_image(
         alloc: Global,
         shape: Shape,

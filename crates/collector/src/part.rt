@@ -19,10 +19,10 @@ use page_message::{Frame, FrameError, FrameView, view_frame};
 use std::alloc::Global;
 use std::marker::Model;
 
-/// A part of a guest's memory: of each page the frame with the greatest stamp, of the frames that came.
+/// A part of a guest's memory: for each page, the frame with the greatest stamp of those that came.
 ///
-/// The frames stand in a table by page, which has slots up to the last page that came, so that one is found in a step
-/// however many there are. No slot is made before a page comes.
+/// The frames are in a table by page, with slots up to the last page that came, so that one is found in constant time.
+/// No slot is made before a page comes.
 #[derive(Debug, Drop)]
 pub struct Part {
     alloc: Global,
@@ -58,7 +58,7 @@ impl Part {
         }
     }
 
-    /// Returns the shape of the trace that the part is of.
+    /// Returns the shape of the part's trace.
     pub fn shape(&self) -> Shape
         ensures shape { shape_of result ≡ self.now.shape }
         ensures is_part { IsPart self.now }
@@ -66,14 +66,14 @@ impl Part {
         self.shape
     }
 
-    /// Returns the stamp of a page, or None where the part does not have it.
+    /// Returns the stamp of a page, or None if the part does not have it.
     pub fn stamp(&self, page: u32) -> Option<u32>
         ensures { result ≡ stamp_at self.now page }
     {
         stamp_in(&self.frames, page as usize)
     }
 
-    /// Returns the frame of a page, or None where the part does not have it.
+    /// Returns the frame of a page, or None if the part does not have it.
     pub fn frame(&self, page: u32) -> Option<&Frame>
         ensures copy { option_map (λ f. copy_in self.now.shape f.now) result ≡ copy_at self.now page }
         ensures own { IfSome result (λ f. f.now.page ≡ page) }
@@ -98,9 +98,9 @@ impl Part {
         frames
     }
 
-    /// Takes a frame, and returns the one that goes: the old frame of the page, or the new one where it is not newer,
-    /// or None where the page came for the first time. Memory can run out only for a page that the part does not have;
-    /// the part is then as before.
+    /// Takes a frame, and returns the one that goes: the old frame of the page, or the new one if it is not newer, or
+    /// None if the page came for the first time. Memory can run out only for a page that the part does not have; the
+    /// part is then as before.
     pub fn exchange(&mut self, frame: Frame) -> Result<Option<Frame>, PartError>
         requires { IsFrame self.old.shape frame }
         ensures kept { OnOk result (self.new ≡ with_frame self.old frame) }
@@ -135,8 +135,8 @@ impl Part {
         Ok(fate)
     }
 
-    /// Takes a frame that is borrowed from a stream. It copies the bytes of a page over those that the part has of it.
-    /// Memory can run out only where the part has none, or zeros.
+    /// Takes a frame that is borrowed from a stream. It copies the bytes of a page over those that the part has. Memory
+    /// can run out only if the part has none, or zeros.
     fn accept_view(&mut self, view: &FrameView<'_>) -> Result<(), PartError>
         requires { IsFrame self.old.shape view.now }
         ensures kept { OnOk result (self.new ≡ with_frame self.old view.now) }
@@ -192,9 +192,8 @@ impl Part {
         Ok(count)
     }
 
-    /// Takes frame after frame to the end of the bytes, and returns how many. An error is that of the first frame that
-    /// is refused, with its index, from 0; the frames in front of it are taken. Where memory runs out, the error is
-    /// `F6`.
+    /// Takes frame after frame to the end of the bytes, and returns how many. An error is that of the first frame
+    /// refused, with its index, from 0; the frames before it are taken. If memory runs out, the error is `F6`.
     pub fn accept_bytes(&mut self, bytes: &[u8]) -> Result<usize, (usize, FrameError)>
         ensures taken { IfOk result (λ count. TakesFrames self.old self.new bytes.now count []) }
         ensures refused { IfErr result (RefusesStream self.old self.new bytes.now) }
@@ -219,7 +218,7 @@ fn accept_slot(part: &mut Part, slot: Option<Frame>) -> Result<(), PartError>
     Ok(())
 }
 
-/// Returns the join of two parts: of each page the copy with the greater stamp, and that of the first part where the
+/// Returns the join of two parts: for each page, the copy with the greater stamp, or that of the first part if the
 /// stamps are equal. It moves each frame of the second part once. After an error both parts are dropped.
 pub fn merge(first: Part, second: Part) -> Result<Part, PartError>
     requires { first.shape ≡ second.shape }

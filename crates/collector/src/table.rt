@@ -8,7 +8,7 @@ use page_message::{Frame, FrameView};
 use std::alloc::{AllocError, Global};
 use std::mem;
 
-/// Returns the stamp of the frame that a table has of a page.
+/// Returns the stamp of the frame that a table has for a page.
 pub(crate) fn stamp_in(table: &[Option<Frame>], page: usize) -> Option<u32>
     ensures stamp { result ≡ option_map (λ f. f.stamp) (slice_index_or table.now page None) }
     ensures within { OnSome result (page < length table.now) }
@@ -19,7 +19,7 @@ pub(crate) fn stamp_in(table: &[Option<Frame>], page: usize) -> Option<u32>
     }
 }
 
-/// Makes slots up to that of a page. After an error there may be more slots than before, with nothing in them.
+/// Makes slots up to that of a page. After an error there may be more slots than before, all empty.
 pub(crate) fn make_place(table: &mut Vec<Option<Frame>>, page: usize) -> Result<(), AllocError>
     requires { page < 2 ^ 32 }
     ensures grows { Grows table.old.items table.new.items page }
@@ -48,7 +48,7 @@ pub(crate) fn swap_frame(table: &mut Vec<Option<Frame>>, page: usize, frame: Fra
     mem::replace(&mut table[page], Some(frame))
 }
 
-/// Puts the frame that is viewed in its slot, over the frame that stands there, if there is one.
+/// Puts the viewed frame in its slot, over the frame that is there, if any.
 pub(crate) fn put_view(
     table: &mut Vec<Option<Frame>>,
     page: usize,

@@ -1,4 +1,4 @@
-//! Reads and writes of one byte a call that fail, each call in turn, in each job.
+//! Reads and writes of one byte a call that fail, at each call in turn, in each job.
 
 ghost use Rattle.std.specs.Prelude.{◌≡◌, IfOk, false};
 
@@ -17,7 +17,7 @@ use worked_guest::{MEMORY, asked};
 /// How many jobs there are.
 const JOBS: usize = 5;
 
-/// Returns slow rates, by which the plan has three rounds and stops at tick 3667.
+/// Returns slow rates, at which the plan has three rounds and stops at tick 3667.
 fn settings() -> Result<Settings, Fail> {
     Ok(Settings::new(Asked {
         workers: 2,
@@ -91,7 +91,7 @@ fn all_jobs_write_their_output(rt: HostRuntime) -> Result<(), Fail> {
 fn each_read_that_fails_is_told(rt: HostRuntime) -> Result<(), Fail> {
     let alloc = rt.alloc();
     for number in 0..JOBS {
-        // 102 calls give the bytes, and one more would tell the end.
+        // 102 calls give the bytes, and one more would report the end.
         for call in 1..=103u64 {
             let sink = TestSink::new(Vec::new(alloc), usize::MAX, None, false);
             let (answer, sink) = ran(&rt, alloc, number, Some(call), sink)?;
@@ -114,8 +114,8 @@ fn damaged(alloc: Global, failing_call: Option<u64>) -> Result<TestSource, Alloc
     Ok(TestSource::new(bytes, 1, failing_call))
 }
 
-/// Opens a trace on its way, tests its header, and holds it whatever the header is. Returns what the header is refused
-/// for, and then what the trace is.
+/// Opens an incoming trace, tests its header, and holds it whatever the header is. Returns why the header is refused,
+/// and then why the trace is.
 fn held_after_header(
     alloc: Global,
     mut source: TestSource,
@@ -127,7 +127,7 @@ fn held_after_header(
     Ok((cause, incoming.hold(alloc, &mut source).err()))
 }
 
-/// Returns what each reader that reads to the end refuses a damaged trace for, of which a read fails.
+/// Returns why each reader that reads to the end refuses a damaged trace, one of whose reads fails.
 fn refusals(
     alloc: Global,
     failing_call: Option<u64>,

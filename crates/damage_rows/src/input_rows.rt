@@ -22,7 +22,7 @@ fn record(number: usize) -> &'static [u8] {
     }
 }
 
-/// Returns a trace whose header counts so many writes, with these of the trace's writes.
+/// Returns a trace whose header counts `writes` writes, with these of the trace's writes.
 pub(crate) fn trace_of(
     alloc: Global,
     writes: u32,
@@ -36,7 +36,7 @@ pub(crate) fn trace_of(
     Ok(bytes)
 }
 
-/// Returns what some bytes are refused for: as a slice, as an owned trace, as a trace that is held as its bytes, and
+/// Returns why some bytes are refused: as a slice, as an owned trace, as a trace that is held as its bytes, and
 /// as touches.
 fn refusals(alloc: Global, bytes: &[u8]) -> Result<[Option<TraceError>; 4], AllocError> {
     let mut owned = TestSource::new(Vec::from_slice(alloc, bytes)?, 20, None);
@@ -50,7 +50,7 @@ fn refusals(alloc: Global, bytes: &[u8]) -> Result<[Option<TraceError>; 4], Allo
     ])
 }
 
-/// Returns why the first `len` bytes of the trace are none.
+/// Returns why the first `len` bytes of the trace are not a trace.
 fn cause_of_cut(len: usize) -> TraceError {
     match len {
         0..=15 => TraceError::ShortHeader,
@@ -118,7 +118,7 @@ fn two_bytes_past_the_end_of_a_page_are_refused(rt: HostRuntime) -> Result<(), F
     Ok(())
 }
 
-/// A source of zeros without end.
+/// A source of endless zeros.
 #[derive(Drop)]
 struct Zeros {
     bytes: u64,

@@ -1,4 +1,4 @@
-//! Damaged traces, and reads and writes that fail at each call: tests alone.
+//! Damaged traces, and reads and writes that fail at each call: only for tests.
 #![tactic(auto)]
 
 #[cfg(test)]

@@ -21,7 +21,7 @@ pub record IsSound (core : DirtyCore) : Type 0 where
   -- a pending page is its guest's, and was stored
   pub own : (guest page : ℕ) → core.pending guest ≡ Some page → guest_of core.sizes page ≡ guest
   pub pending : (page : ℕ) → IsPending core page → IsTrue (is_stored core page)
-  -- returned pages are marked, since their copier alone unmarks them
+  -- returned pages are marked, since only their copier unmarks them
   pub returned : (page : ℕ) → IsTrue (core.returned page) → IsTrue (core.marked page)
 
 -- ---- a function with another value at one argument

@@ -1,4 +1,4 @@
--- What the history tells of every page's place after each legal list of events.
+-- What the history says of every page's place after each legal list of events.
 use Rattle.std.proofs.Common.{◌≡◌, ℕ, ◌<◌, ◌≤◌, List, [], ◌∷◌, refl, sym, ap, subst, ◌∙◌, arith, inl, inr}
 use Rattle.std.specs.Prelude.{◌⊎◌, unwrap_or, slice_index}
 use Rattle.std.specs.List.{fold}

@@ -2,10 +2,8 @@
 use Rattle.std.proofs.Common.{◌≡◌, ℕ, ◌/◌, ◌%◌, ◌^◌, ◌<◌, Bool, true, false, cond, not, ◌&&◌, ◌||◌, eqb, List, length}
 use Rattle.std.proofs.Common.{get_or, set, replicate, Option, Some, None, refl, sym, ap, ◌∙◌, inl, inr}
 use Rattle.std.specs.Prelude.{IsTrue, IsSome, is_some}
-use Rattle.std.specs.Int.{bit_at}
-use Rattle.std.proofs.lemmas.Nat.Bits.{bit_at-zero}
-use Rattle.std.proofs.lemmas.Bool.{eqb-true, eq-eqb, ne_eqb, cases_eq, cases_lt, and_parts, and_from}
-use Rattle.std.proofs.lemmas.List.{get_or-set_same, get_or-set_other, get_or_default, get_or_past, get_or-replicate}
+use Rattle.std.proofs.lemmas.Bool.{eqb-true, eq-eqb, ne_eqb, cases_eq, and_parts, and_from}
+use Rattle.std.proofs.lemmas.List.{get_or-set_same, get_or-set_other, get_or_default}
 use Rattle.std.proofs.lemmas.List.{length-set, length-replicate}
 use Rattle.std.proofs.Math.Bool.{or-false, and-true, and-false, or-true}
 use Rattle.dirty_core.specs.declared.event.Event.{Event}
@@ -72,7 +70,7 @@ put-set xs i v d within n = elim (cases_eq n i) [
   | inr ne ↦ rw (ne_eqb n i ne, get_or-set_other) refl
 ]
 
--- ---- the sets of pages that copiers hold, where pages of one of them come or go
+-- ---- the sets of pages that copiers hold, when pages of one of them come or go
 
 and_assoc : (a b c : Bool) → (a && (b && c)) ≡ ((a && b) && c)
 and_assoc true b c = refl
@@ -126,7 +124,7 @@ pub something_read : (xs : List (Option ℕ)) (i page : ℕ) (o : Option ℕ) �
     → o ≡ Some page → get_or xs i None ≡ Some page
 something_read xs i page o within read is = get_or_default xs i None o within ∙ sym read ∙ is
 
--- pages that are pending exist, also where one is pending no more
+-- pages that are pending exist, even if one is pending no more
 pub pending_real : (xs : List (Option ℕ)) (i pages : ℕ) → i < length xs
     → ((guest page : ℕ) → get_or xs guest None ≡ Some page → page < pages)
     → (guest page : ℕ) → get_or (set xs i None) guest None ≡ Some page → page < pages

@@ -12,7 +12,7 @@ use Rattle.dirty_core.specs.Kept.{Kept, kept_sizes, history_of, core_with, Keeps
 use Rattle.dirty_core.specs.Runs.{opened, core_after, IsLegal, RunRefuses}
 use Rattle.dirty_core.proofs.EveryPage.{core_after-push, IsLegalFrom-push}
 
--- the first events were legal, so many, and led to what is kept
+-- the first `index` events were legal, and led to what is kept
 pub record Reached (start : Start) (events : List Event) (index : ℕ) (kept : Kept) : Type 0 where
   pub legal : IsLegal start (take index events)
   pub leads : Keeps kept (core_after start (take index events))

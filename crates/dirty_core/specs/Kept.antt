@@ -1,5 +1,5 @@
 -- What the code keeps of a core: all but its history, with sets of pages by words. This project's own.
-use Rattle.std.specs.Prelude.{◌≡◌, ℕ, ◌+◌, ◌/◌, ◌<◌, ◌≤◌, ◌&&◌, ◌==◌, List, length, Option, Some, None, Result, Ok, Err}
+use Rattle.std.specs.Prelude.{◌≡◌, ℕ, ◌<◌, ◌≤◌, ◌&&◌, ◌==◌, List, length, Option, Some, None, Result, Ok, Err}
 use Rattle.std.specs.Prelude.{slice_index, slice_index_or}
 use Rattle.dirty_core.specs.declared.event.Event.{Event}
 use Rattle.dirty_core.specs.declared.answer.Answer.{Answer}
@@ -88,7 +88,7 @@ Goes old event answer new = (history : History)
 abbrev pub FindsNeeds : Kept → Event → Type 0
 FindsNeeds kept event = (history : History) → Needs (core_with kept history) event
 
--- the event is refused so, whatever the history was
+-- the event is refused for this, whatever the history was
 abbrev pub Refuses : Kept → Event → CoreRefusal → Type 0
 Refuses kept event refusal = (history : History) → IsFirstRefusal (core_with kept history) event refusal
 

@@ -13,7 +13,7 @@ use Rattle.dirty_core.specs.declared.refusal.CoreRefusal.TheVariants.{OldPlace, 
 use Rattle.page_bitmap.specs.Pages.{PageSet, one_page, word_pages, bit_pages, union, common, minus, IsWithin, SamePages}
 use Rattle.dirty_core.specs.Start.{Sizes, GuestOwns, CopierOwns, CopierOwnsPage, guest_of}
 
--- Stores or reads of a seat: the page and its place, the last of them first.
+-- Stores or reads of a seat: the page and its place, the last one first.
 abbrev pub Visits : Type 0
 Visits = List (ℕ × ℕ)
 
@@ -81,7 +81,7 @@ pub record AreMarked (core : DirtyCore) (word bits : ℕ) : Type 0 where
   pub fits : bits < 2 ^ 64
   pub pages : SamePages (bit_pages word bits) (common (word_pages word) core.marked)
 
--- what an event has as its answer
+-- the answer of an event
 abbrev pub Answers : DirtyCore → Event → Answer → Type 0
 Answers core (Store guest page place) Done = Unit {0}
 Answers core (Mark guest) Done = Unit {0}

@@ -60,7 +60,7 @@ IsOnlyDue core page = IsTrue (core.marked page) → IsTrue (is_stored core page)
 abbrev pub place_after : ℕ → Visits → ℕ → ℕ
 place_after before visits page = unwrap_or (last_visit visits page) before
 
--- a page's places rise from visit to visit, each above the place before
+-- a page's places rise from visit to visit, each above the previous one
 abbrev pub Rises : ℕ → Visits → ℕ → Type 0
 Rises before [] page = Unit {0}
 Rises before (visit ∷ others) page = (visit.0 ≡ page → place_after before others page < visit.1)
@@ -71,7 +71,7 @@ abbrev pub IsVisited : Visits → ℕ → ℕ → Type 0
 IsVisited [] page place = ⊥
 IsVisited (visit ∷ others) page place = ((visit.0 ≡ page) × (visit.1 ≡ place)) ⊎ IsVisited others page place
 
--- what the history of a core tells of one page's place
+-- what the history of a core says of one page's place
 pub record KnowsPlace (start : Start) (core : DirtyCore) (page : ℕ) : Type 0 where
   -- the place is that of the last store, or the opening's
   pub place : core.place page ≡ place_after (slice_index start.places page)
@@ -87,8 +87,8 @@ pub record IsOverReads (start : Start) (core : DirtyCore) (page : ℕ) : Type 0 
   pub opening : slice_index start.places page ≤ core.place page
   pub read : (place : ℕ) → IsVisited (core.reads (copier_of core.sizes page)) page place → place ≤ core.place page
 
--- what else is known of one page's mark: a pending page was stored, and a returned page is marked, since its copier
--- alone unmarks it
+-- what else is known of one page's mark: a pending page was stored, and a returned page is marked, since only its
+-- copier unmarks it
 pub record KnowsMark (core : DirtyCore) (page : ℕ) : Type 0 where
   pub pending : IsPending core page → IsTrue (is_stored core page)
   pub returned : IsTrue (core.returned page) → IsTrue (core.marked page)
@@ -107,7 +107,7 @@ CaughtUp core = (page : ℕ) → IsCaughtUp core page
 abbrev pub OnlyDue : DirtyCore → Type 0
 OnlyDue core = (page : ℕ) → IsOnlyDue core page
 
--- the event at this index is the first whose needs don't hold, and is refused so
+-- the event at this index is the first whose needs don't hold, and is refused for this
 pub record Stops (start : Start) (events : List Event) (index : ℕ) (refusal : CoreRefusal) : Type 0 where
   pub event : Event
   pub there : slice_get events index ≡ Some event

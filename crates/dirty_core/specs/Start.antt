@@ -1,5 +1,5 @@
 -- What a core opens with, and who owns which page. This project's own.
-use Rattle.std.specs.Prelude.{◌≡◌, ℕ, ◌+◌, ◌*◌, ◌/◌, ◌%◌, ◌<◌, ◌≤◌, IsTrue, List, length}
+use Rattle.std.specs.Prelude.{◌≡◌, ℕ, ◌*◌, ◌/◌, ◌%◌, ◌<◌, ◌≤◌, IsTrue, List, length}
 use Rattle.page_bitmap.specs.Listing.{word_count}
 use Rattle.page_bitmap.specs.Pages.{in_words}
 

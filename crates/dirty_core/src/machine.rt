@@ -35,14 +35,14 @@ impl Model for Core {
     ghost invariant = { λ c. IsKept (kept_with c.places.items c.dirty.items c.held.items c.pending.items c.copiers) };
 }
 
-/// Returns so many words of no pages.
+/// Returns `count` words of no pages.
 fn empty_words(alloc: Global, count: usize) -> Result<Vec<u64>, AllocError>
     ensures { IfOk result (λ words. words.items ≡ replicate count 0) }
 {
     vec![in alloc; 0u64; count]
 }
 
-/// Returns a list in which no guest, of so many, has a page pending.
+/// Returns a list in which none of `guests` guests has a page pending.
 fn none_pending(alloc: Global, guests: usize) -> Result<Vec<Option<u32>>, AllocError>
     ensures { IfOk result (λ pending. pending.items ≡ replicate guests None) }
 {
@@ -78,7 +78,7 @@ impl Core {
         self.places[index]
     }
 
-    /// Returns whether a page is marked. None past the last page is.
+    /// Returns whether a page is marked. No page past the last one is.
     pub fn marked(&self, page: u32) -> bool
         ensures { result ≡ is_marked self.now page }
     {
@@ -216,8 +216,8 @@ fn happen(core: &mut Core, event: Event) -> Result<Answer, CoreRefusal>
     }
 }
 
-/// Takes one event. Where an event has several causes to be refused, the error is the first in the order of their
-/// names. A step allocates nothing, so it never returns `C6`.
+/// Takes one event. If an event has several causes to be refused, the error is the first in the order of their names. A
+/// step allocates nothing, so it never returns `C6`.
 pub fn step(core: &mut Core, event: Event) -> Result<Answer, CoreRefusal>
     ensures done { IfOk result (λ answer. Goes core.old event answer core.new) }
     ensures accepted { IsOk result ↔ FindsNeeds core.old event }

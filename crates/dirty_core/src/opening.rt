@@ -31,7 +31,7 @@ impl Model for Opening {
 }
 
 impl Opening {
-    /// Returns the opening with these parts, or None where no core may open with them. `places` has one for each page.
+    /// Returns the opening with these parts, or None if no core may open with them. `places` has one for each page.
     /// `dirty` has a word for each 64 pages begun, page `64 * w` being the lowest bit of word `w`. There are 1 to
     /// 65,536 pages, and 1 to 16 guests and copiers.
     pub fn new(places: Vec<u32>, dirty: Vec<u64>, guests: usize, copiers: usize) -> Option<Opening>

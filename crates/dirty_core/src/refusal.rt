@@ -6,8 +6,8 @@ ghost use Rattle.dirty_core.specs.declared.refusal.CoreRefusal.TheVariants.{Memo
 use std::alloc::AllocError;
 use thiserror::Error;
 
-/// Why an event is refused, written as its name. Where an event has several causes, the refusal is the first in the
-/// order of the names.
+/// Why an event is refused, written as its name. If an event has several causes, the refusal is the first in the order
+/// of the names.
 #[derive(Clone, Copy, Debug, PartialEq, Eq, Error)]
 pub enum CoreRefusal {
     /// The page or word is not the guest's or copier's own, or there is no such guest, copier, page or word.

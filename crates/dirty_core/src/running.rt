@@ -15,7 +15,7 @@ use crate::refusal::CoreRefusal;
 use std::alloc::Global;
 
 /// Takes all events in order, from an opening on. An error has the index of the event that was refused, from 0, or
-/// index 0 with `C6` where memory ran out for the opening.
+/// index 0 with `C6` if memory ran out for the opening.
 pub fn run(alloc: Global, opening: &Opening, events: &[Event]) -> Result<Core, (usize, CoreRefusal)>
     ensures legal { OnOk result (IsLegal opening.now events.now) }
     ensures leads { IfOk result (λ core. Keeps core (core_after opening.now events.now)) }
@@ -36,7 +36,7 @@ pub fn run(alloc: Global, opening: &Opening, events: &[Event]) -> Result<Core, (
     Ok(core)
 }
 
-/// After any legal list of events no changed page is lost, and no other page is marked. The history also tells of each
+/// After any legal list of events no changed page is lost, and no other page is marked. The history also says of each
 /// page what a caller needs that keeps a core in words of its own.
 pub fn every_page()
     ensures caught_up { (start : Start) (events : List AnyEvent) → IsLegal start events

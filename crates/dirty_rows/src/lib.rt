@@ -1,4 +1,4 @@
-//! Worked examples of the dirty core and of the dirty words: tests alone.
+//! Worked examples of the dirty core and of the dirty words: only for tests.
 #![tactic(auto)]
 
 #[cfg(test)]

@@ -67,7 +67,7 @@ fn one_copier(alloc: Global, copier: CopySeat) -> Option<Vec<CopySeat>>
     vec![in alloc; copier].ok()
 }
 
-/// Closes the table where nothing is pending and nothing is held.
+/// Closes the table if nothing is pending and nothing is held.
 fn close_pair(
     alloc: Global,
     table: RoundTable,
@@ -88,7 +88,7 @@ fn close_pair(
     Some(table.close(guests, copiers))
 }
 
-/// Stores a page, where the guest may.
+/// Stores a page, if the guest may.
 fn store_page(table: &RoundTable, guest: &mut GuestSeat, page: u32, place: u32) -> bool
     requires { guest_table guest.old ≡ table.now }
     ensures table { guest_table guest.new ≡ guest_table guest.old }
@@ -101,7 +101,7 @@ fn store_page(table: &RoundTable, guest: &mut GuestSeat, page: u32, place: u32) 
     true
 }
 
-/// Marks the page that was stored, where there is one.
+/// Marks the page that was stored, if there is one.
 fn mark_page(table: &RoundTable, guest: &mut GuestSeat) -> bool
     requires { guest_table guest.old ≡ table.now }
     ensures { guest_table guest.new ≡ guest_table guest.old }
@@ -113,7 +113,7 @@ fn mark_page(table: &RoundTable, guest: &mut GuestSeat) -> bool
     true
 }
 
-/// Reads a page, where it is held. Returns its place.
+/// Reads a page, if it is held. Returns its place.
 fn read_page(table: &RoundTable, copier: &mut CopySeat, page: u32) -> Option<u32>
     requires { copy_table copier.old ≡ table.now }
     ensures table { copy_table copier.new ≡ copy_table copier.old }
@@ -126,7 +126,7 @@ fn read_page(table: &RoundTable, copier: &mut CopySeat, page: u32) -> Option<u32
     Some(copier.read(table, page))
 }
 
-/// Restores pages, where all are held.
+/// Restores pages, if all are held.
 fn restore_pages(table: &RoundTable, copier: &mut CopySeat, word: usize, bits: u64) -> bool
     requires { copy_table copier.old ≡ table.now }
     ensures table { copy_table copier.new ≡ copy_table copier.old }
@@ -139,7 +139,7 @@ fn restore_pages(table: &RoundTable, copier: &mut CopySeat, word: usize, bits: u
     true
 }
 
-/// Harvests a word, where the copier may. Returns its pages.
+/// Harvests a word, if the copier may. Returns its pages.
 fn harvest_word(table: &RoundTable, copier: &mut CopySeat, word: usize) -> Option<u64>
     requires { copy_table copier.old ≡ table.now }
     ensures table { copy_table copier.new ≡ copy_table copier.old }
@@ -151,7 +151,7 @@ fn harvest_word(table: &RoundTable, copier: &mut CopySeat, word: usize) -> Optio
     Some(copier.harvest(table, word))
 }
 
-/// Peeks at a word, where the copier may. Returns its pages.
+/// Peeks at a word, if the copier may. Returns its pages.
 fn peek_word(table: &RoundTable, copier: &mut CopySeat, word: usize) -> Option<u64>
     requires { copy_table copier.old ≡ table.now }
     ensures { copy_table copier.new ≡ copy_table copier.old }
@@ -223,7 +223,7 @@ const fn lowered(tied: bool) -> Flags {
     }
 }
 
-/// Waits where the threads are tied. Returns false where the other thread came too late.
+/// Waits if the threads are tied. Returns false if the other thread came too late.
 fn reached(flags: &Flags, flag: &AtomicBool) -> bool {
     if !flags.tied {
         return true;

@@ -1,4 +1,4 @@
--- What each call has to show before its step, from what is always so of the table and the seat.
+-- What each call must show before its step, from what is always so of the table and the seat.
 use Rattle.std.proofs.Common.{◌≡◌, ℕ, ◌+◌, ◌-◌, ◌*◌, ◌/◌, ◌%◌, ◌^◌, ◌<◌, length, bit_or, Some, None, sym, ap, subst}
 use Rattle.std.proofs.Common.{◌∙◌, arith}
 use Rattle.std.specs.Prelude.{IsTrue}

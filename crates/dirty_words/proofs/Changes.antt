@@ -1,4 +1,4 @@
--- What each answer of a step changes of a copier's facts, as sets of pages.
+-- What each answer of a step changes in a copier's facts, as sets of pages.
 use Rattle.std.proofs.Common.{◌≡◌, ◌⊎◌, ℕ, ◌+◌, ◌%◌, ◌/◌, ◌^◌, ◌<◌, min, ◌&&◌, not, eqb, length, get_or, bit_and, sym}
 use Rattle.std.proofs.Common.{ap, subst, ◌∙◌, arith, inl, inr}
 use Rattle.std.specs.Prelude.{IsTrue}

@@ -88,7 +88,7 @@ IsCopySeat-after old new facts kept me number copiers held same_number same_star
       is_start = subst (λ k. IsStart k) (sym same_start ∙ start) kept.is_start;
     }
 
--- a word of the held pages, read by its index and written anew
+-- a word of the held pages, read by its index and rewritten
 pub held_word : (F : ℕ → ℕ) (items held : List ℕ) (word x : ℕ) → items ≡ held → word < length items
     → x ≡ get_or items word x
     → set items word (F x) ≡ set held word (F (get_or held word 0))

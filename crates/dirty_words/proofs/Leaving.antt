@@ -55,7 +55,7 @@ IsLeft-words start words core versions dirty is_start shown sizes real versions_
       ];
     }
 
--- ---- what each seat knows, of those that stand in one view
+-- ---- what each seat knows, of those in one view
 
 entry_there : {A : Type 0} (f : A → Facts) (xs : List A) (others : List Facts) (i : ℕ) (x : A) → slice_get xs i ≡ Some x
     → get_elem? (map f xs ++ others) i ≡ some (f x)
@@ -205,7 +205,7 @@ pub copiers_of_table : (table : TableView) (copiers : List CopyView) → AllCopi
 copiers_of_table table copiers all k d low = ap (λ t. t.id) (all.each k (get_or copiers k d)
     (slice_get-get_or copiers k d low)).table_is
 
--- ---- what is left may be opened with again
+-- ---- what is left can be opened with again
 
 pub IsStart-left : (start : Start) (guests : List GuestView) (copiers : List CopyView) (closed : ClosedView)
     → IsStart start

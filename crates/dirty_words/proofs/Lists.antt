@@ -21,7 +21,7 @@ set_more f xs i x within is below k low = elim (cases_eq k i) [
   | inr ne ↦ rw get_or-set_other (below k (omega arith))
 ]
 
--- what is so of each item is so of one between the others
+-- what is true of each item is true of one between the others
 pub all_middle : {A : Type 0} (P : A → Type 0) (before : List A) (x : A) (later all : List A) → All P all
     → before ++ x ∷ later ≡ all → P x
 all_middle P before x later all each is =

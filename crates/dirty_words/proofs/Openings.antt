@@ -18,7 +18,7 @@ use Rattle.dirty_words.proofs.Seating.{IsSameSeat, nothing, in_either, gives, me
 use Rattle.dirty_words.proofs.Seating.{EachView-enter}
 use Rattle.page_bitmap.proofs.Bits.{no_words}
 
--- ---- what stands in a view of the opening
+-- ---- what is in a view of the opening
 
 in_range : (f : ℕ → Facts) (number count entry : ℕ) (facts : Facts)
     → get_elem? (map f (range_with_len number count)) entry ≡ some facts

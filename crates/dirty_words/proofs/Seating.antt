@@ -1,4 +1,4 @@
--- Views after a step, a cut and a join: no guest or copier stands in two of them, and what stands there is true.
+-- Views after a step, a cut and a join: no guest or copier is in two of them, and what is there is true.
 use Rattle.std.proofs.Common.{◌≡◌, ◌≢◌, ◌⊎◌, ℕ, zero, suc, List, [], ◌∷◌, ◌++◌, length, set, cond, eqb, refl, sym, ap}
 use Rattle.std.proofs.Common.{subst, ◌∙◌, inl, inr, ⊎_elim}
 use mathlib.Core.Option.{some, some-injective, some-ne-none}
@@ -30,7 +30,7 @@ only a (suc entry) facts e = absurd (some-ne-none facts (sym e))
 pub nothing : (entry : ℕ) (facts : Facts) → get_elem? [] entry ≡ some facts → ⊥
 nothing entry facts e = some-ne-none facts (sym e)
 
--- ---- a step of a seat in which one guest or copier stands alone
+-- ---- a step of a seat with only one guest or copier
 
 pub EachView-step : (views : List (List Facts)) (owners : Owners) (Old New : Facts → Type 0) (id : ℕ) (was is : Facts)
     → EachView views owners Old → get_elem? views id ≡ some (was ∷ []) → IsSameSeat was is → New is
@@ -158,7 +158,7 @@ EachView-join views owners IsTold id v other w each at apart at_other seat entry
     (at_set views id seat (v ++ w) view far.1))
     (at_set (set views id (v ++ w)) other seat [] view there)
 
--- ---- a new seat in which nobody stands
+-- ---- a new seat with nobody in it
 
 pub EachView-enter : (views : List (List Facts)) (owners : Owners) (IsTold : Facts → Type 0)
     → EachView views owners IsTold

@@ -31,7 +31,7 @@ use Rattle.dirty_words.proofs.Words.{ShowWords-store, ShowWords-dirty, cleared, 
 use Rattle.dirty_words.proofs.Told.{Tells-store, Tells-stored, Tells-mark, Tells-marked, Tells-harvest, Tells-harvested}
 use Rattle.dirty_words.proofs.Told.{Tells-peeked, Tells-restore, Tells-restored, Tells-read, Tells-reading}
 
--- the rule after an event of a seat in which one guest or copier stands alone
+-- the rule after an event of a seat with only one guest or copier
 Shows-event : (start : Start) (s : State ℕ (List Facts)) (shows : Shows start s) (word n id : ℕ)
     (carried : List (ℕ × ℕ)) (was is : Facts) (event : Event)
     → get_elem? s.views id ≡ some (was ∷ []) → Needs (core_after start shows.events) event → IsSameSeat was is

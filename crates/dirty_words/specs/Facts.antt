@@ -1,4 +1,4 @@
--- What the seats of a table know. A seat knows its own facts alone: what it did, and what its own steps returned. This
+-- What the seats of a table know. A seat knows only its own facts: what it did, and what its own steps returned. This
 -- project's own.
 use Rattle.std.specs.Prelude.{◌≡◌, ℕ, ◌-◌, ◌^◌, ◌/◌, ◌%◌, ◌<◌, List, [], ◌∷◌, ◌++◌, map, length, replicate, Option}
 use Rattle.std.specs.Prelude.{Some, None, IsTrue, false, bit_and, bit_or, bit_xor, slice_index, slice_set}
@@ -8,8 +8,8 @@ use Rattle.dirty_core.specs.Start.{Start, sizes_of, GuestOwns, CopierOwns, Copie
 use Rattle.dirty_core.specs.Machine.{Visits}
 use Rattle.dirty_core.specs.Runs.{place_after}
 
--- What a guest knows: what the table opened with, its own number, its stores, the last of them first, and the page
--- that it stored and has not marked yet.
+-- What a guest knows: what the table opened with, its own number, its stores, the last one first, and the page that it
+-- stored and has not marked yet.
 pub record GuestFacts : Type 0 where
   pub start : Start
   pub number : ℕ
@@ -18,8 +18,7 @@ pub record GuestFacts : Type 0 where
 
 -- What a copier knows: what the table opened with, its own number, and the pages that it holds. Of its own pages it
 -- knows the returned ones, so marked at opening or restored, and not harvested since; and the fresh ones, which an
--- answer showed while they were not returned. It knows its reads, the last of them first. Sets of pages are kept by
--- words.
+-- answer showed while they were not returned. It knows its reads, the last one first. Sets of pages are kept by words.
 pub record CopyFacts : Type 0 where
   pub start : Start
   pub number : ℕ
@@ -45,7 +44,7 @@ first_copier start number = record {
   reads = [];
 }
 
--- what so many guests or copiers know at opening, from this number on
+-- what `count` guests or copiers know at opening, from this number on
 abbrev pub guest_entries : Start → ℕ → ℕ → List Facts
 guest_entries start number count = map (λ n. of_guest (first_guest start n)) (range_with_len number count)
 

@@ -20,7 +20,7 @@ guest_facts seat = guest_in seat.seat.me.0
 abbrev pub copy_facts : CopyFields → CopyFacts
 copy_facts seat = copier_in seat.seat.me.0
 
--- the guest stands alone in its seat's view
+-- only the guest is in its seat's view
 pub record IsGuestSeat (seat : GuestFields) : Type 0 where
   pub alone : seat.seat.me ≡ (lone_guest (guest_facts seat), [])
   pub number : seat.number ≡ (guest_facts seat).number
@@ -31,7 +31,7 @@ pub record IsGuestSeat (seat : GuestFields) : Type 0 where
   pub pending : seat.pending ≡ (guest_facts seat).pending
   pub fits : GuestFits (guest_facts seat)
 
--- the copier stands alone in its seat's view
+-- only the copier is in its seat's view
 pub record IsCopySeat (seat : CopyFields) : Type 0 where
   pub alone : seat.seat.me ≡ (lone_copier (copy_facts seat), [])
   pub number : seat.number ≡ (copy_facts seat).number

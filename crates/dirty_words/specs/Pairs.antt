@@ -1,4 +1,4 @@
--- A table of one guest and one copier, on which the worked tables of the tests stand.
+-- A table of one guest and one copier, which the worked tables of the tests use.
 use Rattle.std.specs.Prelude.{◌≡◌, ◌⊎◌, ℕ, ◌<◌, IsTrue, Option, Some, None, false, ◌∷◌, length, slice_index}
 use Rattle.page_bitmap.specs.Pages.{in_words}
 use Rattle.dirty_core.specs.Start.{Start}
@@ -34,7 +34,7 @@ abbrev pub with_read : ℕ → Option ℕ → Visits → Visits
 with_read page None reads = reads
 with_read page (Some place) reads = (page, place) ∷ reads
 
--- each such page was last read at its current place, where this page alone was read, or none
+-- each such page was last read at its current place, if only this page was read, or none
 abbrev pub UnmarkedIsRead : Start → ℕ → Option ℕ → ClosedView → Type 0
 UnmarkedIsRead start one read closed = (page : ℕ) → page < length start.places → IsTrue (in_words start.dirty page)
     → in_words closed.dirty page ≡ false → (page ≡ one) × (read ≡ Some (slice_index closed.versions page))

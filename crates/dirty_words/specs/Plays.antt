@@ -7,7 +7,7 @@ use Rattle.dirty_core.specs.Runs.{IsVisited}
 use Rattle.dirty_words.specs.Facts.{Facts, of_guest, of_copier, GuestFacts, CopyFacts, first_guest, first_copier}
 use Rattle.dirty_words.specs.Facts.{after_store, after_mark, after_harvest, after_peek, after_restore, after_read}
 
--- ---- the one seat that stands in a view
+-- ---- the one seat in a view
 
 abbrev pub guest_in : List Facts → GuestFacts
 guest_in (of_guest facts ∷ others) = facts
@@ -25,7 +25,7 @@ lone_copier facts = of_copier facts ∷ []
 
 -- ---- what an answer of a harvest or a peek promises
 
--- the answer has at least the returned pages of the word, and pages that exist alone
+-- the answer has at least the returned pages of the word, and only pages that exist
 pub record IsAnswer (facts : CopyFacts) (word answer : ℕ) : Type 0 where
   pub fits : answer < 2 ^ 64
   pub returned : IsWithin (common (word_pages word) (in_words facts.returned)) (bit_pages word answer)
@@ -71,7 +71,7 @@ module _ {S : Type 0} (step : Step S) (me : Me S (List Facts)) (found : ℕ) (af
   reads = (after ≡ (lone_copier (after_read (page_of (copier_in me.0).start) found (copier_in me.0)), me.1))
       × IsOver (copier_in me.0) (page_of (copier_in me.0).start) found
 
-  -- a seat that nobody stands in
+  -- a seat with nobody in it
   abbrev pub enters : Type 0
   enters = after ≡ ([], [])
 

@@ -28,7 +28,7 @@ pub record TellsGuest (start : Start) (core : DirtyCore) (facts : GuestFacts) : 
   pub stores : facts.stores ≡ core.stores facts.number
   pub pending : facts.pending ≡ core.pending facts.number
 
--- returned pages are told of its own pages; each fresh page was stored since opening
+-- of its own pages the facts say which are returned; each fresh page was stored since opening
 pub record TellsCopier (start : Start) (core : DirtyCore) (facts : CopyFacts) : Type 0 where
   pub start_is : facts.start ≡ start
   pub held : SamePages (in_words facts.held) (core.held facts.number)
@@ -51,7 +51,7 @@ abbrev pub owner_of : Owners → Facts → ℕ
 owner_of owners (of_guest facts) = owners.guest facts.number
 owner_of owners (of_copier facts) = owners.copier facts.number
 
--- no guest or copier stands in two views, and what stands there is true
+-- no guest or copier is in two views, and what is there is true
 abbrev pub EachView : List (List Facts) → Owners → (Facts → Type 0) → Type 0
 EachView views owners IsTold = (seat entry : ℕ) (view : List Facts) (facts : Facts)
     → get_elem? views seat ≡ some view → get_elem? view entry ≡ some facts

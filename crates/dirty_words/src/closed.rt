@@ -25,7 +25,7 @@ impl Model for Closed {
     ghost view = { λ c. closed_view c.versions.items c.dirty.items };
 }
 
-/// Returns whether no version is above so many writes.
+/// Returns whether no version is above `writes`.
 fn none_above(versions: &[u32], writes: u32) -> bool
     ensures { IsTrue result ↔ All (λ version. version ≤ writes) versions.now }
 {
@@ -33,7 +33,7 @@ fn none_above(versions: &[u32], writes: u32) -> bool
 }
 
 impl Closed {
-    /// Returns whether a table of so many pages may leave this after so many writes: a version for each page, none
+    /// Returns whether a table of `pages` pages may leave this after `writes` writes: a version for each page, none
     /// above `writes`, a dirty word for each 64 pages begun, and no bit past the last page.
     pub fn fits(&self, pages: u32, writes: u32) -> bool
         ensures { IsTrue result ↔ FitsPages self.now pages writes }

@@ -39,7 +39,7 @@ impl Model for CopySeat {
     ghost invariant = { IsCopySeat };
 }
 
-/// Returns so many words of no pages.
+/// Returns `count` words of no pages.
 fn empty_words(alloc: Global, count: usize) -> Result<Vec<u64>, AllocError>
     ensures { IfOk result (λ words. words.items ≡ replicate count 0) }
 {
@@ -59,7 +59,7 @@ fn has_bits(words: &[u64]) -> bool
 }
 
 impl CopySeat {
-    /// Returns the seat of a copier that did nothing yet.
+    /// Returns the seat of a copier that has done nothing yet.
     pub(crate) fn first(
         alloc: Global,
         seat: Seat<u8, View>,

@@ -38,7 +38,7 @@ impl Model for GuestSeat {
 }
 
 impl GuestSeat {
-    /// Returns the seat of a guest that did nothing yet.
+    /// Returns the seat of a guest that has done nothing yet.
     pub(crate) fn first(
         alloc: Global,
         seat: Seat<u8, View>,
@@ -105,8 +105,7 @@ impl GuestSeat {
         self.last[page as usize]
     }
 
-    /// Stores a page's place, which has to be above the last one: one store to the page's word. The page is then
-    /// pending.
+    /// Stores a page's place, which must be above the last one: one store to the page's word. The page is then pending.
     pub fn advance(&mut self, table: &RoundTable, page: u32, place: u32)
         requires table { guest_table self.old ≡ table.now }
         requires own { OwnsPage self.old.facts page }

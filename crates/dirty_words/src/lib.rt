@@ -2,9 +2,9 @@
 //! restore and read. Each step is one atomic operation on one word.
 //!
 //! A table opens with a version word for each page and a dirty word for each 64 pages: the dirty bitmap. It gives out a
-//! seat for each guest and each copier, which goes to a thread of the caller's. A seat tells when its steps may be
-//! taken (`owns`, `pending`, `last`, `held`); no step waits or allocates. With all seats back, [`RoundTable::close`]
-//! returns what is left: no page that was stored is lost.
+//! seat for each guest and each copier, which goes to a thread of the caller's. A seat says when its steps may be taken
+//! (`owns`, `pending`, `last`, `held`); no step waits or allocates. With all seats back, [`RoundTable::close`] returns
+//! what is left: no page that was stored is lost.
 //!
 //! ```
 //! // Four pages before any write, all of them marked; one guest and one copier.

@@ -26,7 +26,7 @@ pub(crate) fn opening_words(alloc: Global, opening: &Opening) -> Result<Vec<u64>
     Ok(words)
 }
 
-/// Cuts a seat for each guest off the seat in which all stand.
+/// Cuts a seat for each guest off the seat that all are in.
 pub(crate) fn cut_guests(
     alloc: Global,
     table: &Shared<u8, View, Opening, Shown>,
@@ -49,7 +49,7 @@ pub(crate) fn cut_guests(
     Ok(guests)
 }
 
-/// Cuts a seat for each copier off the seat in which all copiers stand.
+/// Cuts a seat for each copier off the seat that all copiers are in.
 pub(crate) fn cut_copiers(
     alloc: Global,
     table: &Shared<u8, View, Opening, Shown>,

@@ -84,7 +84,7 @@ impl Play<u8, View> for Reads {
     ghost then = { reads };
 }
 
-/// A new seat, in which nobody stands.
+/// A new seat, with nobody in it.
 pub struct Enters;
 
 impl Play<u8, View> for Enters {

@@ -47,7 +47,7 @@ fn refusal(rt: &impl AllocGlobal, bytes: &[u8]) -> Option<FrameError> {
     decode_frame(rt.alloc(), &shape(), bytes).err()
 }
 
-/// Returns the encodings of both frames, one behind the other.
+/// Returns the encodings of both frames, one after the other.
 fn both_appended(rt: &impl AllocGlobal) -> Result<Vec<u8>, FrameError> {
     let shape = shape();
     let mut stream = Vec::new(rt.alloc());
@@ -64,7 +64,7 @@ fn frames_are_appended(rt: HostRuntime) -> Result<(), Fail> {
     Ok(())
 }
 
-/// Returns a frame's page and stamp, and its bytes where they are not zeros.
+/// Returns a frame's page and stamp, and its bytes if they are not zeros.
 fn parts_of(frame: &Frame) -> (u32, u32, Option<&[u8]>) {
     let bytes = match &frame.body {
         Body::Zero => None,
@@ -115,7 +115,7 @@ fn frames_are_viewed_where_they_stand(rt: HostRuntime) -> Result<(), Fail> {
     Ok(())
 }
 
-/// Makes the frame equal to the one that is viewed. Returns whether it then has this page, this stamp and these bytes.
+/// Makes the frame equal to the viewed one. Returns whether it then has this page, this stamp and these bytes.
 fn becomes(
     alloc: Global,
     frame: &mut Frame,

@@ -1,4 +1,4 @@
-//! Worked examples of traces, frames, streams and parts: tests alone.
+//! Worked examples of traces, frames, streams and parts: only for tests.
 #![tactic(auto)]
 
 #[cfg(test)]

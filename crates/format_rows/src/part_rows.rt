@@ -27,7 +27,7 @@ fn shape() -> Shape
     }
 }
 
-/// Gives the part a page whose bytes are all this one. Returns the page's fate, or None where memory ran out.
+/// Gives the part a page filled with this byte. Returns the page's fate, or None if memory ran out.
 fn give(
     alloc: Global,
     part: &mut Part,
@@ -45,7 +45,7 @@ fn give(
     part.accept(frame_of(shape, page, stamp, bytes)).ok()
 }
 
-/// Returns a part to which page 1 came with these stamps in turn, and the fate of each.
+/// Returns a part that got page 1 with these stamps in turn, and the fate of each.
 fn given(alloc: Global, first: u32, second: u32, third: u32) -> (Part, [Option<Fate>; 3])
     requires first { first ≤ 5 }
     requires second { second ≤ 5 }
@@ -82,7 +82,7 @@ fn greatest_stamp_is_kept(rt: HostRuntime) {
     );
 }
 
-/// Exchanges page 1, whose bytes are all this one. Returns the stamp and the first byte of the frame that goes.
+/// Exchanges page 1, filled with this byte. Returns the stamp and the first byte of the frame that goes.
 fn swap(
     alloc: Global,
     part: &mut Part,
@@ -132,7 +132,7 @@ fn older_frame_goes(rt: HostRuntime) {
     );
 }
 
-/// Returns a frame of zeros, and these bytes behind it.
+/// Returns a frame of zeros followed by these bytes.
 fn behind_zeros(alloc: Global, frame: &[u8]) -> Result<Vec<u8>, AllocError> {
     let mut bytes = Vec::from_slice(alloc, &ZEROS_FRAME)?;
     bytes.extend_from_slice(frame)?;
@@ -196,7 +196,7 @@ fn frame_that_comes_twice_is_old(rt: HostRuntime) {
     );
 }
 
-/// Returns the byte that each of page 1's bytes is, where the part has the page and they are equal.
+/// Returns the value of each of page 1's bytes, if the part has the page and they are equal.
 fn filling(part: &Part) -> Option<u8> {
     match &part.frame(1)?.body {
         Body::Zero => Some(0),
@@ -207,8 +207,8 @@ fn filling(part: &Part) -> Option<u8> {
     }
 }
 
-/// Gives the part the encoding of page 1, each of whose bytes is this one. Returns how many frames the part takes, and
-/// then its stamp of the page and the byte that fills the page.
+/// Gives the part the encoding of page 1, filled with this byte. Returns how many frames the part takes, and then its
+/// stamp of the page and the byte that fills the page.
 fn copy(
     alloc: Global,
     part: &mut Part,

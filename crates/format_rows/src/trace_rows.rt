@@ -1,4 +1,4 @@
-//! Worked examples of a trace that is held as its bytes.
+//! Worked examples of a trace held as its bytes.
 
 ghost use Rattle.std.specs.Prelude.{◌≤◌};
 
@@ -10,7 +10,7 @@ use trace_codec::{
 use trace_readers::HeldTrace;
 use worked_guest::{NO_WRITES, TRACE};
 
-/// Returns the first bytes of the trace, some of them changed, and more behind them.
+/// Returns the first bytes of the trace, some of them changed, and more after them.
 fn changed(
     alloc: Global,
     len: usize,
@@ -113,7 +113,7 @@ fn counts_the_touches_before_a_tick(rt: HostRuntime) -> Result<(), Fail> {
     Ok(())
 }
 
-/// Returns the shape and the writes of the trace, where each read gives so many of its bytes at most.
+/// Returns the shape and the writes of the trace, if each read gives at most `greatest` bytes.
 fn told_by_reads(
     alloc: Global,
     greatest: usize,
@@ -139,7 +139,7 @@ fn is_the_same_as_a_trace_with_writes_of_its_own(rt: HostRuntime) -> Result<(), 
     Ok(())
 }
 
-/// Returns why the bytes are refused, if they are, where each read gives so many of them at most, and the read of this
+/// Returns why the bytes are refused, if they are, when each read gives at most `greatest` and the read of this
 /// number fails.
 fn read_refusal(
     alloc: Global,
@@ -152,7 +152,7 @@ fn read_refusal(
     HeldTrace::read(alloc, &mut TestSource::new(bytes, greatest, fault)).err()
 }
 
-/// Returns why the changed trace is refused, as a whole, and where each read gives 20 of its bytes at most.
+/// Returns why the changed trace is refused, as a whole, and when each read gives at most 20 bytes.
 fn refusals(
     alloc: Global,
     len: usize,
@@ -207,8 +207,7 @@ fn long_text(alloc: Global) -> Result<Vec<u8>, AllocError> {
     Ok(bytes)
 }
 
-/// Returns the length of the long trace's bytes, and the trace that is read where each read gives so many bytes at
-/// most.
+/// Returns the length of the long trace's bytes, and the trace read at most `greatest` bytes at a time.
 fn long_trace(alloc: Global, greatest: usize) -> Result<(usize, HeldTrace), Fail>
     requires { 1 ≤ greatest }
 {

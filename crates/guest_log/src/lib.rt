@@ -1,6 +1,6 @@
-//! What a log of guest writes tells: the sizes of the guest, when its pages are written, and what is written.
+//! What a log of guest writes says: the sizes of the guest, when its pages are written, and what is written.
 //!
-//! Working sets and rounds need a [`Timeline`] alone. What needs the bytes of writes takes a [`WriteLog`]. A trace is
+//! Working sets and rounds need only a [`Timeline`]. What needs the bytes of writes takes a [`WriteLog`]. A trace is
 //! both; so is any other source of writes that keeps to these contracts.
 #![tactic(auto)]
 

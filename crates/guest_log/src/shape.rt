@@ -2,7 +2,7 @@
 
 ghost use Rattle.std.specs.Prelude.{◌≡◌, ◌≤◌, ◌^◌};
 
-/// The last version of the format of traces. In it a write of no bytes releases its page.
+/// The last version of the trace format. In it a write of no bytes releases its page.
 pub const LAST_VERSION: u8 = 2;
 
 /// The sizes of a trace: pages of `2^shift` bytes, how many pages, and how many writes.

@@ -11,7 +11,7 @@ use std::marker::Model;
 pub struct Touch {
     /// The tick of the write.
     pub tick: u64,
-    /// The page that it is to.
+    /// The page that it writes to.
     pub page: u32,
 }
 

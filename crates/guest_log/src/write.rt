@@ -14,11 +14,11 @@ use std::marker::Model;
 pub struct Write {
     /// The tick of the write.
     pub tick: u64,
-    /// The page that it is to.
+    /// The page that it writes to.
     pub page: u32,
     /// The offset in the page, in bytes.
     pub offset: u16,
-    /// The bytes that are written; none where the page is released.
+    /// The bytes that are written; none if the page is released.
     pub bytes: Vec<u8>,
 }
 
@@ -55,11 +55,11 @@ impl Write {
 pub struct WriteView<'a> {
     /// The tick of the write.
     pub tick: u64,
-    /// The page that it is to.
+    /// The page that it writes to.
     pub page: u32,
     /// The offset in the page, in bytes.
     pub offset: u16,
-    /// The bytes that are written; none where the page is released.
+    /// The bytes that are written; none if the page is released.
     pub bytes: &'a [u8],
 }
 
@@ -74,7 +74,7 @@ impl<'a> WriteView<'a> {
     }
 
     /// Puts the write over the bytes from an offset on, of a guest of this shape: the bytes that are written, or zeros
-    /// for a whole page where the write releases it.
+    /// for a whole page if the write releases it.
     pub fn put_at(&self, shape: Shape, bytes: &mut [u8], start: usize)
         requires { start + length (bytes_put shape.shift (shown self.now)) ≤ length bytes.old }
         ensures { bytes.new ≡ put bytes.old start (bytes_put shape.shift (shown self.now)) }

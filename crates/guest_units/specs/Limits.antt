@@ -19,12 +19,12 @@ first_rate scale limits = rate_of scale (unwrap_or limits.first limits.link)
 abbrev pub ticks_for_pages : TraceScale → Limits → ℕ
 ticks_for_pages scale limits = ticks_in scale (limits.downtime - limits.reserve)
 
--- fewer pages than these go within so many ticks at a rate
+-- fewer pages than these go within `ticks` ticks at a rate
 abbrev pub threshold_for : ℕ → ℕ → ℕ
 threshold_for ticks rate = ticks * rate / 1_000 + 1
 
--- the settings of limits: others are as given, and the increment is, or else a tenth of what the link has above the
--- first round
+-- the settings of limits: others are as given, and so is the increment, or else it is a tenth of what the link has
+-- above the first round
 abbrev pub settings_in : TraceScale → Limits → Option ℕ → MigrationSettings → MigrationSettings
 settings_in scale limits increment others = record others {
   min = first_rate scale limits;

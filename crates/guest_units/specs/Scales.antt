@@ -1,5 +1,5 @@
 -- What ticks and pages of a trace stand for. Units of time and of the guest's memory are this project's own.
-use Rattle.std.specs.Prelude.{◌≡◌, ℕ, ◌*◌, ◌/◌, ◌^◌, ◌≤◌, ◌&&◌, nat_le, not, if◌then◌else◌, Option, Some, None}
+use Rattle.std.specs.Prelude.{ℕ, ◌*◌, ◌/◌, ◌^◌, ◌≤◌, ◌&&◌, nat_le, not, if◌then◌else◌, Option, Some, None}
 use Rattle.rate_limit.specs.Refusals.{is_between}
 use Rattle.guest_units.specs.declared.error.UnitsError.{UnitsError}
 use Rattle.guest_units.specs.declared.error.UnitsError.TheVariants as errors
@@ -33,18 +33,18 @@ scale_refusal scale =
     else (if not (is_between 1 scale.guest scale.sampled && nat_le scale.guest (2 ^ 32)) then Some errors.Sampled
     else None))
 
--- A rate of the guest, in bytes a second, as a rate of the trace: pages per 1,000 ticks, rounded down. Of the guest's
--- pages the trace has the share that was sampled.
+-- A rate of the guest, in bytes a second, as a rate of the trace: pages per 1,000 ticks, rounded down. The trace has
+-- the sampled share of the guest's pages.
 abbrev pub rate_of : TraceScale → ℕ → ℕ
 rate_of scale bytes = bytes * scale.tick * scale.sampled / (1_000 * scale.page * scale.guest)
 
--- how many whole ticks there are in so many microseconds, and how many microseconds in so many ticks
+-- how many whole ticks there are in a number of microseconds, and how many microseconds in a number of ticks
 abbrev pub ticks_in : TraceScale → ℕ → ℕ
 ticks_in scale time = time / scale.tick
 
 abbrev pub micros_of : TraceScale → ℕ → ℕ
 micros_of scale ticks = ticks * scale.tick
 
--- how many bytes of the guest so many pages of the trace stand for, rounded down
+-- how many bytes of the guest this many pages of the trace stand for, rounded down
 abbrev pub bytes_of : TraceScale → ℕ → ℕ
 bytes_of scale pages = pages * scale.page * scale.guest / scale.sampled

@@ -3,8 +3,7 @@
 use rate_limit::SettingsError;
 use thiserror::Error;
 
-/// Why limits make no settings: the option that is out of its range. Where several are, the error is the first in this
-/// order.
+/// Why limits make no settings: the option that is out of its range. If several are, it is the first in this order.
 #[derive(Clone, Copy, Debug, PartialEq, Eq, Error)]
 pub enum UnitsError {
     /// A tick is not 1 microsecond to 1 second.

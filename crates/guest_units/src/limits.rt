@@ -1,7 +1,6 @@
 //! What a migration may take, and the settings that keep to it.
 
-ghost use Rattle.std.specs.Prelude.{◌≡◌, IfErr, IfOk, None, Some};
-ghost use Rattle.migration_model.specs.Rates.{MigrationSettings};
+ghost use Rattle.std.specs.Prelude.{◌≡◌, IfErr, IfOk, None};
 ghost use Rattle.guest_units.specs.Limits.{RefusesLimits, limits_refusal, settings_in};
 
 use crate::error::UnitsError;
@@ -17,19 +16,19 @@ const MAX_THRESHOLD: u128 = 65_536;
 /// What a migration may take: of the link, and of the guest's time.
 #[derive(Clone, Copy, Debug, PartialEq, Eq)]
 pub struct Limits {
-    /// What the migration may use of the link, in bytes a second.
+    /// How much of the link the migration may use, in bytes a second.
     pub link: u64,
-    /// What its first round may use, in bytes a second; the whole link where it is none.
+    /// How much its first round may use, in bytes a second; the whole link if none is given.
     pub first: Option<u64>,
     /// The longest downtime, in microseconds.
     pub downtime: u64,
-    /// What of the downtime goes to other things than pages, in microseconds.
+    /// How much of the downtime goes to other things than pages, in microseconds.
     pub reserve: u64,
 }
 
 impl Limits {
     /// Returns the settings for a trace of this scale: its rates rounded down, the threshold below which the downtime
-    /// is kept, and the increment that is given, or else a tenth of what the link has above the first round.
+    /// is kept, and the given increment, or else a tenth of what the link has above the first round.
     pub fn settings(
         &self,
         scale: &Scale,

@@ -1,6 +1,6 @@
 //! What ticks and pages of a trace stand for.
 
-ghost use Rattle.std.specs.Prelude.{◌≡◌, ◌*◌, ◌<◌, ◌^◌, IfErr, IfOk, Some, true};
+ghost use Rattle.std.specs.Prelude.{◌≡◌, ◌*◌, ◌<◌, ◌^◌, IfErr, IfOk, Some};
 ghost use Rattle.guest_units.specs.Scales.{IsScale, bytes_of, micros_of, rate_of, scale_refusal, scale_with, ticks_in};
 
 use crate::error::UnitsError;
@@ -17,8 +17,8 @@ const MAX_PAGE: u64 = 4096;
 /// The most pages of a guest.
 const MAX_GUEST: u64 = 1 << 32;
 
-/// What ticks and pages of a trace stand for: the length of a tick, the bytes of a page, and of how many of the guest's
-/// pages the trace was recorded.
+/// What ticks and pages of a trace stand for: the length of a tick, the bytes of a page, and how many of the guest's
+/// pages the trace recorded.
 #[derive(Clone, Copy, Debug, PartialEq, Eq)]
 pub struct Scale {
     tick: u64,
@@ -47,7 +47,7 @@ fn product(a: u64, b: u64) -> u128
 }
 
 impl Scale {
-    /// Returns the scale of a tick in microseconds, a page in bytes, and so many of the guest's pages sampled.
+    /// Returns the scale of a tick in microseconds, a page in bytes, and `sampled` of the guest's pages sampled.
     pub fn new(tick: u64, page: u64, sampled: u64, guest: u64) -> Result<Scale, UnitsError>
         ensures made { IfOk result (λ scale. scale ≡ scale_with tick page sampled guest) }
         ensures accepted { IfOk result (λ scale. scale_refusal (scale_with tick page sampled guest) ≡ None) }

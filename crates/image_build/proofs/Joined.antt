@@ -1,5 +1,5 @@
--- Memory made of parts, page by page.
-use Rattle.std.proofs.Common.{◌≡◌, ℕ, inl, inr, zero, suc, ◌+◌, ◌-◌, ◌*◌, ◌^◌, ◌<◌, ltb, List, [], ◌∷◌, ◌++◌, length}
+-- Memory made from parts, page by page.
+use Rattle.std.proofs.Common.{◌≡◌, ℕ, inl, inr, ◌+◌, ◌-◌, ◌*◌, ◌^◌, ◌<◌, ltb, List, [], ◌∷◌, ◌++◌, length}
 use Rattle.std.proofs.Common.{take, drop, replicate, get_or, Option, Some, None, IfSome, refl, sym, subst, ap, ◌∙◌}
 use Rattle.std.proofs.Common.{arith}
 use Rattle.std.specs.List.{All, between, fold, flat_map, range_with_len}
@@ -18,7 +18,7 @@ use Rattle.migration_model.proofs.Lists.{get_or-replicate_default}
 use Rattle.image_build.specs.Joins.{IsMissing, IsWhole, WholeParts, memory_by}
 use Rattle.image_build.specs.declared.error.ImageError.TheVariants as errors
 
--- what is kept of a page after the parts that are left
+-- what is kept of a page after the remaining parts
 abbrev pub kept_of : ℕ → Option PageCopy → List GuestPart → Option PageCopy
 kept_of page kept parts = fold (λ (k : Option PageCopy) (part : GuestPart). later k (copy_at part page)) kept parts
 
@@ -32,14 +32,14 @@ copy_at-joined first (part ∷ parts) page =
 abbrev none_copy : Option PageCopy
 none_copy = None
 
--- what the join has of a page is what is kept of it, part after part
+-- what the join has for a page is what is kept of it, part after part
 pub copy_at-join_all : (shape : GuestShape) (parts : List GuestPart) (page : ℕ)
     → copy_at (join_all shape parts) page ≡ kept_of page None parts
 copy_at-join_all shape parts page =
     copy_at-joined (empty_part shape) parts page ∙ ap (λ (k : Option PageCopy). kept_of page k parts)
     (get_or-replicate_default shape.pages page none_copy)
 
--- one part more
+-- one more part
 pub kept-more : (page : ℕ) (kept next : Option PageCopy) (parts : List GuestPart) (part : GuestPart) (i : ℕ)
     (whole : Option PageCopy)
     → kept_of page kept (drop i parts) ≡ whole → i < length parts → part ≡ get_or parts i part
@@ -97,7 +97,7 @@ join-from_InNoPart shape parts page lacks = copy_at-join_all shape parts page �
 
 -- ---- page after page
 
--- a page that the join has, in its size
+-- a page that the join has, with its size
 abbrev pub HasPage : WholeParts → ℕ → Type 0
 HasPage whole page = (copy : PageCopy) × (copy_at (join_all whole.shape whole.parts) page ≡ Some copy)
     × (length copy.content ≡ 2 ^ whole.shape.shift)
@@ -107,7 +107,7 @@ pub size_of : (n : ℕ) (body : Option (List ℕ)) → IfSome body (λ bytes. (l
 size_of n None fits = length-replicate n 0
 size_of n (Some bytes) fits = fits.0
 
--- the first pages, so many, are there
+-- the first `count` pages are there
 abbrev pub HasFirst : WholeParts → ℕ → Type 0
 HasFirst whole count = (page : ℕ) → page < count → HasPage whole page
 
@@ -133,7 +133,7 @@ pub HaveFirst-from_join : (whole : WholeParts) (count : ℕ) → HasFirst whole 
 HaveFirst-from_join whole count first page low lacks =
     cc (sym (join-from_InNoPart whole.shape whole.parts page lacks) ∙ (first page low).1)
 
--- a page that is refused after the first pages is the least that is in no part
+-- a page that is refused after the first pages is the first that is in no part
 pub refused_first : (whole : WholeParts) (page : ℕ) → page < whole.shape.pages → HasFirst whole page
     → copy_at (join_all whole.shape whole.parts) page ≡ None
     → IsMissing whole.shape whole.parts (errors.Missing page)
@@ -163,7 +163,7 @@ IsJoined-from_all whole count first all = record {
   is = refl;
 }
 
--- the bytes of the first pages, so many
+-- the bytes of the first `count` pages
 pub record Makes (whole : WholeParts) (count : ℕ) (bytes : List ℕ) : Type 0 where
   pub is : bytes ≡ bytes_of_first (join_all whole.shape whole.parts) count
   pub len : length bytes ≡ count * 2 ^ whole.shape.shift
@@ -196,7 +196,7 @@ memory_from_all whole count bytes makes all =
     ∙ ap (λ (s : GuestShape). memory_with s.shift s.pages (bytes_of_first joined s.pages))
     (sym (shape-join_all whole.shape whole.parts))
 
--- a page of the memory is what the join has of it
+-- a page of the memory is what the join has for it
 pub page_by : (whole : WholeParts) (page : ℕ) (copy : PageCopy) → IsWhole whole → page < whole.shape.pages
     → copy_at (join_all whole.shape whole.parts) page ≡ Some copy → page_of (memory_by whole) page ≡ copy.content
 page_by whole page copy is low has =

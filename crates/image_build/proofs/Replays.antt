@@ -1,5 +1,5 @@
 -- Memory on the way through the writes.
-use Rattle.std.proofs.Common.{◌≡◌, ℕ, suc, ◌+◌, ◌*◌, ◌^◌, ◌<◌, ◌≤◌, Bool, true, false, List, [], ◌∷◌, ◌++◌, length}
+use Rattle.std.proofs.Common.{◌≡◌, ℕ, suc, ◌+◌, ◌*◌, ◌^◌, ◌<◌, ◌≤◌, true, false, List, [], ◌∷◌, ◌++◌, length}
 use Rattle.std.proofs.Common.{get_or, drop, ltb, Result, Ok, Err, refl, sym, ap, subst, ◌∙◌, arith}
 use Rattle.std.specs.List.{filter, fold}
 use Rattle.std.specs.List.Sorted.{IsPartitionPoint}
@@ -20,12 +20,12 @@ use Rattle.image_build.specs.declared.error.ReplayError.{ReplayError}
 use Rattle.image_build.specs.declared.error.ReplayError.TheVariants as errors
 use Rattle.migration_model.specs.Memory.{GuestMemory, bytes_put, memory_with, zeros, put, apply, replay, image_of}
 
--- Memory so far, from which the writes that are left make the whole.
+-- Memory so far, which the remaining writes turn into the whole.
 pub record Becomes (shift pages : ℕ) (memory : List ℕ) (left : List GuestWrite) (whole : GuestMemory) : Type 0 where
   pub len : length memory ≡ pages * 2 ^ shift
   pub rest : fold apply (memory_with shift pages memory) left ≡ whole
 
--- a write of the guest stands within its memory
+-- a write of the guest is within its memory
 pub write_fits : (version shift pages : ℕ) (memory : List ℕ) (write : GuestWrite) → length memory ≡ pages * 2 ^ shift
     → IsGuestWrite version shift pages write
     → write.page * 2 ^ shift + write.offset + length (bytes_put shift write) ≤ length memory
@@ -45,7 +45,7 @@ Becomes-next version shift pages memory next write left whole before fits is =
       rest = ap (λ (m : List ℕ). fold apply (memory_with shift pages m) left) is ∙ before.rest;
     }
 
--- what was made of the writes so far, and then of one more
+-- what was made from the writes so far, and then from one more
 pub replay-push : (shift pages : ℕ) (memory next : List ℕ) (writes : List GuestWrite) (write : GuestWrite)
     → replay shift pages writes ≡ memory_with shift pages memory
     → next ≡ put memory (write.page * 2 ^ shift + write.offset) (bytes_put shift write)
@@ -78,7 +78,7 @@ item_fits trace shift pages items i write seen is shift_is pages_is same low at 
     ∙ ap (λ (l : List GuestWrite). get_or l i write) same in
     rw (shift_is, pages_is, here) (is.writes.each i write (omega (arith, low, ap length same)))
 
--- the write at an index comes first of those from there on
+-- the write at an index is the first of those from there on
 first_from : (items : List GuestWrite) (i : ℕ) (write seen : GuestWrite) → i < length items
     → write ≡ get_or items i write → seen ≡ write
     → drop i items ≡ seen ∷ drop (i + 1) items
@@ -96,7 +96,7 @@ Becomes-item version shift pages memory next items i write seen whole before low
     (subst (λ (l : List GuestWrite). Becomes shift pages memory l whole) (first_from items i write seen low at seen_is)
     before) fits is
 
--- ---- of which the first are before a tick
+-- ---- the first of them are before a tick
 
 abbrev pub IsPoint : GuestTrace → ℕ → ℕ → Type 0
 IsPoint trace tick count =
@@ -138,7 +138,7 @@ Becomes-before trace tick count index shift pages memory next seen whole point l
     Becomes-next trace.version shift pages memory next seen rest whole
     (subst (λ (l : List GuestWrite). Becomes shift pages memory l whole) kept before) fits is
 
--- behind the last of them there is none
+-- there are none after the last of them
 pub none_before : (trace : GuestTrace) (tick count : ℕ) → IsPoint trace tick count → left_before trace tick count ≡ []
 none_before trace tick count point =
     filter_none (λ (w : GuestWrite). ltb w.tick tick) (drop count trace.writes) (λ k d inside.

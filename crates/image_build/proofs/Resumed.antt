@@ -16,7 +16,7 @@ use Rattle.std.proofs.Common.{eqb, drop}
 abbrev memory_of : GuestTrace → List ℕ → GuestMemory
 memory_of trace bytes = memory_with trace.shift trace.pages bytes
 
--- the pages below this one have their own writes after their versions, and all others are as before
+-- the pages below this one have their own writes after their versions applied, and all others are as before
 pub record Resumes (trace : GuestTrace) (versions before : List ℕ) (page : ℕ) (memory : List ℕ) : Type 0 where
   pub len : length memory ≡ trace.pages * 2 ^ trace.shift
   pub done : (p : ℕ) → p < page → page_of (memory_with trace.shift trace.pages memory) p

@@ -27,13 +27,13 @@ pub record IsWhole (whole : WholeParts) : Type 0 where
       → (copy : PageCopy) × (copy_at (join_all whole.shape whole.parts) page ≡ Some copy)
       × (length copy.content ≡ 2 ^ whole.shape.shift)
 
--- the refusal names the least page that is in no part
+-- the refusal names the first page that is in no part
 pub record IsMissing (shape : GuestShape) (parts : List GuestPart) (error : ImageError) : Type 0 where
   pub page : ℕ
   pub names : error ≡ errors.Missing page
   pub lacks : LacksFirst shape parts page
 
--- this is the least page that is in no part, or memory ran out
+-- this is the first page that is in no part, or memory ran out
 abbrev pub RefusesParts : GuestShape → List GuestPart → ImageError → Type 0
 RefusesParts shape parts (errors.Missing page) = LacksFirst shape parts page
 RefusesParts shape parts errors.Memory = ⊤

@@ -35,10 +35,10 @@ impl<T: Drop> From<AllocFailed<T>> for ImageError {
     }
 }
 
-/// Why memory could not be made of bytes that may encode a trace.
+/// Why memory could not be made from bytes that may encode a trace.
 #[derive(Clone, Copy, Debug, PartialEq, Eq, Error)]
 pub enum ReplayError {
-    /// The bytes are no trace.
+    /// The bytes are not a trace.
     #[error("trace {0}")]
     Trace(TraceError),
     /// Memory ran out.

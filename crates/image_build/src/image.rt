@@ -25,7 +25,7 @@ impl Model for Image {
 }
 
 impl Image {
-    /// Returns the memory of a guest of this size with these bytes.
+    /// Returns the memory with these bytes of a guest of this size.
     pub(crate) fn of(shift: u8, pages: u32, bytes: Vec<u8>) -> Image
         requires { IsMemory shift pages bytes.items }
         ensures { result ≡ memory_with shift pages bytes.items }
@@ -55,7 +55,7 @@ impl Image {
         &self.bytes
     }
 
-    /// Returns the bytes of all pages, page after page, and takes the image apart.
+    /// Returns the bytes of all pages, page after page, and consumes the image.
     pub fn into_bytes(self) -> Vec<u8>
         ensures bytes { result.items ≡ self.bytes }
         ensures is_memory { IsMemory self.shift self.pages self.bytes }
@@ -68,7 +68,7 @@ impl Image {
         bytes
     }
 
-    /// Returns whether the image has as many pages as the shape says, and of that size.
+    /// Returns whether the image has the number and size of pages that the shape says.
     pub fn fits(&self, shape: &Shape) -> bool
         ensures { IsTrue result ↔ ((self.now.shift ≡ shape.now.shift) × (self.now.pages ≡ shape.now.pages)) }
     {

@@ -1,4 +1,4 @@
-//! All of a guest's memory, left in the parts that have it.
+//! All of a guest's memory, left in its parts.
 
 ghost use Rattle.std.specs.Prelude.{◌≡◌, ◌<◌, ◌^◌, ◌++◌, IfErr, IfOk, MatchResult, OnOk, Some, length};
 ghost use Rattle.std.specs.List.{All};
@@ -18,8 +18,8 @@ use std::alloc::{AllocError, Global};
 use std::marker::Model;
 use trace_codec::Shape;
 
-/// All of a guest's memory where several parts have it together: of each page the bytes with the greatest stamp, and
-/// the first part's where several have that stamp. No page is copied.
+/// All of a guest's memory that several parts have together: for each page, the bytes with the greatest stamp, or the
+/// first part's if several have that stamp. No page is copied.
 #[derive(Debug, Drop)]
 pub struct JoinedParts {
     shape: Shape,
@@ -59,7 +59,7 @@ fn put_body(room: &mut Vec<u8>, shape: &Shape, frame: &Frame)
 
 impl JoinedParts {
     /// Returns the memory that the parts make together. It allocates nothing. The only error is `Missing`, which names
-    /// the least page that no part has; the parts are then dropped.
+    /// the first page that no part has; the parts are then dropped.
     pub fn new(shape: Shape, parts: Vec<Part>) -> Result<JoinedParts, ImageError>
         requires { All (λ part. part.shape ≡ shape_of shape) parts.items }
         ensures made { IfOk result (λ m. m ≡ whole_with (shape_of shape) parts.items) }
@@ -74,7 +74,7 @@ impl JoinedParts {
         Ok(JoinedParts { shape, parts })
     }
 
-    /// Returns the shape of the trace that the parts are of.
+    /// Returns the shape of the parts' trace.
     pub fn shape(&self) -> Shape
         ensures shape { shape_of result ≡ self.now.shape }
         ensures shift { result.shift ≡ (memory_by self.now).shift }
@@ -96,7 +96,7 @@ impl JoinedParts {
         frame
     }
 
-    /// Copies the bytes of a page into a buffer of as many bytes.
+    /// Copies the bytes of a page into a buffer of the same length.
     pub fn page_into(&self, page: u32, room: &mut Vec<u8>)
         requires page { page < (memory_by self.now).pages }
         requires room { length room.old.items ≡ 2 ^ (memory_by self.now).shift }
@@ -118,9 +118,8 @@ impl JoinedParts {
     }
 }
 
-/// Returns the memory that the parts make together: of each page the bytes with the greatest stamp, and the first
-/// part's where several have that stamp. `Missing` names the least page that no part has. After an error the parts are
-/// dropped.
+/// Returns the memory that the parts make together: for each page, the bytes with the greatest stamp, or the first
+/// part's if several have it. `Missing` names the first page in no part. After an error the parts are dropped.
 pub fn of_parts(alloc: Global, shape: &Shape, parts: Vec<Part>) -> Result<Image, ImageError>
     requires { All (λ part. part.shape ≡ shape_of shape.now) parts.items }
     ensures made { IfOk result (IsJoined (shape_of shape.now) parts.items) }

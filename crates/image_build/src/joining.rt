@@ -1,4 +1,4 @@
-//! The frame that several parts have of a page together.
+//! The frame that several parts together have for a page.
 
 ghost use Rattle.std.specs.Prelude.{◌≡◌, IfSome, option_map};
 ghost use Rattle.std.specs.List.{All};
@@ -10,7 +10,7 @@ use collector::Part;
 use page_message::Frame;
 use trace_codec::Shape;
 
-/// Returns, of two frames of a page, the one with the greater stamp, and the first where the stamps are equal.
+/// Returns the one of two frames of a page with the greater stamp, or the first if the stamps are equal.
 fn later_frame<'a>(first: Option<&'a Frame>, second: Option<&'a Frame>) -> Option<&'a Frame>
     ensures copy { (shape : GuestShape) → option_map (λ f. copy_in shape f.now) result
         ≡ later (option_map (λ f. copy_in shape f.now) first.entry)
@@ -26,7 +26,7 @@ fn later_frame<'a>(first: Option<&'a Frame>, second: Option<&'a Frame>) -> Optio
     }
 }
 
-/// Returns the frame of a page with the greatest stamp, and the first of those where several have it.
+/// Returns the frame of a page with the greatest stamp, or the first of them if several have it.
 pub(crate) fn latest<'a>(shape: &Shape, parts: &'a [Part], page: u32) -> Option<&'a Frame>
     requires { All (λ part. part.shape ≡ shape_of shape.now) parts.now }
     ensures copy { option_map (λ f. copy_in (shape_of shape.now) f.now) result

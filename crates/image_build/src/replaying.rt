@@ -18,7 +18,7 @@ fn blank(alloc: Global, shape: Shape) -> Result<Vec<u8>, AllocError>
     Vec::from_elem(alloc, 0, (shape.pages as usize) << shape.shift)
 }
 
-/// Puts a write over memory of this shape, in which it stands at its offset of its page.
+/// Applies a write to memory of this shape, at its offset in its page.
 pub(crate) fn write_over(memory: &mut Vec<u8>, shape: Shape, write: &WriteView<'_>)
     requires { write.now.page * 2 ^ shape.shift + write.now.offset + length (bytes_put shape.shift (shown write.now))
         ≤ vec_len memory.old }
@@ -92,12 +92,11 @@ fn replay_reader(alloc: Global, reader: TraceReader<'_>) -> Result<Image, Replay
     Ok(Image::of(shape.shift, shape.pages, memory))
 }
 
-/// Memory that is no greater than the trace's bytes, or than this, is made while the bytes are tested.
+/// Memory no larger than the trace's bytes, or than this, is made while the bytes are tested.
 const SMALL: usize = 1_048_576;
 
-/// Returns the memory after all writes of the trace that the bytes encode, if they do. Where memory is greater than
-/// the bytes and than `SMALL`, it tests the bytes first, so that bytes that are refused never make the program
-/// allocate it.
+/// Returns the memory after all writes of the trace that the bytes encode, if they do. If memory is larger than the
+/// bytes and than `SMALL`, it tests the bytes first, so that refused bytes never make the program allocate it.
 fn replay_text(alloc: Global, bytes: &[u8]) -> Result<Image, ReplayError>
     ensures made { IfOk result (λ image. (trace : GuestTrace) × Spells bytes.now trace × (image ≡ image_of trace)) }
     ensures refused { IfErr result (RefusesReplay bytes.now) }
@@ -112,7 +111,7 @@ fn replay_text(alloc: Global, bytes: &[u8]) -> Result<Image, ReplayError>
 }
 
 /// Returns the memory after all writes of the trace that the bytes encode, in the fastest way: it copies each write
-/// into memory alone. Errors are the refusals of the bytes, and that memory runs out.
+/// only into memory. Errors are the refusals of the bytes, and that memory runs out.
 pub fn replay_bytes(alloc: Global, bytes: &[u8]) -> Result<Image, ReplayError>
     ensures made { IfOk result (λ image. (trace : GuestTrace) × Spells bytes.now trace × (image ≡ image_of trace)) }
     ensures refused { IfErr result (RefusesReplay bytes.now) }

@@ -1,5 +1,5 @@
-//! Memory whose pages are at versions of their own, brought to the end of a trace.
-//! No program runs it: it serves users of the library, and tests.
+//! Memory whose pages are each at their own version, brought to the end of a trace. No program runs it: it is for users
+//! of the library, and tests.
 
 ghost use Rattle.std.specs.Prelude.{◌≡◌, ◌*◌, ◌^◌, ◌≤◌, fold, length};
 ghost use Rattle.std.specs.List.{All};
@@ -13,7 +13,7 @@ use crate::replaying::write_over;
 use page_versions::PageIndex;
 use trace_codec::WriteLog;
 
-/// Puts the writes at these places over memory, in order.
+/// Applies the writes at these places to memory, in order.
 fn write_all<W: WriteLog>(memory: &mut Vec<u8>, trace: &W, places: &[u32])
     requires len { length memory.old.items ≡ (W.trace trace.now).pages * 2 ^ (W.trace trace.now).shift }
     requires places { All (λ place. (1 ≤ place) × (place ≤ length (W.trace trace.now).writes)) places.now }
@@ -28,8 +28,7 @@ fn write_all<W: WriteLog>(memory: &mut Vec<u8>, trace: &W, places: &[u32])
     }
 }
 
-/// Returns this memory with the trace's writes to each page that come after the page's version put over it. It
-/// allocates nothing.
+/// Returns this memory after the trace's writes to each page that come after the page's version. It allocates nothing.
 pub fn resume<W: WriteLog>(image: Image, trace: &W, index: &PageIndex, versions: &[u32]) -> Image
     requires of { IsIndexOf index.now (W.trace trace.now) }
     requires shift { image.shift ≡ (W.trace trace.now).shift }

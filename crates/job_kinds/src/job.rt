@@ -9,10 +9,10 @@ pub enum Job {
     Image,
     /// Writes a report on the trace.
     Report(Settings),
-    /// Performs a migration over the trace, and writes the memory that it leaves.
+    /// Performs a migration over the trace, and writes the resulting memory.
     Live(Settings, Show),
-    /// Writes a line of sums for the plan of each case, and the best of them; with no case it writes nothing. Up to so
-    /// many workers, 1 to 16, plan side by side.
+    /// Writes a line of sums for the plan of each case, and the best of them; with no case it writes nothing. Up to
+    /// `workers` workers, 1 to 16, plan side by side.
     Sweep {
         cases: Vec<Settings>,
         workers: usize,
@@ -22,7 +22,7 @@ pub enum Job {
 /// Which memory of a live run is written.
 #[derive(Clone, Copy, Debug, PartialEq, Eq)]
 pub enum Show {
-    /// The memory at the tick where the guest stopped.
+    /// The memory at the tick at which the guest stopped.
     Stop,
     /// The memory after all writes.
     End,

@@ -1,5 +1,5 @@
 //! Memory that `image` makes page by page, since it is too large to be made whole, and memory that it makes whole once
-//! a quarter as many bytes of the trace have come.
+//! a quarter as many trace bytes have come.
 
 use crate::tests::ran;
 use migration_jobs::{Job, RunError, TestSink};
@@ -10,7 +10,7 @@ use trace_codec::TestSource;
 /// How many bytes a guest of 8,193 pages of 4,096 bytes has: one page more than memory that is made whole.
 const SIZE: usize = 33_558_528;
 
-/// Returns a trace of such a guest: six writes, of its first page, one in the middle and its last one.
+/// Returns a trace of this guest: six writes, of its first page, one in the middle and its last one.
 fn wide(alloc: Global) -> Result<Vec<u8>, AllocError> {
     let header = [
         0x50, 0x43, 0x57, 0x54, 1, 12, 0, 0, 1, 0x20, 0, 0, 6, 0, 0, 0,
@@ -98,7 +98,7 @@ fn writes_large_memory_with_a_released_page(rt: HostRuntime) -> Result<(), Fail>
 fn writes_a_beginning_of_large_memory(rt: HostRuntime) -> Result<(), Fail> {
     let alloc = rt.alloc();
     let source = TestSource::new(wide(alloc)?, usize::MAX, None);
-    // The fourth write fails, behind three of 100,000 bytes.
+    // The fourth write fails, after three of 100,000 bytes.
     let sink = TestSink::new(Vec::new(alloc), 100_000, Some(4), false);
     let (answer, sink) = ran(&rt, alloc, &Job::Image, source, sink);
     let found = not_zero(alloc, sink.bytes())?;
@@ -123,8 +123,8 @@ fn refuses_large_memory_before_it_writes(rt: HostRuntime) -> Result<(), Fail> {
     Ok(())
 }
 
-/// Returns a trace of 512 pages of 4,096 bytes, 2 MiB: so many writes of whole pages, one page after another and then
-/// from the first on again. Write `n` has bytes `n % 255 + 1`.
+/// Returns a trace of 512 pages of 4,096 bytes, 2 MiB: `count` writes of whole pages, one page after another and then
+/// again from the first. Write `n` has bytes `n % 255 + 1`.
 fn pages_in_turn(alloc: Global, count: u16) -> Result<Vec<u8>, AllocError> {
     let mut bytes = Vec::from_slice(alloc, &[80, 67, 87, 84, 1, 12, 0, 0, 0, 2, 0, 0])?;
     bytes.extend_from_slice(&u32::from(count).to_le_bytes())?;
@@ -138,7 +138,7 @@ fn pages_in_turn(alloc: Global, count: u16) -> Result<Vec<u8>, AllocError> {
     Ok(bytes)
 }
 
-/// Returns whether each page of memory has the bytes of the last of so many writes to it, in turn.
+/// Returns whether each page of memory has the bytes of its last write, after `count` writes in turn.
 fn are_last_written(memory: &[u8], count: u16) -> bool {
     for page in 0..512u16 {
         let place = page as usize * 4096;

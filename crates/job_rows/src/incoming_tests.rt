@@ -1,4 +1,4 @@
-//! The writes of a trace, handed to a visitor while its bytes come, and a trace that is held after its header was seen.
+//! The writes of a trace, handed to a visitor while its bytes come, and a trace that is held after its header is seen.
 
 ghost use Rattle.std.specs.Prelude.{⊤};
 
@@ -45,7 +45,7 @@ impl WriteVisitor for Writes {
     }
 }
 
-/// Returns the writes of a trace that comes at most so many bytes in one read. The first `held` bytes are held first.
+/// Returns the writes of a trace that comes at most `greatest` bytes a read. The first `held` bytes are held first.
 pub(crate) fn visited(
     alloc: Global,
     bytes: Vec<u8>,
@@ -63,7 +63,7 @@ pub(crate) fn visited(
     Ok((enough, writes))
 }
 
-/// Returns the trace that comes at most so many bytes in one read, held after so many came.
+/// Returns the trace that comes at most `greatest` bytes in one read, held after `held` bytes.
 pub(crate) fn held(
     alloc: Global,
     bytes: Vec<u8>,

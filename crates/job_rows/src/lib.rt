@@ -1,4 +1,4 @@
-//! Worked examples of jobs: tests alone.
+//! Worked examples of jobs: only for tests.
 #![tactic(auto)]
 
 #[cfg(test)]

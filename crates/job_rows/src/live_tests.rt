@@ -1,6 +1,4 @@
-//! Live runs, also under a schedule of the tests' choosing.
-
-ghost use Rattle.std.specs.Prelude.{◌≡◌, false};
+//! Live runs, also under a schedule that the tests choose.
 
 use crate::tests::{sink, whole};
 use live_engine::{Gate, LiveError, OpenGate, Point};
@@ -125,7 +123,7 @@ struct Meeting {
     late: AtomicU64,
 }
 
-/// How often a wait looks before it gives up.
+/// How often a wait polls before it gives up.
 const TURNS: u64 = 50_000_000;
 
 impl Meeting {
@@ -148,7 +146,7 @@ impl Meeting {
         ]
     }
 
-    /// Waits until a point was reached.
+    /// Waits until a point is reached.
     fn wait_for(&self, count: &AtomicU64) {
         for _ in 0..TURNS {
             if count.load(Ordering::SeqCst) > 0 {

@@ -9,7 +9,7 @@ use std::test::Fail;
 use trace_codec::{Source, TestSource, Timeline, TraceError};
 use trace_readers::TouchLog;
 
-/// A source of bytes without end, which leaves in the buffer what stands there.
+/// A source of endless bytes, which leaves the buffer as it is.
 #[derive(Drop)]
 struct Endless {
     reads: u64,
@@ -30,7 +30,7 @@ impl Source for Endless {
     }
 }
 
-/// Returns the log of some bytes that come at most so many in one read, of which one may fail.
+/// Returns the log of some bytes that come at most `greatest` in one read, one of which may fail.
 fn log_of(
     alloc: Global,
     bytes: Vec<u8>,

@@ -14,7 +14,7 @@ use trace_codec::{TestSource, Trace, TraceError, TraceView, decode, encode, read
 use trace_readers::{HeldTrace, TouchLog};
 use worked_guest::{MEMORY, MEMORY_AT_2000, TRACE, asked};
 
-/// The tests' trace in version 2, but that its last write releases page 1.
+/// The tests' trace in version 2, except that its last write releases page 1.
 pub(crate) static RELEASED: [u8; 101] = [
     0x50, 0x43, 0x57, 0x54, 2, 4, 0, 0, 4, 0, 0, 0, 5, 0, 0, 0, //
     0, 0, 0, 0, 0, 0, 0, 0, 0, 0, 0, 0, 0, 0, 1, 0, 1, //
@@ -32,7 +32,7 @@ static MEMORY_RELEASED: [u8; 64] = [
     0, 0, 4, 5, 0, 0, 0, 0, 0, 0, 0, 0, 0, 0, 0, 0,
 ];
 
-/// Its report by the tests' slow rates.
+/// Its report at the tests' slow rates.
 const REPORT: &str = "trace pages 4 size 16 writes 5
 window 0 writes 2 pages 2 again 0 fresh 2
 window 1 writes 1 pages 1 again 1 fresh 0
@@ -61,7 +61,7 @@ fn source(alloc: Global, bytes: &[u8], greatest: usize) -> Result<TestSource, Al
     Ok(TestSource::new(Vec::from_slice(alloc, bytes)?, greatest, None))
 }
 
-/// Returns the versions that all readers tell.
+/// Returns the versions that all readers report.
 fn versions(alloc: Global, bytes: &[u8]) -> Result<[u8; 6], Fail> {
     let held = HeldTrace::parse(alloc, Vec::from_slice(alloc, bytes)?)?;
     Ok([
@@ -118,7 +118,7 @@ fn refuses_what_is_no_release(rt: HostRuntime) -> Result<(), Fail> {
     Ok(())
 }
 
-/// Returns whether each way to memory makes this memory of the bytes.
+/// Returns whether each way makes this memory from the bytes.
 fn makes(alloc: Global, bytes: &[u8], memory: &[u8]) -> Result<bool, Fail> {
     let view = TraceView::parse(bytes)?;
     let of_trace = replay(alloc, &decode(alloc, bytes)?)?;
@@ -147,7 +147,7 @@ fn encodes_its_own_version(rt: HostRuntime) -> Result<(), Fail> {
     Ok(())
 }
 
-/// Returns what the writes of the trace with a release are refused for in this version.
+/// Returns why the writes of the trace with a release are refused in this version.
 fn refusal_of_writes(alloc: Global, version: u8) -> Result<Option<TraceError>, Fail> {
     let Trace { writes, .. } = decode(alloc, &RELEASED)?;
     Ok(Trace::new(version, 4, 4, writes).err())

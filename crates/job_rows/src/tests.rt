@@ -1,4 +1,4 @@
-//! Worked examples, whose results were worked out by hand.
+//! Worked examples, with results worked out by hand.
 
 ghost use Rattle.std.specs.Prelude.{◌≡◌, false};
 
@@ -12,7 +12,7 @@ use std::thread::Threads;
 use trace_codec::{TestSource, Trace, TraceError, TraceView, decode, encode, read_trace};
 use worked_guest::{MEMORY, MEMORY_AT_2000, TRACE};
 
-/// Returns the first `len` bytes of the trace with `patch` over those from `place` on, and `more` behind them.
+/// Returns the first `len` bytes of the trace with `patch` over those from `place` on, and `more` after them.
 pub(crate) fn changed(
     alloc: Global,
     len: usize,
@@ -47,7 +47,7 @@ pub(crate) fn whole(alloc: Global) -> Result<Vec<u8>, AllocError> {
     Vec::from_slice(alloc, &TRACE)
 }
 
-/// Returns what `run` returns for a job over a source, and the sink then.
+/// Returns what `run` returns for a job over a source, and the sink afterwards.
 pub(crate) fn ran<R: Threads + Wait + Sync>(
     rt: &R,
     alloc: Global,
@@ -96,7 +96,7 @@ fn writes_nothing_of_an_empty_trace(rt: HostRuntime) -> Result<(), Fail> {
     Ok(())
 }
 
-/// Where bytes that are not 0 stand, and which they are.
+/// Where the bytes that are not 0 are, and their values.
 fn set_bytes(alloc: Global, memory: &[u8]) -> Result<Vec<(usize, u8)>, AllocError> {
     let mut set = Vec::new(alloc);
     for (offset, byte) in memory.iter().enumerate() {
@@ -119,7 +119,7 @@ fn writes_large_memory(rt: HostRuntime) -> Result<(), Fail> {
     Ok(())
 }
 
-/// What a changed trace is refused for.
+/// Why a changed trace is refused.
 fn refusal(
     alloc: Global,
     len: usize,
@@ -191,7 +191,7 @@ fn refuses_records(rt: HostRuntime) -> Result<(), Fail> {
     Ok(())
 }
 
-/// Returns the trace from a source of pieces of at most so many bytes, one of whose reads may fail.
+/// Returns the trace from a source of pieces of at most `greatest` bytes, one of whose reads may fail.
 fn read_in_pieces(
     alloc: Global,
     greatest: usize,
@@ -242,7 +242,7 @@ fn tells_that_a_flush_failed(rt: HostRuntime) -> Result<(), Fail> {
     Ok(())
 }
 
-/// What the writes of the trace are refused for in this version, in a guest of so many pages of this size.
+/// Why the writes of the trace are refused in this version, in a guest of `pages` pages of this size.
 fn refusal_of_writes(
     alloc: Global,
     version: u8,
@@ -286,7 +286,7 @@ fn encodes_what_it_decodes(rt: HostRuntime) -> Result<(), Fail> {
     Ok(())
 }
 
-/// The memory of the trace, made of its records where they stand and of its bytes.
+/// The memory of the trace, made from its records in place and from its bytes.
 fn replayed_in_place(alloc: Global) -> Result<(Image, Image), Fail> {
     let view = TraceView::parse(&TRACE)?;
     Ok((replay_view(alloc, &view)?, replay_bytes(alloc, &TRACE)?))

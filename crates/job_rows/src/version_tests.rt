@@ -1,4 +1,4 @@
-//! Traces of no version, with other causes behind the header: every reader names the version.
+//! Traces of no version, with other causes after the header: every reader names the version.
 
 use crate::incoming_tests::{held, visited};
 use crate::released_tests::{RELEASED, refusals};
@@ -7,7 +7,7 @@ use std::test::Fail;
 use trace_codec::TraceError;
 use worked_guest::TRACE;
 
-/// A cause behind the header of a trace.
+/// A cause after the header of a trace.
 #[derive(Clone, Copy, Debug)]
 enum Cause {
     ByteMore,
@@ -15,7 +15,7 @@ enum Cause {
     TickOrder,
 }
 
-/// Returns the trace in a version that there is not, and with a cause behind its header.
+/// Returns the trace in a version that does not exist, with a cause after its header.
 fn of_no_version(alloc: Global, trace: &[u8], cause: Cause) -> Result<Vec<u8>, AllocError> {
     let mut bytes = Vec::from_slice(alloc, trace)?;
     for (place, byte) in bytes.iter_mut().enumerate() {

@@ -12,7 +12,7 @@ use std::thread::Threads;
 use trace_codec::TestSource;
 use worked_guest::{MEMORY, MEMORY_AT_1200, MEMORY_AT_2000, asked};
 
-/// Returns slow rates from a start on, over the memory before a base.
+/// Returns slow rates from a start, over the memory before a base.
 fn warm(base: u64, start: u64) -> Asked {
     Asked {
         start,

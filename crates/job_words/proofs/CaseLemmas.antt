@@ -49,7 +49,7 @@ parts_of word = slice_split (λ b. eqb b 44) word
 no_comma : (text : List ℕ) (n : ℕ) → IsNumber text n → All (λ b. eqb b 44 ≡ false) text
 no_comma text n is = λ k d l. let r = digit_at text k is.digits.1 l in grind (arith, common_steps)
 
--- numbers with commas between have themselves for parts
+-- numbers joined by commas have themselves as parts
 joined_parts : (texts : List (List ℕ)) (numbers : List ℕ) → AllZip IsNumber texts numbers → 0 < length numbers
     → parts_of (join_with_byte 44 texts) ≡ texts
 joined_parts [] [] are some = absurd (omega arith)
@@ -61,7 +61,7 @@ joined_parts (x ∷ y ∷ xs) (n ∷ m ∷ ns) are some =
     slice_split_at (λ b. eqb b 44) x 44 (join_with_byte 44 (y ∷ xs)) (no_comma x n are.0) refl
     ∙ ap (λ (t : List (List ℕ)). x ∷ t) (joined_parts (y ∷ xs) (m ∷ ns) are.1 (omega arith))
 
--- what a word spells are the numbers of its parts
+-- a word spells the numbers of its parts
 pub parts_of_spelled : (word numbers : List ℕ) → SpellsNumbers word numbers → 0 < length numbers
     → AllZip IsNumber (parts_of word) numbers
 parts_of_spelled word numbers is some =
@@ -92,7 +92,7 @@ spelled_once word ns ms a b some more = same_numbers (parts_of word) ns ms (part
 abbrev pub comma_steps : Split ℕ → Option (Bor (List ℕ)) → Split ℕ → Type 0
 comma_steps = split_steps FindsChar (λ a b. b ≡ a)
 
--- the first of the parts that were to come has come
+-- the first of the remaining parts was read
 one_off : (s t : Split ℕ) (x : Bor (List ℕ)) (left : List (List ℕ)) → AlwaysYields comma_steps (λ p. p.now) s left
     → comma_steps s (Some x) t
     → (rest : List (List ℕ)) × (left ≡ x.now ∷ rest) × AlwaysYields comma_steps (λ p. p.now) t rest
@@ -104,7 +104,7 @@ none_off : (s t : Split ℕ) (left : List (List ℕ)) → AlwaysYields comma_ste
 none_off s t [] all step = refl
 none_off s t (y ∷ ys) all step = absurd (all.0 t step)
 
--- the parts of a word that were read as numbers, and those that are to come
+-- the parts of a word that were read as numbers, and those that remain
 pub record HasRead (word : List ℕ) (parts : Split ℕ) (numbers : List ℕ) : Type 0 where
   pub read : List (List ℕ)
   pub left : List (List ℕ)
@@ -154,7 +154,7 @@ zip-at [] ys x (n ∷ ns) are = (n, are.0)
 zip-at (y ∷ xs) ys x [] are = absurd are
 zip-at (y ∷ xs) ys x (n ∷ ns) are = zip-at xs ys x ns are.1
 
--- the parts are as many as the numbers that the word spells
+-- there are as many parts as numbers that the word spells
 six_parts : (word numbers : List ℕ) → length numbers ≡ 6 → SpellsNumbers word numbers → length (parts_of word) ≡ 6
 six_parts word numbers six is = zip-length (parts_of word) numbers (parts_of_spelled word numbers is (omega arith))
     ∙ six
@@ -179,7 +179,7 @@ many_parts word s t (Some x) ns has step more all numbers six is =
     ∙ length-append has.read (x.now ∷ m.0) in
     omega (arith, parts, six_parts word numbers six is, zip-length has.read ns has.are_numbers)
 
--- a part that is no number
+-- a part that is not a number
 pub bad_part : (word : List ℕ) (s t : Split ℕ) (x : Bor (List ℕ)) (ns : List ℕ) → HasRead word s ns
     → comma_steps s (Some x) t → ((n : ℕ) → ¬ IsNumber x.now n) → (numbers : List ℕ) → length numbers ≡ 6
     → ¬ SpellsNumbers word numbers
@@ -191,7 +191,7 @@ bad_part word s t x ns has step bad numbers six is =
     let found = zip-at has.read m.0 x.now numbers are in
     bad found.0 found.1
 
--- the parts are over
+-- no parts are left
 pub all_parts : (word : List ℕ) (s t : Split ℕ) (r : Option (Bor (List ℕ))) (ns : List ℕ) → HasRead word s ns
     → comma_steps s r t → is_some r ≡ false → SpellsNumbers word ns
 all_parts word s t (Some x) ns has step over = absurd cc
@@ -242,7 +242,7 @@ one_more_case options words place cases word asked are here is fits =
           (All-cons AreSettings asked [] fits (All-nil AreSettings));
     })
 
--- the refusal of a word behind cases is the refusal of all words
+-- the refusal of a word after cases is the refusal of all words
 pub refused_here : (options : MigrationSettings) (words : List (List ℕ)) (place : ℕ) (word : List ℕ)
     (before : List MigrationSettings) (refusal : WordsRefusal) → length words ≤ 256
     → AreCases options (take place words) before → slice_get words place ≡ Some word

@@ -50,7 +50,7 @@ adds_leaf old sub new app name rules was is added =
     added.shape is.globals ∙ ap (λ (a : App). with_subcommand a (shape_of sub)) was
     ∙ ap (λ (a : App). with_subcommand app a.top) is.app
 
--- the program's name, before any command stands behind it
+-- the program's name, before any command follows it
 abbrev pub bare_line : App
 bare_line = record { top = record (leaf (codes "precopy") []) { subcommand_required = true }; subs = [] }
 

@@ -53,7 +53,7 @@ chosen : (b : Bool) (x y : Held × Step) → Passes x.1 → Passes y.1 → Passe
 chosen true x y left right = left
 chosen false x y left right = right
 
--- `help` has a fault where it is met
+-- `help` is a fault if it is met
 not_help : (asked able : Bool) (kinds : Kinds) (k : _) → able ≡ true → (if asked && able then k ∷ kinds else []) ≡ []
     → asked ≡ false
 not_help true true kinds k on none = absurd cc

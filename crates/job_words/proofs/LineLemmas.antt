@@ -30,7 +30,7 @@ line_requires : (built precopy_line).top.subcommand_required ≡ true
 unfolding precopy_line clap_on_literals
 line_requires = refl
 
--- an error of clap's is told as what it is
+-- a clap error is reported by its kind
 pub fails_by_kind : (line : App) (words : List Text) (e : Error) (r : WordsError) → HasKind (fault_of line words) e
     → TellsError (kind_of e) r → FailsByKind line words r
 fails_by_kind line words e Memory kinds tells = tt
@@ -51,7 +51,7 @@ named_rows f g (Some y) name rows a b =
     let same_rows : g y ≡ rows = cc in
     λ i. Some (same_name i, same_rows i)
 
--- the last step of a parse does not fail, where none does
+-- the last step of a parse does not fail if none does
 last_of : (a b c d e : Kinds) → or_else a (or_else b (or_else c (or_else d e))) ≡ [] → e ≡ []
 last_of [] [] [] [] e none = none
 last_of [] [] [] (k ∷ ks) e none = absurd cc
@@ -78,7 +78,7 @@ mapped f None = refl
 mapped f (Some a) = refl
 
 module _ (line : App) (simple : is_simple line ≡ true) where
-  -- the command that was met, and what was found behind it
+  -- the command that was met, and what was found after it
   pub command_met_on : (made : App) (words : List Text) (m : ArgMatches) (name : Text) (rows : List Row) → made ≡ line
       → HasMatchesOf made words m → Some name ≡ subcommand_name_of m
       → Some rows ≡ option_map {T = Text × List Row} {U = List Row} (λ p. p.1) (subcommand_rows_of m)
@@ -87,7 +87,7 @@ module _ (line : App) (simple : is_simple line ≡ true) where
       ap (λ (a : App). subcommand_of a words) (sym is) ∙ sym (has (ap is_simple is ∙ simple)).1
       ∙ named_rows _ _ (out-ArgMatches m).subcommand name rows named rowed
 
-  -- where a command is wanted, words without one are not taken
+  -- if a command is required, words without one are not taken
   pub not_taken_on : (built line).top.subcommand_required ≡ true → (made : App) (words : List Text) (m : ArgMatches)
       → made ≡ line → HasMatchesOf made words m → false ≡ has_subcommand m → fault_of line words ≡ [] → ⊥
   not_taken_on required made words m is has none taken =

@@ -97,7 +97,7 @@ refuses_sweep rows options (Refused (CaseSettings place e)) asked refused =
     (refl, record { options = options; asked = asked; refused = refused })
 refuses_sweep rows options (Refused (Settings e)) asked refused = absurd refused
 
--- what holds of an error holds of the result that is that error
+-- what holds of an error holds of a result that is this error
 pub on_error : {A E : Type 0} (r : Result A E) (e : E) (P : E → Type 0) → IsErrAnd r (λ f. f ≡ e) → P e → IfErr r P
 on_error (Ok x) e P is holds = tt
 on_error (Err f) e P is holds = subst P (sym is) holds

@@ -16,13 +16,13 @@ pub record IsNumber (text : List ℕ) (n : ℕ) : Type 0 where
   pub short : length text ≤ 13
   pub value : digits_value 10 text ≡ n
 
--- numbers with commas (44) between
+-- numbers joined by commas (44)
 pub record SpellsNumbers (word numbers : List ℕ) : Type 0 where
   pub texts : List (List ℕ)
   pub joined : word ≡ join_with_byte 44 texts
   pub are_numbers : AllZip IsNumber texts numbers
 
--- the six numbers of a case: its last is 1 where pages are skipped, and else 0
+-- the six numbers of a case: the last is 1 if pages are skipped, else 0
 abbrev pub numbers_in : MigrationSettings → List ℕ
 numbers_in s = s.min ∷ s.max ∷ s.increment ∷ s.threshold ∷ s.rounds ∷ (if s.skip then 1 else 0) ∷ []
 
@@ -53,7 +53,7 @@ pub record IsFirst (Holds : List ℕ → Type 0) (options : MigrationSettings) (
   pub is_word : slice_get words place ≡ Some word
   pub holds : Holds word
 
--- the word is no case, whatever it would ask for
+-- the word is not a case, whatever it would ask for
 abbrev pub IsNoCase : MigrationSettings → List ℕ → Type 0
 IsNoCase options word = (asked : MigrationSettings) → ¬ IsCase options word asked
 
@@ -61,14 +61,14 @@ IsNoCase options word = (asked : MigrationSettings) → ¬ IsCase options word a
 abbrev pub IsRefusedCase : MigrationSettings → SettingsError → List ℕ → Type 0
 IsRefusedCase options e word = (asked : MigrationSettings) × IsCase options word asked × (refusal_of asked ≡ Some e)
 
--- why the word in this place is refused: it is no case, or a case whose settings are refused
+-- why the word in this place is refused: it is not a case, or its settings are refused
 abbrev pub RefusesCase : MigrationSettings → ℕ → List ℕ → WordsRefusal → Type 0
 RefusesCase options place word (refusals.Case k) = (k ≡ place) × IsNoCase options word
 RefusesCase options place word (refusals.CaseSettings k e) = (k ≡ place) × IsRefusedCase options e word
 RefusesCase options place word (refusals.Settings e) = ⊥
 RefusesCase options place word refusals.TooManyCases = ⊥
 
--- Why the words are refused: there are more than 256; or there are no more, and this one is the first that is refused.
+-- Why the words are refused: there are more than 256, or else this one is the first that is refused.
 abbrev pub RefusesCases : MigrationSettings → List (List ℕ) → WordsRefusal → Type 0
 RefusesCases options words refusals.TooManyCases = 256 < length words
 RefusesCases options words (refusals.Case place) =

@@ -1,4 +1,4 @@
--- The command line of `precopy`: its commands, the options of each, and what words behind the program's name ask for.
+-- The command line of `precopy`: its commands, their options, and what the words after the program's name ask for.
 use Rattle.std.specs.Prelude.{◌≡◌, ◌≢◌, ◌⊎◌, List, [], ◌∷◌, ◌++◌, Option, Some, None, MatchOption, if◌then◌else◌}
 use Rattle.std.specs.Prelude.{true, false, ⊤, codes}
 use Rattle.std.specs.Str.{bytes_eq}
@@ -28,7 +28,7 @@ number_rule name = record (new_rule name) {
   parser = Some (parsers.Unsigned 0 18_446_744_073_709_551_615);
 }
 
--- an option that is there or is not
+-- an option that is present or absent
 abbrev pub flag_rule : Text → Rule
 flag_rule name = record (new_rule name) { long = Some name; action = Some SetTrue }
 
@@ -47,7 +47,7 @@ pace_rules = number_rule (codes "min") ∷ number_rule (codes "max") ∷ number_
     ∷ number_rule (codes "threshold") ∷ number_rule (codes "rounds") ∷ number_rule (codes "start")
     ∷ number_rule (codes "base") ∷ flag_rule (codes "skip") ∷ []
 
--- the options of a report: the pace, and what it shows beside the plan
+-- the options of a report: the pace, and what it shows besides the plan
 abbrev pub report_rules : List Rule
 report_rules = pace_rules ++ number_rule (codes "window") ∷ number_rule (codes "hot")
     ∷ number_rule (codes "workers") ∷ []
@@ -61,11 +61,11 @@ live_rules = pace_rules ++ number_rule (codes "workers") ∷ number_rule (codes 
 abbrev pub sweep_rules : List Rule
 sweep_rules = number_rule (codes "start") ∷ number_rule (codes "base") ∷ number_rule (codes "workers") ∷ []
 
--- the command line with these options behind those that its first command has
+-- the command line with these options added to those of its first command
 abbrev pub with_rules : App → List Rule → App
 with_rules app rules = on_top (λ s. record s { rules = s.rules ++ rules }) app
 
--- the new command is the old one with these options behind its own
+-- the new command is the old one with these options added to its own
 pub record AddsRules (old : Command) (rules : List Rule) (new : Command) : Type 0 where
   pub app : app_of new ≡ with_rules (app_of old) rules
   pub globals : (fields_of new).has_globals ≡ (fields_of old).has_globals
@@ -79,7 +79,7 @@ pub record IsLeaf (command : Command) (name : Text) (rules : List Rule) : Type 0
   pub app : app_of command ≡ record { top = leaf name rules; subs = [] }
   pub globals : (fields_of command).has_globals ≡ false
 
--- the commands of `precopy`, of which one has to stand behind the program's name
+-- the commands of `precopy`, one of which must follow the program's name
 unfoldable pub precopy_line : App
 precopy_line = record {
   top = record (new_shape (codes "precopy")) { is_leaf = false; subcommand_required = true };
@@ -87,12 +87,12 @@ precopy_line = record {
       ∷ leaf (codes "sweep") (sweep_rules ++ case_rule ∷ []) ∷ [];
 }
 
--- the command that these words name, the program's name being the first, and what clap finds behind it
+-- the command that these words name, the first being the program's name, and what clap finds after it
 abbrev pub command_in : List Text → Option (Text × List Row)
 command_in words = subcommand_of precopy_line words
 
 -- The words ask for this job: `precopy` takes them, and they name a command that asks for it. `fault_of` is clap's: the
--- kinds of error that it finds in words, and none where it takes them.
+-- kinds of error that it finds in words, none if it takes them.
 pub record WordsAsk (words : List Text) (job : Job) : Type 0 where
   pub taken : fault_of precopy_line words ≡ []
   pub name : Text
@@ -112,7 +112,7 @@ pub record WordsRefused (words : List Text) (refusal : WordsRefusal) : Type 0 wh
 abbrev pub IsRequest : ErrorKind → Type 0
 IsRequest kind = (kind ≡ kinds.DisplayHelp) ⊎ (kind ≡ kinds.DisplayVersion)
 
--- the words behind `help`, where that stands behind the program's name
+-- the words after `help`, if it follows the program's name
 abbrev pub help_names : List Text → Option (List Text)
 help_names [] = None
 help_names (program ∷ []) = None
@@ -124,8 +124,8 @@ AreHelpNames [] = ⊤
 AreHelpNames (name ∷ []) = IsCommand name ⊎ (name ≡ codes "help")
 AreHelpNames (name ∷ other ∷ more) = ⊥
 
--- The words ask for help: `help`, with a name of which it has a text or with none, or words that clap takes for a
--- request. Of `help` itself clap says only that it is a request or is not taken.
+-- The words ask for help: `help`, with a name that it has a text for or with none, or words that clap takes as a
+-- request. About `help` itself, clap says only that it is a request or is not taken.
 abbrev pub AskForHelp : List Text → Type 0
 AskForHelp words = MatchOption (help_names words)
     ((kind : ErrorKind) × IsAmong kind (fault_of precopy_line words) × IsRequest kind) AreHelpNames
@@ -135,14 +135,14 @@ abbrev pub AreNotTaken : List Text → Type 0
 AreNotTaken words = MatchOption (help_names words)
     ((kind : ErrorKind) × IsAmong kind (fault_of precopy_line words) × ¬ IsRequest kind) (λ names. ¬ AreHelpNames names)
 
--- what a refusal by clap says of the words of a command line: it has one of the kinds that clap finds in them
+-- what a clap refusal says about the words of a command line: it has one of the kinds that clap finds in them
 abbrev pub FailsByKind : App → List Text → WordsError → Type 0
 FailsByKind app words errors.Memory = ⊤
 FailsByKind app words (errors.Help text) = (kind : ErrorKind) × IsAmong kind (fault_of app words) × IsRequest kind
 FailsByKind app words (errors.Usage text) = (kind : ErrorKind) × IsAmong kind (fault_of app words) × ¬ IsRequest kind
 FailsByKind app words (errors.Refused refusal) = ⊥
 
--- Why words make no job: memory ran out, they ask for help, `precopy` does not take them, or their command is refused.
+-- Why words make no job: memory ran out, they ask for help, `precopy` does not take them, or it refuses their command.
 abbrev pub WordsFail : List Text → WordsError → Type 0
 WordsFail words errors.Memory = ⊤
 WordsFail words (errors.Help text) = AskForHelp words
@@ -160,7 +160,7 @@ IsWordsRefusal (errors.Refused refusal) = ⊤
 IsWordsRefusal (errors.Help text) = ⊥
 IsWordsRefusal errors.Memory = ⊥
 
--- what is told of an error of clap's: its text, as help or as the usage, or that memory ran out
+-- how a clap error is reported: with its text, as help or as usage, or as lack of memory
 abbrev pub TellsError : ErrorKind → WordsError → Type 0
 TellsError kind errors.Memory = ⊤
 TellsError kind (errors.Help text) = (kind ≢ kinds.OutOfMemory) × IsRequest kind

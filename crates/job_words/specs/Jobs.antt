@@ -1,4 +1,4 @@
--- Which job a command asks for, by its name and by what clap found behind it, and why it is refused.
+-- Which job a command asks for, by its name and by what clap found after it, and why it is refused.
 use Rattle.std.specs.Prelude.{◌≡◌, ◌≤◌, ◌⊎◌, ℕ, true, false, List, [], ⊤, codes, length, unwrap_or}
 use Rattle.clap.specs.Walk.{Row, Text, all_of}
 use Rattle.migration_model.specs.Rates.{MigrationSettings}
@@ -17,12 +17,12 @@ use Rattle.job_words.specs.Options.{AreRefused, AsksFor, AsksForSweep, IsFlag}
 abbrev pub case_words : List Row → List Text
 case_words rows = unwrap_or (all_of (codes "case") rows) []
 
--- the memory that the options of a live run ask for: that at the stop, where the flag `at-stop` is there
+-- the memory that the options of a live run ask for: that at the stop, if the flag `at-stop` is present
 abbrev pub AsksToShow : List Row → Show → Type 0
 AsksToShow rows shows.Stop = IsFlag rows (codes "at-stop") true
 AsksToShow rows shows.End = IsFlag rows (codes "at-stop") false
 
--- the options and the cases of a sweep ask for these settings, and for so many workers
+-- the options and the cases of a sweep ask for these settings, and for this many workers
 pub record AsksForCases (rows : List Row) (cases : List MigrationSettings) (workers : ℕ) : Type 0 where
   pub options : MigrationSettings
   pub asked : AsksForSweep rows options
@@ -34,7 +34,7 @@ pub record AsksForCases (rows : List Row) (cases : List MigrationSettings) (work
 abbrev pub IsCommand : Text → Type 0
 IsCommand name = (name ≡ codes "image") ⊎ ((name ≡ codes "report") ⊎ ((name ≡ codes "live") ⊎ (name ≡ codes "sweep")))
 
--- a command of this name, with what clap found behind it, asks for this job
+-- a command of this name, with what clap found after it, asks for this job
 abbrev pub AsksForJob : Text → List Row → Job → Type 0
 AsksForJob name rows jobs.Image = name ≡ codes "image"
 AsksForJob name rows (jobs.Report settings) = (name ≡ codes "report") × AsksFor rows settings

@@ -7,29 +7,29 @@ use Rattle.migration_model.specs.Rates.{MigrationSettings}
 use Rattle.rate_limit.specs.Refusals.{refusal_of}
 use Rattle.rate_limit.specs.declared.error.SettingsError.{SettingsError}
 
--- the text reads as this number below 2^64: its decimal digits, behind a plus or behind nothing
+-- the text reads as this number below 2^64: decimal digits, with or without a plus before them
 pub record Reads (text : List ℕ) (n : ℕ) : Type 0 where
   pub digits : IsNumeral 10 (without_leading_plus text)
   pub value : digits_value 10 (without_leading_plus text) ≡ n
   pub fits : n < 2 ^ 64
 
--- The number that an option has, where it is there and its text reads as one. clap refuses other texts beforehand.
+-- The number that an option has, if it is present and its text reads as one. clap refuses other texts beforehand.
 abbrev pub Says : List Row → List ℕ → Option ℕ → Type 0
 Says rows name (Some n) = (text : List ℕ) × (one_of name rows ≡ Some text) × Reads text n
 Says rows name None = (text : List ℕ) (n : ℕ) → one_of name rows ≡ Some text → ¬ Reads text n
 
--- the number that an option has, or the default where it has none
+-- the number that an option has, or the default if it has none
 pub record IsGiven (rows : List Row) (name : List ℕ) (default n : ℕ) : Type 0 where
   pub said : Option ℕ
   pub says : Says rows name said
   pub is_number : n ≡ unwrap_or said default
 
--- whether a flag is there: clap writes `true` for one that is, and `false` for one that is not
+-- whether a flag is present: clap writes `true` if it is, and `false` if it is not
 abbrev pub IsFlag : List Row → List ℕ → Bool → Type 0
 IsFlag rows name there = MatchOption (one_of name rows) (there ≡ false)
     (λ text. (text ≡ codes "true" → there ≡ true) × (text ≡ codes "false" → there ≡ false))
 
--- the settings where no option is given
+-- the settings if no option is given
 abbrev pub defaults : MigrationSettings
 defaults = record {
   min = 1000;
@@ -65,7 +65,7 @@ pub record AsksFor (rows : List Row) (asked : MigrationSettings) : Type 0 where
   pub skip : IsFlag rows (codes "skip") asked.skip
   pub base : Says rows (codes "base") asked.base
 
--- the options of a sweep ask for these settings in each case: a start, workers and a base, and else the defaults
+-- the options of a sweep ask for these settings in each case: a start, workers and a base, and otherwise the defaults
 pub record AsksForSweep (rows : List Row) (asked : MigrationSettings) : Type 0 where
   pub start : IsGiven rows (codes "start") defaults.start asked.start
   pub workers : IsGiven rows (codes "workers") defaults.workers asked.workers

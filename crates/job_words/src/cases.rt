@@ -42,7 +42,7 @@ pub fn with_cases<'a>(alloc: Global, command: Command<'a>) -> Result<Command<'a>
     command.arg(cases_arg(alloc))
 }
 
-/// Returns a number of 1 to 13 digits. A plus, which `parse` takes too, is no digit.
+/// Returns a number of 1 to 13 digits. A plus, which `parse` also takes, is not a digit.
 fn number_of(word: &str) -> Option<u64>
     ensures number { IfSome result (λ n. IsNumber word.now n) }
     ensures none { IfNone result ((n : ℕ) → ¬ IsNumber word.now n) }
@@ -69,7 +69,7 @@ fn numbers_of(word: &str) -> Option<[u64; 6]>
     Some(numbers)
 }
 
-/// Returns what a case asks for, beside the options that all cases have.
+/// Returns what a case asks for, besides the options that all cases share.
 fn asked_of(options: &Asked, word: &str) -> Option<Asked>
     ensures asked { IfSome result (λ asked. IsCase options.now word.now asked) }
     ensures none { IfNone result (IsNoCase options.now word.now) }
@@ -104,7 +104,7 @@ fn case_of(options: &Asked, number: usize, word: &str) -> Result<Settings, Words
     }
 }
 
-/// Returns the settings of all cases, in order, or why the first that is refused has none.
+/// Returns the settings of all cases, in order, or why the first refused case has none.
 pub fn cases_of(alloc: Global, options: &Asked, words: &[&str]) -> Result<Vec<Settings>, WordsError>
     ensures each { IfOk result (λ cases. AreCases options.now (map (λ w. w.now) words.now) cases.items) }
     ensures few { IfOk result (λ cases. length cases.items ≤ 256) }

@@ -25,15 +25,15 @@ use thiserror::Error;
 pub enum WordsError {
     /// Memory ran out while the words were read.
     Memory,
-    /// A request for help, with the text to be shown.
+    /// A request for help, with the text to show.
     Help(String),
-    /// Words that the command line does not have, with the text to be shown.
+    /// Words that the command line does not have, with the text to show.
     Usage(String),
     /// Words that say what the program does not do.
     Refused(WordsRefusal),
 }
 
-/// Why words that the command line has are refused. It is written behind `precopy: ` in a fault line.
+/// Why words that the command line has are refused. It follows `precopy: ` in a fault line.
 #[derive(Clone, Copy, Debug, PartialEq, Eq, Error)]
 pub enum WordsRefusal {
     /// A setting is out of its range.
@@ -66,8 +66,7 @@ impl<T: Drop> From<AllocFailed<T>> for WordsError {
     }
 }
 
-/// Returns the arguments in a list. It allocates the list for all of them at once; where memory runs out for it, that
-/// is an error of the words.
+/// Returns the arguments in a list, allocated for all of them at once. Lack of memory for it is an error of the words.
 fn gathered(alloc: Global, args: Args<Global>) -> Result<Vec<String>, AllocError> {
     let mut words = Vec::with_capacity(alloc, args.len())?;
     for word in args {
@@ -76,7 +75,7 @@ fn gathered(alloc: Global, args: Args<Global>) -> Result<Vec<String>, AllocError
     Ok(words)
 }
 
-/// Returns the program's words, its name being the first.
+/// Returns the program's words, the first being its name.
 pub fn words<R: Env + AllocGlobal>(rt: &R) -> Result<Vec<String>, WordsError> {
     match env::args(rt) {
         Ok(args) => Ok(gathered(rt.alloc(), args)?),
@@ -117,7 +116,7 @@ fn commands<'a>(alloc: Global) -> Result<Command<'a>, AllocError>
     let sweep = leaf_command(
         alloc,
         "sweep",
-        "Writes what the plans of many cases come to, over the trace on standard input",
+        "Plans many cases over the trace on standard input, and writes their sums and the best one",
     );
     leaf_command(
         alloc,
@@ -131,7 +130,7 @@ fn commands<'a>(alloc: Global) -> Result<Command<'a>, AllocError>
     .subcommand(with_cases(alloc, sweep)?)
 }
 
-/// Returns the error for a refusal by `clap`, with `clap`'s text.
+/// Returns the error for a `clap` refusal, with `clap`'s text.
 pub fn refusal_of(alloc: Global, error: &clap::Error) -> WordsError
     ensures { TellsError (kind_of error.now) result }
 {
@@ -145,7 +144,7 @@ pub fn refusal_of(alloc: Global, error: &clap::Error) -> WordsError
     }
 }
 
-/// Returns the words behind `help`, where that stands behind the program's name.
+/// Returns the words after `help`, if it follows the program's name.
 fn help_names(words: &[String]) -> Option<&[String]>
     ensures { option_map (λ names. map string_bytes names.now) result ≡ help_names (map string_bytes words.now) }
 {
@@ -155,7 +154,7 @@ fn help_names(words: &[String]) -> Option<&[String]>
     }
 }
 
-/// Returns whether `help` has a text for what stands behind it: nothing, the name of a command, or `help`.
+/// Returns whether `help` has a text for what follows it: nothing, the name of a command, or `help`.
 fn are_help_names(names: &[String]) -> bool
     ensures { IsTrue result ↔ AreHelpNames (map string_bytes names.now) }
 {
@@ -169,8 +168,8 @@ fn are_help_names(names: &[String]) -> bool
     }
 }
 
-/// Returns a refusal by `clap` as what the words are told. Of `help` the contract of `clap` says only that it is a
-/// request or a wrong word, so what stands behind it decides.
+/// Returns a `clap` refusal as it is reported. About `help`, the contract of `clap` says only that it is a request or a
+/// wrong word, so what follows it decides.
 fn told(words: &[String], refusal: WordsError) -> WordsError
     requires { FailsByKind precopy_line (map string_bytes words.now) refusal }
     ensures { WordsFail (map string_bytes words.now) result }
@@ -241,7 +240,7 @@ fn command_job(alloc: Global, name: &str, options: &ArgMatches) -> Result<Job, W
     }
 }
 
-/// Returns the job that the words ask for, the program's name being the first.
+/// Returns the job that the words ask for, the first being the program's name.
 pub fn job_of(alloc: Global, words: &[String]) -> Result<Job, WordsError>
     ensures made { IfOk result (λ job. WordsAsk (map string_bytes words.now) job) }
     ensures failed { IfErr result (λ e. WordsFail (map string_bytes words.now) e) }

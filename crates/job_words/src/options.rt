@@ -11,8 +11,8 @@ use clap::{Arg, ArgAction, ArgMatches, Command};
 use rate_limit::{Asked, Settings, SettingsError};
 use std::alloc::{AllocError, Global};
 
-/// The values of options that are not given, and of those that a command does not take. The threshold is 256 KiB where
-/// a page has 4,096 bytes, as in Clark and others (2005), section 5.3; the others are this project's own.
+/// The values of options that are not given, and of those that a command does not take. The threshold is 256 KiB if a
+/// page has 4,096 bytes, as in Clark and others (2005), section 5.3; the others are this project's own.
 const DEFAULTS: Asked = Asked {
     min: 1000,
     max: 5000,
@@ -42,7 +42,7 @@ const BASE: Number<'static> = (
     "Tick before which the destination has the guest's memory [default: none]",
 );
 
-/// How many threads there may be.
+/// The number of threads allowed.
 const WORKERS: Number<'static> = ("workers", "Threads that work side by side [default: 1]");
 
 /// How a migration is paced.
@@ -61,14 +61,14 @@ const PACE: [Number<'static>; 7] = [
     ),
     (
         "threshold",
-        "End where fewer pages were dirtied [default: 64]",
+        "Stop once a round dirties fewer pages [default: 64]",
     ),
     ("rounds", "Most rounds [default: 30]"),
     START,
     BASE,
 ];
 
-/// What a report shows beside the plan.
+/// What a report shows besides the plan.
 const REPORT: [Number<'static>; 3] = [
     ("window", "Length of a window, in ticks [default: 1000]"),
     ("hot", "Windows that make a page hot [default: 2]"),
@@ -108,7 +108,7 @@ pub fn number<'a>(alloc: Global, name: &'a str, help: &'a str) -> Arg<'a>
         .value_parser(clap::value_parser!(u64))
 }
 
-/// Returns an option that is there or is not.
+/// Returns an option that is present or absent.
 pub fn flag<'a>(alloc: Global, name: &'a str, help: &'a str) -> Arg<'a>
     ensures rule { rule_of result ≡ flag_rule name.entry.now }
     ensures local { result.global ≡ false }
@@ -131,7 +131,7 @@ pub fn with_numbers<'a>(
     Ok(command)
 }
 
-/// Returns the command with the options that say how a migration is paced.
+/// Returns the command with the options that set a migration's pace.
 fn with_pace<'a>(alloc: Global, command: Command<'a>) -> Result<Command<'a>, AllocError>
     ensures { IfOk result (λ new. AddsRules command.entry pace_rules new) }
 {
@@ -171,21 +171,21 @@ pub fn with_sweep<'a>(alloc: Global, command: Command<'a>) -> Result<Command<'a>
     with_numbers(alloc, command, &SWEEP)
 }
 
-/// Returns the number that was given for an option.
+/// Returns the number given for an option.
 pub fn said(matches: &ArgMatches, name: &str) -> Option<u64>
     ensures { Says (rows_of (found_of matches.now)) name.now result }
 {
     matches.get_one::<u64>(name)
 }
 
-/// Returns the number that was given for an option, or the default.
+/// Returns the number given for an option, or the default.
 pub fn given(matches: &ArgMatches, name: &str, default: u64) -> u64
     ensures { IsGiven (rows_of (found_of matches.now)) name.now default result }
 {
     said(matches, name).unwrap_or(default)
 }
 
-/// Returns whether a flag is there.
+/// Returns whether a flag is present.
 pub fn is_flag(matches: &ArgMatches, name: &str) -> bool
     ensures { IsFlag (rows_of (found_of matches.now)) name.now result }
 {

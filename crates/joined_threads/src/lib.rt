@@ -1,4 +1,4 @@
-//! Waiting for threads of which each owes what its promise says.
+//! Waiting for threads, each of which owes what its promise says.
 #![tactic(auto)]
 
 ghost use Rattle.std.specs.Prelude.{◌≡◌, IfOk, length};
@@ -7,8 +7,8 @@ ghost use Rattle.std.specs.PromisedHandle.{KeepsEach};
 use std::alloc::AllocError;
 use std::thread::{Promise, PromisedHandle, Threads, join_promised};
 
-/// Waits until all these threads have ended, and returns what they made, in order. Where memory runs out they are
-/// waited for as well, and what they made goes.
+/// Waits until all these threads have ended, and returns what they made, in order. If memory runs out it waits for them
+/// too, and drops what they made.
 pub fn join_all<R: Threads, T: Drop, P: Promise<T>>(
     rt: &R,
     handles: Vec<PromisedHandle<T, P>>,

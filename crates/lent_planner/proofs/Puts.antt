@@ -9,7 +9,7 @@ use Rattle.migration_model.specs.Touches.{GuestTouch, touch_of}
 use Rattle.lent_planner.specs.Touches.{touch_in}
 use Rattle.lent_planner.specs.declared.touches.LentTouch.{LentTouch}
 
--- so many of the writes are done: their touches stand in front
+-- `count` of the writes are done: their touches are in front
 pub record ArePut (writes left : List GuestWrite) (count : ℕ) (old room : List LentTouch) : Type 0 where
   pub done : List GuestWrite
   pub joined : done ++ left ≡ writes
@@ -20,7 +20,7 @@ pub record ArePut (writes left : List GuestWrite) (count : ℕ) (old room : List
 pub put_starts : (writes : List GuestWrite) (room : List LentTouch) → ArePut writes writes 0 room room
 put_starts writes room = record { done = []; joined = refl; count_is = refl; put = refl; len = refl }
 
--- one write more
+-- one more write
 pub put_more : (writes left : List GuestWrite) (write : GuestWrite) (touch : LentTouch) (count : ℕ)
     (old room : List LentTouch) → touch_in touch ≡ touch_of write → count < length room
     → ArePut writes (write ∷ left) count old room → ArePut writes left (count + 1) old (set room count touch)
@@ -56,7 +56,7 @@ touch_at : (touches : List LentTouch) (i : ℕ) (d : GuestTouch) → i < length 
     → get_or (map touch_in touches) i d ≡ touch_in (get_or touches i no_touch_in)
 touch_at touches i d low = get_or-map touch_in touches i no_touch_in d low
 
--- where the touches before a tick end in the room
+-- if the touches before a tick end in the room
 pub point_in : (touches : List LentTouch) (tick n : ℕ) → n ≤ length touches
     → IsPartitionPoint (λ (t : LentTouch). ltb t.tick tick ≡ true) (λ t. ltb t.tick tick ≡ false) touches n
     → IsPartitionPoint (λ (t : GuestTouch). ltb t.tick tick ≡ true) (λ t. ltb t.tick tick ≡ false)

@@ -1,6 +1,5 @@
--- The numbers that a caller sees of refusals: those that C sees. Those of traces are the numbers of their names in
--- fault
--- lines, E1 to E17; those of settings, S1 to S10, begin at 21. This project's own.
+-- The numbers that a caller sees for refusals: those that C sees. Those of traces are the numbers of their names in
+-- fault lines, E1 to E17; those of settings, S1 to S10, begin at 21. This project's own.
 use Rattle.std.specs.Prelude.{◌≡◌, ℕ, Option, Some, None}
 use Rattle.trace_codec.specs.declared.error.TraceError.{TraceError}
 use Rattle.trace_codec.specs.declared.error.TraceError.TheVariants as traces

@@ -34,14 +34,14 @@ sums_of outcome = record {
 abbrev pub room_of : ℕ → ℕ → ℕ → ℕ → PlanRoom
 room_of touches marks list rounds = record { touches = touches; marks = marks; list = list; rounds = rounds }
 
--- so much is enough for a plan of this trace
+-- this is enough for a plan of this trace
 pub record HasRoom (trace : GuestTrace) (settings : MigrationSettings) (room : PlanRoom) : Type 0 where
   pub touches : length trace.writes ≤ room.touches
   pub marks : word_count trace.pages ≤ room.marks
   pub list : trace.pages ≤ room.list
   pub rounds : settings.rounds ≤ room.rounds
 
--- the plan of the trace that these bytes encode comes to this, and its rounds stand over the front of a buffer
+-- this is the result of the plan of the trace that these bytes encode, and its rounds are at the front of a buffer
 pub record IsPlannedOf (bytes : List ℕ) (settings : MigrationSettings)
     (outcome : PlanOutcome) (old new : List RoundRow) : Type 0 where
   pub trace : GuestTrace

@@ -3,7 +3,7 @@ use Rattle.std.specs.Prelude.{ℕ, ◌==◌, not, if◌then◌else◌, Option, S
 use Rattle.migration_model.specs.Rates.{MigrationSettings}
 use Rattle.lent_planner.specs.declared.settings.LentSettings.{LentSettings}
 
--- the tick that a base stands at, where there is one
+-- the tick of a base, if there is one
 abbrev pub base_in : LentSettings → Option ℕ
 base_in s = if s.has_base == 0 then None else Some s.base
 

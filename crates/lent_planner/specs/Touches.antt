@@ -14,7 +14,7 @@ pub record LentTimeline : Type 0 where
 abbrev pub timeline_with : ℕ → List GuestTouch → LentTimeline
 timeline_with pages touches = record { pages = pages; touches = touches }
 
--- a guest may have so many pages, and these touches
+-- a guest may have this many pages, and these touches
 pub record IsTimeline (pages : ℕ) (touches : List GuestTouch) : Type 0 where
   pub some : 1 ≤ pages
   pub few : pages ≤ 65_536

@@ -16,13 +16,13 @@ use Rattle.lent_planner.specs.declared.windows.WindowRoom.{WindowRoom}
 abbrev pub room_of : ℕ → ℕ → ℕ → WindowRoom
 room_of touches marks rows = record { touches = touches; marks = marks; rows = rows }
 
--- so much is enough for the windows of this trace
+-- this is enough for the windows of this trace
 pub record HasRoom (trace : GuestTrace) (settings : MigrationSettings) (room : WindowRoom) : Type 0 where
   pub touches : length trace.writes ≤ room.touches
   pub marks : trace.pages ≤ room.marks
   pub rows : HasRows (touches_of trace) settings.window room.rows
 
--- the rows of the windows of a trace stand over the front of a buffer, and they are so many
+-- the rows of the windows of a trace are at the front of a buffer, and there are `count` of them
 pub record ArePut (trace : GuestTrace) (settings : MigrationSettings)
     (count : ℕ) (old new : List WindowNumbers) : Type 0 where
   pub rows_are : new ≡ rows_over (rows_of (touches_of trace) trace.pages settings.window) old

@@ -1,8 +1,8 @@
 //! The calls of the planner in a web page: tests of traces and settings, the plan of a trace, and its windows.
 //!
 //! Nothing is allocated: the caller lends the bytes of the trace, room for the call's own work, and slots for what it
-//! answers. No call keeps anything between two calls. A call answers 0, or the number of a refusal; where that is not
-//! 0, it has written nothing but what its contract names.
+//! answers. No call keeps anything between two calls. A call answers 0, or the number of a refusal; if that is not 0,
+//! it has written nothing but what its contract names.
 //!
 //! A WebAssembly module has these calls, and imports nothing. Numbers of refusals, settings, sums and rounds are laid
 //! out as in `include/precopy.h`.

@@ -4,7 +4,7 @@ ghost use Rattle.std.specs.Prelude.{◌≡◌, ◌≢◌, IfErr, IfOk, IsOk, OnE
 ghost use Rattle.migration_model.specs.Rates.{AreSettings};
 ghost use Rattle.migration_model.specs.Trace.{GuestTrace, Spells};
 ghost use Rattle.rate_limit.specs.Pacing.{reason_of};
-ghost use Rattle.lent_planner.specs.Answers.{IsNumberOf, number_of};
+ghost use Rattle.lent_planner.specs.Answers.{IsNumberOf};
 ghost use Rattle.lent_planner.specs.Plans.{HasRoom, IsPlannedOf, IsSummedOf, RefusesPlan, reason_number, room_of};
 ghost use Rattle.lent_planner.specs.Plans.{sums_of};
 ghost use Rattle.migration_model.specs.Touches.{touches_of};
@@ -26,7 +26,7 @@ use trace_codec::TraceView;
 pub struct LentSums {
     /// How many rounds there are.
     pub rounds: u64,
-    /// Why no further round comes: 0 where few pages remain, 1 where the next rate is too high, 2 after the last round.
+    /// Why there are no more rounds: 0 if few pages remain, 1 if the next rate is too high, 2 after the last round.
     pub reason: u64,
     /// The tick at which the guest is stopped.
     pub stop: u64,
@@ -140,8 +140,8 @@ fn planned(
 }
 
 /// Answers the sums of the plan of a trace with some settings, and writes the numbers of its rounds, in order, over the
-/// front of a buffer. It is refused where any of what is lent is too short: a slot of `touches` for each write, a bit
-/// of `marks` and a slot of `list` for each page, and a slot of `rounds` for each round that the settings ask for.
+/// front of a buffer. It is refused if anything lent is too short: a slot of `touches` for each write, a bit of `marks`
+/// and a slot of `list` for each page, and a slot of `rounds` for each round that the settings ask for.
 #[unsafe(no_mangle)]
 pub extern "C" fn lent_plan(
     trace: &[u8],

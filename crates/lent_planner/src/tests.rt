@@ -76,7 +76,7 @@ fn numbers_of_round(row: &RoundRow) -> [u64; 6] {
 /// What a call answers, the sums, and the first three slots for rounds.
 type Planned = (u32, [u64; 5], [[u64; 6]; 3]);
 
-/// Plans with so many slots for touches, and all else that a plan needs. The marks are not clear before.
+/// Plans with this many slots for touches, and all else that a plan needs. The marks are not clear before.
 fn planned(trace: &[u8], settings: &LentSettings, slots: usize) -> Planned {
     let mut touches = [TOUCH; 6];
     let mut rounds = [ROUND; 8];

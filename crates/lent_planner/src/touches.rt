@@ -1,7 +1,7 @@
 //! When the writes of a trace were, in room that is lent.
 
 ghost use Rattle.std.specs.Prelude.{◌≡◌, ◌≤◌, length, map, nat_lt, take};
-ghost use Rattle.migration_model.specs.Touches.{AreTouches, touches_of};
+ghost use Rattle.migration_model.specs.Touches.{touches_of};
 ghost use Rattle.lent_planner.specs.Touches.{touch_in};
 
 use guest_log::{Timeline, Touch};
@@ -14,7 +14,7 @@ use trace_codec::TraceView;
 pub struct LentTouch {
     /// The tick of the write.
     pub tick: u64,
-    /// The page that it is to.
+    /// The page that it writes to.
     pub page: u32,
 }
 
@@ -57,7 +57,7 @@ impl<'a> LentLog<'a> {
     ghost use Rattle.migration_model.specs.Touches.{touches_of};
     ghost use Rattle.lent_planner.specs.Touches.{timeline_with, touch_in};
 
-    /// Returns the touches of a trace, which stand in the front of some room.
+    /// Returns the touches of a trace, which are at the front of some room.
     pub(crate) fn of(trace: &TraceView<'_>, room: &'a [LentTouch]) -> LentLog<'a>
         requires len { length trace.now.writes ≤ length room.now }
         requires touches { map touch_in (take (length trace.now.writes) room.now) ≡ touches_of trace.now }

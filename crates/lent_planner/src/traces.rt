@@ -20,11 +20,11 @@ pub struct LentSizes {
     pub pages: u32,
     /// How many writes the trace has.
     pub writes: u32,
-    /// The tick of the last write, or 0 where there is none.
+    /// The tick of the last write, or 0 if there is none.
     pub last: u64,
 }
 
-/// Returns the tick of the last write, or 0 where there is none.
+/// Returns the tick of the last write, or 0 if there is none.
 pub(crate) fn last_tick(trace: &TraceView<'_>) -> u64
     ensures { result ≡ last_tick trace.now.writes }
 {
@@ -63,7 +63,7 @@ fn record_of(error: TraceError) -> Option<u32>
     }
 }
 
-/// Tests the bytes of a trace, and tells its sizes. Where they are refused for a record, it tells which, from 0.
+/// Tests the bytes of a trace, and says its sizes. If they are refused for a record, it says which, from 0.
 #[unsafe(no_mangle)]
 pub extern "C" fn lent_check_trace(trace: &[u8], sizes: &mut LentSizes, number: &mut u32) -> u32
     ensures found { result ≡ 0 → (t : GuestTrace) × Spells trace.now t × AreSizesOf t sizes.new

@@ -2,7 +2,6 @@
 
 ghost use Rattle.std.specs.Prelude.{◌≡◌, ◌≢◌, IfErr, IfOk, IsOk, OnErr, length};
 ghost use Rattle.migration_model.specs.Rates.{AreSettings};
-ghost use Rattle.migration_model.specs.Touches.{touches_of};
 ghost use Rattle.migration_model.specs.Trace.{GuestTrace, Spells};
 ghost use Rattle.lent_planner.specs.Answers.{IsNumberOf};
 ghost use Rattle.lent_planner.specs.Settings.{settings_in};
@@ -24,7 +23,7 @@ pub(crate) struct WindowRoom {
     rows: usize,
 }
 
-/// Writes the rows of the windows of a trace over the front of a buffer, where there is room for them. Returns how many
+/// Writes the rows of the windows of a trace over the front of a buffer, if there is room for them. Returns how many
 /// there are.
 fn put_windows(
     trace: &TraceView<'_>,
@@ -72,8 +71,8 @@ fn windows(
     put_windows(&trace, &settings, touches, marks, rows)
 }
 
-/// Writes the rows of the windows of a trace that have a write, rising, over the front of a buffer, and answers how
-/// many there are. It is refused where any of what is lent is too short: a slot of `touches` for each write, one of
+/// Writes the rows of the windows of a trace that have a write, in ascending order, over the front of a buffer, and
+/// answers how many there are. It is refused if anything lent is too short: a slot of `touches` for each write, one of
 /// `marks` for each page, and one of `rows` for each write, or else for each window that begins up to the last write.
 #[unsafe(no_mangle)]
 pub extern "C" fn lent_windows(

@@ -1,5 +1,5 @@
 -- What arrives in the parts when all lanes are drained.
-use Rattle.std.proofs.Common.{◌≡◌, ℕ, ◌<◌, ◌≤◌, ◌⊎◌, inl, inr, List, length, map, refl, sym, ap, subst, ◌∙◌, arith, Vec}
+use Rattle.std.proofs.Common.{◌≡◌, ℕ, ◌<◌, ◌≤◌, ◌⊎◌, inl, inr, List, length, map, sym, ap, subst, ◌∙◌, arith, Vec}
 use Rattle.std.proofs.Common.{Global}
 use Rattle.std.specs.Prelude.{Option, Some, None, IfSome, IsSomeAnd, slice_get, slice_index}
 use Rattle.std.specs.List.{All, Contains}
@@ -43,7 +43,7 @@ items_of row = row.items
 abbrev lanes_by : List OutView → List LaneId
 lanes_by outs = map (λ (out : OutView). out.lane) outs
 
--- what was sent to a stream, some copier sent
+-- what was sent to a stream was sent by some copier
 by_some : (stream : ℕ) (rows : List (List OutView)) (text : List ℕ) → IsSentTo stream rows text → IsSentBy rows text
 by_some stream rows text sent =
     let found = any_there (λ (row : List OutView). (out : OutView) × (slice_get row stream ≡ Some out)
@@ -249,7 +249,7 @@ sizes_of trace streams states each = all_at (λ (row : List OutView). length row
     let state = made_of (λ (d : CopierStateView). d.outs) states copier row there in
     sym (ap length state.2) ∙ (holds_at (IsCopierState trace streams) states copier state.0 each state.1).lanes_are)
 
--- the lanes that are left cross as those that were opened
+-- the lanes that are left cross like those that were opened
 pub still_crossed : (trace : GuestTrace) (s : MigrationSettings) (plan : MigrationPlan) (team : Team)
     (first states : List CopierStateView) (opened receivers : List ReceiverView)
     (closed : ClosedView) (rounds : List LiveRound) → AreOpened trace team first opened
@@ -265,7 +265,7 @@ still_crossed trace s plan team first states opened receivers closed rounds are 
     (subst (λ (takes : List (List LaneId)). AreCrossed team.copiers team.streams (lanes_of (rows_of first)) takes)
     (sym (lanes_kept opened receivers same)) are.crossed))
 
--- what was sent has come
+-- what was sent has arrived
 pub all_came : (trace : GuestTrace) (s : MigrationSettings) (plan : MigrationPlan) (team : Team)
     (first states : List CopierStateView) (opened receivers : List ReceiverView)
     (closed : ClosedView) (rounds : List LiveRound) (parts : List GuestPart) → AreOpened trace team first opened

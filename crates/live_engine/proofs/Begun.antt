@@ -1,5 +1,5 @@
--- What the destination began with comes to what arrived on the first stream.
-use Rattle.std.proofs.Common.{◌≡◌, ℕ, zero, suc, ◌≤◌, inl, inr, List, [], ◌∷◌, length, get_or, set, refl, sym, ap}
+-- What the destination began with joins what arrived on the first stream.
+use Rattle.std.proofs.Common.{◌≡◌, ℕ, zero, suc, ◌≤◌, inl, inr, List, [], ◌∷◌, get_or, refl, sym, ap}
 use Rattle.std.proofs.Common.{subst, ◌∙◌, arith}
 use Rattle.std.specs.Prelude.{Option, Some, None, IfSome, IsSomeAnd, option_map, slice_get}
 use Rattle.std.specs.List.{All}
@@ -13,7 +13,7 @@ use Rattle.migration_model.specs.Parts.{GuestPart, PageCopy, IsCopy, IsPart, IsH
 use Rattle.migration_model.specs.Images.{AreNotBeyond, HaveCurrent}
 use Rattle.migration_model.specs.Final.{shape_of_trace}
 use Rattle.migration_model.specs.Warm.{first_part}
-use Rattle.migration_model.proofs.Parts.{IsHonest-join, get_or-later_each, later_first, later_one, later_second}
+use Rattle.migration_model.proofs.Parts.{IsHonest-join, later_first, later_one, later_second}
 use Rattle.migration_model.proofs.Parts.{length-later_each, copy_at-join}
 use Rattle.migration_model.proofs.Warm.{first_copy, first_had, first_shape, is_first_part}
 use Rattle.migration_model.proofs.Lists.{if_some}
@@ -103,7 +103,7 @@ module _ (trace : GuestTrace) (versions : List ℕ) (first part : GuestPart) (re
         (before.bound page));
   }
 
-  -- the join has a page at its version where one of the two has
+  -- the join has a page at its version if one of the two has it
   at_version : (page : ℕ) (now : PageCopy) → copy_at (join first part) page ≡ Some now
       → get_or versions page 0 ≤ now.stamp
       → HaveCurrent versions (join first part ∷ rest) page

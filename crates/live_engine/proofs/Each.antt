@@ -56,7 +56,7 @@ made_at f n front x rest is =
     sym at ∙ ap (λ (k : ℕ). get_or (front ++ x ∷ rest) k x) place ∙ ap (λ xs. get_or xs (length front) x) is
     ∙ get_or-map-range_with_len f 0 n (length front) (length front) x (omega (arith, len)) (omega arith)
 
--- what each of a list of handles was told and each result keeps, is so of the results
+-- what each of a list of handles was told and each result keeps holds for the results
 pub each_kept : {H X : Type 0} (Told : H → ℕ → Type 0) (Kept : H → X → Type 0) (Holds : X → ℕ → Type 0) (hs : List H)
     (xs : List X) → length xs ≡ length hs
     → EachAt Told hs → EachAt (λ x i. (h : H) × (h ≡ get_or hs i h) × Kept h x) xs
@@ -68,7 +68,7 @@ each_kept Told Kept Holds hs xs len told kept both i low =
     let same : t.0 ≡ k.2.0 = t.1 ∙ get_or_default hs i t.0 k.2.0 inside ∙ sym k.2.1 in
     (k.0, k.1, both k.2.0 k.0 i (subst (λ h. Told h i) same t.2) k.2.2)
 
--- results of which none is refused
+-- results none of which is refused
 pub each_ok : {X E : Type 0} (Holds : X → ℕ → Type 0) (xs : List X) (rs : List (Result X E)) → map Ok xs ≡ rs
     → EachAt (λ r i. IfOk r (λ x. Holds x i)) rs → EachAt Holds xs
 each_ok {X} {E} Holds xs rs is all i low =
@@ -90,7 +90,7 @@ any_there P xs some =
     let at = some.3 in
     (some.0, some.1, slice_get-get_or xs some.0 some.1 low ∙ ap Some at, some.4)
 
--- an element of a list that was made of another
+-- an element of a list that was made from another
 pub made_of : {X Y : Type 0} (f : X → Y) (xs : List X) (i : ℕ) (y : Y) → slice_get (map f xs) i ≡ Some y → (x : X)
     × (slice_get xs i ≡ Some x) × (f x ≡ y)
 made_of f xs i y there =
@@ -111,7 +111,7 @@ makes_at f xs i x there =
     slice_get-get_or (map f xs) i (f x) (omega (arith, low, len))
     ∙ ap Some (get_or-map f xs i x (f x) low ∙ ap f (get_or_from_slice_get xs i x x there))
 
--- a list of as many elements, each the same as that of another
+-- a list with as many elements as another, each of them the same
 pub same_at : {X : Type 0} (xs ys : List X) → length xs ≡ length ys
     → ((i : ℕ) (d : X) → i < length xs → get_or xs i d ≡ get_or ys i d) → xs ≡ ys
 same_at [] [] len each = refl
@@ -131,6 +131,6 @@ same_image f g xs ys i x same there =
     let found = made_of g ys i (f x) (ap (λ l. slice_get l i) (sym same) ∙ makes_at f xs i x there) in
     (found.0, found.1, sym found.2)
 
--- what is so where a call is not refused, is so of one that was not
+-- what holds if a call is not refused holds for one that was not
 pub from_ok : {X E P : Type 0} (r : Result X E) (x : X) → r ≡ Ok x → OnOk r P → P
 from_ok {X} {E} {P} r x ok = subst (λ (q : Result X E). OnOk q P → P) (sym ok) (λ p. p)

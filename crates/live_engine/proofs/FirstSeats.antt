@@ -1,9 +1,9 @@
 -- The seats of a table that has just opened, one after the other.
-use Rattle.std.proofs.Common.{◌≡◌, ℕ, ◌+◌, List, [], ◌∷◌, ◌++◌, length, get_or, sym, ap, subst, ◌∙◌, arith}
+use Rattle.std.proofs.Common.{◌≡◌, ℕ, ◌+◌, List, [], ◌∷◌, ◌++◌, length, get_or, sym, ap, ◌∙◌, arith}
 use Rattle.std.proofs.lemmas.List.{append_assoc, append-nil, get_or-append-add, get_or-map, length-append}
 use Rattle.std.proofs.lemmas.Grind.{flat_map-append}
 use Rattle.std.specs.Prelude.{Some, slice_get}
-use Rattle.std.specs.List.{All, flat_map}
+use Rattle.std.specs.List.{flat_map}
 use Rattle.std.proofs.lemmas.Option.{slice_get-get_or}
 use Rattle.dirty_words.specs.Facts.{first_guest, first_copier}
 use Rattle.dirty_words.specs.Closing.{first_guests, first_copiers}
@@ -12,7 +12,7 @@ use Rattle.live_tasks.specs.CopierStates.{CopierStateView}
 use Rattle.live_engine.specs.Lists.{rows_of}
 use Rattle.live_engine.proofs.Each.{made_at}
 
--- the next of a list, when those in front of it were given out
+-- the next element of a list, when those before it were given out
 pub next_of : {X : Type 0} (front old rest items : List X) (x : X) → old ≡ x ∷ rest → front ++ old ≡ items → front
     ++ (x ∷ rest) ≡ items
 next_of front old rest items x steps all = ap (λ xs. front ++ xs) (sym steps) ∙ all
@@ -40,7 +40,7 @@ copier_at table items front old rest seat first steps all =
     made_at (λ (number : ℕ). copy_view table.id (first_copier table.start number)) table.start.copiers front seat rest
     (next_of front old rest items seat steps all ∙ first)
 
--- the lanes of the next state, when those in front of it were given out
+-- the lanes of the next state, when those before it were given out
 pub row_first : (front old rest all : List CopierStateView) (state : CopierStateView) (number : ℕ) → old ≡ state ∷ rest
     → front ++ old ≡ all → number ≡ length front
     → state.outs ≡ get_or (rows_of all) number []
@@ -60,7 +60,7 @@ pub lists_more : {X Y : Type 0} (f : X → List Y) (front : List X) (x : X) (bef
 lists_more f front x before is = ap (λ l. l ++ f x) is ∙ ap (λ l. flat_map f front ++ l) (sym (append-nil (f x)))
     ∙ sym (flat_map-append f front (x ∷ []))
 
--- the next of a list stands behind those that were given out
+-- the next element of a list follows those that were given out
 pub next_there : {X : Type 0} (front old rest all : List X) (x : X) (number : ℕ) → old ≡ x ∷ rest → front ++ old ≡ all
     → length front ≡ number → slice_get all number ≡ Some x
 next_there front old rest all x number steps is at =

@@ -1,4 +1,4 @@
--- The law over rounds of which one more keeps it.
+-- The law over rounds, kept with one more round.
 use Rattle.std.proofs.Common.{◌≡◌, ℕ, ◌+◌, ◌-◌, ◌<◌, ◌≤◌, inl, inr, Bool, true}
 use Rattle.std.proofs.Common.{List, [], ◌∷◌, ◌++◌, length, take, sym, ap, subst, ◌∙◌}
 use Rattle.std.proofs.Common.{arith}
@@ -56,7 +56,7 @@ law_more trace base skip copiers lane planned rounds plan round law keeps =
           ];
     }
 
--- where skipping is on in one round it is on
+-- if skipping is on in one round it is on
 pub law_of_all : (trace : GuestTrace) (base : Option ℕ) (now skip : Bool) (copiers lane : ℕ) (planned : List PlannedRound)
     (rounds : List LiveRound) (plan : PlannedRound) (round : LiveRound)
     → (now ≡ true → skip ≡ true) → KeepsLaw trace base now copiers lane planned rounds plan round

@@ -1,4 +1,4 @@
--- What a round leaves, from what its threads gave back and from what the closed table tells of each page.
+-- What a round leaves, from what its threads gave back and from what the closed table says about each page.
 use Rattle.std.proofs.Common.{◌≡◌, ℕ, ◌+◌, ◌/◌, ◌%◌, ◌<◌, ◌≤◌, ◌⊎◌, inl, inr, Bool, List, [], ◌∷◌, ◌++◌, length, map}
 use Rattle.std.proofs.Common.{refl, sym, ap, subst, ◌∙◌, arith}
 use Rattle.std.specs.Prelude.{Some, IsTrue, is_some, slice_get, slice_index}

@@ -1,11 +1,11 @@
--- The rounds of a plan that are left.
+-- The remaining rounds of a plan.
 use Rattle.std.proofs.Common.{◌≡◌, ℕ, ◌+◌, ◌-◌, ◌<◌, ◌≤◌, ◌⊎◌, inl, inr, List, [], ◌∷◌, ◌++◌, length, take, drop}
 use Rattle.std.proofs.Common.{get_or, refl, sym, ap, subst, ◌∙◌, arith}
 use Rattle.std.proofs.lemmas.List.{drop_more, take_more, take_all, drop_all}
 use Rattle.migration_model.specs.Trace.{GuestTrace}
 use Rattle.migration_model.specs.Rates.{MigrationSettings, AfterRound, goes_on, stops, after_round, duration_of}
-use Rattle.migration_model.specs.Rounds.{PlannedRound, MigrationPlan, NextRound, first_round, round_after, IsRound}
-use Rattle.migration_model.specs.Rounds.{IsEnd, InEither, AreRounds, IsPlan}
+use Rattle.migration_model.specs.Rounds.{PlannedRound, MigrationPlan, NextRound, round_after, IsRound}
+use Rattle.migration_model.specs.Rounds.{IsEnd, InEither, AreRounds}
 use Rattle.migration_model.specs.Touches.{touches_of}
 
 -- none is left, and the guest stops at this tick; or the next begins then
@@ -31,7 +31,7 @@ behind trace s plan now round rounds (goes_on rate) is = inr
     (round_after trace.pages (touches_of trace) now round rate, refl, is)
 behind trace s plan now round rounds (stops reason) is = inl (is.0, is.2.stop_is)
 
--- the next round begins at the tick, and what remains behind it begins where it ends
+-- the next round begins at the tick, and what remains after it begins where it ends
 pub next_remains : (trace : GuestTrace) (s : MigrationSettings) (plan : MigrationPlan) (tick : ℕ) (round : PlannedRound)
     (rounds : List PlannedRound)
     → Remaining trace s plan tick (round ∷ rounds) → (round.from ≡ tick) × (round.from ≤ round.to)
@@ -45,7 +45,7 @@ next_remains trace s plan tick round rounds (inr more) =
           more.2.1,
     )
 
--- the round with a number, of those that are left from it on
+-- the round with a number, of those that remain from it on
 pub round_next : (trace : GuestTrace) (s : MigrationSettings) (plan : MigrationPlan) (tick number : ℕ)
     (round : PlannedRound) → number < length plan.rounds
     → round ≡ get_or plan.rounds number round → Remaining trace s plan tick (drop number plan.rounds)

@@ -1,4 +1,4 @@
--- What the copiers of a round sent, all together.
+-- What the copiers of a round sent altogether.
 use Rattle.std.proofs.Common.{◌≡◌, ℕ, zero, suc, ◌+◌, ◌<◌, ◌≤◌, ◌⊎◌, inl, inr, Bool, true, cond, eqb, List, [], ◌∷◌}
 use Rattle.std.proofs.Common.{length, map, get_or, refl, sym, ap, subst, ◌∙◌, arith}
 use Rattle.std.specs.Prelude.{Some, slice_get}
@@ -21,7 +21,7 @@ use Rattle.live_engine.proofs.ScanOrder.{in_all, in_piece}
 
 -- ---- how many
 
--- all of a list are counted
+-- all elements of a list are counted
 count_whole : {X : Type 0} (p : X → Bool) (xs : List X) → ((x : X) → Contains xs x → p x ≡ true) → count_by p xs
     ≡ length xs
 count_whole p [] all = refl

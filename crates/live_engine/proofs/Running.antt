@@ -133,7 +133,7 @@ module _ (trace : GuestTrace) (base : Option ℕ) (skip : Bool) (copiers from to
     ]
   ]
 
-  -- a frame that was sent by the round's end is that of a page at a version that it had by then
+  -- a frame sent by the round's end is that of a page at a version that it had by then
   honest_after : (text : List ℕ) → IsSentBy after text → IsHonestText trace new.versions text
   honest_after text sent = elim (posted.new text sent) [
     | inl earlier ↦
@@ -354,7 +354,7 @@ joined_first trace base copiers tick closed rows low versions marks none = recor
   );
 }
 
--- the law after a round in which pages may be skipped only where skipping is on and a round came before
+-- the law after a round in which pages may be skipped only if skipping is on and a round came before
 pub law_next : (trace : GuestTrace) (base : Option ℕ) (skip now : Bool) (copiers lane : ℕ) (planned : List PlannedRound)
     (rounds : List LiveRound) (plan : PlannedRound) (round : LiveRound)
     (old new : ClosedView) (before after : List (List OutView)) → now ≡ (skip && leb 1 (length rounds))

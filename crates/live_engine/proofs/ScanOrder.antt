@@ -35,7 +35,7 @@ place_of sent page c =
     let first : at.0 ≡ page = sym (get_or-map (λ (s : ℕ × ℕ). s.0) sent c.0 (page, 0) page inside) ∙ c.2 in
     (at.1, subst (λ (p : ℕ). Contains sent (p, at.1)) first (Contains-get_or sent c.0 (page, 0) inside))
 
--- an element of lists that stand one after the other is in one of them
+-- an element of concatenated lists is in one of them
 pub in_piece : {X Y : Type 0} (f : X → List Y) (xs : List X) (y : Y) → Contains (flat_map f xs) y → (i : ℕ) × (x : X)
     × (slice_get xs i ≡ Some x) × Contains (f x) y
 in_piece f [] y c = absurd (in_none y c)
@@ -85,7 +85,7 @@ abbrev In : ℕ → ℕ → ℕ → Type 0
 In copiers page later = (page_copier copiers page < page_copier copiers later)
     ⊎ ((page_copier copiers page ≡ page_copier copiers later) × (page < later))
 
--- rising pages of one copier
+-- ascending pages of one copier
 one_copier : (copiers number : ℕ) (pages : List ℕ) → IsStrictlyIncreasing pages
     → ((page : ℕ) → Contains pages page → page_copier copiers page ≡ number) → IsInScanOrder copiers pages
 one_copier copiers number pages up own i j d lt low =
@@ -93,7 +93,7 @@ one_copier copiers number pages up own i j d lt low =
     let at_j = own (get_or pages j d) (Contains-get_or pages j d low) in
     inr (at_i ∙ sym at_j, AllPairs-from_increasing pages up i j d lt low)
 
--- Rising pages of each of the copiers from a number on, in order.
+-- Ascending pages of each of the copiers from a number on, in order.
 pub in_scan_order : {X : Type 0} (copiers : ℕ) (f : X → List ℕ) (first : ℕ) (xs : List X)
     → ((i : ℕ) (x : X) → slice_get xs i ≡ Some x → IsStrictlyIncreasing (f x)
     × ((page : ℕ) → Contains (f x) page → page_copier copiers page ≡ first + i))

@@ -44,7 +44,7 @@ capacity_at lane rows copier outs i out capacity there low at =
     sym (ap (λ (id : LaneId). id.capacity) one) ∙ own i out.lane
     (omega (arith, low, length-map outs (λ (o : OutView). o.lane)))
 
--- what a copier sent in rounds of which one more came
+-- what a copier sent in rounds, with one more round
 pub sent_more : (copiers : ℕ) (rounds : List LiveRound) (round : LiveRound) (copier : ℕ)
     → sent_by_copier copiers (rounds ++ round ∷ []) copier
     ≡ sent_by_copier copiers rounds copier + sent_by_copier copiers (round ∷ []) copier

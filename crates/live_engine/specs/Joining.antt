@@ -18,7 +18,7 @@ use Rattle.live_tasks.specs.RoundLogs.{IsCrowded, SpellsPage, frames_sent}
 abbrev pub IsMarked : List ℕ → ℕ → Type 0
 IsMarked dirty page = IsTrue (in_words dirty page)
 
--- What a round in these ticks did and left, when the table opened with the versions before them and with these marks.
+-- What a round in these ticks did and left, if the table opened with the versions before them and these marks.
 pub record IsLiveRound (trace : GuestTrace) (skip : Bool) (copiers : ℕ) (dirty : List ℕ) (from to : ℕ)
     (closed : ClosedView) (round : LiveRound) : Type 0 where
   pub versions : (page : ℕ) → page < trace.pages → slice_index closed.versions page ≡ version_before trace page to
@@ -50,7 +50,7 @@ IsSentBy rows text = Any (λ outs. IsSentOn outs text) rows
 abbrev pub lanes_of : List (List OutView) → List (List LaneId)
 lanes_of rows = map (λ outs. map (λ out. out.lane) outs) rows
 
--- each lane holds so many frames
+-- each lane holds `lane` frames
 abbrev pub HaveCapacity : ℕ → List (List LaneId) → Type 0
 HaveCapacity lane rows = All (All (λ id. id.capacity ≡ lane)) rows
 
@@ -59,7 +59,7 @@ abbrev pub HaveSentNothing : List (List OutView) → Type 0
 HaveSentNothing rows = All (All (λ out. out.sent ≡ [])) rows
 
 -- In this round the copiers sent the frames of the pages that are listed as sent, and no other; a page was deferred
--- only where one of its copier's lanes was full.
+-- only if one of its copier's lanes was full.
 pub record HavePosted (trace : GuestTrace) (copiers : ℕ) (round : LiveRound)
     (before after : List (List OutView)) : Type 0 where
   pub lanes : lanes_of after ≡ lanes_of before
@@ -94,9 +94,9 @@ abbrev pub IsAsInBase : GuestTrace → Option ℕ → List ℕ → ℕ → Type 
 IsAsInBase trace base versions page = IsSomeAnd base
     (λ from. slice_index versions page ≡ version_before trace page from)
 
--- What holds after so many rounds, when the next begins at this tick: the versions are those before it; each frame that
+-- What holds after these rounds, when the next begins at this tick: the versions are those before it; each frame that
 -- was sent is honest and nowhere beyond them; each page that isn't marked was sent as it is now, or is as in the base.
--- Before the first round only pages are marked that are not as in the base.
+-- Before the first round only pages that differ from the base are marked.
 pub record AreJoined (trace : GuestTrace) (base : Option ℕ) (copiers tick : ℕ) (planned : List PlannedRound)
     (rounds : List LiveRound)
     (closed : ClosedView) (rows : List (List OutView)) : Type 0 where

@@ -82,7 +82,7 @@ pub record HaveEnded (trace : GuestTrace) (s : MigrationSettings) (plan : Migrat
   pub done : AreDone trace s plan team before closed rounds states
   pub same : map identity_of receivers ≡ map identity_of opened
 
--- All that was sent has come to the parts. A page that isn't marked is no older there than at the stop, or has the
+-- All that was sent has reached the parts. A page that isn't marked is no older there than at the stop, or has the
 -- version that it had in the base.
 pub record AllSentArrived (trace : GuestTrace) (base : Option ℕ)
     (streams : ℕ) (closed : ClosedView) (parts : List GuestPart) : Type 0 where
@@ -94,15 +94,15 @@ pub record AllSentArrived (trace : GuestTrace) (base : Option ℕ)
   pub current : (page : ℕ) → page < trace.pages → ¬ IsMarked closed.dirty page
       → HaveCurrent closed.versions parts page ⊎ IsAsInBase trace base closed.versions page
 
--- All that was sent, and what the destination began with, is in the parts, and no page that isn't marked is older there
--- than at the stop.
+-- All that was sent, and what the destination began with, is in the parts, and no unmarked page is older there than at
+-- the stop.
 pub record AllArrived (trace : GuestTrace) (streams : ℕ) (closed : ClosedView) (parts : List GuestPart) : Type 0 where
   pub fits : FitsPages closed trace.pages (length trace.writes)
   pub count : length parts ≡ streams
   pub not_beyond : AreNotBeyond trace (shape_of_trace trace) closed.versions parts
   pub current : (page : ℕ) → page < trace.pages → ¬ IsMarked closed.dirty page → HaveCurrent closed.versions parts page
 
--- memory of a trace's guest in which each page is at its version, and an index of the trace
+-- memory of a trace's guest with each page at its version, and an index of the trace
 pub record IsStoppedAt (trace : GuestTrace) (versions : List ℕ)
     (index : GuestIndex) (memory : GuestMemory) : Type 0 where
   pub is_trace : IsTrace trace
@@ -125,7 +125,7 @@ pub record IsStopped (trace : GuestTrace) (s : MigrationSettings) (stop : ℕ) (
   pub stopped : IsStoppedAt trace versions index at_stop
   pub law : LiveRounds trace s.base s.skip s.workers s.lane plan.rounds rounds
 
--- A live run that answers: by the plan, it has the memory at the plan's stop tick and after all writes, and its rounds
+-- A live run that succeeds: by the plan, it has the memory at the plan's stop tick and after all writes, and its rounds
 -- keep the law.
 pub record IsLiveRun (trace : GuestTrace) (s : MigrationSettings) (stop : ℕ) (at_stop at_end : GuestMemory)
     (rounds : List LiveRound) : Type 0 where

@@ -12,7 +12,7 @@ use Rattle.live_tasks.specs.declared.copier.Copier.{Copier}
 abbrev pub EachAt : {X : Type 0} → (X → ℕ → Type 0) → List X → Type 0
 EachAt {X} Holds xs = (i : ℕ) → i < length xs → (x : X) × (x ≡ slice_index_or xs i x) × Holds x i
 
--- what copiers of a round share: an index of the trace, and a table of its pages
+-- what the copiers of a round share: an index of the trace, and a table of its pages
 pub record IsRoundOf (trace : GuestTrace) (index : GuestIndex) (table : TableView) : Type 0 where
   pub is_index : IsIndexOf index trace
   pub has_pages : length table.start.places ≡ trace.pages
@@ -28,7 +28,7 @@ pub record ReplayTask : Type 0 where
 abbrev pub replay_task : GuestTrace → TableView → ℕ → ℕ → ℕ → ReplayTask
 replay_task trace table from to number = record { trace = trace; table = table; from = from; to = to; number = number }
 
--- the part that a copier owes: the words of the copier with this number, on the lanes that it had first
+-- the part that a copier owes: the words of the copier with this number, on its initial lanes
 pub record CopyTask : Type 0 where
   pub trace : GuestTrace
   pub skip : Bool
@@ -41,7 +41,7 @@ abbrev pub copy_task : GuestTrace → Bool → TableView → ℕ → ℕ → Lis
 copy_task trace skip table streams number outs =
     record { trace = trace; skip = skip; table = table; streams = streams; number = number; outs = outs }
 
--- the guest with this number is of the table, and did its part of the round
+-- the guest with this number is the table's, and did its part of the round
 pub record IsReplayed (trace : GuestTrace) (table : TableView) (from to number : ℕ) (guest : GuestView) : Type 0 where
   pub table_is : guest_table guest ≡ table
   pub number_is : guest.facts.number ≡ number
@@ -52,7 +52,7 @@ pub record AreReplayed (trace : GuestTrace) (table : TableView) (from to : ℕ) 
   pub count : length guests ≡ table.start.guests
   pub each : EachAt (λ guest number. IsReplayed trace table from to number guest) guests
 
--- the copier with this number did its part, and had these lanes first
+-- the copier with this number did its part, and initially had these lanes
 abbrev pub IsCopied : GuestTrace → Bool → TableView → ℕ → List (List OutView) → Copier → ℕ → Type 0
 IsCopied trace skip table streams rows copier number =
     HasCopied trace skip table number streams (slice_index_or rows number []) copier.seat copier.state

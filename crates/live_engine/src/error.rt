@@ -1,4 +1,4 @@
-//! Why a live run gives no image.
+//! Why a live run produces no image.
 
 ghost use Rattle.std.specs.Prelude.{◌≡◌, ◌⊎◌};
 ghost use Rattle.live_engine.specs.declared.error.LiveError.TheVariants.{Memory, Thread};
@@ -68,7 +68,7 @@ impl From<TableError> for LiveError {
     }
 }
 
-/// After the final copy no page is missing in the parts, so the error is want of memory.
+/// After the final copy no page is missing from the parts, so the error is lack of memory.
 impl From<ImageError> for LiveError {
     ghost from_gives = { λ _ e. e ≡ Memory };
 
@@ -85,7 +85,7 @@ impl From<LaneError> for LiveError {
     }
 }
 
-/// All that is sent are frames, so the error is want of memory.
+/// Only frames are sent, so the error is lack of memory.
 impl From<ReceiverError> for LiveError {
     ghost from_gives = { λ _ e. e ≡ Memory };
 
@@ -110,7 +110,7 @@ impl From<PlanError> for LiveError {
     }
 }
 
-/// The one cause of `L2` beside a final copy's own: a thread was asked for and not made.
+/// The one cause of `L2` besides a final copy's own: a thread was requested and not made.
 impl<F: Drop> From<SpawnError<F>> for LiveError {
     ghost from_gives = { λ _ e. e ≡ Thread };
 

@@ -1,8 +1,8 @@
 //! Migrates a running guest: replayers change its pages while copiers send them, and receivers take them.
 //!
-//! [`live_run`] returns the guest's memory at the plan's stop tick and after all writes; under every schedule these are
+//! [`live_run`] returns the guest's memory at the plan's stop tick and after all writes; under every schedule both are
 //! what the trace's writes leave. [`migrate`] leaves the memory in the parts that arrived, for a caller that writes it
-//! page by page. A [`Gate`] is called at each [`Point`]; it may look on or wait there, and so choose a schedule.
+//! page by page. A [`Gate`] is called at each [`Point`]; it may observe or wait there, and so choose a schedule.
 //!
 //! ```
 //! // Three copiers, two streams and four replayers; `rt` may start threads and wait.

@@ -9,14 +9,14 @@ use std::alloc::Global;
 use std::collections::VecDeque;
 use std::marker::Model;
 
-/// What was done in one round. The lists go by copier, and then in the order of that copier's steps.
+/// What was done in one round. The lists go copier by copier, each in the order of that copier's steps.
 #[derive(Debug, Drop)]
 pub struct LiveRound {
     /// The pages that were sent, each with its stamp.
     pub sent: Vec<(u32, u32)>,
-    /// The pages that were left for a later round, since they were marked again.
+    /// The pages that were left for a later round, because they were marked again.
     pub skipped: Vec<u32>,
-    /// The pages that were left for a later round, since the lane that they were to go on was full.
+    /// The pages that were left for a later round, because their lane was full.
     pub deferred: Vec<u32>,
 }
 

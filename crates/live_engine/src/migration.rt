@@ -1,6 +1,6 @@
 //! A migration, from its plan to its final copy.
 
-ghost use Rattle.std.specs.Prelude.{◌≡◌, IfOk};
+ghost use Rattle.std.specs.Prelude.{IfOk};
 ghost use Rattle.image_build.specs.Joins.{memory_by};
 ghost use Rattle.live_engine.specs.Runs.{AreNewStates, HaveEnded, IsLiveRun, IsStopped, IsTeam};
 ghost use Rattle.migration_model.specs.Rounds.{IsPlan};
@@ -59,7 +59,7 @@ fn run_beside_receivers<'s, E, W: WriteLog + Sync, G: Gate, R: Threads + Wait + 
     Ok((progress, receivers))
 }
 
-/// Runs all rounds and the receivers beside them, in threads that have ended when it returns.
+/// Runs all rounds with the receivers beside them, in threads that have ended when it returns.
 fn run_all<W: WriteLog + Sync, G: Gate, R: Threads + Wait + Sync>(
     rt: &R,
     alloc: Global,
@@ -109,10 +109,10 @@ fn run_all<W: WriteLog + Sync, G: Gate, R: Threads + Wait + Sync>(
     )
 }
 
-/// Performs a migration over the trace until the guest has stopped and all of its memory has come. In the ticks of each
-/// planned round replayers change the guest's pages while copiers send them over lanes, from which receivers take them,
-/// each in a thread of its own. With a base, a part with each page as it was before that tick is made before the first
-/// round. Then the guest stops, and the pages that are dirty still are sent. The error is `L2` where a thread was not
+/// Performs a migration over the trace until the guest has stopped and all of its memory has arrived. In the ticks of
+/// each planned round replayers change the guest's pages while copiers send them over lanes, from which receivers take
+/// them, each in its own thread. With a base, a part with each page as it was before that tick is made before the first
+/// round. Then the guest stops, and the pages that are still dirty are sent. The error is `L2` if a thread was not
 /// started, and else `L1`. All threads have ended when it returns.
 pub fn migrate<W: WriteLog + Sync, G: Gate, R: Threads + Wait + Sync>(
     rt: &R,
@@ -158,7 +158,7 @@ pub fn migrate<W: WriteLog + Sync, G: Gate, R: Threads + Wait + Sync>(
 /// What a live run leaves.
 #[derive(Debug, Drop)]
 pub struct Live {
-    /// The guest's memory where it stopped.
+    /// The guest's memory when it stopped.
     pub at_stop: Image,
     /// The guest's memory after all its writes.
     pub at_end: Image,
@@ -168,8 +168,8 @@ pub struct Live {
     pub rounds: Vec<LiveRound>,
 }
 
-/// Performs a migration as `migrate` does, and then resumes the guest. Returns the memory where the guest stopped and
-/// after all of its writes.
+/// Performs a migration as `migrate` does, and then resumes the guest. Returns the memory at the guest's stop and after
+/// all of its writes.
 pub fn live_run<W: WriteLog + Sync, G: Gate, R: Threads + Wait + Sync>(
     rt: &R,
     alloc: Global,

@@ -20,7 +20,7 @@ use std::sync::Wait;
 use std::thread;
 use std::thread::{Promise, PromisedHandle, Scope, Threads, scope_env};
 
-/// What a migration begins with: the plan, the index of pages, and with a base the part that has each page as it was
+/// What a migration begins with: the plan, the index of pages, and, with a base, the part that has each page as it was
 /// before that tick.
 #[derive(Drop)]
 pub(crate) struct Preparation {
@@ -52,7 +52,7 @@ impl<'a, W: WriteLog> Promise<Result<Image, ImageError>> for Remembers<'a, W> {
     ghost kept_by = { λ p result. IfOk result (λ image. image ≡ image_before (W.trace p.trace.now) p.base) };
 }
 
-/// Returns the plan over what a log tells.
+/// Returns the plan for what a log describes.
 fn plan_of<W: WriteLog>(alloc: Global, trace: &W, settings: &Settings) -> Result<Plan, PlanError>
     ensures { IfOk result (λ plan. IsPlan (W.trace trace.now).pages (touches_of (W.trace trace.now))
         settings.now plan) }
@@ -97,7 +97,7 @@ fn start_memory<'s, E, W: WriteLog + Sync>(
     Ok(scope.spawn_with(promise, run)?)
 }
 
-/// Returns the plan and the index of the trace, which are made side by side.
+/// Returns the plan and the index of the trace, which are made in parallel.
 fn plan_and_index<'s, E, W: WriteLog + Sync, R: Threads + Sync>(
     rt: &R,
     scope: &'s Scope<'s, E>,
@@ -115,7 +115,8 @@ fn plan_and_index<'s, E, W: WriteLog + Sync, R: Threads + Sync>(
     Ok((plan, index?))
 }
 
-/// Prepares a warm start: the memory before its base is made beside the plan and the index, and becomes a part then.
+/// Prepares a warm start: the memory before its base is made in parallel with the plan and the index, and then becomes
+/// a part.
 fn prepare_warm<'s, E, W: WriteLog + Sync, R: Threads + Sync>(
     rt: &R,
     scope: &'s Scope<'s, E>,
@@ -137,8 +138,8 @@ fn prepare_warm<'s, E, W: WriteLog + Sync, R: Threads + Sync>(
     Ok((plan, index, part))
 }
 
-/// Prepares a migration. Threads that it starts have ended when it returns. The error is `L2` where one was not
-/// started, and else `L1`.
+/// Prepares a migration. Threads that it starts have ended when it returns. The error is `L2` if one was not started,
+/// and else `L1`.
 pub(crate) fn prepare<W: WriteLog + Sync, R: Threads + Wait + Sync>(
     rt: &R,
     alloc: Global,

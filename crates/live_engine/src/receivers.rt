@@ -1,6 +1,6 @@
-//! The receivers, one for each stream: their threads, and the parts that they leave.
+//! The receivers, one for each stream: their threads, and the parts they leave.
 
-ghost use Rattle.std.specs.Prelude.{◌≡◌, ℕ, List, IfErr, IfOk, OnOk, Some, Vec, length, map, slice_get};
+ghost use Rattle.std.specs.Prelude.{◌≡◌, ℕ, IfErr, IfOk, OnOk, Some, Vec, length, map, slice_get};
 ghost use Rattle.std.specs.Global.{Global};
 ghost use Rattle.std.specs.List.{All};
 ghost use Rattle.live_engine.specs.Joining.{IsSentBy, lanes_of};
@@ -25,14 +25,14 @@ use std::time::Duration;
 use stream_lanes::{LaneOut, by_stream};
 use stream_receivers::Receiver;
 
-/// How often a receiver to which nothing came looks again before it sleeps.
+/// How often a receiver with nothing to take looks again before it sleeps.
 const LOOKS: u32 = 8;
 
 /// How long it waits before each of these looks: a few microseconds in all. Each look takes the lane's memory away from
 /// the sender, so it is cheaper for both to take several frames at a time.
 const TURNS: u32 = 64;
 
-/// How many microseconds it sleeps then before each look: each look takes time from those who send.
+/// How many microseconds it then sleeps before each look: each look takes time from the senders.
 const SLEEP: u64 = 20;
 
 /// Flags between a run and its receivers. No claim rests on them.
@@ -53,7 +53,7 @@ impl Signals {
     }
 }
 
-/// A receiver's thread owes the receiver, with the lanes that it had and a part of the same guest.
+/// A receiver's thread owes the receiver, with the lanes it had and a part of the same guest.
 #[derive(Drop)]
 pub(crate) struct Receives {
     receiver: Snapshot<Receiver>,
@@ -63,7 +63,7 @@ impl Promise<Receiver> for Receives {
     ghost kept_by = { λ p receiver. identity_of receiver ≡ identity_of p.receiver.value };
 }
 
-/// Looks at each lane of a stream once, and tells whether a frame came. Once a frame is refused it looks no further.
+/// Looks at each lane of a stream once, and returns whether a frame came. Once a frame is refused it looks no further.
 fn look<G: Gate>(gate: &G, stream: usize, receiver: &mut Receiver) -> bool
     ensures { identity_of receiver.new ≡ identity_of receiver.old }
 {
@@ -210,7 +210,7 @@ fn finish_all(
     Ok(parts)
 }
 
-/// Drains each lane into the part of its stream, when all threads have ended: each part has then what was sent to it.
+/// Drains each lane into the part of its stream, when all threads have ended: each part then has what was sent to it.
 pub(crate) fn drain_all(
     alloc: Global,
     streams: usize,

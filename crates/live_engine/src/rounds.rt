@@ -42,7 +42,7 @@ pub(crate) struct Migration<'a, W: WriteLog, G> {
     pub(crate) ghost is_team: { IsTeam team },
 }
 
-/// What a migration has come to between two rounds.
+/// The state of a migration between two rounds.
 #[derive(Drop)]
 pub(crate) struct Progress {
     pub(crate) closed: Closed,
@@ -57,7 +57,7 @@ fn may_skip(skip: bool, number: usize) -> bool
     skip && number >= 1
 }
 
-/// Returns the seats of copiers and their states, apart.
+/// Returns the seats of copiers and their states, separately.
 fn take_apart(
     alloc: Global,
     copiers: Vec<Copier>,
@@ -76,8 +76,7 @@ fn take_apart(
 }
 
 impl<'a, W: WriteLog + Sync, G: Gate> Migration<'a, W, G> {
-    /// Returns what there is before the first round: the pages that the destination lacks are marked, and nothing was
-    /// sent.
+    /// Returns the state before the first round: the pages that the destination lacks are marked, and nothing was sent.
     fn begin(
         &self,
         alloc: Global,
@@ -103,8 +102,8 @@ impl<'a, W: WriteLog + Sync, G: Gate> Migration<'a, W, G> {
         })
     }
 
-    /// Runs the next round, in the ticks that were planned for it: opens a table with what the round before closed,
-    /// runs the round's threads on it, and closes it. After a refusal no table is closed.
+    /// Runs the next round, in the ticks planned for it: opens a table with what the previous round closed, runs the
+    /// round's threads on it, and closes it. After a refusal no table is closed.
     fn run_round<R: Threads + Wait + Sync>(
         &self,
         rt: &R,

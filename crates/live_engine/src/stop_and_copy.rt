@@ -20,7 +20,7 @@ use std::sync::Wait;
 use std::thread::Threads;
 use stop_copy::final_copy;
 
-/// Sends the pages that are still marked. Returns the parts, which then have all of the guest's memory.
+/// Sends the pages that are still marked. Returns the parts, which then hold all of the guest's memory.
 pub(crate) fn stop_and_copy<W: WriteLog + Sync, R: Threads + Wait + Sync>(
     rt: &R,
     alloc: Global,

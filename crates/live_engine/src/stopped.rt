@@ -10,10 +10,10 @@ use guest_log::WriteLog;
 use image_build::JoinedParts;
 use page_versions::{PageIndex, PageProgress};
 
-/// A guest that has stopped, and whose memory has come.
+/// A guest that has stopped, and whose memory has arrived.
 #[derive(Debug, Drop)]
 pub struct StoppedGuest {
-    /// The guest's memory where it stopped.
+    /// The guest's memory when it stopped.
     pub memory: JoinedParts,
     /// The tick at which it stopped.
     pub stop: u64,
@@ -26,8 +26,8 @@ pub struct StoppedGuest {
 }
 
 impl StoppedGuest {
-    /// Puts a page of the guest's memory after all its writes into a buffer of one page: the page as it stopped, and
-    /// over it the writes that come after. It allocates nothing.
+    /// Puts a page of the guest's memory after all its writes into a buffer of one page: the page as it stopped, with
+    /// the later writes applied to it. It allocates nothing.
     pub fn resumed_page<W: WriteLog>(&self, trace: &W, page: u32, room: &mut Vec<u8>)
         requires stopped { IsStoppedAt (W.trace trace.now) self.now.versions.items self.now.index
             (memory_by self.now.memory) }

@@ -214,7 +214,7 @@ fn start_copiers<'s, E, W: WriteLog + Sync, G: Gate>(
     Ok(())
 }
 
-/// Returns the copiers, where none ran out of memory.
+/// Returns the copiers, if none ran out of memory.
 fn unrefused(
     alloc: Global,
     copied: Vec<Result<Copier, SeatError>>,
@@ -237,8 +237,8 @@ pub(crate) struct Crew {
     pub(crate) states: VecDeque<CopierState>,
 }
 
-/// Runs a round's replayers and copiers, each in a thread of its own and all at once. It waits for those that run
-/// before it returns an error; `Thread` comes before `Memory`.
+/// Runs a round's replayers and copiers, each in its own thread and all at once. It waits for those that run before it
+/// returns an error; `Thread` comes before `Memory`.
 fn run_in_scope<'s, E, W: WriteLog + Sync, G: Gate, R: Threads>(
     rt: &R,
     scope: &'s Scope<'s, E>,
@@ -276,7 +276,7 @@ fn run_in_scope<'s, E, W: WriteLog + Sync, G: Gate, R: Threads>(
     Ok((guests, copiers))
 }
 
-/// Runs a round's replayers and copiers, each in a thread of its own, and waits until all have ended.
+/// Runs a round's replayers and copiers, each in its own thread, and waits until all have ended.
 pub(crate) fn run_crew<W: WriteLog + Sync, G: Gate, R: Threads + Wait + Sync>(
     rt: &R,
     alloc: Global,

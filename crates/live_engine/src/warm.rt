@@ -1,8 +1,7 @@
 //! A warm start: the destination begins with the guest's memory before a base tick.
 
-ghost use Rattle.std.specs.Prelude.{◌≡◌, ◌<◌, ◌≤◌, ◌&&◌, nat_lt, ℕ, IfOk, IfSome, IsTrue, Some, length, option_map};
+ghost use Rattle.std.specs.Prelude.{◌≡◌, ◌<◌, ◌&&◌, nat_lt, ℕ, IfOk, IsTrue, Some, length};
 ghost use Rattle.std.specs.Prelude.{slice_index};
-ghost use Rattle.std.specs.List.{All};
 ghost use Rattle.live_engine.specs.Warm.{is_lacking};
 ghost use Rattle.migration_model.specs.Memory.{image_before};
 ghost use Rattle.migration_model.specs.Trace.{IsGuestSize};
@@ -45,8 +44,8 @@ fn pages_since<W: WriteLog>(
     Ok(marks)
 }
 
-/// Returns the bitmap of the pages that the first round has to send, where these are the versions at its start: all, or
-/// with a base those that were written since.
+/// Returns the bitmap of the pages that the first round must send, given the versions at its start: all, or with a base
+/// those written since.
 pub(crate) fn pages_lacking<W: WriteLog>(
     alloc: Global,
     trace: &W,
@@ -72,7 +71,7 @@ pub(crate) fn pages_lacking<W: WriteLog>(
     }
 }
 
-/// Returns the part that has each page of the guest's memory before a base, at its version of then.
+/// Returns the part that has each page of the guest's memory before a base, at its version then.
 pub(crate) fn part_of_memory<W: WriteLog>(
     alloc: Global,
     trace: &W,

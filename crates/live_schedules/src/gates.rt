@@ -1,4 +1,4 @@
-//! Gates that choose a schedule. Each wait ends after a great many turns, and the gate then counts that it was late.
+//! Gates that choose a schedule. Each wait ends after very many turns, and the gate then counts itself late.
 
 use live_engine::{Gate, Point};
 use std::sync::atomic::{AtomicU64, Ordering};
@@ -23,7 +23,7 @@ pub struct Counts {
 }
 
 impl Counts {
-    /// Returns counts at which no point was reached.
+    /// Returns counts with no point reached.
     pub fn new() -> Counts {
         Counts {
             stored: AtomicU64::new(0),
@@ -54,7 +54,7 @@ impl Counts {
         }
     }
 
-    /// Waits until a point was reached so often.
+    /// Waits until a point was reached this often.
     fn wait_for(&self, count: &AtomicU64, least: u64) {
         for _ in 0..TURNS {
             if count.load(Ordering::SeqCst) >= least {
@@ -90,7 +90,7 @@ impl Gate for Meeting {
     }
 }
 
-/// Copiers wait for the first store, and the store of page 0 is marked only when page 3 was read.
+/// Copiers wait for the first store, and page 0 is marked after its store only once page 3 was read.
 #[derive(Drop)]
 pub struct MarkedLate(pub Counts);
 
@@ -124,8 +124,7 @@ impl Gate for MarkedEarly {
     }
 }
 
-/// In each round replayers wait for that round's harvest; the first harvest waits for three marks, the second for
-/// five.
+/// In each round replayers wait for that round's harvest; the first harvest waits for three marks, the second for five.
 #[derive(Drop)]
 pub struct MarkedInTurn(pub Counts);
 
@@ -153,7 +152,7 @@ impl Gate for MarkedInTurn {
 /// How many rounds the worked example has.
 const ROUNDS: u64 = 3;
 
-/// Receivers look at no lane before all rounds were closed.
+/// Receivers look at no lane until all rounds are closed.
 #[derive(Drop)]
 pub struct SlowReceivers(pub Counts);
 
@@ -167,8 +166,7 @@ impl Gate for SlowReceivers {
     }
 }
 
-/// Each side waits for the other's first step, and the receiver of stream 0 looks at no lane before all rounds were
-/// closed.
+/// Each side waits for the other's first step, and the receiver of stream 0 looks at no lane until all rounds close.
 #[derive(Drop)]
 pub struct SlowFirstReceiver(pub Counts);
 
@@ -183,7 +181,7 @@ impl Gate for SlowFirstReceiver {
     }
 }
 
-/// The first round is closed only when a frame was taken.
+/// The first round is closed only once a frame was taken.
 #[derive(Drop)]
 pub struct TakenBeside(pub Counts);
 

@@ -1,4 +1,4 @@
-//! Runs over lanes that are full, or that their receivers empty beside the rounds.
+//! Runs over lanes that are full, or that their receivers empty during the rounds.
 
 use crate::gates::{Counts, SlowFirstReceiver, SlowReceivers, TakenBeside, TakenInTurn};
 use crate::tests::{first_sent, has_images, run, run_sixteen, times};
@@ -7,7 +7,7 @@ use rate_limit::Asked;
 use std::test::Fail;
 use worked_guest::{MEMORY, asked};
 
-/// Returns the settings of the worked example, with so many streams and lanes of so many frames.
+/// Returns the settings of the worked example, with this many streams and lanes of this many frames.
 fn asked_with(streams: u64, lane: u64) -> Asked {
     Asked {
         streams,

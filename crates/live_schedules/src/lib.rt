@@ -1,4 +1,4 @@
-//! Live runs under schedules of a caller's choosing: tests alone.
+//! Live runs under schedules that a caller chooses, only for tests.
 #![tactic(auto)]
 
 #[cfg(test)]

@@ -1,5 +1,5 @@
--- What both crates of live runs say of truth values, and of lists that have nothing.
-use Rattle.std.proofs.Common.{◌≡◌, ℕ, ◌<◌, inl, inr, Bool, true, false, cond, leb, ◌&&◌, ◌||◌, [], refl, subst, arith}
+-- What both crates of live runs say about truth values, and about empty lists.
+use Rattle.std.proofs.Common.{◌≡◌, ℕ, ◌<◌, inl, inr, false, leb, [], arith}
 use Rattle.std.specs.List.{Contains}
 use Rattle.std.proofs.lemmas.Bool.{cases_Bool, leb-true}
 

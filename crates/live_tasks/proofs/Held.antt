@@ -2,12 +2,12 @@
 use Rattle.std.proofs.Common.{◌≡◌, ℕ, ◌+◌, ◌*◌, ◌/◌, ◌%◌, ◌<◌, inl, inr, Bool, true, false, not, eqb, leb, ◌&&◌, ◌||◌}
 use Rattle.std.proofs.Common.{sym, ap, subst, ◌∙◌, arith}
 use Rattle.std.specs.Int.{bit_at}
-use Rattle.std.proofs.lemmas.Bool.{cases_eq, cases_lt, and_parts, and_from, eq-eqb, ne_eqb, le-leb, leb-true}
+use Rattle.std.proofs.lemmas.Bool.{cases_eq, cases_lt, and_from, eq-eqb, ne_eqb, le-leb}
 use Rattle.std.proofs.Math.Bool.{and-true, and-false}
 use Rattle.page_bitmap.specs.Pages.{in_words, bit_pages, one_page, minus, union, SamePages}
 use Rattle.dirty_core.specs.Start.{sizes_of}
 use Rattle.dirty_words.specs.Facts.{CopyFacts, OwnsWord, HoldsNone}
-use Rattle.live_tasks.specs.Scans.{HoldsFrom, IsLeast, IsOwn}
+use Rattle.live_tasks.specs.Scans.{HoldsFrom, IsOwn}
 use Rattle.live_tasks.proofs.Scanning.{and_false, and_true}
 use Rattle.live_tasks.proofs.Basics.{false_leb}
 
@@ -35,7 +35,7 @@ same_else from page apart = elim (cases_lt page from) [
 next_from : (word bit page : ℕ) → leb (64 * word + bit + 1) page ≡ leb (64 * word + (bit + 1)) page
 next_from word bit page = ap (λ (n : ℕ). leb n page) (omega arith)
 
--- the page of a bit is not held any more
+-- the page of a bit is no longer held
 pub holds_less : (word bits bit : ℕ) (f new : CopyFacts) → HoldsFrom word bits bit f
     → SamePages (in_words new.held) (minus (in_words f.held) (one_page (64 * word + bit)))
     → HoldsFrom word bits (bit + 1) new

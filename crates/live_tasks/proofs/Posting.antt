@@ -37,7 +37,7 @@ sum_by_mapped : {X Y : Type 0} (g : Y → ℕ) (f : X → Y) (xs ys : List X) �
     → sum_by (λ x. g (f x)) ys ≡ sum_by (λ x. g (f x)) xs
 sum_by_mapped g f xs ys same = sum_by_parts g f ys ∙ ap (sum_by g) same ∙ sym (sum_by_parts g f xs)
 
--- one element in place of another that has as much
+-- one element in place of another with the same property
 any_grown : {X : Type 0} (P : X → Type 0) (xs : List X) (i : ℕ) (x y : X) → i < length xs → get_or xs i x ≡ x
     → (P x → P y) → Any P xs → Any P (set xs i y)
 any_grown {X} P xs i x y low at more any = elim (cases_eq any.0 i) [
@@ -77,7 +77,7 @@ keeps_looked outs i x y low at lane sent = record {
       (λ full. omega (arith, full, ap (λ (l : LaneId). l.capacity) lane, ap length sent));
 }
 
--- a lane that holds no more was looked at
+-- a full lane was looked at
 pub full_looked : (outs : List OutView) (i : ℕ) (x y : OutView) → i < length outs → y.lane ≡ x.lane → y.sent ≡ x.sent
     → x.lane.capacity ≤ length x.sent
     → IsFullAt (set outs i y) i
@@ -133,7 +133,7 @@ sends_one outs i x y text low at lane sent =
           (λ full. omega (arith, full, ap (λ (l : LaneId). l.capacity) lane, more));
     }
 
--- so many lanes
+-- the same number of lanes
 pub same_count : (outs after : List OutView) → map (λ (out : OutView). out.lane) after
     ≡ map (λ (out : OutView). out.lane) outs → length after ≡ length outs
 same_count outs after same = sym (length-map after lane_is) ∙ ap length same ∙ length-map outs lane_is

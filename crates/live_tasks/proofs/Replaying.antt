@@ -18,7 +18,7 @@ use Rattle.migration_model.specs.Versions.{version_before}
 use Rattle.migration_model.proofs.Placed.{version_is_place}
 use Rattle.live_tasks.specs.Replays.{HasReplayed, OpensAt, IsStoredIfOwn}
 
--- the place of a write to the page: after the first writes, so many, and among the first `end`
+-- the place of a write to the page: after the first `first` writes, and among the first `end`
 pub record IsAmong (trace : GuestTrace) (page first end place : ℕ) : Type 0 where
   pub write : GuestWrite
   pub there : slice_get trace.writes (place - 1) ≡ Some write
@@ -46,7 +46,7 @@ more trace page first now place is = record {
   high = omega (arith, is.high);
 }
 
--- the next write, or one before
+-- the next write, or an earlier one
 last_or_before : (trace : GuestTrace) (page first now place : ℕ) → IsAmong trace page first (now + 1) place
     → (place ≡ now + 1) ⊎ IsAmong trace page first now place
 last_or_before trace page first now place is = elim (cases_eq place (now + 1)) [

@@ -1,4 +1,4 @@
--- How a copier's scan goes on, step by step.
+-- How a copier's scan proceeds, step by step.
 use Rattle.std.proofs.Common.{◌≡◌, ℕ, ◌+◌, ◌/◌, ◌%◌, ◌<◌, ◌⊎◌, inl, inr, Bool, true, false, not, eqb, ◌&&◌, ◌||◌, List}
 use Rattle.std.proofs.Common.{[], ◌∷◌, ◌++◌, length, map, get_or, refl, sym, ap, subst, ◌∙◌, arith}
 use Rattle.std.specs.Int.{bit_at}
@@ -42,7 +42,7 @@ rise_push xs x up below k low =
           omega (arith, here, next, below (get_or xs k 0) (Contains-get_or xs k 0 (omega (arith, end))))
     ]
 
--- ---- lists with one page more
+-- ---- lists with one more page
 
 sent_pages : (page place : ℕ) (o : RoundLogView) → pages_of (with_sent page place o).sent ≡ pages_of o.sent ++ page ∷ []
 sent_pages page place o = map_push (λ (s : ℕ × ℕ). s.0) o.sent (page, place)
@@ -181,7 +181,7 @@ scan_passes skip word f o is other =
       deferred_apart = is.deferred_apart;
     }
 
--- a page that is held, and none in front of it, is sent
+-- a page that is held, with none before it, is sent
 pub scan_sends : (skip : Bool) (ahead page place : ℕ) (f : CopyFacts) (o : RoundLogView) → IsScanned skip ahead f o
     → IsLeast f page
     → SamePages (in_words (after_read page place f).held) (minus (in_words f.held) (one_page page))
@@ -239,7 +239,7 @@ scan_sends skip ahead page place f o is least same =
       );
     }
 
--- the word is looked at once more
+-- the word is looked at again
 pub scan_peeks : (skip : Bool) (ahead word answer : ℕ) (f : CopyFacts) (o : RoundLogView) → IsScanned skip ahead f o
     → IsWithin (in_words f.fresh) (in_words (after_peek word answer f).fresh)
     → IsScanned skip ahead (after_peek word answer f) o
@@ -281,7 +281,7 @@ shown_is_fresh skip ahead page answer f o is held in_answer shown = elim (shown.
   | inr fresh ↦ fresh
 ]
 
--- a page that is held, and none in front of it, and that was stored since, is skipped
+-- a page that is held, with none before it, and that was stored since, is skipped
 pub scan_skips : (ahead page word bits : ℕ) (f : CopyFacts) (o : RoundLogView) → IsScanned true ahead f o
     → IsLeast f page → IsFresh f page
     → SamePages (in_words (after_restore word bits f).held) (minus (in_words f.held) (one_page page))
@@ -352,7 +352,7 @@ scan_skips ahead page word bits f o is least fresh same back =
       );
     }
 
--- a page that is held, and none in front of it, is deferred
+-- a page that is held, with none before it, is deferred
 pub scan_defers : (skip : Bool) (ahead page word bits : ℕ) (f : CopyFacts) (o : RoundLogView) → IsScanned skip ahead f o
     → IsLeast f page
     → SamePages (in_words (after_restore word bits f).held) (minus (in_words f.held) (one_page page))

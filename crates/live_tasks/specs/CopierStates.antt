@@ -6,11 +6,11 @@ use Rattle.stream_split.specs.Deals.{Turn}
 use Rattle.stream_lanes.specs.Ends.{OutView}
 use Rattle.live_tasks.specs.RoundLogs.{RoundLogView}
 
--- how many pages a copier keeps at most, over the whole run
+-- the most pages that a copier keeps, over the whole run
 abbrev pub cache_capacity : ℕ
 cache_capacity = 64
 
--- whose turn it is, the pages that are kept, what was listed, and the ends of the copier's lanes, one of each stream
+-- whose turn it is, the kept pages, what was listed, and the ends of the copier's lanes, one for each stream
 pub record CopierStateView : Type 0 where
   pub turn : Turn
   pub pages : GuestPages
@@ -20,14 +20,14 @@ pub record CopierStateView : Type 0 where
 abbrev pub state_with : Turn → GuestPages → RoundLogView → List OutView → CopierStateView
 state_with turn pages log outs = record { turn = turn; pages = pages; log = log; outs = outs }
 
--- a state for a migration of this trace over so many streams
+-- a state for a migration of this trace over `streams` streams
 pub record IsCopierState (trace : GuestTrace) (streams : ℕ) (state : CopierStateView) : Type 0 where
   pub kept : AreKept trace state.pages.entries
   pub capacity_is : state.pages.capacity ≡ cache_capacity
   pub turns : state.turn.streams ≡ streams
   pub lanes_are : length state.outs ≡ streams
 
--- the state of a copier while a round lasts, with the trace at hand
+-- the state of a copier during a round, with the trace at hand
 pub record RoundStateView : Type 0 where
   pub turn : Turn
   pub cache : GuestCache

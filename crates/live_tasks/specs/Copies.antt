@@ -24,7 +24,7 @@ pub record HasRoomAt (outs : List OutView) (stream : ℕ) : Type 0 where
   pub there : stream < length outs
   pub room : (out : OutView) → slice_index_or outs stream out ≡ out → HasRoom out
 
--- as many frames were sent on the lane of this stream as it holds
+-- the lane of this stream was sent as many frames as it holds
 pub record IsFullAt (outs : List OutView) (stream : ℕ) : Type 0 where
   pub there : stream < length outs
   pub full : (out : OutView) → slice_index_or outs stream out ≡ out → out.lane.capacity ≤ length out.sent
@@ -42,7 +42,7 @@ pub record HasSentFrame (text : List ℕ) (before after : List OutView) : Type 0
   pub count : frames_sent after ≡ frames_sent before + 1
   pub crowded : IsCrowded before → IsCrowded after
 
--- the copier read the page's place, and sent the frame of it
+-- the copier read the page's place, and sent its frame
 pub record HasSentPage (trace : GuestTrace) (page : ℕ) (old : CopyFacts) (before : RoundStateView) (new : CopyFacts)
     (state : RoundStateView) : Type 0 where
   pub place : ℕ
@@ -81,14 +81,14 @@ abbrev pub HasOfferedPage : GuestTrace → ℕ → CopyFacts → RoundStateView 
 HasOfferedPage trace page old before new state = HasSentPage trace page old before new state
     ⊎ HasDeferredPage page old before new state
 
--- the seat is of the table, and the state of the trace, with the cache's capacity and a lane for each turn
+-- the seat is the table's, and the state the trace's, with the cache's capacity and a lane for each turn
 pub record IsReady (trace : GuestTrace) (table : TableView) (seat : CopyView) (state : RoundStateView) : Type 0 where
   pub table_is : copy_table seat ≡ table
   pub trace_is : state.cache.trace ≡ trace
   pub capacity_is : state.cache.capacity ≡ cache_capacity
   pub lanes : length state.outs ≡ state.turn.streams
 
--- the copier went on, and what was scanned and posted stays so
+-- the copier went on, and what was scanned and posted remains so
 pub record KeepsScan (trace : GuestTrace) (skip : Bool) (old : CopyFacts) (before : RoundStateView) (new : CopyFacts)
     (state : RoundStateView) : Type 0 where
   pub number_is : new.number ≡ old.number
@@ -96,7 +96,7 @@ pub record KeepsScan (trace : GuestTrace) (skip : Bool) (old : CopyFacts) (befor
   pub posted : (first : List OutView) → IsPosted trace first before.log before.outs
       → IsPosted trace first state.log state.outs
 
--- the same where one word more was scanned
+-- the same with one more word scanned
 pub record AdvancesScan (trace : GuestTrace) (skip : Bool) (word : ℕ) (old : CopyFacts) (before : RoundStateView)
     (new : CopyFacts) (state : RoundStateView) : Type 0 where
   pub number_is : new.number ≡ old.number
@@ -104,8 +104,7 @@ pub record AdvancesScan (trace : GuestTrace) (skip : Bool) (word : ℕ) (old : C
   pub posted : (first : List OutView) → IsPosted trace first before.log before.outs
       → IsPosted trace first state.log state.outs
 
--- the copier with this number has scanned all words, holds nothing, and posted what it sent on the lanes that it had
--- first
+-- the copier with this number has scanned all words, holds nothing, and posted what it sent on its initial lanes
 pub record HasCopied (trace : GuestTrace) (skip : Bool) (table : TableView) (number streams : ℕ) (first : List OutView)
     (seat : CopyView) (state : CopierStateView) : Type 0 where
   pub table_is : copy_table seat ≡ table

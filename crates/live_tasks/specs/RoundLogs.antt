@@ -37,8 +37,8 @@ abbrev pub IsListed : RoundLogView → ℕ → Type 0
 IsListed log page = Contains (map (λ sent. sent.0) log.sent) page
     ⊎ (Contains log.skipped page ⊎ Contains log.deferred page)
 
--- The stamp of a page that was read at this place. A place that is read is that of a write; until the table is closed
--- nobody knows, so a stamp is bounded by their number.
+-- The stamp of a page that was read at this place. A place that is read is that of a write; nobody knows this until the
+-- table is closed, so a stamp is capped at the number of writes.
 abbrev pub stamp_for : GuestTrace → ℕ → ℕ
 stamp_for trace place = min place (length trace.writes)
 
@@ -48,7 +48,7 @@ pub record IsFrameAt (trace : GuestTrace) (page place : ℕ) (frame : PageFrame)
   pub stamp_is : frame.stamp ≡ stamp_for trace place
   pub content : content_of (shape_of_trace trace) frame ≡ page_at trace frame.page frame.stamp
 
--- these bytes spell that frame
+-- these bytes encode that frame
 pub record SpellsPage (trace : GuestTrace) (page place : ℕ) (text : List ℕ) : Type 0 where
   pub frame : PageFrame
   pub is_frame : IsFrameAt trace page place frame
@@ -58,12 +58,12 @@ pub record SpellsPage (trace : GuestTrace) (page place : ℕ) (text : List ℕ) 
 abbrev pub frames_sent : List OutView → ℕ
 frames_sent outs = sum_by (λ out. length out.sent) outs
 
--- on one of these lanes as many frames were sent as it holds
+-- one of these lanes was sent as many frames as it holds
 abbrev pub IsCrowded : List OutView → Type 0
 IsCrowded outs = Any (λ out. out.lane.capacity ≤ length out.sent) outs
 
 -- After a copier sent the pages of its log: beyond what was sent on its lanes before, these have the frame of each page
--- and no other. Pages are deferred only where a lane was full.
+-- and no other. Pages are deferred only if a lane was full.
 pub record IsPosted (trace : GuestTrace) (before : List OutView)
     (log : RoundLogView) (after : List OutView) : Type 0 where
   pub lanes : map (λ out. out.lane) after ≡ map (λ out. out.lane) before

@@ -1,4 +1,4 @@
--- How far a copier has come with the pages of its words.
+-- How far a copier has got with the pages of its words.
 use Rattle.std.specs.Prelude.{◌≡◌, ◌⊎◌, ℕ, ◌<◌, ◌≤◌, ◌/◌, ◌*◌, ◌+◌, ◌&&◌, nat_le, Bool, true, IsTrue, map}
 use Rattle.std.specs.List.{Contains}
 use Rattle.std.specs.List.Sorted.{IsStrictlyIncreasing}
@@ -23,8 +23,8 @@ IsReturned facts page = IsTrue (in_words facts.returned page)
 abbrev pub IsFresh : CopyFacts → ℕ → Type 0
 IsFresh facts page = IsTrue (in_words facts.fresh page)
 
--- The pages of the copier's words in front of word `ahead` were harvested. Each that was marked at opening, and none
--- that is neither that nor fresh, is listed, or held still; those held come after those listed.
+-- The pages of the copier's words before word `ahead` were harvested. Each page that was marked at opening, and none
+-- that is neither that nor fresh, is listed or still held; those held come after those listed.
 pub record IsScanned (skip : Bool) (ahead : ℕ) (facts : CopyFacts) (log : RoundLogView) : Type 0 where
   pub untouched : (page : ℕ) → ahead ≤ page / 64 → in_words facts.returned page ≡ in_words facts.start.dirty page
   pub found : (page : ℕ) → IsOwn facts page → page / 64 < ahead → WasMarked facts page → IsListed log page
@@ -47,11 +47,11 @@ pub record IsScanned (skip : Bool) (ahead : ℕ) (facts : CopyFacts) (log : Roun
   pub deferred_apart : (page : ℕ) → Contains log.deferred page
       → (¬ Contains (map (λ sent. sent.0) log.sent) page) × (¬ Contains log.skipped page)
 
--- of this word the pages of these bits are held, from a bit on, and no other page
+-- the pages of these bits of this word are held, from a bit on, and no other page
 abbrev pub HoldsFrom : ℕ → ℕ → ℕ → CopyFacts → Type 0
 HoldsFrom word bits from facts = (page : ℕ) → in_words facts.held page
     ≡ (bit_pages word bits page && nat_le (64 * word + from) page)
 
--- the page is held, and none in front of it
+-- the page is held, and none before it
 abbrev pub IsLeast : CopyFacts → ℕ → Type 0
 IsLeast facts page = IsHeldNow facts page × ((other : ℕ) → IsHeldNow facts other → page ≤ other)

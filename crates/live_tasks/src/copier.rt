@@ -1,6 +1,6 @@
 //! What a copier does: it harvests its dirty words and sends their pages on its lanes.
 
-ghost use Rattle.std.specs.Prelude.{◌≡◌, ◌<◌, ◌≤◌, ◌+◌, ◌*◌, ◌^◌, ℕ, IsTrue, IfOk, OnOk, [], length, ◌/◌};
+ghost use Rattle.std.specs.Prelude.{◌≡◌, ◌<◌, ◌≤◌, ◌+◌, ◌*◌, ◌^◌, ℕ, IsTrue, IfOk, OnOk, length, ◌/◌};
 ghost use Rattle.page_bitmap.specs.Pages.{in_words, one_page, word_pages, bit_pages, union, minus, SamePages};
 ghost use Rattle.dirty_words.specs.Facts.{after_harvest, after_read, first_copier, OwnsWord, HoldsNone};
 ghost use Rattle.dirty_words.specs.Plays.{IsAnswer, MakesFresh};
@@ -95,7 +95,7 @@ impl<'a, W: WriteLog, G: Gate> Round<'a, W, G> {
         place
     }
 
-    /// Encodes the frame of a page, at the place that was read, into a buffer in place of what that holds. The page
+    /// Encodes the frame of a page, at the place that was read, into a buffer, whose contents it replaces. The page
     /// comes from the cache, which keeps it.
     fn spell(
         &self,
@@ -160,7 +160,7 @@ impl<'a, W: WriteLog, G: Gate> Round<'a, W, G> {
         Ok(())
     }
 
-    /// Gives a held page back, and lists it as deferred, where a lane is full.
+    /// Gives a held page back, and lists it as deferred, if a lane is full.
     fn defer_page(&self, page: u32, copier: &mut BusyCopier<'_, W>) -> Result<(), SeatError>
         requires table { copy_table copier.old.seat ≡ self.now.table.now }
         requires own { OwnsWord copier.old.seat.facts (page / 64) }
@@ -177,7 +177,7 @@ impl<'a, W: WriteLog, G: Gate> Round<'a, W, G> {
         Ok(())
     }
 
-    /// Sends a held page in the stream whose turn it is, or defers it where that stream's lane is full.
+    /// Sends a held page in the stream whose turn it is, or defers it if that stream's lane is full.
     fn offer_page(
         &self,
         alloc: Global,
@@ -205,8 +205,7 @@ impl<'a, W: WriteLog, G: Gate> Round<'a, W, G> {
         Ok(())
     }
 
-    /// Sends or defers a held page in front of which none is held, or skips it where it is marked again and pages may
-    /// be skipped.
+    /// Sends or defers a held page with none held before it, or skips it if it is marked again and skipping is allowed.
     fn copy_page(
         &self,
         alloc: Global,
@@ -236,7 +235,7 @@ impl<'a, W: WriteLog, G: Gate> Round<'a, W, G> {
         Ok(())
     }
 
-    /// Sends, defers or skips the harvested pages of a word, in rising order.
+    /// Sends, defers or skips the harvested pages of a word, in ascending order.
     fn copy_bits(
         &self,
         alloc: Global,
@@ -265,7 +264,7 @@ impl<'a, W: WriteLog, G: Gate> Round<'a, W, G> {
         Ok(())
     }
 
-    /// Harvests a word, where it is the copier's, and sends, defers or skips its pages.
+    /// Harvests a word, if it is the copier's, and sends, defers or skips its pages.
     fn copy_word(
         &self,
         alloc: Global,
@@ -290,9 +289,8 @@ impl<'a, W: WriteLog, G: Gate> Round<'a, W, G> {
         Ok(())
     }
 
-    /// Does a copier's part of a round: it harvests its words once, in rising order, and sends, defers or skips the
-    /// pages of each. The seat has done nothing before, and the log of the round before is emptied. The error is
-    /// `Memory`.
+    /// Does a copier's part of a round: it harvests its words once, in ascending order, and sends, defers or skips the
+    /// pages of each. The seat has done nothing yet, and the previous round's log is emptied. The error is `Memory`.
     pub fn copy(
         &self,
         alloc: Global,

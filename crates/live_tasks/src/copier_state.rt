@@ -19,11 +19,11 @@ use std::marker::Model;
 use stream_lanes::LaneOut;
 use stream_split::Dealer;
 
-/// How many pages a copier's cache keeps at most.
+/// The most pages that a copier's cache keeps.
 const CACHE_CAPACITY: usize = 64;
 
 /// What a copier keeps from round to round: which stream's turn it is, its cache of the pages that it sent, the log of
-/// the last round, whose buffers the next round uses again, and the sending ends of its lanes.
+/// the last round, whose buffers the next round reuses, and the sending ends of its lanes.
 #[derive(Drop)]
 pub struct CopierState {
     pub dealer: Dealer,
@@ -41,7 +41,7 @@ impl Model for CopierState {
     ghost view = { λ d. state_with d.dealer d.pages d.log d.outs.items };
 }
 
-/// The state of a copier while a round lasts: its cache is open over the trace.
+/// The state of a copier during a round: its cache is open over the trace.
 #[derive(Drop)]
 pub(crate) struct RoundState<'a, W: WriteLog> {
     pub(crate) dealer: Dealer,
@@ -108,8 +108,7 @@ impl CopierState {
 }
 
 impl<'a, W: WriteLog> RoundState<'a, W> {
-    /// Returns the stream whose turn it is, if one more frame fits on its lane. In either case the next stream's turn
-    /// comes.
+    /// Returns the stream whose turn it is, if one more frame fits on its lane. Either way the turn passes to the next.
     pub(crate) fn next_lane(&mut self) -> Option<usize>
         requires lanes { length self.old.outs ≡ self.old.turn.streams }
         ensures lane { IfSome result (λ stream. stream ≡ self.old.turn.next) }
@@ -129,7 +128,7 @@ impl<'a, W: WriteLog> RoundState<'a, W> {
         None
     }
 
-    /// Returns a buffer for a frame that goes on the lane of a stream: one that came back on it, or a new one.
+    /// Returns a buffer for a frame to go on the lane of a stream: one that came back on it, or a new one.
     pub(crate) fn text(&mut self, alloc: Global, stream: usize) -> Vec<u8>
         requires { HasRoomAt self.old.outs stream }
         ensures { self.new ≡ self.old }

@@ -49,7 +49,7 @@ impl From<IndexError> for SeatError {
     }
 }
 
-/// A frame that is appended can only want memory.
+/// Appending a frame can fail only for lack of memory.
 impl From<FrameError> for SeatError {
     ghost from_gives = { λ _ e. e ≡ Memory };
 

@@ -1,4 +1,4 @@
-//! Points of a live run at which a caller may look on.
+//! Points of a live run at which a caller may observe it.
 
 /// A step that a thread of a live run has just made, or is about to make.
 #[derive(Clone, Copy, Debug)]
@@ -19,8 +19,8 @@ pub enum Point {
     RoundClosed { round: usize },
 }
 
-/// What is called at each point, by the thread that reached it. It may wait there, and so choose a schedule; it changes
-/// nothing of what a live run promises.
+/// Called at each point, by the thread that reached it. It may wait there, and so choose a schedule; this changes
+/// nothing that a live run promises.
 pub trait Gate: Sync {
     fn at(&self, point: Point);
 }

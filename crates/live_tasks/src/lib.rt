@@ -1,5 +1,5 @@
 //! What one replayer and one copier do in a round of a live migration: the replayer changes its pages, and the copier
-//! sends those that changed, each frame on a lane as soon as it is made. The caller starts the threads.
+//! sends the changed ones, each frame on a lane as soon as it is made. The caller starts the threads.
 #![tactic(auto)]
 
 mod copier;

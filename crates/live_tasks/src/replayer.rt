@@ -9,7 +9,7 @@ use crate::gate::{Gate, Point};
 use dirty_words::{GuestSeat, RoundTable};
 use guest_log::{Timeline, WriteLog};
 
-/// The ticks of a round: from the first on, and before the second.
+/// The ticks of a round: from the first to before the second.
 #[derive(Clone, Copy, Debug)]
 pub struct Ticks {
     pub from: u64,
@@ -32,7 +32,7 @@ fn replay_write<G: Gate>(table: &RoundTable, gate: &G, seat: &mut GuestSeat, pag
     gate.at(Point::Marked { guest, page });
 }
 
-/// Stores a page's place and marks the page, where the page is the guest's own; else it does nothing.
+/// Stores a page's place and marks the page, if the page is the guest's own; else it does nothing.
 fn replay_own<G: Gate>(table: &RoundTable, gate: &G, seat: &mut GuestSeat, page: u32, place: u32)
     requires table { guest_table seat.old ≡ table.now }
     requires free { seat.old.facts.pending ≡ None }
@@ -53,8 +53,8 @@ fn place_of(index: usize) -> u32
     index as u32 + 1
 }
 
-/// Replays the writes of a round to the guest's own pages, in the order of the trace: of each it stores the place, and
-/// then marks the page. The seat has done nothing before, and the table opened with the versions before the round.
+/// Replays the writes of a round to the guest's own pages, in the order of the trace: for each it stores the place, and
+/// then marks the page. The seat has done nothing yet, and the table opened with the versions before the round.
 pub fn replay<W: WriteLog, G: Gate>(
     trace: &W,
     ticks: Ticks,
@@ -69,7 +69,7 @@ pub fn replay<W: WriteLog, G: Gate>(
     ensures number { result.facts.number ≡ seat.facts.number }
     ensures replayed { HasReplayed (W.trace trace.now) ticks.from ticks.to result.facts }
 {
-    // For the proof: `shape` promises that the log tells a trace.
+    // For the proof: `shape` promises that the log describes a trace.
     let _ = trace.shape();
     let mut seat = seat;
     let first = trace.before(ticks.from);

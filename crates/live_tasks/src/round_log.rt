@@ -12,9 +12,9 @@ use std::marker::Model;
 pub struct RoundLog {
     /// The pages sent, each with the place that was read.
     pub sent: Vec<(u32, u32)>,
-    /// The pages skipped, since they were marked again.
+    /// The pages skipped, because they were marked again.
     pub skipped: Vec<u32>,
-    /// The pages deferred, since the lane of the stream whose turn it was is full.
+    /// The pages deferred, because the lane of the stream whose turn it was is full.
     pub deferred: Vec<u32>,
 }
 

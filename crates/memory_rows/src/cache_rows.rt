@@ -1,4 +1,4 @@
-//! Worked examples, whose results were worked out by hand.
+//! Worked examples, with results worked out by hand.
 
 ghost use Rattle.std.specs.Prelude.{◌≡◌, IfOk};
 
@@ -56,7 +56,7 @@ fn kept_in(cache: &PageCache<'_, Trace>) -> [Option<Page>; 4] {
     ]
 }
 
-/// The page that the cache returns, and what it keeps of the four pages then.
+/// The page that the cache returns, and what it then keeps of the four pages.
 type Step = (Option<Page>, [Option<Page>; 4]);
 
 /// Asks the cache for these pages at these versions, in order.
@@ -77,7 +77,7 @@ fn ask(
     Ok(steps)
 }
 
-/// Asks a new cache of so many pages.
+/// Asks a new cache of `capacity` pages.
 fn ask_new<R: Threads + Sync>(
     rt: &R,
     alloc: Global,

@@ -1,6 +1,6 @@
-//! Worked examples, whose results were worked out by hand, and a caller that uses these contracts.
+//! Worked examples, with results worked out by hand, and a caller that uses these contracts.
 
-ghost use Rattle.std.specs.Prelude.{◌≡◌, ◌<◌, ◌≤◌, ◌^◌, ℕ, IfOk, IsTrue, length, slice_index_or, vec_len};
+ghost use Rattle.std.specs.Prelude.{◌≡◌, ◌<◌, ◌≤◌, ℕ, IfOk, IsTrue, length, slice_index_or, vec_len};
 ghost use Rattle.std.specs.List.{All};
 ghost use Rattle.page_bitmap.specs.Pages.{in_words};
 ghost use Rattle.dirty_words.specs.Closing.{FitsPages};
@@ -11,7 +11,7 @@ ghost use Rattle.migration_model.specs.Versions.{version_before};
 ghost use Rattle.page_versions.specs.Index.{IsIndexOf};
 
 use crate::fixtures::{AT_END, AT_STOP, SECOND, ZEROS, guest, part_of};
-use collector::Part;
+use collector::{Part, merge};
 use dirty_words::Closed;
 use image_build::{Image, ImageError, of_parts, replay, resume};
 use migration_model::{current_copies_make_memory, final_copy_makes_current};
@@ -23,7 +23,7 @@ use std::thread::Threads;
 use stop_copy::{CopyError, final_copy};
 use trace_codec::{Trace, Write};
 
-/// The memory of a guest where it stopped, and after all writes of its trace.
+/// The memory of a guest when it stopped, and after all writes of its trace.
 #[derive(Debug, Drop)]
 struct Images {
     at_stop: Image,
@@ -31,7 +31,7 @@ struct Images {
 }
 
 /// Returns the memory before any tick at which these are the versions, and the memory after all writes. The parts are
-/// honest, none beyond its page's version, and lack no page but marked ones.
+/// honest, never beyond a page's version, and lack only marked pages.
 fn images_of<R: Threads + Wait + Sync>(
     rt: &R,
     alloc: Global,
@@ -123,7 +123,7 @@ pub(crate) fn resumed(
     Some(resume(image, trace, index, versions))
 }
 
-/// Returns what the parts have after the final copy with so many workers, and the memory at the stop and at the end.
+/// Returns what the parts have after the final copy with `workers` workers, and the memory at the stop and at the end.
 fn copied_and_resumed(
     rt: &(impl Threads + Wait + Sync),
     alloc: Global,
@@ -140,6 +140,34 @@ fn copied_and_resumed(
     let copy = at_stop.copy(alloc)?;
     let at_end = resumed(copy, trace, index, &[1, 3, 0, 0]).ok_or("an image of the trace")?;
     Ok((found, at_stop, at_end))
+}
+
+/// Returns the join of two parts.
+fn joined(parts: Vec<Part>) -> Result<Part, Fail> {
+    let mut parts = parts.into_iter();
+    let (Some(first), Some(second)) = (parts.next(), parts.next()) else {
+        return Err(Fail::from("two parts"));
+    };
+    if first.shape() != second.shape() {
+        return Err(Fail::from("parts of one shape"));
+    }
+    Ok(merge(first, second)?)
+}
+
+#[test]
+fn parts_after_the_final_copy_are_joined(rt: HostRuntime) -> Result<(), Fail> {
+    let alloc = rt.alloc();
+    let trace = guest(alloc, 0)?;
+    let index = PageIndex::build(&rt, alloc, &trace)?;
+    let whole = joined(copied(&rt, alloc, &trace, &index, 3, 2)?)?;
+    let stamps = [
+        whole.stamp(0),
+        whole.stamp(1),
+        whole.stamp(2),
+        whole.stamp(3),
+    ];
+    assert_eq!(rt; stamps, [Some(1), Some(3), Some(0), Some(0)]);
+    Ok(())
 }
 
 #[test]
@@ -227,7 +255,7 @@ fn all_marked(alloc: Global, trace: &Trace, index: &PageIndex) -> Result<Closed,
     Ok(Closed { versions, dirty })
 }
 
-/// Returns the memory that a final copy leaves of two empty parts.
+/// Returns the memory that a final copy makes of two empty parts.
 fn copied_by(
     rt: &(impl Threads + Wait + Sync),
     alloc: Global,

@@ -42,17 +42,17 @@ pub(crate) static AT_END: [u8; 64] = [
 ];
 
 /// Returns a trace of 4 pages of 16 bytes, which writes pages 0 and 1 at ticks 0 and 5, page 1 at tick 1200, and pages
-/// 3 and 1 at tick 2500. Or all of this so many ticks later.
+/// 3 and 1 at tick 2500. Or all of this `later` ticks later.
 pub(crate) fn guest(alloc: Global, later: u64) -> Result<Trace, Fail> {
     guest_with_last(alloc, 1, later, &[0])
 }
 
-/// Returns this trace in version 2, but that its last write releases page 1.
+/// Returns this trace in version 2, except that its last write releases page 1.
 pub(crate) fn releasing_guest(alloc: Global) -> Result<Trace, Fail> {
     guest_with_last(alloc, 2, 0, &[])
 }
 
-/// Returns this trace in a version, so many ticks later, with these bytes for its last write.
+/// Returns this trace in a version, `later` ticks later, with these bytes for its last write.
 fn guest_with_last(alloc: Global, version: u8, later: u64, last: &[u8]) -> Result<Trace, Fail> {
     let cases: [(u64, u32, u16, &[u8]); 5] = [
         (0, 0, 0, &[1]),
@@ -73,7 +73,7 @@ fn guest_with_last(alloc: Global, version: u8, later: u64, last: &[u8]) -> Resul
     Ok(Trace::new(version, 4, 4, writes)?)
 }
 
-/// Returns these bytes, where they are a page.
+/// Returns these bytes, if they are a page.
 pub(crate) fn page_of(bytes: &[u8]) -> Option<Page> {
     if bytes.len() != 16 {
         return None;

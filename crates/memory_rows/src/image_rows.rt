@@ -20,7 +20,7 @@ const SHAPE: Shape = Shape {
     writes: 5,
 };
 
-/// Returns two parts that have all pages together, and one of them at two stamps.
+/// Returns two parts that together have all pages, one of them at two stamps.
 fn two_parts(alloc: Global, shape: &Shape) -> Result<Vec<Part>, Fail>
     ensures { IfOk result (λ parts. All (λ part. part.shape ≡ shape_of shape.now) parts.items) }
 {
@@ -41,7 +41,7 @@ fn parts_together_give_memory(rt: HostRuntime) -> Result<(), Fail> {
     Ok(())
 }
 
-/// Returns a page of memory that is left in parts, copied over other bytes.
+/// Returns a page of memory left in parts, copied over other bytes.
 fn page_in(alloc: Global, memory: &JoinedParts, page: u32) -> Option<Page> {
     let shape = memory.shape();
     let mut room = Vec::from_elem(alloc, 7u8, 16).ok()?;
@@ -88,7 +88,7 @@ fn least_page_in_no_part_is_named(rt: HostRuntime) -> Result<(), Fail> {
     Ok(())
 }
 
-/// Returns the stamp that a part has of a page, and the page's bytes, or None in their place where all of them are 0.
+/// Returns a part's stamp of a page, and the page's bytes, or None in their place if all of them are 0.
 fn kept(part: &Part, page: u32) -> Option<(u32, Option<Page>)> {
     let frame = part.frame(page)?;
     match &frame.body {

@@ -1,4 +1,4 @@
-//! Worked examples of versions, caches, images and the final copy: tests alone.
+//! Worked examples of versions, caches, images and the final copy: only for tests.
 #![tactic(auto)]
 
 #[cfg(test)]

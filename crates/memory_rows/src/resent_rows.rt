@@ -1,4 +1,4 @@
-//! A worked example: a page that is marked once more though what was sent of it is not behind.
+//! A worked example: a page that is marked again though its sent copy is up to date.
 
 use collector::{Fate, Part};
 use dirty_core::{Answer, Core, Event, Opening, step};

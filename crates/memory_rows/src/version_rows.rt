@@ -1,4 +1,4 @@
-//! Worked examples, whose results were worked out by hand.
+//! Worked examples, with results worked out by hand.
 
 use crate::fixtures::{FIRST, FOURTH, Page, SECOND, THIRD, ZEROS, guest, page_of};
 use page_versions::{PageIndex, PageProgress};
@@ -97,7 +97,7 @@ fn bytes_of_pages(rt: HostRuntime) -> Result<(), Fail> {
     Ok(())
 }
 
-/// Returns a trace of 1 page of 16 bytes with 11 writes of 2 bytes, each 1 byte behind the one before.
+/// Returns a trace of 1 page of 16 bytes with 11 writes of 2 bytes, each 1 byte after the previous one.
 fn guest_of_one_page(alloc: Global) -> Result<Trace, Fail> {
     let mut writes = Vec::new(alloc);
     for offset in 0..11u16 {
@@ -111,7 +111,7 @@ fn guest_of_one_page(alloc: Global) -> Result<Trace, Fail> {
     Ok(Trace::new(1, 4, 1, writes)?)
 }
 
-/// Returns this guest's page after so many writes: 1, 2, 3 and so on, and then 255.
+/// Returns this guest's page after `version` writes: 1, 2, 3 and so on, and then 255.
 fn rising_page(version: u32) -> Page {
     let mut page = ZEROS;
     for (at, byte) in page.iter_mut().enumerate() {
@@ -168,7 +168,7 @@ fn pages_in_one_room(rt: HostRuntime) -> Result<(), Fail> {
     Ok(())
 }
 
-/// Brings a page on to a later version. Returns its bytes, and how far it has come then.
+/// Brings a page to a later version. Returns its bytes, and how far it has then come.
 pub(crate) fn brought_on(
     alloc: Global,
     index: &PageIndex,

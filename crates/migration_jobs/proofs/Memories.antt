@@ -45,7 +45,7 @@ length-page memory page len low =
     ap (λ (k : ℕ). length (take k (drop (page * n) memory.bytes))) width
     ∙ length-take-le n (drop (page * n) memory.bytes) (omega (arith, end, len, length-drop (page * n) memory.bytes))
 
--- before any write a page is zeros
+-- before any write, a page is zeros
 pub page_at_first : (trace : GuestTrace) (page : ℕ) → page < trace.pages → page_at trace page 0
     ≡ replicate (2 ^ trace.shift) 0
 page_at_first trace page low = zero_page trace.shift trace.pages page low

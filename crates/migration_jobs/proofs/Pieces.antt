@@ -11,7 +11,7 @@ use Rattle.std.proofs.lemmas.Slice.{between_from_start}
 use Rattle.migration_jobs.specs.Sink.{AppendsPart}
 use Rattle.migration_jobs.proofs.Sinks.{Appends-more, Appends-then}
 
--- a piece, and the piece behind it
+-- a piece, and the piece after it
 pub between_more : (a b c : ℕ) (xs : List ℕ) → a ≤ b → b ≤ c → between a b xs ++ between b c xs ≡ between a c xs
 between_more a b c xs first second =
     let back : a + (b - a) ≡ b = omega arith in
@@ -28,14 +28,14 @@ wrote_more old mid new a b xs rise before more =
     subst (Appends old new) (between_more 0 a b xs (omega arith) rise)
     (Appends-then old mid new (between 0 a xs) (between a b xs) before more)
 
--- the first bytes of a piece are the first bytes behind those in front of it
+-- the first bytes of a piece are the first bytes after those in front of it
 cut : (j m : ℕ) (ys : List ℕ) → (k : ℕ) × (take j (take m ys) ≡ take k ys)
 cut j m ys = elim (cases_lt j m) [
   | inl low ↦ (j, take-take j m ys (omega (arith, low)))
   | inr high ↦ (m, take_all j (take m ys) (omega (arith, high, length-take m ys)))
 ]
 
--- a part of a piece, behind those in front of it, is a part of all
+-- a part of a piece, after those in front of it, is a part of all
 pub wrote_part : (old mid new : Option (List ℕ)) (a b : ℕ) (xs : List ℕ) → Appends old mid (between 0 a xs)
     → AppendsPart mid new (between a b xs) → AppendsPart old new xs
 wrote_part old mid new a b xs before part =
@@ -45,7 +45,7 @@ wrote_part old mid new a b xs before part =
           (subst (Appends mid new) short.1 part.1),
     )
 
--- all bytes that are written are a part of them
+-- all written bytes are a part of them
 pub wrote_all : (old mid new : Option (List ℕ)) (xs : List ℕ) → Appends old mid xs → Keeps mid new
     → AppendsPart old new xs
 wrote_all None mid new xs before keeps = (length xs, tt)

@@ -1,4 +1,4 @@
--- What was made of the bytes that were read, said of what the source held.
+-- What was made from the bytes that were read, stated about what the source held.
 use Rattle.std.proofs.Common.{◌≡◌, ℕ, List, Option, Some, None, refl, sym, ap, subst, ◌∙◌, inl, inr}
 use Rattle.std.specs.List.{fold}
 use Rattle.std.specs.Prelude.{◌≢◌, IfSome}
@@ -15,7 +15,7 @@ use Rattle.job_kinds.specs.declared.job.Job.{Job}
 use Rattle.migration_jobs.specs.declared.error.RunError.{RunError}
 use Rattle.migration_jobs.specs.declared.error.RunError.TheVariants as errors
 
--- what is refused before anything is written is one of the job's errors, and not that of writing
+-- an error before anything is written is one of the job's errors, but not that of writing
 pub own_run : (job : Job) (e : RunError) → RefusesOutput job e → IsRefusalOf job e
 own_run job (errors.Trace e) own = tt
 own_run job errors.Memory own = tt
@@ -26,7 +26,7 @@ own_run job errors.Thread own = absurd own
 pub unwritten_run : (job : Job) (e : RunError) → RefusesOutput job e → e ≢ errors.Write
 unwritten_run job e own is = subst (RefusesOutput job) is own
 
--- a source that holds a trace is refused for nothing in it
+-- no cause in the trace refuses a source that holds one
 pub only_run : (known : Option (List ℕ)) (bytes : List ℕ) (trace : GuestTrace) (e : RunError) → known ≡ Some bytes
     → Spells bytes trace → RefusesRun known e → IsOutsideRun e
 only_run known bytes trace (errors.Trace e) is spells (inl outside) = outside
@@ -37,7 +37,7 @@ only_run known bytes trace errors.Thread is spells refused = tt
 only_run known bytes trace (errors.Live e) is spells refused = tt
 only_run known bytes trace errors.Write is spells refused = tt
 
--- the bytes that a source held, where they encode a trace
+-- the bytes that a source held, if they encode a trace
 held_text : (known : Option (List ℕ)) (trace : GuestTrace) → SourceSpells known trace
     → IfSome known (λ held. held ≡ trace_text trace)
 held_text None trace spells = tt
@@ -56,7 +56,7 @@ made_run job output known made =
       is_output = made.3;
     }
 
--- the memory that all writes of a trace made of zeros
+-- the memory that all writes of a trace made from zeros
 pub image_made : (known : Option (List ℕ)) (header : Header) (start made : GuestMemory) (bytes : List ℕ) → start
     ≡ zeros header.shape.shift header.shape.pages → bytes ≡ made.bytes
     → IsAllVisited (λ writes. fold apply start writes ≡ made) known header → IsImageOf known bytes

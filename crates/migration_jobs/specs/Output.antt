@@ -14,13 +14,13 @@ use Rattle.job_kinds.specs.declared.job.Show.TheVariants as shows
 use Rattle.migration_jobs.specs.declared.error.RunError.{RunError}
 use Rattle.migration_jobs.specs.declared.error.RunError.TheVariants as errors
 
--- the memory where the plan with these settings stops the guest
+-- the memory when the plan with these settings stops the guest
 pub record IsStopMemory (trace : GuestTrace) (settings : MigrationSettings) (bytes : List ℕ) : Type 0 where
   pub plan : MigrationPlan
   pub is_plan : IsPlan trace.pages (touches_of trace) settings plan
   pub bytes_are : bytes ≡ (image_before trace plan.stop).bytes
 
--- the memory of a live run that is written
+-- the memory that is written of a live run
 abbrev pub IsShown : Show → GuestTrace → MigrationSettings → List ℕ → Type 0
 IsShown shows.Stop trace settings bytes = IsStopMemory trace settings bytes
 IsShown shows.End trace settings bytes = bytes ≡ (image_of trace).bytes
@@ -37,7 +37,7 @@ IsOutputOf (jobs.Report settings) trace output = IsReport trace settings output
 IsOutputOf (jobs.Live settings show) trace output = IsShown show trace settings output
 IsOutputOf (jobs.Sweep cases workers) trace output = IsSweep trace cases.items output
 
--- The output of a job for what a source held: bytes that encode a trace, and all of its bytes, where they are known.
+-- The output of a job for what a source held: bytes that encode a trace, and all of its bytes, if they are known.
 pub record IsOutput (known : Option (List ℕ)) (job : Job) (output : List ℕ) : Type 0 where
   pub bytes : List ℕ
   pub trace : GuestTrace
@@ -45,7 +45,7 @@ pub record IsOutput (known : Option (List ℕ)) (job : Job) (output : List ℕ) 
   pub spells : Spells bytes trace
   pub is_output : IsOutputOf job trace output
 
--- A trace is refused only for a cause in what the source held, or for one outside of it.
+-- A trace is refused only for a cause in what the source held or outside of it.
 abbrev pub RefusesRun : Option (List ℕ) → RunError → Type 0
 RefusesRun known (errors.Trace e) = SourceRefuses known e
 RefusesRun known errors.Memory = ⊤
@@ -76,7 +76,7 @@ IsRefusalOf job errors.Write = ⊤
 IsRefusalOf job (errors.Live e) = IsLiveJob job
 IsRefusalOf job errors.Thread = ⊥
 
--- A job's errors before anything is written: no write has failed, and that of a live run comes from a live run only.
+-- A job's errors before anything is written: no write has failed, and only a live run has the errors of live runs.
 abbrev pub RefusesOutput : Job → RunError → Type 0
 RefusesOutput job (errors.Trace e) = ⊤
 RefusesOutput job errors.Memory = ⊤

@@ -7,7 +7,7 @@ use live_engine::LiveError;
 use thiserror::Error;
 use trace_codec::TraceError;
 
-/// Why a run ended without its output. It is written behind `precopy: ` in a fault line.
+/// Why a run ended without its output. It follows `precopy: ` in a fault line.
 #[derive(Clone, Copy, Debug, PartialEq, Eq, Error)]
 pub enum RunError {
     /// The trace was refused.
@@ -16,8 +16,8 @@ pub enum RunError {
     /// Memory ran out.
     #[error("memory")]
     Memory,
-    /// A thread could not be started. No job returns it: a live run has an error of its own, and for a report or a
-    /// sweep the caller's thread does the work.
+    /// A thread could not be started. No job returns it: a live run has an error of its own, and in a report or a sweep
+    /// the caller's thread does the work.
     #[error("thread")]
     Thread,
     /// The live run gave no memory: memory ran out, or a thread could not be started.

@@ -1,4 +1,4 @@
-//! The memory after all writes of the trace that is read.
+//! The memory after all writes of the trace being read.
 
 ghost use Rattle.std.specs.Io.KnownBytes.{Consumes};
 ghost use Rattle.std.specs.Prelude.{◌≡◌, ◌↔◌, ℕ, List, Option, IfErr, IfOk, IfSome, OnOk, Err, false, true};
@@ -25,7 +25,7 @@ const SMALL_MEMORY: usize = 1_048_576;
 /// than making pages one by one, and little memory.
 const WHOLE_MEMORY: usize = 33_554_432;
 
-/// Reads on until memory may be whole. Returns the trace's header then, or None if memory is to be made page by page.
+/// Reads on until memory may be whole. Then returns the trace's header, or None if memory must be made page by page.
 fn header_for_whole<S: Source>(
     source: &mut S,
     incoming: &mut IncomingTrace,
@@ -50,8 +50,7 @@ fn header_for_whole<S: Source>(
     Ok(incoming.header().ok())
 }
 
-/// Reads the beginning of the trace that a source holds. Returns it with its header where its memory is to be made
-/// whole.
+/// Reads the beginning of the trace that a source holds. Returns it, with its header if its memory is to be made whole.
 fn opened<S: Source>(
     alloc: Global,
     source: &mut S,

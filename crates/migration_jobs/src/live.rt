@@ -1,4 +1,4 @@
-//! A live run over the trace that was read, and the memory of it that is asked for.
+//! A live run over the trace that was read, and its requested memory.
 
 ghost use Rattle.std.specs.Prelude.{◌≡◌, ◌↔◌, IfErr, IfOk, Err, false, true};
 ghost use Rattle.migration_model.specs.Trace.{GuestTrace, IsTrace};

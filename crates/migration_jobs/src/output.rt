@@ -77,7 +77,7 @@ pub fn write_out<K: Sink>(sink: &mut K, bytes: &[u8]) -> Result<(), RunError>
     flush(sink)
 }
 
-/// Writes all of some memory, in pieces that are made one after the other.
+/// Writes all of some memory, in pieces made one after the other.
 fn write_pieces<K: Sink, M: PagedMemory>(
     sink: &mut K,
     memory: &M,
@@ -106,8 +106,7 @@ fn write_pieces<K: Sink, M: PagedMemory>(
     Ok(())
 }
 
-/// Writes all of some memory and flushes. It allocates its buffers before it writes the first byte, and nothing after
-/// that.
+/// Writes all of some memory and flushes. It allocates its buffers before it writes the first byte, and nothing later.
 fn write_memory<K: Sink, M: PagedMemory>(
     alloc: Global,
     sink: &mut K,
@@ -133,7 +132,7 @@ fn write_memory<K: Sink, M: PagedMemory>(
     flush(sink)
 }
 
-/// Writes all of an output and flushes. Where memory runs out nothing is written.
+/// Writes all of an output and flushes. If memory runs out, nothing is written.
 pub(crate) fn write_output<K: Sink>(
     alloc: Global,
     sink: &mut K,

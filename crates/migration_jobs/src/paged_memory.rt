@@ -6,7 +6,7 @@ ghost use Rattle.migration_model.specs.Memory.{GuestMemory, IsMemory, page_of};
 
 use trace_codec::Shape;
 
-/// The memory of a guest, of which each page is made when it is asked for. Making one takes no memory and cannot fail.
+/// The memory of a guest, each page of which is made when it is asked for. Making one takes no memory and cannot fail.
 pub(crate) trait PagedMemory {
     // The memory that the pages make together.
     ghost memory: { Self → GuestMemory };
@@ -17,7 +17,7 @@ pub(crate) trait PagedMemory {
         ensures pages { result.pages ≡ (memory self.now).pages }
         ensures is_memory { IsMemory (memory self.now).shift (memory self.now).pages (memory self.now).bytes };
 
-    /// Puts the bytes of a page over those of a buffer that has as many.
+    /// Overwrites a buffer of the same size with the bytes of a page.
     fn page_into(&self, page: u32, buffer: &mut Vec<u8>)
         requires page { page < (memory self.now).pages }
         requires long { length buffer.old.items ≡ 2 ^ (memory self.now).shift }

@@ -12,7 +12,7 @@ use std::thread::Threads;
 use trace_codec::{Shape, WriteLog};
 use trace_readers::HeldTrace;
 
-/// The memory after all writes of a trace. A page is made of its own writes when it is asked for, so that the memory is
+/// The memory after all writes of a trace. A page is made from its own writes when it is asked for, so the memory is
 /// never held whole.
 #[derive(Drop)]
 pub(crate) struct ReplayedMemory {
@@ -29,7 +29,7 @@ impl Model for ReplayedMemory {
 }
 
 impl ReplayedMemory {
-    /// Takes over a trace, and indexes its writes by page. The only error is that memory runs out.
+    /// Takes over a trace, and indexes its writes by page. The only error is lack of memory.
     pub(crate) fn of<R: Threads + Sync>(
         rt: &R,
         alloc: Global,

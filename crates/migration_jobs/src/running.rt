@@ -1,6 +1,6 @@
 //! A job, from the bytes read to the bytes written.
 
-ghost use Rattle.std.specs.Prelude.{◌≡◌, ◌≢◌, ◌↔◌, ℕ, List, IfErr, IfOk, OnErr, OnOk, Err, Some, false, true};
+ghost use Rattle.std.specs.Prelude.{◌≡◌, ◌≢◌, ◌↔◌, ℕ, List, IfErr, IfOk, OnOk, Err, Some, false, true};
 ghost use Rattle.std.specs.Io.KnownBytes.{Appends, Keeps};
 ghost use Rattle.migration_model.specs.Trace.{GuestTrace, IsTrace, Spells};
 ghost use Rattle.migration_model.specs.Rounds.{IsPlan};
@@ -31,11 +31,10 @@ use trace_codec::{Source, Timeline};
 use trace_readers::TouchLog;
 use working_sets::{Tables, TablesError, par_tables};
 
-/// How many touches there have to be for tables and plan to be made side by side: fewer take less time than to start a
-/// thread.
+/// The fewest touches for which tables and plan are made side by side: fewer take less time than starting a thread.
 const WORTH_A_THREAD: usize = 1 << 18;
 
-/// Returns the tables of a log, and its plan: made side by side, where there are two workers and enough to do.
+/// Returns the tables and the plan of a log, made side by side if there are two workers and enough to do.
 fn tables_and_plan<R: Threads + Sync>(
     rt: &R,
     alloc: Global,
@@ -179,7 +178,7 @@ fn read_output<R: Threads + Wait + Sync, S: Source, G: Gate>(
 
 /// Runs one job: reads a trace to the end of the source, makes the whole output, and then writes it and flushes. It
 /// writes nothing while anything but a write can still fail. So each error but `Write` leaves nothing written, and
-/// `Write` leaves a beginning of the output. The threads of a live run call the gate; no other job does.
+/// `Write` leaves a prefix of the output. Only the threads of a live run call the gate.
 pub fn run<R: Threads + Wait + Sync, S: Source, K: Sink, G: Gate>(
     rt: &R,
     alloc: Global,

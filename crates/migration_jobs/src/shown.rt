@@ -1,4 +1,4 @@
-//! The memory of a live run that is written.
+//! The memory that is written of a live run.
 
 ghost use Rattle.std.specs.Prelude.{◌≡◌};
 ghost use Rattle.image_build.specs.Joins.{memory_by};
@@ -14,7 +14,7 @@ use trace_codec::{Shape, WriteLog};
 use trace_readers::HeldTrace;
 
 /// The memory of a guest that stopped, as it is or after the guest has resumed. A page is copied only when it is asked
-/// for, and no such copy fails.
+/// for, and no copy fails.
 #[derive(Drop)]
 pub(crate) struct ShownMemory {
     stopped: StoppedGuest,
@@ -32,7 +32,7 @@ impl Model for ShownMemory {
 }
 
 impl ShownMemory {
-    /// Returns the memory of a guest that stopped, with what is to be shown of it.
+    /// Returns the memory of a guest that stopped, and which part of it to show.
     pub(crate) fn new(stopped: StoppedGuest, trace: HeldTrace, show: Show) -> ShownMemory
         requires { IsStoppedAt trace stopped.versions.items stopped.index (memory_by stopped.memory) }
         ensures { result ≡ memory_shown show trace (memory_by stopped.memory) }

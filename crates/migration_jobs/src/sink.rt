@@ -11,7 +11,7 @@ use std::marker::Model;
 
 /// A sink of bytes.
 pub trait Sink {
-    // The bytes that the sink holds, where they are known.
+    // The bytes that the sink holds, if they are known.
     ghost contents: { Self → Option (List ℕ) };
 
     // Whether a write or a flush failed.
@@ -20,14 +20,14 @@ pub trait Sink {
     // Whether nothing was written since the last flush.
     ghost is_flushed: { Self → Bool };
 
-    /// Writes the first of some bytes, and returns how many. None is a write that failed or took none of some, after
-    /// which the sink may not be used again.
+    /// Writes the first of some bytes, and returns how many. None is a write that failed or took none of some bytes;
+    /// the sink must not be used after that.
     fn write(&mut self, bytes: &[u8]) -> Option<usize>
         requires { has_failed self.old ≡ false }
         ensures written { WritesTo (contents self.old) (contents self.new) result bytes.now }
         ensures failed { has_failed self.new ≡ is_none result };
 
-    /// Passes on what was written, and returns whether that went well.
+    /// Passes on what was written, and returns whether that succeeded.
     fn flush(&mut self) -> bool
         requires { has_failed self.old ≡ false }
         ensures kept { Keeps (contents self.old) (contents self.new) }
@@ -39,7 +39,7 @@ pub trait Sink {
         ensures { result ≡ has_failed self.now };
 }
 
-/// One of std's writers as a sink. It tries a write again that a signal interrupts.
+/// One of std's writers as a sink. It retries a write that a signal interrupts.
 #[derive(Drop)]
 pub struct FromWrite<W: Write + Drop> {
     writer: W,

@@ -26,8 +26,8 @@ impl Model for TestSink {
 
 impl TestSink {
     /// Returns a sink that adds to these bytes, in the capacity that they have or can get, at most `greatest` in one
-    /// write; with 0 it takes none of any. The write numbered `failing_call`, counted from 1, fails, and `flush_fails`
-    /// says whether each flush does.
+    /// write; with 0 it takes none. The write numbered `failing_call`, counted from 1, fails, and `flush_fails` says
+    /// whether each flush does.
     pub fn new(
         bytes: Vec<u8>,
         greatest: usize,

@@ -1,4 +1,4 @@
-//! Memory that the writes of a trace are put in as they come.
+//! Memory into which the writes of a trace are put as they come.
 
 ghost use Rattle.std.specs.Prelude.{◌≡◌, IfOk, fold, ℕ};
 ghost use Rattle.migration_model.specs.Memory.{GuestMemory, IsMemory, apply, memory_with, zeros};
@@ -9,7 +9,7 @@ use std::marker::Model;
 use trace_codec::{Shape, WriteView};
 use trace_readers::WriteVisitor;
 
-/// The memory after the writes that came so far, all of it.
+/// The whole memory after the writes that came so far.
 #[derive(Drop)]
 pub(crate) struct WrittenMemory {
     shape: Shape,

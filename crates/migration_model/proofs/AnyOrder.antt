@@ -85,7 +85,7 @@ frames_exchanged part f g agree =
 frame_itself : (part : GuestPart) (f : PageFrame) → with_frame (with_frame part f) f ≡ with_frame part f
 frame_itself part f = ap (part_with part.shape) (put_itself part.copies f.page (copy_in part.shape f))
 
--- a frame comes before others or behind them
+-- a frame comes before or after others
 frame_moved : (part : GuestPart) (f : PageFrame) (gs : List PageFrame) → All (Agreeing part.shape f) gs
     → with_frames (with_frame part f) gs ≡ with_frame (with_frames part gs) f
 frame_moved part f [] agree = refl
@@ -115,7 +115,7 @@ frame_again part f (g ∷ fs) agree found = elim (Contains_cases g f fs found) [
   | inr behind ↦ frame_again (with_frame part g) f fs (All-tail (Agreeing part.shape f) g fs agree) behind
 ]
 
--- nor do any number of such
+-- nor does any number of such frames
 list_again : (part : GuestPart) (fs gs : List PageFrame) → All (λ g. All (Agreeing part.shape g) fs) gs
     → All (Contains fs) gs
     → with_frames (with_frames part fs) gs ≡ with_frames part fs

@@ -1,6 +1,6 @@
 -- Memory made of honest parts that have the current copy of every page.
 use Rattle.std.proofs.Common.{◌≡◌, ℕ, inl, inr, zero, suc, ◌+◌, ◌-◌, ◌*◌, ◌^◌, ◌<◌, ◌≤◌, List, [], ◌∷◌, ◌++◌, length}
-use Rattle.std.proofs.Common.{take, drop, replicate, get_or, Option, Some, None, IfSome, IsSomeAnd, refl, sym, ap}
+use Rattle.std.proofs.Common.{take, drop, get_or, Option, Some, None, IfSome, IsSomeAnd, refl, sym, ap}
 use Rattle.std.proofs.Common.{subst, ◌∙◌, arith}
 use Rattle.std.specs.List.{All, fold, flat_map, between, range_with_len}
 use Rattle.std.proofs.Math.Seq.{drop-append-add, take-append_seam}
@@ -19,7 +19,7 @@ use Rattle.migration_model.proofs.Pages.{memory_before}
 use Rattle.migration_model.proofs.Parts.{get_or-later_each, later_first, later_second}
 use Rattle.migration_model.proofs.Lists.{get_or-replicate_default}
 
--- the copy is no later than this one, and this one where the stamps are equal
+-- the copy is no later than this one, and is this one if the stamps are equal
 record Below (size stamp : ℕ) (content : List ℕ) (c : PageCopy) : Type 0 where
   pub stamp_low : c.stamp ≤ stamp
   pub same : c.stamp ≡ stamp → c.content ≡ content

@@ -33,7 +33,7 @@ from_if : (P : PageCopy → Type 0) (o : Option PageCopy) (c : PageCopy) → IfS
 from_if P None c holds is = absurd (cc is)
 from_if P (Some d) c holds is = subst P (λ i. some_of d (is i)) holds
 
--- where no stamp is beyond, the later copy has the current stamp
+-- if no stamp is beyond, the later copy has the current stamp
 later_current : (old : Option PageCopy) (copy : PageCopy) → IfSome old (λ c. c.stamp ≤ copy.stamp)
     → IsSomeAnd (later old (Some copy)) (λ c. c.stamp ≡ copy.stamp)
 later_current None copy low = refl

@@ -58,11 +58,11 @@ same_body size (Some bytes) (Some others) r s fits_a fits_b same =
       sym (drop_at bytes r _ refl) ∙ ap (λ (x : List ℕ). drop (length bytes) x) behind ∙ drop_at others s _ len,
     )
 
--- frames are equal where their fields are
+-- frames are equal if their fields are
 pub same_frame : (f g : PageFrame) → f.page ≡ g.page → f.stamp ≡ g.stamp → f.body ≡ g.body → f ≡ g
 same_frame f g page stamp body = λ i. record { page = page i; stamp = stamp i; body = body i }
 
--- two encodings of one shape, each in front of some bytes: they are of one frame, and have the same bytes behind them
+-- two encodings of one shape, each in front of some bytes: they are of one frame, and have the same bytes after them
 pub same_front : (shape : GuestShape) (f g : PageFrame) (r s : List ℕ) → IsGuestShape shape → IsFrame shape f
     → IsFrame shape g
     → frame_text f ++ r ≡ frame_text g ++ s → (f ≡ g) × (r ≡ s)
@@ -91,7 +91,7 @@ none_begins_another_lem shape a b rest f g is spells_f spells_g same =
     ∙ sym same ∙ spells_g.text ∙ sym (append-nil _) in
     (same_front shape f g rest [] is spells_f.is_frame spells_g.is_frame texts).1
 
--- bodies of one size are equal where the bytes of the page are
+-- bodies of one size are equal if the bytes of the page are
 body_from_content : (size : ℕ) (a b : Option (List ℕ)) → IfSome a (λ bytes. (length bytes ≡ size) × ¬ IsZeros bytes)
     → IfSome b (λ bytes. (length bytes ≡ size) × ¬ IsZeros bytes)
     → unwrap_or a (replicate size 0) ≡ unwrap_or b (replicate size 0) → a ≡ b

@@ -1,4 +1,4 @@
--- Facts of lists and of values that may be missing, which several crates use.
+-- Facts about lists and about values that may be missing, which several crates use.
 use Rattle.std.proofs.Common.{◌≡◌, ℕ, ◌<◌, List, [], ◌∷◌, ◌++◌, length, set, drop, replicate, get_or, Option, Some}
 use Rattle.std.proofs.Common.{None}
 use Rattle.std.proofs.Common.{IfSome, refl, ap, arith, inl, inr}
@@ -20,7 +20,7 @@ over_more [] (z ∷ old) y low = refl
 over_more (x ∷ items) [] y low = absurd (omega (arith, low))
 over_more {X} (x ∷ items) (z ∷ old) y low = ap (λ (l : List X). x ∷ l) (over_more items old y (omega (arith, low)))
 
--- what is so of each value that may be there
+-- what is true of each value that may be there
 pub if_some : {X : Type 0} {P : X → Type 0} (o : Option X) → ((x : X) → o ≡ Some x → P x) → IfSome o P
 if_some None each = tt
 if_some (Some x) each = each x refl

@@ -1,4 +1,4 @@
--- A number that is read from its bytes is the number that was written, and the other way round.
+-- A number read from its bytes is the number that was written, and vice versa.
 use Rattle.std.proofs.Common.{◌≡◌, ℕ, ◌^◌, ◌<◌, ◌≤◌, List, ◌++◌, length, get_or, take, refl, sym, inl, inr, lit<, arith}
 use Rattle.std.specs.Int.{Width, w16, w32, w64}
 use Rattle.std.proofs.lemmas.Bool.{cases_lt}

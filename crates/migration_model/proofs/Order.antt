@@ -1,4 +1,4 @@
--- Lists in the order of some number of their elements, as writes are in that of their ticks.
+-- Lists in the order of some number of their elements, as writes are in the order of their ticks.
 use Rattle.std.proofs.Common.{◌≡◌, ℕ, ◌<◌, ◌≤◌, List, [], ◌∷◌, ◌++◌, length, refl, inl, inr, arith}
 use Rattle.std.specs.List.{All, AllByRecursion, fold}
 use Rattle.std.specs.List.Sorted.{IsNonDecreasingBy}
@@ -40,7 +40,7 @@ in_order-push number xs x order below i j d le low = elim (cases_lt j (length xs
       ])
 ]
 
--- of some in order, those in front of one are not after it
+-- in an ordered list, the elements in front of one are not after it
 pub in_order-front : {X : Type 0} (number : X → ℕ) (xs : List X) (x : X) (others : List X)
     → IsNonDecreasingBy number (xs ++ x ∷ others)
     → All (λ y. number y ≤ number x) xs

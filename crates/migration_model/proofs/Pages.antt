@@ -92,7 +92,7 @@ page_step version shift pages m w page low len fits =
       ]
     ]
 
--- a page after one more write, which counts only where it is the page's own
+-- a page after one more write, which counts only if it is the page's own
 abbrev pub own : ℕ → ℕ → List ℕ → GuestWrite → List ℕ
 own shift page bytes write = cond (eqb write.page page) (put bytes write.offset (bytes_put shift write)) bytes
 
@@ -125,7 +125,7 @@ zero_page shift pages page low =
     ∙ ap (λ (l : List ℕ). take n l) (drop-replicate (page * n) (pages * n) 0)
     ∙ take-replicate n (pages * n - page * n) 0 room
 
--- memory stays as long as it is
+-- memory keeps its length
 pub length-applied : (version shift pages : ℕ) (ws : List GuestWrite) (m : List ℕ) → length m ≡ pages * 2 ^ shift
     → All (IsGuestWrite version shift pages) ws
     → (after : List ℕ) × (fold apply (memory_with shift pages m) ws ≡ memory_with shift pages after)

@@ -75,7 +75,7 @@ later_each-exchanged (x ∷ xs) [] agree = refl
 later_each-exchanged (x ∷ xs) (y ∷ ys) agree =
     λ i. later-exchanged x y (agree 0) i ∷ later_each-exchanged xs ys (λ page. agree (suc page)) i
 
--- parts are equal where their fields are
+-- parts are equal if their fields are
 pub same_part : (a b : GuestPart) → a.shape ≡ b.shape → a.copies ≡ b.copies → a ≡ b
 same_part a b shape copies = λ i. record { shape = shape i; copies = copies i }
 
@@ -95,7 +95,7 @@ later_each-nones [] (suc n) len = absurd (omega arith)
 later_each-nones (x ∷ xs) zero len = absurd (omega arith)
 later_each-nones (x ∷ xs) (suc n) len = λ i. later-nothing x i ∷ later_each-nones xs n (omega arith) i
 
--- one more page is the join with the part that has it alone
+-- one more page is the join with the part that has only that page
 later_each-set : (xs : List (Option PageCopy)) (n page : ℕ) (x : Option PageCopy) → length xs ≡ n → page < n
     → later_each xs (set (replicate n None) page x) ≡ set xs page (later (get_or xs page None) x)
 later_each-set [] n page x len low = absurd (omega arith)
@@ -131,7 +131,7 @@ length-later_each (x ∷ xs) (y ∷ ys) same = ap suc (length-later_each xs ys (
 
 -- ---- honest parts
 
--- copies are equal where their fields are
+-- copies are equal if their fields are
 pub same_copy : (c d : PageCopy) → c.stamp ≡ d.stamp → c.content ≡ d.content → c ≡ d
 same_copy c d stamp content = λ i. record { stamp = stamp i; content = content i }
 

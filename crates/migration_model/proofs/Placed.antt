@@ -9,7 +9,7 @@ use Rattle.migration_model.specs.Trace.{GuestTrace, GuestWrite}
 use Rattle.migration_model.specs.Versions.{version_before}
 use Rattle.migration_model.specs.Live.{IsPlaceOf}
 
--- the greatest place of those that pass the test, where the first has place s, or `least` where that is greater
+-- the greatest place of those that pass the test, if the first has place s, or `least` if that is greater
 abbrev greatest : (GuestWrite → Bool) → ℕ → ℕ → List GuestWrite → ℕ
 greatest q least s ws = fold max least (map (λ (at : ℕ × GuestWrite). at.0)
     (filter (λ (at : ℕ × GuestWrite). q at.1) (enumerate_from s ws)))

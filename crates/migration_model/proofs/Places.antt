@@ -1,8 +1,8 @@
--- Places of those elements of a list that pass a test.
+-- Places of the elements of a list that pass a test.
 use Rattle.std.proofs.Common.{◌≡◌, ℕ, ◌+◌, Bool, true, false, cond, List, [], ◌∷◌, map, refl, ap, ◌∙◌}
 use Rattle.std.specs.List.{filter, enumerate_from}
 
--- such places, where the first element has place s
+-- such places, if the first element has place s
 abbrev pub from : {X : Type 0} → (X → Bool) → ℕ → List X → List ℕ
 from q s [] = []
 from q s (x ∷ xs) = cond (q x) (s ∷ from q (s + 1) xs) (from q (s + 1) xs)

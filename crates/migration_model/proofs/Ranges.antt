@@ -1,11 +1,11 @@
--- Numbers of a run that pass a test.
+-- Numbers of a range that pass a test.
 use Rattle.std.proofs.Common.{◌≡◌, ℕ, zero, suc, ◌+◌, ◌<◌, ◌≤◌, Bool, true, false, cond, List, [], ◌∷◌, ◌++◌, refl, sym}
 use Rattle.std.proofs.Common.{ap, ◌∙◌, arith}
 use Rattle.std.specs.List.{filter, range_with_len}
 use Rattle.std.proofs.lemmas.List.{append-nil, map-id}
 use Rattle.std.proofs.lemmas.List.FromFn.{filter_of_map_range_with_len_more, map-range_with_len_more}
 
--- one number more in a filtered run
+-- one more number in a filtered range
 pub filter_range_more : (p : ℕ → Bool) (n : ℕ) → filter p (range_with_len 0 (n + 1)) ≡ filter p (range_with_len 0 n)
     ++ cond (p n) (n ∷ []) []
 filter_range_more p n =
@@ -27,7 +27,7 @@ filter_range_agree p q a (suc n) same =
     let tail = filter_range_agree p q (a + 1) n (λ i low high. same i (omega arith) (omega arith)) in
     λ k. cond (head k) (a ∷ tail k) (tail k)
 
--- a run with one number more
+-- a range with one more number
 pub range_more : (n : ℕ) → range_with_len 0 (n + 1) ≡ range_with_len 0 n ++ n ∷ []
 range_more n =
     sym (map-id (range_with_len 0 (n + 1))) ∙ map-range_with_len_more (λ x. x) 0 n n (omega arith)

@@ -74,7 +74,7 @@ spelling_reads_back bytes trace spells =
           ∙ writes_again trace.writes [] (AllHavePlaces _ _ _ trace.writes is.size is.writes);
     }
 
--- traces are equal where their fields are
+-- traces are equal if their fields are
 same_trace : (s t : GuestTrace) → s.version ≡ t.version → s.shift ≡ t.shift → s.pages ≡ t.pages → s.writes ≡ t.writes
     → s ≡ t
 same_trace s t version shift pages writes = λ i. record {

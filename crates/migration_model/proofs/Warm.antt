@@ -1,4 +1,4 @@
--- What a destination has that begins with the memory before a base.
+-- What a destination has if it begins with the memory before a base.
 use Rattle.std.proofs.Common.{◌≡◌, ℕ, ◌<◌, ◌≤◌, ◌-◌, inl, inr, List, length, get_or, Option, Some, None, IfSome, refl}
 use Rattle.std.proofs.Common.{sym, ap, ◌∙◌, arith}
 use Rattle.std.proofs.lemmas.Bool.{cases_lt}
@@ -33,7 +33,7 @@ pub copy_in_memory : (shape : GuestShape) (memory : GuestMemory) (stamps : List 
 copy_in_memory shape memory stamps page low =
     get_or-map-range_with_len (λ p. Some (copy_from memory stamps p)) 0 shape.pages page page None low (omega arith)
 
--- and no page behind the last
+-- and no page after the last
 pub none_past : (part : GuestPart) (page : ℕ) → length part.copies ≤ page → copy_at part page ≡ None
 none_past part page past = get_or_past part.copies page None past
 
@@ -64,7 +64,7 @@ nothing_first trace page = elim (cases_lt page trace.pages) [
       (let len = length-replicate {A = Option PageCopy} trace.pages None in omega (arith, past, len))
 ]
 
--- a page that it has comes from a base, at its version of then
+-- a page that it has comes from a base, at its version at that time
 pub first_had : (trace : GuestTrace) (base : Option ℕ) (page : ℕ) (copy : PageCopy) → IsTrace trace
     → copy_at (first_part trace base) page ≡ Some copy
     → (tick : ℕ) × (base ≡ Some tick) × (page < trace.pages) × (copy.stamp ≡ version_before trace page tick)

@@ -1,4 +1,4 @@
--- A write that is read at the front of some bytes is the one that was written there, and the other way round.
+-- A write read at the front of some bytes is the one that was written there, and vice versa.
 use Rattle.std.proofs.Common.{◌≡◌, ℕ, zero, suc, ◌+◌, ◌^◌, ◌<◌, ◌≤◌, List, [], ◌∷◌, ◌++◌, length, take, drop, refl, sym}
 use Rattle.std.proofs.Common.{ap, ◌∙◌, append_assoc, add-one, arith}
 use Rattle.std.specs.Int.{Width, w16, w32, w64}
@@ -39,7 +39,7 @@ pub len_again : (write : GuestWrite) (rest : List ℕ) → HasPlaces write
 unfolding write_text text_of
 len_again write rest fits = wide16.again (length write.bytes) (write.bytes ++ rest) fits.len
 
--- writes are equal where their fields are
+-- writes are equal if their fields are
 pub same_write : (a b : GuestWrite) → a.tick ≡ b.tick → a.page ≡ b.page → a.offset ≡ b.offset → a.bytes ≡ b.bytes
     → a ≡ b
 same_write a b tick page offset bytes = λ i. record { tick = tick i; page = page i; offset = offset i; bytes = bytes i }
@@ -83,7 +83,7 @@ HasPlaces-read bytes fits long =
       len = omega (arith, len, length-take (length_in bytes) (drop 16 bytes));
     }
 
--- a number in front of the bytes behind it
+-- a number in front of the bytes after it
 pub number_front : (w : Width) (len limit : ℕ) → IsWide w len limit → (bytes behind : List ℕ) → IsBytes bytes
     → len ≤ length bytes
     → behind ≡ drop len bytes → text_of w (number_in w bytes) ++ behind ≡ bytes
@@ -97,7 +97,7 @@ pub write_text-append : (write : GuestWrite) (rest : List ℕ) → write_text wr
 unfolding write_text text_of
 write_text-append write rest = refl
 
--- the bytes are the write that is read at their front, and the bytes behind it
+-- the bytes are the write that is read at their front, and the bytes after it
 pub text_read : (bytes : List ℕ) → IsBytes bytes → 16 + length_in bytes ≤ length bytes
     → bytes ≡ write_text (write_in bytes) ++ rest_after bytes
 unfolding write_in rest_after
@@ -136,7 +136,7 @@ rest_of_next : (n : ℕ) (bytes : List ℕ) → rest_of (suc n) bytes ≡ rest_a
 rest_of_next zero bytes = refl
 rest_of_next (suc n) bytes = rest_of_next n (rest_after bytes)
 
--- one more write is read behind those that were
+-- one more write is read after the previous ones
 pub writes_in_more : (n : ℕ) (bytes : List ℕ) → writes_in (n + 1) bytes ≡ writes_in n bytes
     ++ write_in (rest_of n bytes) ∷ []
 writes_in_more n bytes = rw add-one (writes_in_next n bytes)
@@ -148,7 +148,7 @@ pub length-writes_in : (n : ℕ) (bytes : List ℕ) → length (writes_in n byte
 length-writes_in zero bytes = refl
 length-writes_in (suc n) bytes = ap suc (length-writes_in n (rest_after bytes))
 
--- the writes that were written one after another are read again, and then the bytes behind them
+-- the writes that were written one after another are read back, and then the bytes after them
 pub writes_again : (writes : List GuestWrite) (rest : List ℕ) → AllByRecursion HasPlaces writes
     → writes_in (length writes) (flat_map write_text writes ++ rest) ≡ writes
 writes_again [] rest fits = refl
@@ -174,8 +174,8 @@ rest_of_again (write ∷ writes) rest fits =
 
 -- ---- the writes of some bytes in others
 
--- Writes in front of some bytes are the first of more writes in front of them. Behind them stands the encoding of the
--- others, and what stands behind those.
+-- Writes in front of some bytes are the first of more writes in front of them. The encoding of the others follows, and
+-- then the rest.
 pub front_writes : (writes all : List GuestWrite) (rest last : List ℕ) → AllByRecursion HasPlaces writes
     → AllByRecursion HasPlaces all
     → length writes ≤ length all → flat_map write_text writes ++ rest ≡ flat_map write_text all ++ last

@@ -1,6 +1,6 @@
 -- The final copy of a guest that stands still: each page that is still marked comes once more, as it is now. That a
--- pre-copy migration ends so is of Clark and others, "Live Migration of Virtual Machines" (2005), section 3.1, on
--- stop-and-copy. Parts, stamps and versions are this project's own.
+-- pre-copy migration ends this way is from Clark and others, "Live Migration of Virtual Machines" (2005), section 3.1,
+-- on stop-and-copy. Parts, stamps and versions are this project's own.
 use Rattle.std.specs.Prelude.{◌≡◌, ℕ, ◌<◌, ◌&&◌, ◌==◌, Bool, if◌then◌else◌, IsTrue, List, length, slice_index_or, Some}
 use Rattle.migration_model.specs.Trace.{GuestTrace}
 use Rattle.migration_model.specs.Versions.{page_at}
@@ -18,8 +18,8 @@ current_copy trace versions page = record {
   content = page_at trace page (slice_index_or versions page 0);
 }
 
--- a part after it took the current copy of each page that `takes` passes: of those it has the later copy, of all
--- others its own
+-- a part after it took the current copy of each page that `takes` passes: it has the later copy of those, and its own
+-- of all others
 pub record TakesCurrent (trace : GuestTrace) (versions : List ℕ) (takes : ℕ → Bool) (old new : GuestPart) : Type 0 where
   pub is_part : IsPart new
   pub shape : new.shape ≡ old.shape

@@ -25,7 +25,7 @@ abbrev pub IsZeros : List ℕ → Type 0
 IsZeros bytes = All (λ byte. byte ≡ 0) bytes
 
 -- A page at one of its versions, which the stamp names: the place of the last write in it, or 0. The body is the bytes
--- of the page, or None where all of them are 0.
+-- of the page, or None if all of them are 0.
 pub record PageFrame : Type 0 where
   pub page : ℕ
   pub stamp : ℕ
@@ -44,7 +44,7 @@ pub record IsFrame (shape : GuestShape) (frame : PageFrame) : Type 0 where
 abbrev pub content_of : GuestShape → PageFrame → List ℕ
 content_of shape frame = unwrap_or frame.body (replicate (2 ^ shape.shift) 0)
 
--- the byte that tells the kind of a body, and then the bytes that the body has
+-- the byte that says the kind of a body, and then the bytes of the body
 abbrev pub body_text : Option (List ℕ) → List ℕ
 body_text None = 0 ∷ []
 body_text (Some bytes) = 1 ∷ bytes

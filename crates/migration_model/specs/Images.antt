@@ -6,12 +6,12 @@ use Rattle.migration_model.specs.Frames.{GuestShape}
 use Rattle.migration_model.specs.Parts.{PageCopy, GuestPart, IsPart, IsHonest, copy_at, join_all}
 use Rattle.migration_model.specs.Trace.{GuestTrace}
 
--- the bytes of a page, where there are any
+-- the bytes of a page, if there are any
 abbrev pub bytes_of : Option PageCopy → List ℕ
 bytes_of None = []
 bytes_of (Some copy) = copy.content
 
--- what a part has of its first pages, so many, one page after the other
+-- what a part has of its first `count` pages, one page after the other
 abbrev pub bytes_of_first : GuestPart → ℕ → List ℕ
 bytes_of_first part count = flat_map (λ page. bytes_of (copy_at part page)) (range_with_len 0 count)
 
@@ -23,7 +23,7 @@ memory_in part = memory_with part.shape.shift part.shape.pages (bytes_of_first p
 abbrev pub InNoPart : List GuestPart → ℕ → Type 0
 InNoPart parts page = All (λ part. copy_at part page ≡ None) parts
 
--- each of the first pages, so many, is in some part
+-- each of the first `count` pages is in some part
 abbrev pub HaveFirst : List GuestPart → ℕ → Type 0
 HaveFirst parts count = (page : ℕ) → page < count → ¬ InNoPart parts page
 

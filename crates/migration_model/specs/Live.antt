@@ -37,11 +37,11 @@ IsSentWith round page stamp = Contains round.sent (page, stamp)
 abbrev pub IsListed : LiveRound → ℕ → Type 0
 IsListed round page = Contains (pages_sent round) page ⊎ (Contains round.skipped page ⊎ Contains round.deferred page)
 
--- the copier, of so many, that a page belongs to: words of 64 pages go round the copiers one by one
+-- the copier that a page belongs to: words of 64 pages go round the `copiers` copiers one by one
 abbrev pub page_copier : ℕ → ℕ → ℕ
 page_copier copiers page = page / 64 % copiers
 
--- pages go by copier, and those of one copier rise
+-- pages go by copier, and those of one copier in ascending order
 abbrev pub IsInScanOrder : ℕ → List ℕ → Type 0
 IsInScanOrder copiers pages = AllPairs (λ page later. (page_copier copiers page < page_copier copiers later)
     ⊎ ((page_copier copiers page ≡ page_copier copiers later) × (page < later))) pages
@@ -65,7 +65,7 @@ abbrev pub IsPutOff : List LiveRound → ℕ → Type 0
 IsPutOff rounds page = (last : LiveRound) × (slice_get rounds (length rounds - 1) ≡ Some last)
     × (Contains last.skipped page ⊎ Contains last.deferred page)
 
--- after these rounds a round has to list the page: it was put off, or did not come as it is when the round begins
+-- after these rounds a round must list the page: it was put off, or did not come as it is when the round begins
 abbrev pub IsDue : GuestTrace → Option ℕ → ℕ → List LiveRound → ℕ → Type 0
 IsDue trace base from rounds page = IsPutOff rounds page ⊎ (¬ WasCurrent trace base from rounds page)
 
@@ -74,8 +74,8 @@ abbrev pub IsWrittenLast : GuestTrace → List PlannedRound → ℕ → Type 0
 IsWrittenLast trace planned page = (last : PlannedRound) × (slice_get planned (length planned - 1) ≡ Some last)
     × IsWritten trace last.from last.to page
 
--- One round, after others, by so many copiers over lanes of so many frames, in the ticks that were planned for it.
--- Where there is a base, its versions count as sent before the first round.
+-- One round, after others, by `copiers` copiers over lanes of `lane` frames, in the ticks that were planned for it. If
+-- there is a base, its versions count as sent before the first round.
 pub record KeepsLaw (trace : GuestTrace) (base : Option ℕ)
     (skip : Bool) (copiers lane : ℕ) (planned : List PlannedRound) (rounds : List LiveRound)
     (plan : PlannedRound) (round : LiveRound) : Type 0 where
@@ -86,7 +86,7 @@ pub record KeepsLaw (trace : GuestTrace) (base : Option ℕ)
   pub apart : (page : ℕ) → Contains (pages_sent round) page → ¬ Contains round.skipped page
   pub deferred_apart : (page : ℕ) → Contains round.deferred page → (¬ Contains (pages_sent round) page)
       × (¬ Contains round.skipped page)
-  -- each page that is due is listed, and no other but those written in this round or the one before
+  -- each page that is due is listed, and no other but those written in this round or the previous one
   pub due : (page : ℕ) → page < trace.pages → IsDue trace base plan.from rounds page → IsListed round page
   pub only : (page : ℕ) → IsListed round page
       → (page < trace.pages) × (IsDue trace base plan.from rounds page
@@ -94,11 +94,10 @@ pub record KeepsLaw (trace : GuestTrace) (base : Option ℕ)
   -- a stamp is the page's version when the round began, or the place of a write in the round
   pub stamps : (page stamp : ℕ) → IsSentWith round page stamp
       → (stamp ≡ version_before trace page plan.from) ⊎ IsPlaceOf trace page plan.from plan.to stamp
-  -- a page is skipped only where skipping is on, not in the first round, and where the page is written in this round
+  -- a page is skipped only if skipping is on, not in the first round, and if the page is written in this round
   pub skips : (page : ℕ) → Contains round.skipped page → (skip ≡ true) × (1 ≤ length rounds)
       × IsWritten trace plan.from plan.to page
-  -- a page is deferred only where its copier sent at least as many pages, in this round and those before, as a lane
-  -- holds
+  -- a page is deferred only if its copier sent at least as many pages, in this round and earlier ones, as a lane holds
   pub defers : (page : ℕ) → Contains round.deferred page
       → lane ≤ sent_by_copier copiers (rounds ++ round ∷ []) (page_copier copiers page)
 

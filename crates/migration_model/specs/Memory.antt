@@ -26,11 +26,11 @@ zeros shift pages = memory_with shift pages (replicate (pages * 2 ^ shift) 0)
 abbrev pub put : List ℕ → ℕ → List ℕ → List ℕ
 put memory place bytes = take place memory ++ (bytes ++ drop (place + length bytes) memory)
 
--- what a write puts in its page: its bytes, or, where it has none, zeros for the whole page, which it releases
+-- what a write puts in its page: its bytes, or, if it has none, zeros for the whole page, which it releases
 abbrev pub bytes_put : ℕ → GuestWrite → List ℕ
 bytes_put shift write = if length write.bytes == 0 then replicate (2 ^ shift) 0 else write.bytes
 
--- memory after one more write: what it puts stands from the offset of its page on, and all other bytes are left
+-- memory after one more write: what it puts is at the offset of its page, and all other bytes are left
 abbrev pub apply : GuestMemory → GuestWrite → GuestMemory
 apply memory write =
     record memory {
@@ -49,7 +49,7 @@ image_of trace = replay trace.shift trace.pages trace.writes
 abbrev pub image_before : GuestTrace → ℕ → GuestMemory
 image_before trace tick = replay trace.shift trace.pages (filter (λ write. nat_lt write.tick tick) trace.writes)
 
--- memory after the first writes, so many
+-- memory after the first `count` writes
 abbrev pub image_after : GuestTrace → ℕ → GuestMemory
 image_after trace count = replay trace.shift trace.pages (take count trace.writes)
 

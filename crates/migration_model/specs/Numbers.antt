@@ -1,4 +1,4 @@
--- Unsigned numbers as bytes, the lowest byte first. Every format of the project writes its numbers so.
+-- Unsigned numbers as bytes, the lowest byte first. Every format of the project writes its numbers this way.
 use Rattle.std.specs.Prelude.{ℕ, ◌<◌, List, slice_index}
 use Rattle.std.specs.Int.{Width, to_le_bytes, from_le_bytes}
 

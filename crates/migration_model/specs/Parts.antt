@@ -38,19 +38,19 @@ pub record IsPart (part : GuestPart) : Type 0 where
 abbrev pub empty_part : GuestShape → GuestPart
 empty_part shape = part_with shape (replicate shape.pages None)
 
--- of two copies of a page, the one with the greater stamp, and the first where the stamps are equal
+-- of two copies of a page, the one with the greater stamp, and the first if the stamps are equal
 abbrev pub later : Option PageCopy → Option PageCopy → Option PageCopy
 later None second = second
 later (Some first) None = Some first
 later (Some first) (Some second) = if nat_lt first.stamp second.stamp then Some second else Some first
 
--- the later copy of each page, of two lists of copies
+-- the later copy of each page, from two lists of copies
 abbrev pub later_each : List (Option PageCopy) → List (Option PageCopy) → List (Option PageCopy)
 later_each [] seconds = seconds
 later_each (first ∷ firsts) [] = first ∷ firsts
 later_each (first ∷ firsts) (second ∷ seconds) = later first second ∷ later_each firsts seconds
 
--- the join of two parts of one guest: of each page the later copy
+-- the join of two parts of one guest: the later copy of each page
 abbrev pub join : GuestPart → GuestPart → GuestPart
 join first second = part_with first.shape (later_each first.copies second.copies)
 
@@ -66,7 +66,7 @@ copy_in shape frame = record { stamp = frame.stamp; content = content_of shape f
 abbrev pub part_of : GuestShape → PageFrame → GuestPart
 part_of shape frame = part_with shape (slice_set (replicate shape.pages None) frame.page (Some (copy_in shape frame)))
 
--- a part after one more frame: of its page the later copy, and all other pages as before
+-- a part after one more frame: the later copy of its page, and all other pages as before
 abbrev pub with_frame : GuestPart → PageFrame → GuestPart
 with_frame part frame = part_with part.shape
     (slice_set part.copies frame.page (later (copy_at part frame.page) (Some (copy_in part.shape frame))))

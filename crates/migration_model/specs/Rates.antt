@@ -1,12 +1,12 @@
--- The settings of a migration, how long rounds last, how fast pages are dirtied, and when pre-copying ends. After
--- Clark and others, "Live Migration of Virtual Machines" (2005), section 5.3, on dynamic rate limiting. The first
--- round has the least rate. Later ones have the dirtying rate before plus a constant. Rounds end where that is above
--- the greatest rate, or where little remains. A rate is in pages per 1,000 ticks.
+-- The settings of a migration, how long rounds last, how fast pages are dirtied, and when pre-copying ends. After Clark
+-- and others, "Live Migration of Virtual Machines" (2005), section 5.3, on dynamic rate limiting. The first round has
+-- the least rate. Later ones have the previous dirtying rate plus a constant. Rounds end if that is above the greatest
+-- rate, or if little remains. A rate is in pages per 1,000 ticks.
 use Rattle.std.specs.Prelude.{ℕ, ◌+◌, ◌*◌, ◌^◌, ◌<◌, ◌≤◌, ◌==◌, nat_lt, max, Bool, if◌then◌else◌, List, Option, IfSome}
 use Rattle.std.specs.Prelude.{codes}
 use Rattle.std.specs.Int.{div_ceil}
 
--- The settings of a migration and of a report. Where there is a base, the destination begins with the guest's memory
+-- The settings of a migration and of a report. If there is a base, the destination begins with the guest's memory
 -- before that tick: a warm start, which is this project's own.
 pub record MigrationSettings : Type 0 where
   pub min : ℕ
@@ -50,11 +50,11 @@ pub record AreSettings (s : MigrationSettings) : Type 0 where
   pub lane_high : s.lane ≤ 65_536
   pub base_high : IfSome s.base (λ base. base ≤ s.start)
 
--- How long so many pages take at a rate, in ticks, rounded up. The rounding is this project's own.
+-- How long it takes to send this many pages at a rate, in ticks, rounded up. The rounding is this project's own.
 abbrev pub duration_of : ℕ → ℕ → ℕ
 duration_of pages rate = div_ceil (1_000 * pages) rate
 
--- The rate at which so many pages were dirtied in these ticks, in pages per 1,000 ticks, rounded up. The rounding is
+-- The rate at which this many pages were dirtied in these ticks, in pages per 1,000 ticks, rounded up. The rounding is
 -- this project's own.
 abbrev pub dirtying_rate_of : ℕ → ℕ → ℕ
 dirtying_rate_of pages ticks = div_ceil (1_000 * pages) ticks
@@ -75,10 +75,9 @@ pub data AfterRound : Type 0 where
   goes_on : ℕ → AfterRound
   stops : StopReason → AfterRound
 
--- What comes after a round that lasted these ticks, in which so many pages were dirtied, and after which so many
--- rounds are done. Few pages, and a rate above the greatest, are the ends that Clark and others have. This project's
--- own are: that the increment counts in the second test, the third test, the order of the tests, and that the next
--- rate is raised to the least.
+-- What comes after a round that lasted these ticks and dirtied this many pages, when `done` rounds are done. Few pages
+-- and a rate above the greatest are the ends that Clark and others have. This project's own are: that the increment
+-- counts in the second test, the third test, the order of the tests, and that the next rate is raised to the least.
 abbrev pub after_round : MigrationSettings → ℕ → ℕ → ℕ → AfterRound
 after_round s dirtied ticks done =
     if nat_lt dirtied s.threshold then stops few_remain

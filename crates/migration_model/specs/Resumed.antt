@@ -14,7 +14,7 @@ abbrev pub AtVersions : GuestTrace → List ℕ → GuestMemory → Type 0
 AtVersions trace versions memory = (page : ℕ) → page < memory.pages → page_of memory page
     ≡ page_at trace page (slice_index_or versions page 0)
 
--- memory of the same size in which each page has also its own writes after its version
+-- memory of the same size in which each page also has its own writes after its version
 pub record IsResumed (trace : GuestTrace) (versions : List ℕ) (before after : GuestMemory) : Type 0 where
   pub is_memory : IsMemory after.shift after.pages after.bytes
   pub shift : after.shift ≡ before.shift

@@ -1,7 +1,7 @@
 -- The planned rounds of a pre-copy migration. After Clark and others, "Live Migration of Virtual Machines" (2005),
--- section 4: the first round sends all pages, and each later one those that were dirtied during the round before.
--- After their section 5.4, a page that is dirtied again while a round goes on need not be sent in it. Ticks, roundings
--- and the rising order of a round's scan are this project's own.
+-- section 4: the first round sends all pages, and each later one those that were dirtied during the round before. After
+-- their section 5.4, a page that is dirtied again while a round goes on need not be sent in it. Ticks, roundings and
+-- the ascending order of a round's scan are this project's own.
 use Rattle.std.specs.Prelude.{◌≡◌, ℕ, ◌+◌, ◌-◌, ◌*◌, ◌/◌, ◌&&◌, nat_lt, nat_le, not, Bool, List, [], ◌∷◌, length}
 use Rattle.std.specs.Prelude.{Option, None, Some}
 use Rattle.std.specs.List.{count_by, filter, range_with_len, sum_by}
@@ -10,7 +10,7 @@ use Rattle.migration_model.specs.Rates.{MigrationSettings, StopReason, AfterRoun
 use Rattle.migration_model.specs.Rates.{duration_of}
 
 -- A round from a tick on and before another, at a rate: its pages, those of them that are sent, and how many pages are
--- dirtied meanwhile. Pages rise.
+-- dirtied meanwhile. Pages are in ascending order.
 pub record PlannedRound : Type 0 where
   pub from : ℕ
   pub to : ℕ
@@ -19,8 +19,7 @@ pub record PlannedRound : Type 0 where
   pub sent : List ℕ
   pub dirtied : ℕ
 
--- the rounds, why they end, the tick at which the guest is stopped, the pages that are sent then, and how many ticks
--- that takes
+-- the rounds, why they end, the tick at which the guest stops, the pages sent then, and how many ticks that takes
 pub record MigrationPlan : Type 0 where
   pub rounds : List PlannedRound
   pub reason : StopReason
@@ -40,21 +39,21 @@ total_of plan = sum_by (λ round. length round.sent) plan.rounds + length plan.l
 abbrev pub pages_below : ℕ → List ℕ → ℕ
 pages_below page pages = count_by (λ other. nat_lt other page) pages
 
--- The pages of a round that are sent, of all of its pages. Where skipping is on, a page is among them exactly when it
--- is not written in the ticks that the pages below it take, rounded down. Where skipping is off, all are sent.
+-- The pages of a round that are sent, of all of its pages. If skipping is on, a page is among them exactly when it is
+-- not written in the ticks that the pages below it take, rounded down. If skipping is off, all are sent.
 abbrev pub IsSent : Bool → List GuestTouch → ℕ → ℕ → List ℕ → List ℕ → Type 0
 IsSent skip touches from rate pages sent =
     sent ≡ filter (λ page. not (skip && is_written touches from (from + 1_000 * pages_below page sent / rate) page))
     pages
 
--- where a migration stands: so many rounds done, and the first tick, the rate and the pages of the next round
+-- the state of a migration: how many rounds are done, and the first tick, the rate and the pages of the next round
 pub record NextRound : Type 0 where
   pub done : ℕ
   pub from : ℕ
   pub rate : ℕ
   pub pages : List ℕ
 
--- The pages that a destination lacks at a tick: all, or, where it begins with the memory before a base, those written
+-- The pages that a destination lacks at a tick: all, or, if it begins with the memory before a base, those written
 -- since. The base is this project's own.
 abbrev pub pages_lacking : ℕ → List GuestTouch → Option ℕ → ℕ → List ℕ
 pages_lacking pages touches None tick = range_with_len 0 pages
@@ -75,7 +74,7 @@ round_after pages touches now round rate =
       pages = pages_written pages touches round.from round.to;
     }
 
--- the next round of a guest of so many pages; the first one never skips
+-- the next round of a guest of `pages` pages; the first one never skips
 pub record IsRound (pages : ℕ) (touches : List GuestTouch)
     (s : MigrationSettings) (now : NextRound) (round : PlannedRound) : Type 0 where
   pub from_is : round.from ≡ now.from
@@ -93,7 +92,7 @@ pub record IsEnd (pages : ℕ) (touches : List GuestTouch)
   pub last_is : plan.last ≡ pages_written pages touches round.from round.to
   pub down_is : plan.down ≡ duration_of (length plan.last) s.max
 
--- one thing where a further round comes, and another at the stop
+-- one thing if another round comes, and another at the stop
 abbrev pub InEither : AfterRound → (ℕ → Type 0) → (StopReason → Type 0) → Type 0
 InEither (goes_on rate) Next End = Next rate
 InEither (stops reason) Next End = End reason
@@ -107,6 +106,6 @@ AreRounds pages touches s now (round ∷ rounds) plan =
     (λ rate. AreRounds pages touches s (round_after pages touches now round rate) rounds plan)
     (λ reason. (rounds ≡ []) × (plan.reason ≡ reason) × IsEnd pages touches s round plan)
 
--- the plan of a guest of so many pages with these touches
+-- the plan of a guest of `pages` pages with these touches
 abbrev pub IsPlan : ℕ → List GuestTouch → MigrationSettings → MigrationPlan → Type 0
 IsPlan pages touches s plan = AreRounds pages touches s (first_round pages touches s) plan.rounds plan

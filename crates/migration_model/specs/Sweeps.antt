@@ -1,4 +1,4 @@
--- Sweeps: what the plans of some settings come to, and the best of them. Clark and others (2005) weigh the downtime
+-- Sweeps: the results of the plans of some settings, and the best of them. Clark and others (2005) weigh the downtime
 -- and the pages sent against one another; that the downtime counts first is this project's own.
 use Rattle.std.specs.Prelude.{◌≡◌, ℕ, ◌&&◌, ◌||◌, ◌==◌, nat_lt, not, Bool, List, length}
 use Rattle.std.specs.List.{AllZip, list_any, position_or_len}
@@ -6,8 +6,7 @@ use Rattle.migration_model.specs.Touches.{GuestTouch}
 use Rattle.migration_model.specs.Rates.{MigrationSettings, StopReason}
 use Rattle.migration_model.specs.Rounds.{MigrationPlan, IsPlan, total_of}
 
--- what a plan comes to: how many rounds it has, why and when they end, the downtime, and how many pages are sent in
--- all
+-- the result of a plan: how many rounds it has, why and when they end, the downtime, and how many pages are sent in all
 pub record PlanOutcome : Type 0 where
   pub rounds : ℕ
   pub reason : StopReason
@@ -22,14 +21,14 @@ outcome_with rounds reason stop down total =
 abbrev pub outcome_of : MigrationPlan → PlanOutcome
 outcome_of plan = outcome_with (length plan.rounds) plan.reason plan.stop plan.down (total_of plan)
 
--- the plan of a guest of so many pages with these touches comes to this
+-- this is the result of the plan of a guest of `pages` pages with these touches
 pub record IsOutcome (pages : ℕ) (touches : List GuestTouch)
     (s : MigrationSettings) (outcome : PlanOutcome) : Type 0 where
   pub plan : MigrationPlan
   pub is_plan : IsPlan pages touches s plan
   pub outcome_is : outcome ≡ outcome_of plan
 
--- a line of a sweep: settings, and what their plan comes to
+-- a line of a sweep: settings, and the result of their plan
 pub record SweepLine : Type 0 where
   pub settings : MigrationSettings
   pub outcome : PlanOutcome

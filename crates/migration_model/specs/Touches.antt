@@ -22,7 +22,7 @@ touch_of write = touch_with write.tick write.page
 abbrev pub touches_of : GuestTrace → List GuestTouch
 touches_of trace = map touch_of trace.writes
 
--- a touch that a guest of so many pages may have
+-- a touch that a guest of `pages` pages may have
 pub record IsTouch (pages : ℕ) (touch : GuestTouch) : Type 0 where
   pub tick : touch.tick < 2 ^ 40
   pub page : touch.page < pages
@@ -39,7 +39,7 @@ abbrev pub is_written : List GuestTouch → ℕ → ℕ → ℕ → Bool
 is_written touches from to page = list_any (λ touch. (touch.page == page)
     && (nat_le from touch.tick && nat_lt touch.tick to)) touches
 
--- the pages, of a guest of so many, that are written in such a range of ticks, rising
+-- the pages, of a guest of `pages`, that are written in such a range of ticks, in ascending order
 abbrev pub pages_written : ℕ → List GuestTouch → ℕ → ℕ → List ℕ
 pages_written pages touches from to = filter (is_written touches from to) (range_with_len 0 pages)
 

@@ -6,7 +6,7 @@ use Rattle.std.specs.List.Sorted.{IsNonDecreasingBy}
 use Rattle.migration_model.specs.Numbers.{text_of}
 
 -- One write of the guest: at a tick, these bytes from an offset of a page on. One with no bytes releases its page, as a
--- guest does that gives memory back to its hypervisor.
+-- guest does when it gives memory back to its hypervisor.
 pub record GuestWrite : Type 0 where
   pub tick : ℕ
   pub page : ℕ
@@ -41,16 +41,16 @@ pub record IsGuestWrite (version shift pages : ℕ) (write : GuestWrite) : Type 
   pub some : (1 ≤ length write.bytes) ⊎ ((version ≡ 2) × (write.offset ≡ 0))
   pub within : write.offset + length write.bytes ≤ 2 ^ shift
 
--- writes of such a guest in order: no tick is below one before it
+-- writes of such a guest in order: no tick is below a previous one
 pub record AreGuestWrites (version shift pages : ℕ) (writes : List GuestWrite) : Type 0 where
   pub each : All (IsGuestWrite version shift pages) writes
   pub in_order : IsNonDecreasingBy (λ write. write.tick) writes
 
--- the number of the last of a list, or 0 where there is none
+-- the number of the last of a list, or 0 if there is none
 abbrev pub last_by : {X : Type 0} → (X → ℕ) → List X → ℕ
 last_by number xs = fold (λ last x. number x) 0 xs
 
--- the tick of the last write, or 0 where there is none
+-- the tick of the last write, or 0 if there is none
 abbrev pub last_tick : List GuestWrite → ℕ
 last_tick writes = last_by (λ write. write.tick) writes
 

@@ -25,16 +25,16 @@ write_in bytes = record {
   bytes = take (length_in bytes) (drop 16 bytes);
 }
 
--- the bytes behind the write at the front
+-- the bytes after the write at the front
 unfoldable pub rest_after : List ℕ → List ℕ
 rest_after bytes = drop (16 + length_in bytes) bytes
 
--- so many writes from the front on, one after another
+-- a given number of writes from the front on, one after another
 abbrev pub writes_in : ℕ → List ℕ → List GuestWrite
 writes_in zero bytes = []
 writes_in (suc n) bytes = write_in bytes ∷ writes_in n (rest_after bytes)
 
--- the bytes behind so many writes
+-- the bytes after a given number of writes
 abbrev pub rest_of : ℕ → List ℕ → List ℕ
 rest_of zero bytes = bytes
 rest_of (suc n) bytes = rest_of n (rest_after bytes)

@@ -21,8 +21,8 @@ part_of_memory shape memory stamps =
 abbrev pub versions_of : GuestTrace → ℕ → List ℕ
 versions_of trace tick = map (λ page. version_before trace page tick) (range_with_len 0 trace.pages)
 
--- What the destination has before the first round: with a base, each page as it was before that tick, at its version of
--- then. Without one it has no page.
+-- What the destination has before the first round: with a base, each page as it was before that tick, at its version at
+-- that time. Without one it has no page.
 abbrev pub first_part : GuestTrace → Option ℕ → GuestPart
 first_part trace None = empty_part (shape_of_trace trace)
 first_part trace (Some base) = part_of_memory (shape_of_trace trace) (image_before trace base) (versions_of trace base)

@@ -15,7 +15,7 @@ writes_between touches from to = count_by (λ touch. nat_le from touch.tick && n
 abbrev pub is_in_window : List GuestTouch → ℕ → ℕ → ℕ → Bool
 is_in_window touches w j page = is_written touches (j * w) ((j + 1) * w) page
 
--- whether a page is written in the window before window j; for window 0 that is no tick, so no page
+-- whether a page is written in the window before window j; for window 0 there is no such tick, so no page
 abbrev pub is_in_window_before : List GuestTouch → ℕ → ℕ → ℕ → Bool
 is_in_window_before touches w j page = is_written touches ((j - 1) * w) (j * w) page
 
@@ -23,8 +23,8 @@ is_in_window_before touches w j page = is_written touches ((j - 1) * w) (j * w) 
 abbrev pub is_in_earlier_window : List GuestTouch → ℕ → ℕ → ℕ → Bool
 is_in_earlier_window touches w j page = is_written touches 0 (j * w) page
 
--- what a report says of a window: its number, how many writes and how many pages are in it, how many of those pages
--- are also in the window before, and how many in no earlier window
+-- what a report says of a window: its number, how many writes and how many pages are in it, how many of those pages are
+-- also in the previous window, and how many in no earlier window
 pub record WindowRow : Type 0 where
   pub number : ℕ
   pub writes : ℕ
@@ -32,7 +32,7 @@ pub record WindowRow : Type 0 where
   pub again : ℕ
   pub fresh : ℕ
 
--- the row of window j, over the writes of a guest of so many pages
+-- the row of window j, over the writes of a guest of `pages` pages
 unfoldable pub row_of : List GuestTouch → ℕ → ℕ → ℕ → WindowRow
 row_of touches pages w j = record {
   number = j;
@@ -48,7 +48,7 @@ row_of touches pages w j = record {
 abbrev pub windows_of : List GuestTouch → ℕ → ℕ
 windows_of touches w = last_by (λ touch. touch.tick) touches / w + 1
 
--- the rows of the windows with at least one write, rising
+-- the rows of the windows with at least one write, in ascending order
 unfoldable pub rows_of : List GuestTouch → ℕ → ℕ → List WindowRow
 rows_of touches pages w = filter (λ row. nat_le 1 row.writes)
     (map (row_of touches pages w) (range_with_len 0 (windows_of touches w)))
@@ -57,7 +57,7 @@ rows_of touches pages w = filter (λ row. nat_le 1 row.writes)
 unfoldable pub windows_with : List GuestTouch → ℕ → ℕ → ℕ
 windows_with touches w page = count_by (λ j. is_in_window touches w j page) (range_with_len 0 (windows_of touches w))
 
--- the hot pages, rising: those that are in at least so many windows
+-- the hot pages, in ascending order: those that are in at least `hot` windows
 unfoldable pub hot_pages_of : List GuestTouch → ℕ → ℕ → ℕ → List ℕ
 hot_pages_of touches pages w hot = filter (λ page. nat_le hot (windows_with touches w page)) (range_with_len 0 pages)
 
@@ -66,7 +66,7 @@ pub record WorkingSets : Type 0 where
   pub windows : List WindowRow
   pub hot : List ℕ
 
--- what a report says of the working sets of a guest of so many pages with these touches
+-- what a report says of the working sets of a guest of `pages` pages with these touches
 abbrev pub working_sets_of : ℕ → List GuestTouch → MigrationSettings → WorkingSets
 working_sets_of pages touches s = record {
   windows = rows_of touches pages s.window;

@@ -1,4 +1,4 @@
-//! The definitions that every contract of the project cites, in `specs/`, and the laws of these definitions alone.
+//! The definitions that every contract of the project cites, in `specs/`, and the laws of these definitions only.
 //!
 //! A law is a function with an empty body: its contract is the law, and a call brings it into the caller's proof.
 #![tactic(auto)]
@@ -60,7 +60,7 @@ pub fn no_frame_begins_another()
 {}
 
 /// Parts may be joined in any order, and any of them again: of parts that agree, only what was joined counts. The join
-/// of all parts, also of those that do not agree, is associative and idempotent.
+/// of all parts, even of those that do not agree, is associative and idempotent.
 pub fn parts_join_in_any_order()
     ensures associative { (a b c : GuestPart) → join (join a b) c ≡ join a (join b c) }
     ensures commutative { (a b : GuestPart) → Agree a b → join a b ≡ join b a }
@@ -80,7 +80,7 @@ pub fn frames_come_in_any_order()
 {}
 
 /// Honest parts that have the current copy of every page, and no later one, make memory in which each page is at its
-/// version. Where these are the versions before a tick, that is the memory before it.
+/// version. If these are the versions before a tick, that is the memory before it.
 pub fn current_copies_make_memory()
     ensures whole { (trace : GuestTrace) (shape : GuestShape) (versions : List ℕ) (parts : List GuestPart)
         → AreCurrent trace shape versions parts → HaveFirst parts shape.pages }
@@ -98,8 +98,8 @@ pub fn current_copies_make_memory()
         → memory_in (join_all (shape_of_trace trace) parts) ≡ image_before trace tick }
 {}
 
-/// A final copy needs the marked pages alone. Let the parts be honest, no stamp in them beyond its page's version, and
-/// the current copy of every unmarked page in some part: then every page has its current copy after the final copy.
+/// A final copy needs only the marked pages. If the parts are honest, with no stamp beyond its page's version and the
+/// current copy of every unmarked page in some part, then every page has its current copy after the final copy.
 pub fn final_copy_makes_current()
     ensures { (trace : GuestTrace) (shape : GuestShape) (versions : List ℕ)
         (marked : ℕ → Bool) (old new : List GuestPart)

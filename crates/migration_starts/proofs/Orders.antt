@@ -1,12 +1,12 @@
--- Being less by a number, and then by a test, is an order where the test is one.
-use Rattle.std.proofs.Common.{◌≡◌, ℕ, ◌<◌, ◌≤◌, Bool, true, false, ◌&&◌, ◌||◌, eqb, ltb, ◌∙◌, sym, inl, inr, arith}
+-- Being less by a number, and then by a test, is an order if the test is one.
+use Rattle.std.proofs.Common.{◌≡◌, ℕ, ◌<◌, Bool, true, false, ◌&&◌, ◌||◌, eqb, ltb, ◌∙◌, sym, inl, inr, arith}
 use Rattle.std.specs.Prelude.{◌⊎◌}
 use Rattle.std.specs.Cmp.{IsStrictWeakOrder}
 use Rattle.std.proofs.lemmas.Bool.{cases_lt, cases_eq, or_cases, or_left, or_right, and_parts, and_from, both_ways}
 use Rattle.std.proofs.lemmas.Bool.{false_from_ne_true, ltb-true, lt-ltb, eq-eqb, eqb-true}
 use Rattle.std.proofs.lemmas.List.MinMax.{IsStrictWeakOrder-by_number, IsStrictWeakOrder-flip}
 use Rattle.migration_starts.specs.Costs.{CostAtStart}
-use Rattle.migration_starts.specs.Choices.{by_then, first_price, is_better_start, is_quicker, is_worse_start, misses}
+use Rattle.migration_starts.specs.Choices.{by_then, first_price, is_better_start, is_worse_start, misses}
 use Rattle.migration_starts.specs.Choices.{second_price}
 
 -- the first of two numbers is less, or they are equal and the rest holds
@@ -21,7 +21,7 @@ less_from m n rest (inl less) = or_left (ltb m n) (eqb m n && rest) (lt-ltb m n 
 less_from m n rest (inr same) = or_right (ltb m n) (eqb m n && rest)
     (and_from (eqb m n) rest (eq-eqb m n same.0) same.1)
 
--- where it is not less, it is greater, or they are equal and the rest does not hold
+-- if it is not less, it is greater, or they are equal and the rest does not hold
 not_less : (m n : ℕ) (rest : Bool) → (ltb m n || (eqb m n && rest)) ≡ false → (n < m) ⊎ ((m ≡ n) × (rest ≡ false))
 not_less m n rest is = elim (cases_lt m n) [
   | inl less ↦ absurd (both_ways _ is (less_from m n rest (inl less)))

@@ -1,12 +1,12 @@
 -- Which of some starts is the best, and which the worst. A start that keeps the limit comes before one that does not.
--- Within the limit the bytes count first, since any downtime is allowed there; beyond it the downtime does. So does
--- advice choose. This project's own.
+-- Within the limit the bytes count first, since any downtime is allowed there; beyond it the downtime does. Advice
+-- chooses the same way. This project's own.
 use Rattle.std.specs.Prelude.{◌≡◌, ℕ, nat_lt, ◌&&◌, ◌||◌, ◌==◌, not, Bool, if◌then◌else◌, List, [], length}
 use Rattle.std.specs.Prelude.{slice_index_or, Option, None, Some}
 use Rattle.std.specs.List.{IsFirstBest, filter}
 use Rattle.migration_starts.specs.Costs.{CostAtStart}
 
--- the starts from which a migration ends within the trace; of others nothing is known
+-- the starts from which a migration ends within the trace; nothing is known of others
 abbrev pub is_known : CostAtStart → Bool
 is_known at = not at.cost.is_late
 
@@ -17,7 +17,7 @@ known_of costs = filter is_known costs
 abbrev pub by_then : (CostAtStart → ℕ) → (CostAtStart → CostAtStart → Bool) → CostAtStart → CostAtStart → Bool
 by_then key is_less a b = nat_lt (key a) (key b) || ((key a == key b) && is_less a b)
 
--- 0 where the limit is kept, and else 1
+-- 0 if the limit is kept, and else 1
 abbrev pub misses : CostAtStart → ℕ
 misses at = if at.cost.is_kept then 0 else 1
 

@@ -1,5 +1,5 @@
 -- At which ticks a migration may begin. This project's own.
-use Rattle.std.specs.Prelude.{◌≡◌, ℕ, ◌+◌, ◌-◌, ◌*◌, ◌/◌, ◌<◌, ⊤, max, map, unwrap_or, List}
+use Rattle.std.specs.Prelude.{ℕ, ◌+◌, ◌-◌, ◌*◌, ◌/◌, ◌<◌, ⊤, max, map, unwrap_or, List}
 use Rattle.std.specs.Int.{div_ceil}
 use Rattle.std.specs.List.{range_with_len}
 use Rattle.migration_model.specs.Rates.{MigrationSettings}
@@ -7,18 +7,18 @@ use Rattle.migration_starts.specs.declared.error.StartsError.{StartsError}
 use Rattle.migration_starts.specs.declared.error.StartsError.TheVariants as errors
 use Rattle.migration_starts.specs.declared.starts.Starts.{Starts}
 
--- the tick after which there is no start: that of the trace's last touch where none is said
+-- the tick after which there is no start: that of the trace's last touch if none is given
 abbrev pub last_start : Starts → ℕ → ℕ
 last_start starts last_tick = max (unwrap_or starts.to last_tick) starts.from
 
--- the ticks between two starts: where they are not said, the starts cut the trace into 200 parts at most
+-- the ticks between two starts: if they are not given, the starts cut the trace into 200 parts at most
 abbrev pub spacing_of : Starts → ℕ → ℕ
 spacing_of starts last_tick = max (unwrap_or starts.every (div_ceil (last_start starts last_tick - starts.from) 200)) 1
 
 abbrev pub count_of : Starts → ℕ → ℕ
 count_of starts last_tick = (last_start starts last_tick - starts.from) / spacing_of starts last_tick + 1
 
--- the first start, and each that is so many ticks after another, by its number
+-- the first start, and each that is a spacing after another, by its number
 abbrev pub start_at : Starts → ℕ → ℕ → ℕ
 start_at starts last_tick k = starts.from + k * spacing_of starts last_tick
 

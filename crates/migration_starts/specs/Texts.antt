@@ -1,5 +1,5 @@
 -- The starts as a table, and the best and the worst of them. This project's own.
-use Rattle.std.specs.Prelude.{ℕ, ◌-◌, Bool, if◌then◌else◌, List, [], ◌∷◌, ◌++◌, length, replicate, codes}
+use Rattle.std.specs.Prelude.{ℕ, ◌-◌, if◌then◌else◌, List, [], ◌∷◌, ◌++◌, length, replicate, codes}
 use Rattle.std.specs.Prelude.{Option, None, Some}
 use Rattle.std.specs.Fmt.{decimal}
 use Rattle.std.specs.List.{flat_map}
@@ -13,10 +13,10 @@ use Rattle.sweep_report.specs.Lines.{field}
 abbrev pub right_in : ℕ → List ℕ → List ℕ
 right_in width words = replicate (width - length words) 32 ++ words
 
--- whether the limit is kept, where that is known
+-- whether the limit is kept, if that is known
 abbrev pub mark_of : MigrationCost → List ℕ
 mark_of cost =
-    if cost.is_late then codes "ends behind the trace"
+    if cost.is_late then codes "ends after the trace"
     else (if cost.is_kept then codes "kept" else codes "not kept")
 
 -- what a migration costs, as columns
@@ -36,17 +36,17 @@ start_rows scale costs = flat_map (start_row scale) costs
 abbrev pub heading : List ℕ
 heading = codes "          tick         start          time          sent      downtime\n"
 
--- what a migration costs from a start that is chosen
+-- what a migration costs from a chosen start
 unfoldable pub chosen_cost : MigrationCost → List ℕ
 chosen_cost cost = codes ": time " ++ (seconds_text cost.time ++ (codes ", sent " ++ (bytes_text cost.bytes
     ++ (codes ", downtime " ++ (seconds_text cost.downtime ++ (codes ", " ++ (mark_of cost ++ 10 ∷ [])))))))
 
--- a start that is chosen
+-- a chosen start
 unfoldable pub chosen_text : TraceScale → CostAtStart → List ℕ
 chosen_text scale at = seconds_text (micros_of scale at.start)
     ++ (field (codes ", --start ") at.start ++ chosen_cost at.cost)
 
--- the line of a start that is chosen, or of none
+-- the line of a chosen start, or of none
 abbrev pub choice_line : TraceScale → List ℕ → Option CostAtStart → List ℕ
 choice_line scale name None = name ++ codes "none, since no migration ends within the trace; record longer\n"
 choice_line scale name (Some at) = name ++ chosen_text scale at

@@ -2,7 +2,7 @@
 
 ghost use Rattle.std.specs.Prelude.{◌≡◌, ◌≤◌, ◌<◌, ◌&&◌, ◌||◌, ◌==◌, nat_lt, if◌then◌else◌, IfOk, length};
 ghost use Rattle.std.specs.List.{IsFirstBest};
-ghost use Rattle.migration_starts.specs.Choices.{IsChosen, first_price, is_better_start, is_quicker, is_worse_start};
+ghost use Rattle.migration_starts.specs.Choices.{IsChosen, first_price, is_better_start, is_worse_start};
 ghost use Rattle.migration_starts.specs.Choices.{known_of, misses, second_price};
 
 use crate::starting::StartCost;
@@ -21,21 +21,21 @@ pub fn known_starts(alloc: Global, costs: &[StartCost]) -> Result<Vec<StartCost>
     Ok(known)
 }
 
-/// Returns whether a number is less than another, or as great where the rest holds.
+/// Returns whether a number is less than another, or equal and the rest holds.
 fn is_less_then(a: u128, b: u128, rest: bool) -> bool
     ensures { result ≡ (nat_lt a b || ((a == b) && rest)) }
 {
     a < b || a == b && rest
 }
 
-/// Returns 0 where a start keeps the limit, and else 1.
+/// Returns 0 if a start keeps the limit, and else 1.
 fn misses_of(at: &StartCost) -> u128
     ensures { result ≡ misses at.now }
 {
     if at.cost.is_kept { 0 } else { 1 }
 }
 
-/// Returns what counts first of a start: what it sends where it keeps the limit, and else its downtime.
+/// Returns what counts first of a start: what it sends if it keeps the limit, and else its downtime.
 fn first_price_of(at: &StartCost) -> u128
     ensures { result ≡ first_price at.now }
 {

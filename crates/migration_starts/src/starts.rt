@@ -1,26 +1,26 @@
 //! At which ticks a migration may begin.
 
-ghost use Rattle.std.specs.Prelude.{◌≡◌, ◌≤◌, ◌<◌, ◌+◌, ◌-◌, ◌*◌, ◌/◌, ◌^◌, IfErr, IfOk, Some, max};
+ghost use Rattle.std.specs.Prelude.{◌≡◌, ◌≤◌, ◌<◌, ◌+◌, ◌-◌, ◌*◌, ◌/◌, IfErr, IfOk, max};
 ghost use Rattle.migration_starts.specs.Starts.{RefusesStarts, cases_from, count_of, last_start, spacing_of};
 
 use crate::error::StartsError;
 use rate_limit::{Asked, Settings, SettingsError};
 use std::alloc::Global;
 
-/// Into how many parts a trace is cut by starts, where no spacing is said.
+/// Into how many parts starts cut a trace, if no spacing is given.
 const PARTS: u64 = 200;
 
 /// The most starts.
 const MOST_STARTS: u64 = 4096;
 
-/// At which ticks a migration may begin: from one tick on to another, so many ticks apart.
+/// At which ticks a migration may begin: from one tick on to another, at a fixed spacing.
 #[derive(Clone, Copy, Debug, PartialEq, Eq)]
 pub struct Starts {
     /// The first start.
     pub from: u64,
-    /// The tick after which there is no start; the last of the trace where none is said.
+    /// The tick after which there is no start; the last of the trace if none is given.
     pub to: Option<u64>,
-    /// The ticks between two starts; some 200th of all where none are said.
+    /// The ticks between two starts; some 200th of all if none are given.
     pub every: Option<u64>,
 }
 

@@ -1,6 +1,6 @@
 //! The starts as a table.
 
-ghost use Rattle.std.specs.Prelude.{◌≡◌, ◌++◌, ◌∷◌, [], ◌<◌, ◌^◌, IfOk, OnOk};
+ghost use Rattle.std.specs.Prelude.{◌≡◌, ◌++◌, ◌<◌, ◌^◌, IfOk, OnOk};
 ghost use Rattle.std.specs.Fmt.{decimal};
 ghost use Rattle.predictions.specs.Quantities.{bytes_text, seconds_text};
 ghost use Rattle.migration_starts.specs.Texts.{choice_line, chosen_cost, chosen_text, cost_cells, mark_of, right_in};
@@ -57,12 +57,12 @@ fn push_size_cell(alloc: Global, text: &mut Vec<u8>, bytes: u128) -> Result<(), 
     push_right(text, &words)
 }
 
-/// Returns whether the limit is kept, where that is known, in words.
+/// Returns whether the limit is kept, if that is known, in words.
 fn mark_words(cost: &Cost) -> &'static str
     ensures { result.now ≡ mark_of cost.now }
 {
     if cost.is_late {
-        "ends behind the trace"
+        "ends after the trace"
     } else if cost.is_kept {
         "kept"
     } else {
@@ -113,7 +113,7 @@ fn push_rows(
     Ok(())
 }
 
-/// Appends what a migration costs from a start that is chosen.
+/// Appends what a migration costs from a chosen start.
 #[tactic(auto, unfolding(crate::specs::Texts::chosen_cost))]
 fn push_chosen_cost(text: &mut Vec<u8>, cost: &Cost) -> Result<(), AllocError>
     ensures { OnOk result (text.new.items ≡ text.old.items ++ chosen_cost cost.now) }
@@ -130,7 +130,7 @@ fn push_chosen_cost(text: &mut Vec<u8>, cost: &Cost) -> Result<(), AllocError>
     Ok(())
 }
 
-/// Appends a start that is chosen.
+/// Appends a chosen start.
 #[tactic(auto, unfolding(crate::specs::Texts::chosen_text))]
 fn push_chosen(text: &mut Vec<u8>, scale: &Scale, at: &StartCost) -> Result<(), AllocError>
     ensures { OnOk result (text.new.items ≡ text.old.items ++ chosen_text scale.now at.now) }
@@ -140,7 +140,7 @@ fn push_chosen(text: &mut Vec<u8>, scale: &Scale, at: &StartCost) -> Result<(), 
     push_chosen_cost(text, &at.cost)
 }
 
-/// Appends the line of a start that is chosen, or of none.
+/// Appends the line of a chosen start, or of none.
 fn push_choice(
     text: &mut Vec<u8>,
     scale: &Scale,
@@ -156,7 +156,7 @@ fn push_choice(
     }
 }
 
-/// What is told where no start is known.
+/// What is printed if no start is known.
 const NONE: &str = "none, since no migration ends within the trace; record longer\n";
 
 /// Returns starts as a table, in ASCII: what a migration costs from each, and which is the best and which the worst.

@@ -185,7 +185,7 @@ ends ws pages some len used fits =
           ])))),
     )
 
--- ---- a list that is written where it stands
+-- ---- a list that is written in place
 
 -- words that are lent whole come back whole
 pub whole_again : (n : ℕ) (new old : List ℕ) → length new ≡ length old → length new ≤ n

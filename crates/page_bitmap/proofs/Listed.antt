@@ -118,7 +118,7 @@ lowest_first word bits some fits =
           ∙ sym (and_left _ _ (ne_eqb (i / 64) word elsewhere))
     ])
 
--- one page more that is written
+-- one more page that is written
 pub written_more : (word bits next : ℕ) (room old : List ℕ) → 0 < bits → bits < 2 ^ 64 → next < length room
     → take next room ++ pages_of_word word bits ≡ old
     → take (next + 1) (set room next (word * 64 + trailing_zeros w64 bits)) ++ pages_of_word word (rest_of bits) ≡ old
@@ -180,7 +180,7 @@ absent : (b : Bool) → (b ≡ true → ⊥) → b ≡ false
 absent true never = absurd (never refl)
 absent false never = refl
 
--- where no page past the last is in the bitmap, its pages are those of the guest that are in it
+-- if no page past the last is in the bitmap, its pages are those of the guest that are in it
 pub pages_below : (words : List ℕ) (pages : ℕ) → pages ≤ length words * 64
     → ((page : ℕ) → IsTrue (in_words words page) → page < pages)
     → pages_of words ≡ filter (in_words words) (range_with_len 0 pages)

@@ -1,5 +1,5 @@
--- Sets of pages, and the words that keep one, 64 pages to a word. A bitmap with a bit for each dirty page is that of
--- Clark and others (2005), section 5.1; the words are this project's own.
+-- Sets of pages, and the words that keep one, 64 pages to a word. A bitmap with a bit for each dirty page is from Clark
+-- and others (2005), section 5.1; the words are this project's own.
 use Rattle.std.specs.Prelude.{◌≡◌, ℕ, ◌/◌, ◌%◌, Bool, false, not, ◌&&◌, ◌||◌, ◌==◌, IsTrue, List, slice_index}
 use Rattle.std.specs.Int.{bit_at}
 
@@ -10,7 +10,7 @@ PageSet = ℕ → Bool
 abbrev pub no_page : PageSet
 no_page page = false
 
--- this page alone
+-- only this page
 abbrev pub one_page : ℕ → PageSet
 one_page one page = page == one
 

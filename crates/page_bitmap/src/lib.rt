@@ -1,7 +1,7 @@
 //! Bitmaps of pages: a word for each 64 pages begun, the lowest bit first.
 //!
 //! A dirty bitmap has a bit for each page of a guest (Clark and others 2005, section 5.1). These functions read and
-//! change a slice of words in place, and list the pages of one in rising order.
+//! change a slice of words in place, and list the pages of one in ascending order.
 #![tactic(auto)]
 
 mod listing;

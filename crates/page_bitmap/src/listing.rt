@@ -26,8 +26,8 @@ pub fn all_pages(alloc: Global, pages: u32) -> Result<Vec<u64>, AllocError>
     Ok(words)
 }
 
-/// Writes the pages that `bits` of word `word` name into `buffer`, rising, from `slot` on. Returns the slot behind the
-/// last.
+/// Writes the pages that `bits` of word `word` name into `buffer`, in ascending order, from `slot` on. Returns the slot
+/// after the last.
 fn list_word(word: usize, bits: u64, buffer: &mut [u32], slot: usize) -> usize
     requires word { word < 1_024 }
     requires long { slot + length (pages_of_word word bits) ≤ length buffer.old }
@@ -46,7 +46,7 @@ fn list_word(word: usize, bits: u64, buffer: &mut [u32], slot: usize) -> usize
     next
 }
 
-/// Writes the pages of a bitmap into the front of `buffer`, rising. Returns how many there are.
+/// Writes the pages of a bitmap into the front of `buffer`, in ascending order. Returns how many there are.
 pub fn list_pages(words: &[u64], buffer: &mut [u32]) -> usize
     requires few { length words.now ≤ 1_024 }
     requires long { length (pages_of words.now) ≤ length buffer.old }
@@ -61,8 +61,8 @@ pub fn list_pages(words: &[u64], buffer: &mut [u32]) -> usize
     count
 }
 
-/// Returns the pages of a bitmap, rising. It allocates 4 bytes for each bit of the words, so 256 bytes a word; the
-/// only error is that memory runs out.
+/// Returns the pages of a bitmap, in ascending order. It allocates 4 bytes for each bit of the words, so 256 bytes a
+/// word; the only error is that memory runs out.
 pub fn pages_in(alloc: Global, words: &[u64]) -> Result<Vec<u32>, AllocError>
     requires { length words.now ≤ 1_024 }
     ensures { IfOk result (λ pages. pages.items ≡ pages_of words.now) }

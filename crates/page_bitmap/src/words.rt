@@ -1,6 +1,6 @@
 //! Single pages of a bitmap, and the pages of one word.
 
-ghost use Rattle.std.specs.Prelude.{◌≡◌, ◌↔◌, ◌+◌, ◌/◌, ◌<◌, ◌≤◌, ◌^◌, ℕ, IsTrue, length};
+ghost use Rattle.std.specs.Prelude.{◌≡◌, ◌↔◌, ◌/◌, ◌<◌, ◌≤◌, ◌^◌, ℕ, IsTrue, length};
 ghost use Rattle.page_bitmap.specs.Listing.{word_count};
 ghost use Rattle.page_bitmap.specs.Pages.{in_words, one_page, word_pages, bit_pages, union, common, minus, IsWithin};
 ghost use Rattle.page_bitmap.specs.Pages.{SamePages};
@@ -75,7 +75,7 @@ pub fn clear_word(words: &mut [u64], word: usize)
     words[word] = 0;
 }
 
-/// Returns whether all pages of the set are below `pages`. The set has just as many words as so many pages need.
+/// Returns whether all pages of the set are below `pages`. The set has exactly as many words as `pages` pages need.
 pub fn ends_before(words: &[u64], pages: usize) -> bool
     requires some { 1 ≤ pages }
     requires words { length words.now ≡ word_count pages }

@@ -1,4 +1,4 @@
--- What is kept stays right where entries come and go.
+-- What is kept stays right as entries come and go.
 use Rattle.std.proofs.Common.{◌≡◌, ℕ, ◌<◌, ◌≤◌, true, false, cond, List, [], ◌∷◌, length, Some, is_some, nat_eq}
 use Rattle.std.proofs.Common.{Contains, refl, sym, ap, ◌∙◌, subst, inl, inr}
 use Rattle.std.specs.Cmp.{nat_eq_equiv}
@@ -26,7 +26,7 @@ kept_found trace entries page kept are found =
     subst (λ (p : ℕ). IsKept trace p kept) (sym (eqb-true page entry.0 entry.2))
     (All-contains (λ (e : ℕ × KeptPage). IsKept trace e.0 e.1) entries (entry.0, kept) are entry.1)
 
--- one value is changed where it stands
+-- one value is changed in place
 kept_set : (trace : GuestTrace) (page : ℕ) (kept : KeptPage) → IsKept trace page kept → (entries : List (ℕ × KeptPage))
     → AreKept trace entries
     → AreKept trace (set_value (nat_eq page) entries kept)

@@ -4,7 +4,7 @@ use Rattle.std.specs.List.{All}
 use Rattle.migration_model.specs.Trace.{GuestTrace}
 use Rattle.migration_model.specs.Versions.{page_at}
 
--- bytes of a page, and the version that they are of
+-- bytes of a page, and their version
 pub record KeptPage : Type 0 where
   pub version : ℕ
   pub bytes : List ℕ
@@ -12,7 +12,7 @@ pub record KeptPage : Type 0 where
 abbrev pub page_with : ℕ → List ℕ → KeptPage
 page_with version bytes = record { version = version; bytes = bytes }
 
--- pages that are kept by their numbers, at most so many, the one that was used last in front
+-- kept pages by number, at most `capacity` of them, the most recently used in front
 pub record GuestPages : Type 0 where
   pub entries : List (ℕ × KeptPage)
   pub capacity : ℕ

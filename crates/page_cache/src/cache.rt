@@ -1,6 +1,6 @@
 //! The cache.
 
-ghost use Rattle.std.specs.Prelude.{◌≡◌, ◌<◌, ◌≤◌, [], IfOk, IsTrue, OnOk, Some, length, nat_eq, option_map};
+ghost use Rattle.std.specs.Prelude.{◌≡◌, ◌<◌, ◌≤◌, [], IfOk, OnOk, Some, length, nat_eq, option_map};
 ghost use Rattle.std.specs.Map.{lookup};
 ghost use Rattle.migration_model.specs.Versions.{page_at};
 ghost use Rattle.page_versions.specs.Index.{IsIndexOf};
@@ -16,8 +16,8 @@ use page_versions::PageIndex;
 use std::alloc::Global;
 use std::marker::Model;
 
-/// Pages of a trace, each with the version that it was last asked for. It keeps at most so many; the one that was not
-/// used for longest goes first. It keeps the allocator that it was made with.
+/// Pages of a trace, each at the version last asked for. It keeps a bounded number of them; the least recently used one
+/// goes first. It keeps the allocator that it was made with.
 #[derive(Debug, Drop)]
 pub struct PageCache<'a, W: WriteLog> {
     trace: &'a W,
@@ -35,7 +35,7 @@ impl<'a, W: WriteLog> Model for PageCache<'a, W> {
 }
 
 impl<'a, W: WriteLog> PageCache<'a, W> {
-    /// Returns a cache that keeps nothing yet, and at most `capacity` pages later.
+    /// Returns a cache that keeps nothing yet, and later at most `capacity` pages.
     pub fn new(
         alloc: Global,
         trace: &'a W,
@@ -50,7 +50,7 @@ impl<'a, W: WriteLog> PageCache<'a, W> {
         Ok(PageCache::with_pages(trace, index, pages))
     }
 
-    /// Returns a cache that goes on with the pages that another one of the same trace kept.
+    /// Returns a cache that continues with the pages that another one of the same trace kept.
     pub fn with_pages(trace: &'a W, index: &'a PageIndex, pages: KeptPages) -> PageCache<'a, W>
         requires of { IsIndexOf index.now (W.trace trace.now) }
         requires kept { AreKept (W.trace trace.now) pages.entries }
@@ -73,11 +73,11 @@ impl<'a, W: WriteLog> PageCache<'a, W> {
         KeptPages { kept }
     }
 
-    /// Keeps the page after the first `version` writes of the trace. Where it keeps an earlier version of the page, it
-    /// puts only the writes in between over it; else it makes the page from zeros.
+    /// Keeps the page after the first `version` writes of the trace. If it keeps an earlier version of the page, it
+    /// applies only the writes in between to it; else it makes the page from zeros.
     ///
-    /// Where it keeps any version of the page, it uses that page's memory again. Where it keeps as many pages as it
-    /// may, it uses the memory of the page that was not used for longest. The only error is that memory runs out.
+    /// If it keeps any version of the page, it reuses that page's memory. If it is full, it uses the memory of the
+    /// least recently used page. The only error is that memory runs out.
     pub fn keep(&mut self, page: u32, version: u32) -> Result<(), CacheError>
         requires page { page < self.old.trace.pages }
         requires version { version ≤ length self.old.trace.writes }
@@ -90,7 +90,7 @@ impl<'a, W: WriteLog> PageCache<'a, W> {
         keep_recent(self.trace, self.index, &mut self.kept, page, version)
     }
 
-    /// Returns the bytes that are kept of a page, of whatever version.
+    /// Returns the bytes that are kept of a page, at whatever version.
     pub fn bytes(&self, page: u32) -> Option<&[u8]>
         ensures { option_map (λ b. b.now) result ≡ option_map (λ k. k.bytes) (lookup (nat_eq page) self.now.entries) }
     {

@@ -28,8 +28,8 @@ impl Model for Kept {
     ghost view = { λ k. page_with k.reached.version k.bytes.items };
 }
 
-/// Brings the bytes of a page to a version. For a later version it puts only the writes in between over them; an
-/// earlier one it makes from zeros, in the same memory.
+/// Brings the bytes of a page to a version. For a later version it applies only the writes in between; an earlier one
+/// it makes from zeros, in the same memory.
 fn bring_bytes_to<W: WriteLog>(
     trace: &W,
     index: &PageIndex,
@@ -44,7 +44,7 @@ fn bring_bytes_to<W: WriteLog>(
     ensures bytes { bytes.new ≡ page_at (W.trace trace.now) page version }
     ensures version { result.version ≡ version }
 {
-    // For the proof: `shape` promises that the log tells a trace.
+    // For the proof: `shape` promises that the log describes a trace.
     let _ = trace.shape();
     if from.version <= version {
         return index.bring_on(trace, page, from, version, bytes);

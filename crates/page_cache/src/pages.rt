@@ -9,7 +9,7 @@ use std::alloc::Global;
 use std::marker::Model;
 use std::num::NonZeroUsize;
 
-/// What a cache keeps, without the trace that the pages are of: for a holder that has no trace at hand.
+/// What a cache keeps, without the trace of the pages: for a holder that has no trace at hand.
 #[derive(Debug, Drop)]
 pub struct KeptPages {
     pub(crate) kept: LruCache<u32, Kept>,
@@ -26,7 +26,7 @@ impl Model for KeptPages {
 impl KeptPages {
     ghost use Rattle.page_cache.specs.Cache.{pages_with};
 
-    /// Returns no pages yet, to be at most `capacity` later. Memory follows what is kept. The only error is that
+    /// Returns no pages yet; later there are at most `capacity`. Memory grows with what is kept. The only error is that
     /// memory runs out.
     pub fn new(alloc: Global, capacity: usize) -> Result<KeptPages, CacheError>
         requires { (1 ≤ capacity) × (capacity ≤ 4_096) }

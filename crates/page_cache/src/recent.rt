@@ -1,4 +1,4 @@
-//! The pages that were used last.
+//! The most recently used pages.
 
 ghost use Rattle.std.specs.Prelude.{◌≡◌, ◌<◌, ◌≤◌, IsTrue, OnOk, Some, length, nat_eq};
 ghost use Rattle.std.specs.Map.{lookup};
@@ -36,8 +36,8 @@ fn bring_kept<W: WriteLog>(
     true
 }
 
-/// Returns a buffer for the bytes of one page more. Where as many pages are kept as may be, the page that was not used
-/// for longest goes, and its buffer is used again.
+/// Returns a buffer for the bytes of one more page. If the cache is full, the least recently used page goes, and its
+/// buffer is reused.
 fn room_for_page(kept: &mut LruCache<u32, Kept>) -> Vec<u8>
     ensures kept { (trace : GuestTrace) → AreKept trace kept.old.entries → AreKept trace kept.new.entries }
     ensures capacity { kept.new.cap ≡ kept.old.cap }
@@ -52,8 +52,8 @@ fn room_for_page(kept: &mut LruCache<u32, Kept>) -> Vec<u8>
     }
 }
 
-/// Keeps a page at a version: it brings what is kept of the page there. Else it makes the page from zeros, for which
-/// the page that was not used for longest may go.
+/// Keeps a page at a version: it brings what is kept of the page there, or else makes the page from zeros, for which
+/// the least recently used page may go.
 pub(crate) fn keep_recent<W: WriteLog>(
     trace: &W,
     index: &PageIndex,
@@ -75,7 +75,7 @@ pub(crate) fn keep_recent<W: WriteLog>(
     }
     let mut bytes = room_for_page(kept);
     index.bytes_into(trace, page, version, &mut bytes)?;
-    // How many of the page's writes are in the bytes is found when the page is brought on.
+    // How many of the page's writes are in the bytes is found when the page is brought forward.
     let reached = PageProgress { version, writes: 0 };
     kept.put(page, Kept { reached, bytes })?;
     Ok(())

@@ -20,7 +20,7 @@ use Rattle.page_message.proofs.Zeros.{not_zeros, some_from_false}
 
 -- ---- what is read
 
--- page, stamp and kind, and so many bytes behind them
+-- page, stamp and kind, and the `m` bytes after them
 front_is : (bytes : List ℕ) (m : ℕ) → IsBytes bytes → 9 + m ≤ length bytes
     → take (9 + m) bytes ≡ text_of w32 (page_in bytes) ++ (text_of w32 (stamp_in bytes) ++ kind_in bytes
     ∷ take m (drop 9 bytes))
@@ -41,7 +41,7 @@ front_is bytes m fits long =
     at4 in
     ap (λ (x : List ℕ). take (9 + m) x) (sym whole) ∙ take_at front (drop m (drop 9 bytes)) (9 + m) (omega (arith, len))
 
--- what is read where nothing is refused
+-- what is read if nothing is refused
 pub record Reads (shape : GuestShape) (bytes : List ℕ) : Type 0 where
   pub long : 9 ≤ length bytes
   pub spelled : SpellsFrame shape (take (size_in shape bytes) bytes)

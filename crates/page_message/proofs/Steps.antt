@@ -16,7 +16,7 @@ pub passes : (b : Bool) (e : FrameError) (others : Option FrameError) → b ≡ 
     → cond b (Some e) others ≡ None
 passes b e others is none = rw is none
 
--- what a shape's type says of it
+-- what a shape's type says about it
 pub IsGuestShape-from_shape : (shape : Shape) → IsGuestShape (shape_of shape)
 IsGuestShape-from_shape shape =
     record {

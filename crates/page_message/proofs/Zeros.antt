@@ -2,9 +2,8 @@
 use Rattle.std.proofs.Common.{◌≡◌, ◌↔◌, ℕ, suc, Bool, false, IsTrue, ◌==◌, List, [], ◌∷◌, length, replicate, refl, sym}
 use Rattle.std.proofs.Common.{ap₂, arith}
 use Rattle.std.specs.List.{All, list_all}
-use Rattle.std.specs.Bool.{Decides}
 use Rattle.std.proofs.lemmas.Bool.{false_from_ne_true}
-use Rattle.std.proofs.lemmas.Bool.Decides.{Decides-by_and, Decides-eqb, same_from_decides}
+use Rattle.std.proofs.lemmas.Bool.Decides.{same_from_decides}
 use Rattle.migration_model.specs.Frames.{IsZeros}
 use Rattle.migration_model.proofs.Frames.{tells_zeros}
 
@@ -18,7 +17,7 @@ not_zeros bytes some = false_from_ne_true _ (λ all. some ((tells_zeros bytes).0
 pub some_from_false : (bytes : List ℕ) → list_all (λ byte. byte == 0) bytes ≡ false → ¬ IsZeros bytes
 some_from_false bytes is zeros = absurd (cc (is, (tells_zeros bytes).1 zeros))
 
--- a list all of whose elements are equal is that element, as often as the list is long
+-- a list whose elements are all equal is that element, repeated
 pub all_same : {X : Type 0} (x : X) (xs : List X) → All (λ y. y ≡ x) xs → replicate (length xs) x ≡ xs
 all_same x [] same = refl
 all_same x (y ∷ ys) same =

@@ -13,7 +13,7 @@ stamp_in bytes = number_in w32 (drop 4 bytes)
 abbrev pub kind_in : List ℕ → ℕ
 kind_in bytes = slice_index bytes 8
 
--- the page behind the head
+-- the page after the head
 abbrev pub bytes_in : GuestShape → List ℕ → List ℕ
 bytes_in shape bytes = take (2 ^ shape.shift) (drop 9 bytes)
 

@@ -7,7 +7,7 @@ use Rattle.page_message.specs.Reading.{page_in, stamp_in, kind_in, bytes_in}
 use Rattle.page_message.specs.declared.error.FrameError.{FrameError}
 use Rattle.page_message.specs.declared.error.FrameError.TheVariants.{Short, Page, Stamp, Kind, ZeroData, Memory}
 
--- what the bytes are refused for
+-- why the bytes are refused
 abbrev pub frame_refusal : GuestShape → List ℕ → Option FrameError
 frame_refusal shape bytes =
     if nat_lt (length bytes) 9 then Some Short

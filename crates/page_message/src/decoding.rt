@@ -26,7 +26,7 @@ fn u32_in(bytes: &[u8]) -> u32
     LittleEndian::read_u32(bytes)
 }
 
-/// Returns the page behind the head.
+/// Returns the page after the head.
 fn page_bytes<'a>(shape: &Shape, bytes: &'a [u8]) -> &'a [u8]
     requires { 9 + 2 ^ shape.now.shift ≤ length bytes.now }
     ensures { result.now ≡ take (2 ^ shape.now.shift) (drop 9 bytes.now) }
@@ -36,7 +36,7 @@ fn page_bytes<'a>(shape: &Shape, bytes: &'a [u8]) -> &'a [u8]
     page
 }
 
-/// Returns whether the page behind the head is all zeros.
+/// Returns whether the page after the head is all zeros.
 fn has_zeros(shape: &Shape, bytes: &[u8]) -> bool
     requires { 9 + 2 ^ shape.now.shift ≤ length bytes.now }
     ensures { result ≡ list_all (λ byte. byte == 0) (bytes_in (shape_of shape.now) bytes.now) }
@@ -44,7 +44,7 @@ fn has_zeros(shape: &Shape, bytes: &[u8]) -> bool
     is_zero(page_bytes(shape, bytes))
 }
 
-/// Returns how many bytes the frame at the front has, or what the bytes are refused for.
+/// Returns how many bytes the frame at the front has, or why the bytes are refused.
 fn checked_size(shape: &Shape, bytes: &[u8]) -> Result<usize, FrameError>
     ensures refused { IfErr result (λ e. frame_refusal (shape_of shape.now) bytes.now ≡ Some e) }
     ensures accepted { OnOk result (frame_refusal (shape_of shape.now) bytes.now ≡ None) }
@@ -75,7 +75,7 @@ fn checked_size(shape: &Shape, bytes: &[u8]) -> Result<usize, FrameError>
     Ok(end)
 }
 
-/// Returns the body of the frame at the front, None where it is all zeros. The bytes have to begin with a frame.
+/// Returns the body of the frame at the front, None if it is all zeros. The bytes must begin with a frame.
 fn body_at<'a>(shape: &Shape, bytes: &'a [u8]) -> Option<&'a [u8]>
     requires { frame_refusal (shape_of shape.now) bytes.now ≡ None }
     ensures { option_map (λ body. body.now) result ≡ body_in (shape_of shape.now) bytes.now }

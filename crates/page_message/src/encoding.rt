@@ -14,10 +14,10 @@ use guest_log::Shape;
 use std::alloc::Global;
 use zero_pages::is_zero;
 
-/// How many bytes a frame has in front of the page.
+/// How many bytes a frame has before the page.
 pub(crate) const HEAD: usize = 9;
 
-/// Returns the bytes in front of a page: page, stamp and kind.
+/// Returns the bytes before a page: page, stamp and kind.
 #[tactic(auto, unfolding(migration_model::specs::Numbers::text_of))]
 fn head_of(page: u32, stamp: u32, kind: u8) -> [u8; 9]
     ensures { result ≡ text_of w32 page ++ (text_of w32 stamp ++ kind ∷ []) }
@@ -51,8 +51,8 @@ pub fn encode_frame(alloc: Global, shape: &Shape, frame: &Frame) -> Result<Vec<u
     }
 }
 
-/// Appends the encoding of the frame of these bytes of a page to a stream. It copies them once. Where each of them is
-/// 0, it copies none and reserves no memory for them. The only error is `F6`, after which the stream is of no use.
+/// Appends the encoding of the frame with these page bytes to a stream. It copies them once, or, if each of them is 0,
+/// copies none and reserves no memory for them. The only error is `F6`, after which the stream is of no use.
 pub fn append_frame(
     stream: &mut Vec<u8>,
     shape: &Shape,

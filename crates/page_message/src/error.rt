@@ -6,11 +6,11 @@ ghost use Rattle.page_message.specs.declared.error.FrameError.TheVariants.{Memor
 use std::alloc::AllocError;
 use thiserror::Error;
 
-/// Why bytes begin with no frame, written as its name. Where the bytes have several causes, the error is the first in
-/// the order of the names' numbers; a kind 1 with less than a page behind it is `F1` after `F4`.
+/// Why bytes begin with no frame, written as its name. If there are several causes, the error is the first by the
+/// number in its name; a kind 1 with less than a page after it is `F1` after `F4`.
 #[derive(Clone, Copy, Debug, PartialEq, Eq, Error)]
 pub enum FrameError {
-    /// Fewer than 9 bytes, or fewer behind a kind 1 than a page has.
+    /// Fewer than 9 bytes, or less than a page after a kind 1.
     #[error("F1")]
     Short,
     /// A page is not below the number of pages.
@@ -22,7 +22,7 @@ pub enum FrameError {
     /// A kind is not 0 or 1.
     #[error("F4")]
     Kind,
-    /// A kind 1 has a page of zeros behind it.
+    /// A kind 1 has a page of zeros after it.
     #[error("F5")]
     ZeroData,
     /// Memory ran out.

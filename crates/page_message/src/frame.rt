@@ -46,7 +46,7 @@ pub struct FrameView<'a> {
     pub page: u32,
     /// The place of the last write in the bytes, or 0 before any.
     pub stamp: u32,
-    /// The bytes of the page, not all of them 0, or None where all are.
+    /// The bytes of the page, not all of them 0, or None if all are.
     pub body: Option<&'a [u8]>,
 }
 
@@ -82,7 +82,7 @@ impl Body {
     ghost use Rattle.migration_model.specs.Frames.{IsZeros};
     ghost use Rattle.page_message.specs.Bodies.{body_of};
 
-    /// Returns whether it is the body of a page of this shape.
+    /// Returns whether this is the body of a page of this shape.
     fn fits(&self, shape: &Shape) -> bool
         ensures { IsTrue result
             ↔ IfSome (body_of self.now) (λ bytes. (length bytes ≡ 2 ^ shape.now.shift) × ¬ IsZeros bytes) }
@@ -93,7 +93,7 @@ impl Body {
         }
     }
 
-    /// Copies these bytes over the old ones where they are as many, or else into a new vector.
+    /// Copies these bytes over the old ones if there are equally many, or else into a new vector.
     fn copy_from(&mut self, alloc: Global, bytes: Option<&[u8]>) -> Result<(), AllocError>
         ensures copied { OnOk result (body_of self.new ≡ option_map (λ b. b.now) bytes.entry) }
         ensures unchanged { OnErr result (body_of self.new ≡ body_of self.old) }
@@ -123,8 +123,8 @@ impl Frame {
         self.page < shape.pages && self.stamp <= shape.writes && self.body.fits(shape)
     }
 
-    /// Makes this frame equal to the one that is viewed. It copies the bytes over the old ones where they are as many.
-    /// Then, and where all of them are 0, it allocates nothing. The only error is that memory runs out.
+    /// Makes this frame equal to the viewed one. It copies the bytes over the old ones if there are equally many. Then,
+    /// and if all of them are 0, it allocates nothing. The only error is that memory runs out.
     pub fn copy_from(&mut self, alloc: Global, view: &FrameView<'_>) -> Result<(), AllocError>
         ensures copied { OnOk result (self.new ≡ view.now) }
         ensures unchanged { OnErr result (self.new ≡ self.old) }

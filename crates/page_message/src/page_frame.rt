@@ -8,7 +8,7 @@ use crate::frame::{Body, Frame};
 use guest_log::Shape;
 use zero_pages::is_zero;
 
-/// Returns the frame of these bytes of a page, which it takes over, or drops where each is 0. It allocates nothing.
+/// Returns the frame with these page bytes, which it takes over, or drops if each is 0. It allocates nothing.
 pub fn frame_of(shape: &Shape, page: u32, stamp: u32, bytes: Vec<u8>) -> Frame
     requires page { page < shape.now.pages }
     requires stamp { stamp ≤ shape.now.writes }

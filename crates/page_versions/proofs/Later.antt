@@ -1,4 +1,4 @@
--- A page at a later version, from one at an earlier version.
+-- A page at a later version, made from one at an earlier version.
 use Rattle.std.proofs.Common.{◌≡◌, ℕ, suc, ◌+◌, ◌-◌, ◌<◌, ◌≤◌, Bool, true, false, cond, leb, ltb, eqb, List, [], ◌∷◌}
 use Rattle.std.proofs.Common.{◌++◌, length, take, drop, fold, refl, sym, ap, ap₂, subst, ◌∙◌, arith}
 use Rattle.std.specs.List.{filter}
@@ -46,7 +46,7 @@ places_between q xs earlier later rise low =
     (ap (filter (λ (v : ℕ). leb v later)) (places_past q 1 xs earlier earlier (omega arith))
     ∙ places_upto q (1 + earlier) (drop earlier xs) later more (omega arith)))
 
--- the page's writes between two versions make it the one from the other
+-- the page's writes between two versions turn the earlier into the later
 pub later_page : (trace : GuestTrace) (index : GuestIndex) (page earlier later : ℕ) → IsTrace trace
     → IsIndexOf index trace → page < index.pages
     → earlier ≤ later → earlier ≤ length trace.writes

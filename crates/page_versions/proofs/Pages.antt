@@ -24,7 +24,7 @@ look_up writes i d low =
     let back : 1 + i - 1 ≡ i = omega arith in
     ap (λ (k : ℕ). get_or writes k (write_with 0 0 0 [])) back ∙ get_or_default writes i (write_with 0 0 0 []) d low
 
--- zeros, and then the page's own writes up to a version, are the page at that version
+-- zeros with the page's own writes up to a version applied are the page at that version
 pub page_at_is : (trace : GuestTrace) (index : GuestIndex) (page version : ℕ) → IsTrace trace → IsIndexOf index trace
     → page < index.pages
     → bytes_by trace (filter (λ (v : ℕ). leb v version) (places_in index.touches page)) ≡ page_at trace page version
@@ -97,13 +97,13 @@ writes_fit trace places is at =
     (λ place b. puts_within trace.version trace.shift trace.pages (write_at trace.writes place)
     (is.writes.each (place - 1) (write_with 0 0 0 []) (omega (arith, b.0, b.1)))) places at)
 
--- what each of the first elements of a list has, one of them has
+-- what holds for each of the first elements of a list holds for one of them
 pub taken_has : {X : Type 0} (P : X → Type 0) (count k : ℕ) (xs : List X) (d : X) → All P (take count xs) → k < count
     → k < length xs → P (get_or xs k d)
 taken_has P count k xs d all low inside =
     subst P (get_or-take count xs k d low) (all k d (omega (arith, low, inside, length-take count xs)))
 
--- writes put one after the other, some of them first
+-- writes applied one after the other, some of them first
 pub put_in_two : (trace : GuestTrace) (bytes : List ℕ) (count : ℕ) (places : List ℕ)
     → put_all trace (put_all trace bytes (take count places)) (drop count places) ≡ put_all trace bytes places
 put_in_two trace bytes count places =

@@ -1,4 +1,4 @@
--- Places of those elements of a list that pass a test.
+-- Places of the elements of a list that pass a test.
 use Rattle.std.proofs.Common.{◌≡◌, ℕ, zero, suc, ◌+◌, ◌-◌, ◌<◌, ◌≤◌, Bool, true, false, cond, leb, ltb, eqb, ◌&&◌, List}
 use Rattle.std.proofs.Common.{[], ◌∷◌, length, take, drop, map, get_or, refl, sym, ap, ◌∙◌, arith}
 use Rattle.std.specs.List.{All, enumerate_from, filter, fold}
@@ -56,7 +56,7 @@ rises-cons m x xs above order zero (suc j) d le low = above j d (omega arith)
 rises-cons m x xs above order (suc i) zero d le low = absurd (omega arith)
 rises-cons m x xs above order (suc i) (suc j) d le low = order i j d (omega arith) (omega arith)
 
--- what does not fall from place to place does not fall along such places
+-- what never decreases from place to place never decreases along such places
 pub rises : {X : Type 0} (q : X → Bool) (s : ℕ) (xs : List X) (m : ℕ → ℕ)
     → ((i j : ℕ) → s ≤ i → i ≤ j → j < s + length xs → m i ≤ m j) → IsNonDecreasingBy m (from q s xs)
 rises q s [] m up = λ i j d le low. absurd (omega arith)

@@ -1,4 +1,4 @@
--- For each page the places and the ticks of its writes: together they are all touches.
+-- For each page the places and ticks of its writes: together these are all touches.
 use Rattle.std.proofs.Common.{◌≡◌, ℕ, ◌+◌, ◌≤◌, Bool, true, false, cond, eqb, List, [], ◌∷◌, ◌↔◌, length, map, inl, inr}
 use Rattle.std.proofs.Common.{refl, sym, ap, ◌∙◌, arith}
 use Rattle.std.specs.List.{filter, enumerate_from}
@@ -8,7 +8,7 @@ use Rattle.migration_model.specs.Touches.{GuestTouch, touch_of, touches_of, touc
 use Rattle.migration_model.proofs.Places.{map_cond}
 use Rattle.page_versions.specs.Index.{GuestIndex, IsIndexOf, HasWritesOf, stamps_in}
 
--- the place and the tick of each touch of a page, where the first of all has place s
+-- the place and the tick of each touch of a page, if the first of all has place s
 abbrev from : ℕ → List GuestTouch → ℕ → List (ℕ × ℕ)
 from s [] page = []
 from s (t ∷ ts) page = cond (eqb t.page page) ((s, t.tick) ∷ from (s + 1) ts page) (from (s + 1) ts page)
@@ -31,7 +31,7 @@ from_writes s (w ∷ ws) page =
     (filter (λ (at : ℕ × GuestWrite). eqb at.1.page page) (enumerate_from (s + 1) ws))
     ∙ ap (λ (l : List (ℕ × ℕ)). cond (eqb w.page page) ((s, w.tick) ∷ l) l) (from_writes (s + 1) ws page)
 
--- the first place, or n where there is none
+-- the first place, or n if there is none
 abbrev head_place : ℕ → List (ℕ × ℕ) → ℕ
 head_place n [] = n
 head_place n (x ∷ xs) = x.0
@@ -65,7 +65,7 @@ other : (s page : ℕ) (t : GuestTouch) (ts : List GuestTouch) → (t.page ≡ p
 other s page t ts apart = cond-false (eqb t.page page) ((s, t.tick) ∷ from (s + 1) ts page) (from (s + 1) ts page)
     (ne_eqb t.page page apart)
 
--- a list with a touch more at its front shows it at its page
+-- a list with one more touch at its front shows it at its page
 front : (s n : ℕ) (x : GuestTouch) (xs ys : List GuestTouch) → s + 1 + length ys ≤ n
     → from s (x ∷ xs) x.page ≡ from (s + 1) ys x.page → ⊥
 front s n x xs ys low same =
@@ -99,7 +99,7 @@ all_from_pages s (x ∷ xs) (y ∷ ys) same =
     let first : x ≡ y = ap (λ (p : ℕ). touch_with x.tick p) (sym page) ∙ ap (λ (t : ℕ). touch_with t y.page) tick in
     ap (λ (t : GuestTouch). t ∷ xs) first ∙ ap (λ (l : List GuestTouch). y ∷ l) (all_from_pages (s + 1) xs ys tail)
 
--- an index is of a trace exactly where it has, for each page, the places and ticks of its writes
+-- an index is that of a trace exactly if it has, for each page, the places and ticks of its writes
 pub of_each_page : (index : GuestIndex) (trace : GuestTrace) → IsIndexOf index trace ↔ HasWritesOf index trace
 of_each_page index trace = (
   (λ is. (

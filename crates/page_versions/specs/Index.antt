@@ -4,7 +4,7 @@ use Rattle.std.specs.List.{enumerate_from, filter}
 use Rattle.migration_model.specs.Trace.{GuestTrace}
 use Rattle.migration_model.specs.Touches.{GuestTouch, touches_of}
 
--- when each write was and to which page, in the order of the trace, for a guest of so many pages
+-- when each write was and to which page, in the order of the trace, for a guest with `pages` pages
 pub record GuestIndex : Type 0 where
   pub pages : ℕ
   pub touches : List GuestTouch
@@ -16,22 +16,22 @@ index_with pages touches = record { pages = pages; touches = touches }
 abbrev pub IsIndexOf : GuestIndex → GuestTrace → Type 0
 IsIndexOf index trace = (index.pages ≡ trace.pages) × (index.touches ≡ touches_of trace)
 
--- the places of the touches of a page, rising: the first touch of all has place 1
+-- the places of the touches of a page, in ascending order: the first touch of all has place 1
 abbrev pub places_in : List GuestTouch → ℕ → List ℕ
 places_in touches page = map (λ at. at.0) (filter (λ at. at.1.page == page) (enumerate_from 1 touches))
 
--- the places of a trace's writes to a page, rising
+-- the places of a trace's writes to a page, in ascending order
 abbrev pub places_of : GuestTrace → ℕ → List ℕ
 places_of trace page = map (λ at. at.0) (filter (λ at. at.1.page == page) (enumerate_from 1 trace.writes))
 
--- the place and the tick of each touch of a page, rising; of each of a trace's writes to it
+-- the place and tick of each touch of a page, and of each of a trace's writes to it, in ascending order
 abbrev pub stamps_in : List GuestTouch → ℕ → List (ℕ × ℕ)
 stamps_in touches page = map (λ at. (at.0, at.1.tick)) (filter (λ at. at.1.page == page) (enumerate_from 1 touches))
 
 abbrev pub stamps_of : GuestTrace → ℕ → List (ℕ × ℕ)
 stamps_of trace page = map (λ at. (at.0, at.1.tick)) (filter (λ at. at.1.page == page) (enumerate_from 1 trace.writes))
 
--- the index has the trace's pages and, for each page, the places and the ticks of its writes
+-- the index has the trace's pages and, for each page, the places and ticks of its writes
 abbrev pub HasWritesOf : GuestIndex → GuestTrace → Type 0
 HasWritesOf index trace = (index.pages ≡ trace.pages)
     × ((page : ℕ) → stamps_in index.touches page ≡ stamps_of trace page)

@@ -17,11 +17,11 @@ abbrev pub put_all : GuestTrace → List ℕ → List ℕ → List ℕ
 put_all trace bytes places = fold (λ bytes place. overwrite trace.shift bytes
     (write_at trace.writes place)) bytes places
 
--- what a write puts stays within its page
+-- the bytes of a write stay within its page
 abbrev pub PutsWithin : ℕ → GuestWrite → Type 0
 PutsWithin shift write = write.offset + length (bytes_put shift write) ≤ 2 ^ shift
 
--- of writes to a page, so many in front change nothing of what all of them make of it
+-- the first `count` of these writes to a page make no difference to the result of all of them
 abbrev pub IsLost : GuestTrace → ℕ → List ℕ → Type 0
 IsLost trace count places = (bytes : List ℕ) → length bytes ≡ 2 ^ trace.shift → put_all trace bytes (drop count places)
     ≡ put_all trace bytes places

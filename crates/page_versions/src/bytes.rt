@@ -10,7 +10,7 @@ use crate::error::IndexError;
 use guest_log::{LAST_VERSION, Shape, WriteLog, WriteView};
 use std::marker::Model;
 
-/// Puts a write over the bytes of its page.
+/// Applies a write to the bytes of its page.
 fn put_one(shape: Shape, bytes: &mut [u8], write: &WriteView<'_>)
     requires room { length bytes.old ≡ 2 ^ shape.shift }
     requires within { PutsWithin shape.shift (shown write.now) }
@@ -20,7 +20,7 @@ fn put_one(shape: Shape, bytes: &mut [u8], write: &WriteView<'_>)
     write.put_at(shape, bytes, write.offset as usize);
 }
 
-/// One to four writes that were looked up, in the order in which they are put over a page.
+/// One to four writes that were looked up, in the order in which they are applied to a page.
 #[derive(Drop)]
 struct UpToFour<'a> {
     count: usize,
@@ -39,7 +39,7 @@ impl<'a> Model for UpToFour<'a> {
 }
 
 impl<'a> UpToFour<'a> {
-    /// Puts the writes over the bytes of their page, one after the other.
+    /// Applies the writes to the bytes of their page, one after the other.
     fn put_over(&self, shape: Shape, bytes: &mut [u8])
         requires room { length bytes.old ≡ 2 ^ shape.shift }
         requires within { All (PutsWithin shape.shift) self.now }
@@ -62,8 +62,7 @@ impl<'a> UpToFour<'a> {
     }
 }
 
-/// Returns the writes at one to four places. Where there are fewer than four, the last one fills the fields that are
-/// left.
+/// Returns the writes at one to four places. If there are fewer than four, the last one fills the remaining fields.
 fn look_up<'a, W: WriteLog>(trace: &'a W, places: &[u32]) -> UpToFour<'a>
     requires some { 1 ≤ length places.now }
     requires few { length places.now ≤ 4 }
@@ -80,8 +79,8 @@ fn look_up<'a, W: WriteLog>(trace: &'a W, places: &[u32]) -> UpToFour<'a>
     }
 }
 
-/// Puts the writes at one to four places over the bytes. It looks all of them up before it puts the first, so that
-/// none waits for the one before where they have to come from memory.
+/// Applies the writes at one to four places to the bytes. It looks all of them up before it applies the first, so that
+/// none waits for the previous one if they must come from memory.
 fn put_four<W: WriteLog>(bytes: &mut [u8], trace: &W, places: &[u32])
     requires some { 1 ≤ length places.now }
     requires few { length places.now ≤ 4 }
@@ -94,8 +93,8 @@ fn put_four<W: WriteLog>(bytes: &mut [u8], trace: &W, places: &[u32])
     look_up(trace, places).put_over(trace.shape(), bytes);
 }
 
-/// Puts the writes at five to eight places over the bytes. It looks all of them up before it puts the first, for the
-/// same reason.
+/// Applies the writes at five to eight places to the bytes. It looks all of them up before it applies the first, for
+/// the same reason.
 fn put_eight<W: WriteLog>(bytes: &mut [u8], trace: &W, places: &[u32])
     requires many { 5 ≤ length places.now }
     requires few { length places.now ≤ 8 }
@@ -113,8 +112,8 @@ fn put_eight<W: WriteLog>(bytes: &mut [u8], trace: &W, places: &[u32])
     later.put_over(shape, bytes);
 }
 
-/// Returns how many of the places come before the last that releases the page, or 0 where none does. What the writes
-/// before it leave of the page is lost.
+/// Returns how many of the places come before the last one that releases the page, or 0 if none does. The effect of the
+/// writes before it is lost.
 fn released_at<W: WriteLog>(trace: &W, places: &[u32]) -> usize
     requires is_trace { IsTrace (W.trace trace.now) }
     requires places { All (λ place. (1 ≤ place) × (place ≤ length (W.trace trace.now).writes)) places.now }
@@ -134,7 +133,7 @@ fn released_at<W: WriteLog>(trace: &W, places: &[u32]) -> usize
     0
 }
 
-/// Puts the writes at these places over the bytes of their page, from the last release on, up to eight at a time.
+/// Applies the writes at these places to the bytes of their page, from the last release on, up to eight at a time.
 pub(crate) fn put_writes<W: WriteLog>(bytes: &mut [u8], trace: &W, places: &[u32])
     requires room { length bytes.old ≡ 2 ^ (W.trace trace.now).shift }
     requires places { All (λ place. (1 ≤ place) × (place ≤ length (W.trace trace.now).writes)) places.now }
@@ -152,7 +151,7 @@ pub(crate) fn put_writes<W: WriteLog>(bytes: &mut [u8], trace: &W, places: &[u32
     }
 }
 
-/// Makes zeros of a buffer, and puts the writes at these places over them. What the buffer held is lost.
+/// Fills a buffer with zeros, and applies the writes at these places to it. Its old contents are lost.
 pub(crate) fn put_bytes<W: WriteLog>(
     room: &mut Vec<u8>,
     trace: &W,

@@ -28,7 +28,7 @@ pub struct PageIndex {
     places: Vec<u32>,
 }
 
-/// How far a page has come: the version of its bytes, and a guess at how many of its writes are in them.
+/// How far a page has come: the version of its bytes, and a guess at how many of its writes they contain.
 #[derive(Clone, Copy, Debug)]
 pub struct PageProgress {
     /// The version of the page's bytes.
@@ -46,7 +46,7 @@ impl Model for PageIndex {
 }
 
 impl PageIndex {
-    /// Returns the index of a trace. It makes the list of touches and the list of places side by side; several threads
+    /// Returns the index of a trace. It makes the list of touches and the list of places in parallel; several threads
     /// sort the runs of touches by page. The only error is that memory runs out.
     pub fn build<W: WriteLog + Sync>(
         rt: &(impl Threads + Sync),
@@ -84,7 +84,7 @@ impl PageIndex {
         &self.places[start..end]
     }
 
-    /// Returns the places of the page's writes, rising.
+    /// Returns the places of the page's writes, in ascending order.
     pub fn places(&self, page: u32) -> &[u32]
         requires { page < self.now.pages }
         ensures own { result.now ≡ places_in self.now.touches page }
@@ -103,8 +103,8 @@ impl PageIndex {
         places_after(self.part(page), version)
     }
 
-    /// Returns the page's version before a tick: the greatest place of a write to it with a smaller tick, or 0 where
-    /// there is none. It takes a binary search.
+    /// Returns the page's version before a tick: the greatest place of a write to it with a smaller tick, or 0 if there
+    /// is none. It does a binary search.
     pub fn version_before(&self, page: u32, tick: u64) -> u32
         requires { page < self.now.pages }
         ensures { (trace : GuestTrace) → IsIndexOf self.now trace → result ≡ version_of trace page tick }
@@ -112,8 +112,8 @@ impl PageIndex {
         greatest_before(&self.touches, self.part(page), tick)
     }
 
-    /// Returns the bytes of the page after the first `version` writes of the trace. It puts only the page's own writes
-    /// over zeros. The only error is that memory runs out.
+    /// Returns the bytes of the page after the first `version` writes of the trace. It applies only the page's own
+    /// writes to zeros. The only error is that memory runs out.
     pub fn bytes_at<W: WriteLog>(
         &self,
         alloc: Global,
@@ -131,8 +131,8 @@ impl PageIndex {
         Ok(bytes)
     }
 
-    /// Writes the bytes of the page after the first `version` writes of the trace into a buffer that is used again.
-    /// What the buffer held is lost. The only error is that memory runs out.
+    /// Writes the bytes of the page after the first `version` writes of the trace into a reused buffer, whose old
+    /// contents are lost. The only error is that memory runs out.
     pub fn bytes_into<W: WriteLog>(
         &self,
         trace: &W,
@@ -148,8 +148,8 @@ impl PageIndex {
         put_bytes(room, trace, places_to(self.part(page), version))
     }
 
-    /// Brings a page on to a later version: it puts only the writes in between over its bytes. It tests first whether
-    /// the guess is how many of the page's writes are in the bytes. It allocates nothing.
+    /// Brings a page forward to a later version: it applies only the writes in between to its bytes. It first tests
+    /// whether the guess is the number of the page's writes in the bytes. It allocates nothing.
     pub fn bring_on<W: WriteLog>(
         &self,
         trace: &W,
@@ -168,7 +168,7 @@ impl PageIndex {
         ensures writes { result.writes ≡ length (filter (λ place. nat_le place to)
             (places_of (W.trace trace.now) page)) }
     {
-        // For the proof: `shape` promises that the log tells a trace.
+        // For the proof: `shape` promises that the log describes a trace.
         let _ = trace.shape();
         let guess = from.writes as usize;
         let (places, writes) = places_between(self.part(page), from.version, to, guess);
@@ -186,8 +186,8 @@ impl PageIndex {
         self.pages == trace.page_count() && are_touches(&self.touches, trace)
     }
 
-    /// Returns whether the index is of this trace: it has the trace's pages, and for each page the places and the
-    /// ticks of its writes. It allocates nothing.
+    /// Returns whether the index is that of this trace: it has the trace's pages, and the places and ticks of each
+    /// page's writes. It allocates nothing.
     pub fn is_of<W: WriteLog>(&self, trace: &W) -> bool
         ensures index { IsTrue result ↔ IsIndexOf self.now (W.trace trace.now) }
         ensures each_page { IsTrue result ↔ HasWritesOf self.now (W.trace trace.now) }

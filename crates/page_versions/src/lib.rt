@@ -1,4 +1,4 @@
-//! The versions of pages: where a trace writes each page, and a page's bytes after so many of the trace's writes.
+//! The versions of pages: where a trace writes each page, and a page's bytes after the trace's first `n` writes.
 #![tactic(auto)]
 
 mod bytes;

@@ -19,7 +19,7 @@ pub(crate) fn count_to(places: &[u32], version: u32) -> usize
     )
 }
 
-/// Returns whether so many of the places are not after a version, and no more.
+/// Returns whether exactly `count` of the places are not after a version.
 fn is_count(places: &[u32], version: u32, count: usize) -> bool
     requires { IsNonDecreasing places.now }
     ensures { IsTrue result ↔ IsCountTo places.now version count }
@@ -29,8 +29,7 @@ fn is_count(places: &[u32], version: u32, count: usize) -> bool
         && (count == places.len() || places[count] > version)
 }
 
-/// Returns how many of the places are not after a version: as many as a guess says, where it is right, or else by
-/// binary search.
+/// Returns how many of the places are not after a version: the guess if it is right, or else by binary search.
 fn count_near(places: &[u32], version: u32, guess: usize) -> usize
     requires { IsNonDecreasing places.now }
     ensures { IsCountTo places.now version result }
@@ -41,7 +40,7 @@ fn count_near(places: &[u32], version: u32, guess: usize) -> usize
     count_to(places, version)
 }
 
-/// Returns how many of the places are not after a version, counted one by one: they are few, or all.
+/// Returns how many of the places are not after a version, counted one by one: there are few, or all of them.
 fn count_few(places: &[u32], version: u32) -> usize
     requires { IsNonDecreasing places.now }
     ensures { IsCountTo places.now version result }
@@ -56,7 +55,7 @@ fn count_few(places: &[u32], version: u32) -> usize
     count
 }
 
-/// Returns the tick of the touch at a place; 0 where there is none.
+/// Returns the tick of the touch at a place, or 0 if there is none.
 fn tick_of(touches: &[Touch], place: u32) -> u64
     ensures { result ≡ tick_at touches.now place }
 {
@@ -83,7 +82,7 @@ fn count_before(touches: &[Touch], places: &[u32], tick: u64) -> usize
     )
 }
 
-/// Returns the greatest of rising places, or 0.
+/// Returns the greatest of ascending places, or 0.
 fn greatest(places: &[u32]) -> u32
     requires { IsNonDecreasing places.now }
     ensures { result ≡ fold max 0 places.now }
@@ -94,7 +93,7 @@ fn greatest(places: &[u32]) -> u32
     places[places.len() - 1]
 }
 
-/// Returns the greatest of rising places whose touch is before a tick, or 0.
+/// Returns the greatest of ascending places whose touch is before a tick, or 0.
 pub(crate) fn greatest_before(touches: &[Touch], places: &[u32], tick: u64) -> u32
     requires rising { IsNonDecreasing places.now }
     requires order { IsNonDecreasingBy (tick_at touches.now) places.now }
@@ -113,8 +112,8 @@ pub(crate) fn places_to(places: &[u32], version: u32) -> &[u32]
     &places[..count]
 }
 
-/// Returns the places after a version and not after a later one, and how many are not after the later one. It tests
-/// first whether the guess is how many are not after the first version.
+/// Returns the places after a version and not after a later one, and how many are not after the later one. It first
+/// tests whether the guess is the number not after the first version.
 pub(crate) fn places_between(places: &[u32], from: u32, to: u32, guess: usize) -> (&[u32], usize)
     requires rising { IsNonDecreasing places.now }
     requires later { from ≤ to }

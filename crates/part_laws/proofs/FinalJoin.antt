@@ -1,7 +1,7 @@
 -- The parts after a final copy, joined.
-use Rattle.std.proofs.Common.{◌≡◌, ℕ, ◌<◌, ◌+◌, Bool, true, false, cond, eqb, ◌&&◌, List, [], length, map, get_or}
-use Rattle.std.proofs.Common.{replicate, Option, Some, None, refl, sym, ap, ◌∙◌, arith}
-use Rattle.std.specs.List.{All, range_with_len}
+use Rattle.std.proofs.Common.{◌≡◌, ℕ, ◌<◌, Bool, true, false, cond, eqb, ◌&&◌, List, length, get_or}
+use Rattle.std.proofs.Common.{Option, Some, None, refl, sym, ap, ◌∙◌, arith}
+use Rattle.std.specs.List.{All}
 use Rattle.std.proofs.lemmas.Bool.{cond-true, cond-false, eq-eqb, ne_eqb}
 use Rattle.std.proofs.lemmas.List.{ext_get_or, length-replicate}
 use Rattle.std.proofs.lemmas.List.FromFn.{get_or-map-range_with_len, length-map-range_with_len}
@@ -24,7 +24,7 @@ current_is : (trace : GuestTrace) (shape : GuestShape) (versions : List ℕ) (ma
 current_is trace shape versions marked p low = get_or-map-range_with_len (current_at trace versions marked) 0
     shape.pages p p None low (omega arith)
 
--- what the joined parts have of a page, by whether it is marked
+-- what the joined parts have for a page, by whether it is marked
 at_page : (trace : GuestTrace) (shape : GuestShape) (versions : List ℕ) (marked : ℕ → Bool) (old new : List GuestPart)
     (p : ℕ) (b : Bool) → marked p ≡ b → p < shape.pages
     → All (λ part. Agree part (current_part trace shape versions marked)) old

@@ -1,11 +1,10 @@
 -- The join of many parts, page by page.
-use Rattle.std.proofs.Common.{◌≡◌, ℕ, zero, suc, ◌<◌, List, [], ◌∷◌, length, get_or, Option, Some, None, refl, sym, ap}
+use Rattle.std.proofs.Common.{◌≡◌, ℕ, zero, suc, ◌<◌, List, [], ◌∷◌, length, get_or, Option, sym, ap}
 use Rattle.std.proofs.Common.{◌∙◌, arith}
 use Rattle.std.specs.List.{All, fold}
 use Rattle.std.proofs.lemmas.List.Elements.{All-head, All-tail}
-use Rattle.migration_model.specs.Frames.{GuestShape}
 use Rattle.migration_model.specs.Parts.{PageCopy, GuestPart, copy_at, later, join}
-use Rattle.migration_model.proofs.Parts.{later-later, get_or-later_each, length-later_each, copy_at-join}
+use Rattle.migration_model.proofs.Parts.{later-later, length-later_each, copy_at-join}
 
 pub length_joined : (n : ℕ) (first : GuestPart) (parts : List GuestPart) → length first.copies ≡ n
     → All (λ part. length part.copies ≡ n) parts
@@ -39,7 +38,7 @@ comes_last d p c (new ∷ news) (old ∷ olds) after before len same exchanged a
     (λ i low. same (suc i) (omega (arith, low)))
     (λ i low. exchanged (suc i) (omega (arith, low))) step
 
--- so may one that comes to the part of this number
+-- so may one that comes to the part with this number
 pub comes_to : (d : GuestPart) (p : ℕ) (c : Option PageCopy) (news olds : List GuestPart) (after before : GuestPart)
     (k : ℕ) → length news ≡ length olds
     → k < length olds → copy_at (get_or news k d) p ≡ later (copy_at (get_or olds k d) p) c

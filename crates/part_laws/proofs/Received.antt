@@ -1,5 +1,5 @@
 -- A part that has what the encodings of some frames bring is the join of these frames.
-use Rattle.std.proofs.Common.{◌≡◌, ℕ, ◌⊎◌, inl, inr, zero, suc, ◌<◌, ◌≤◌, List, [], ◌∷◌, length, map, get_or, replicate}
+use Rattle.std.proofs.Common.{◌≡◌, ℕ, inr, zero, suc, ◌≤◌, List, [], ◌∷◌, length, map, get_or, replicate}
 use Rattle.std.proofs.Common.{Option, Some, None, IfSome, refl, sym, ap, subst, ◌∙◌, arith}
 use Rattle.std.specs.List.{All, Contains, fold}
 use Rattle.std.proofs.lemmas.List.{ext_get_or, length-replicate}

@@ -1,4 +1,4 @@
-//! What the final copy and the receivers leave, in the words of the join of parts.
+//! What the final copy and the receivers leave, in terms of the join of parts.
 //!
 //! A law is a function with an empty body: its contract is the law, and a call brings it into the caller's proof.
 #![tactic(auto)]
@@ -14,8 +14,8 @@ ghost use Rattle.stream_receivers.specs.First.{parts_with};
 ghost use Rattle.stream_receivers.specs.Receivers.{HasFrames};
 ghost use Rattle.part_laws.specs.Current.{current_part};
 
-/// The parts that a final copy leaves, joined, are the join of the parts that it was given and of the current copies
-/// of the marked pages, where these agree.
+/// The parts that a final copy leaves, joined, are the join of the parts that it was given and the current copies of
+/// the marked pages, if these agree.
 pub fn final_copy_is_a_join()
     ensures { (trace : GuestTrace) (shape : GuestShape) (versions : List ℕ)
         (marked : ℕ → Bool) (old new : List GuestPart)
@@ -24,8 +24,7 @@ pub fn final_copy_is_a_join()
         → join_all shape new ≡ join (join_all shape old) (current_part trace shape versions marked) }
 {}
 
-/// The part that a receiver returns is the join of the frames whose encodings were sent on its lanes, where these
-/// agree.
+/// The part that a receiver returns is the join of the frames whose encodings were sent on its lanes, if these agree.
 pub fn received_part_is_a_join()
     ensures { (shape : GuestShape) (outs : List OutView) (frames : List PageFrame) (part : GuestPart)
         → IsGuestShape shape → All (IsFrame shape) frames → FramesAgree shape frames
@@ -34,9 +33,9 @@ pub fn received_part_is_a_join()
         → HasFrames shape (IsSentOn outs) part → part ≡ join_all shape (map (part_of shape) frames) }
 {}
 
-/// What the first stream of a warm start is left with: of the parts that `join_first` returns, the first is the join of
-/// the part that the destination began with and of the frames whose encodings were sent on the first receiver's lanes,
-/// where these agree. The other parts are those that came.
+/// What the first stream of a warm start ends up with: the first of the parts that `join_first` returns is the join of
+/// the part that the destination began with and the frames whose encodings were sent on the first receiver's lanes, if
+/// these agree. The other parts are those that came.
 pub fn first_part_is_joined()
     ensures { (shape : GuestShape) (outs : List OutView) (first : GuestPart) (frames : List PageFrame)
         (part : GuestPart) (rest : List GuestPart)

@@ -1,4 +1,4 @@
-//! Worked examples of settings, working sets, plans, reports and sweeps: tests alone.
+//! Worked examples of settings, working sets, plans, reports and sweeps: only for tests.
 #![tactic(auto)]
 
 #[cfg(test)]

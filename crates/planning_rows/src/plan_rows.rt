@@ -1,4 +1,4 @@
-//! Worked examples, whose results were worked out by hand.
+//! Worked examples, with results worked out by hand.
 
 use rate_limit::{Asked, Reason, Settings};
 use round_planner::{Outcome, Plan, Planner, RoundIndex, par_plan, plan};
@@ -22,10 +22,10 @@ fn guest(alloc: Global, pages: u32, touches: &[(u64, u32)]) -> Result<Trace, Fai
     Ok(Trace::new(1, 4, pages, writes)?)
 }
 
-/// The same, but that the last two writes come a tick earlier.
+/// The same, except that the last two writes come a tick earlier.
 const EARLIER: [(u64, u32); 5] = [(0, 0), (5, 1), (1200, 1), (2499, 3), (2499, 1)];
 
-/// Returns the settings that these make of the worked ones.
+/// Returns the worked settings with these changes.
 fn asked_with(max: u64, threshold: u64, start: u64, skip: bool) -> Asked {
     Asked {
         max,
@@ -81,7 +81,7 @@ fn planned(alloc: Global, trace: &Trace, settings: &Settings) -> Result<(Told, V
     Ok((told_of_plan(&made), numbers(alloc, &made)?))
 }
 
-/// Returns the sums and the numbers of a plan by so many workers.
+/// Returns the sums and the numbers of a plan by `workers` workers.
 fn par_planned<R: Threads + Sync>(
     rt: &R,
     alloc: Global,
@@ -93,7 +93,7 @@ fn par_planned<R: Threads + Sync>(
     Ok((told_of_plan(&made), numbers(alloc, &made)?))
 }
 
-/// Returns the sums of a plan that one planner makes for the second time.
+/// Returns the sums of a plan that a planner makes a second time.
 fn second_outcome(alloc: Global, trace: &Trace, settings: &Settings) -> Result<Told, Fail> {
     let index = RoundIndex::build(alloc, trace)?;
     let mut planner = Planner::new(alloc, trace)?;
@@ -336,9 +336,9 @@ fn pages_that_are_skipped(rt: HostRuntime) -> Result<(), Fail> {
     Ok(())
 }
 
-/// Pages at the edges of three words. The second round sends a page in 7 ticks and 90 of 130 parts of one more. Page
-/// 63 is written one tick before its scan ends, page 64 just when it has ended, and page 129 in the tick that the
-/// parts of two pages make.
+/// Pages at the edges of three words. The second round sends a page in 7 ticks and 90 of 130 parts of one more. Page 63
+/// is written one tick before its scan ends, page 64 exactly when it has ended, and page 129 in the tick that the parts
+/// of two pages make.
 #[test]
 fn pages_of_three_words(rt: HostRuntime) -> Result<(), Fail> {
     let alloc = rt.alloc();

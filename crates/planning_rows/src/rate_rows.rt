@@ -4,7 +4,7 @@ use rate_limit::{Asked, Next, Reason, Settings, SettingsError, dirty_rate, durat
 use std::test::Fail;
 use worked_guest::asked;
 
-/// Settings of a warm start, with so many workers.
+/// Settings of a warm start, with `workers` workers.
 fn warm(base: u64, start: u64, workers: u64) -> Asked {
     Asked {
         base: Some(base),

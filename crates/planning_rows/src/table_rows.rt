@@ -33,7 +33,7 @@ fn row(number: u64, writes: u32, pages: u32, again: u32, fresh: u32) -> Window {
     }
 }
 
-/// Returns the tables of a trace, and of its touches alone.
+/// Returns the tables of a trace, and of only its touches.
 fn both(alloc: Global, bytes: &[u8], window: u64, hot: u64) -> Result<(Tables, Tables), Fail> {
     let settings = settings(window, hot)?;
     let trace = decode(alloc, bytes)?;

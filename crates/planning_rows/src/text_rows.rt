@@ -30,7 +30,7 @@ fn one_round(alloc: Global) -> Result<Plan, Fail> {
     })
 }
 
-/// Returns the report over these windows and hot pages, with so many windows for a hot page.
+/// Returns the report over these windows and hot pages, with `hot` windows for a hot page.
 fn text(alloc: Global, windows: &[Window], pages: &[u32], hot: u64) -> Result<Vec<u8>, Fail> {
     let settings = Settings::new(Asked { hot, ..asked() })?;
     let trace = TraceView::parse(&NO_WRITES)?;

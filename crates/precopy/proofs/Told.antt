@@ -5,7 +5,7 @@ use Rattle.job_words.specs.declared.command.WordsError.{WordsError}
 use Rattle.job_words.specs.declared.command.WordsError.TheVariants.{Help, Memory, Refused, Usage}
 use Rattle.program_edge.specs.Ends.{IsHelpText}
 
--- words whose error has a text of help ask for help
+-- words whose error has a help text ask for help
 pub asked_for : (words : List (List ℕ)) (e : WordsError) (text : List ℕ) → WordsFail words e → IsHelpText e text
     → AskForHelp words
 asked_for words (Help shown) text asks is = asks
@@ -13,6 +13,6 @@ asked_for words Memory text asks is = absurd is
 asked_for words (Usage shown) text asks is = absurd is
 asked_for words (Refused refusal) text asks is = absurd is
 
--- a want of memory has no text of help
+-- lack of memory has no help text
 pub no_text : (e : WordsError) → e ≡ Memory → (text : List ℕ) → ¬ IsHelpText e text
 no_text e is text = subst (λ (x : WordsError). ¬ IsHelpText x text) (sym is) (λ none. none)

@@ -1,4 +1,4 @@
--- How the program ends where it has not done what the words ask for.
+-- How the program ends if it has not done what the words ask for.
 use Rattle.std.specs.Prelude.{◌≡◌, ◌≢◌, ◌↔◌, ℕ, Bool, List, Option, true}
 use Rattle.std.specs.Io.KnownBytes.{Keeps}
 use Rattle.job_kinds.specs.declared.job.Job.{Job}
@@ -8,8 +8,8 @@ use Rattle.migration_jobs.specs.declared.error.RunError.{RunError}
 use Rattle.migration_jobs.specs.declared.error.RunError.TheVariants as errors
 use Rattle.trace_codec.specs.declared.error.TraceError.TheVariants.{ReadFault}
 
--- A job over what a source held failed: the sink holds a beginning of the output where a write failed, and else what it
--- held before. `unread` and `unwritten` tell whether the source and the sink failed.
+-- A job over what a source held failed: the sink holds a prefix of the output if a write failed, and otherwise what it
+-- held before. `unread` and `unwritten` say whether the source and the sink failed.
 pub record HasFailed (known : Option (List ℕ)) (job : Job) (unread unwritten : Bool) (old new : Option (List ℕ))
     : Type 0 where
   pub error : RunError

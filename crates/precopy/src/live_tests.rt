@@ -1,4 +1,4 @@
-//! Live runs by the command line.
+//! Live runs from the command line.
 
 use crate::tests::{changed, told, whole};
 use std::test::Fail;
@@ -69,7 +69,7 @@ fn refuses_live_words_before_the_trace(rt: HostRuntime) -> Result<(), Fail> {
         (&["--lane=0"], "precopy: settings S9\n"),
     ];
     for (words, line) in refused {
-        // No trace at all: E1 where it was read.
+        // No trace at all: E1 if it was read.
         let (status, output, faults) = told(&rt, alloc, "live", Vec::new(alloc), words)?;
         assert!(rt;
             status == 2 && faults.bytes() == line.as_bytes() && output.bytes().is_empty(),

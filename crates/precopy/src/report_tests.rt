@@ -1,4 +1,4 @@
-//! Reports by the command line, whose lines were worked out by hand.
+//! Reports from the command line, with lines worked out by hand.
 
 use crate::tests::{changed, told, whole};
 use migration_jobs::TestSink;
@@ -7,7 +7,7 @@ use std::sync::Wait;
 use std::test::Fail;
 use std::thread::Threads;
 
-/// Slow rates, which the worked rounds have.
+/// The slow rates of the worked rounds.
 const SLOW: [&str; 5] = [
     "--min=2",
     "--max=4",
@@ -38,7 +38,7 @@ fn report<R: Threads + Wait + Sync>(
     told(rt, alloc, "report", bytes, options)
 }
 
-/// The report with windows of 5,000 ticks, in one of which a page is hot.
+/// The report with windows of 5,000 ticks, with a page that is hot in one of them.
 static LONG_WINDOW: &str = "trace pages 4 size 16 writes 5
 window 0 writes 5 pages 3 again 0 fresh 3
 hot 1 pages 3
@@ -106,7 +106,7 @@ round 1 from 2000 to 2500 rate 2 pages 2 sent 1 dirtied 2
 stop fast at 2500 pages 2 down 500 total 7
 ";
 
-/// Returns the trace, whose last two writes come a tick earlier.
+/// Returns the trace with its last two writes a tick earlier.
 fn earlier(alloc: Global) -> Result<Vec<u8>, AllocError> {
     let mut bytes = whole(alloc)?;
     for (place, byte) in bytes.iter_mut().enumerate() {
@@ -136,7 +136,7 @@ fn refuses_settings_before_the_trace(rt: HostRuntime) -> Result<(), Fail> {
         ("--workers=17", "precopy: settings S9\n"),
     ];
     for (option, line) in cases {
-        // No trace at all: E1 where it was read.
+        // No trace at all: E1 if it was read.
         let (status, output, faults) = report(&rt, alloc, Vec::new(alloc), &[option])?;
         assert!(rt;
             status == 2 && faults.bytes() == line.as_bytes() && output.bytes().is_empty(),

@@ -6,7 +6,7 @@ ghost use Rattle.job_words.specs.Commands.{AreRefusedWords, AskForHelp, WordsAsk
 ghost use Rattle.migration_jobs.specs.Output.{IsOutput};
 ghost use Rattle.migration_jobs.specs.Sink.{AppendsPart};
 ghost use Rattle.precopy.specs.Ends.{HasFailed};
-ghost use Rattle.program_edge.specs.Ends.{memory_line};
+ghost use Rattle.program_edge.specs.Ends.{IsTold, memory_line};
 
 use job_words::job_of;
 use live_engine::OpenGate;
@@ -46,8 +46,8 @@ fn run_job<R: Threads + Wait + Sync, S: Source, K: Sink, E: Sink>(
 /// Runs the program: `words` are its name and its arguments, and the trace comes from `source`. The output and a
 /// request for help go to `sink`, and the line of a fault or the text of a refused command line to `faults`.
 ///
-/// Returns the program's status: 0 is success, 1 a run that failed, 2 a refused command line. A failure of `faults` is
-/// passed over.
+/// Returns the program's status: 0 is success, 1 a run that failed, 2 a refused command line. A failure of `faults`
+/// is ignored.
 pub fn start<R: Threads + Wait + Sync, S: Source, K: Sink, E: Sink>(
     rt: &R,
     alloc: Global,
@@ -60,7 +60,7 @@ pub fn start<R: Threads + Wait + Sync, S: Source, K: Sink, E: Sink>(
     requires unwritten { K.has_failed sink.old ≡ false }
     requires untold { E.has_failed faults.old ≡ false }
     ensures status { result ≤ 2 }
-    // Nothing that was written is kept back.
+    // Nothing that was written is held back.
     ensures flushed { result ≡ 0 → K.is_flushed sink.new ≡ true }
     // What was written is the output of the job that the words ask for, over what was read; or else they ask for help,
     // and nothing was read.
@@ -69,14 +69,14 @@ pub fn start<R: Threads + Wait + Sync, S: Source, K: Sink, E: Sink>(
         ⊎ (AskForHelp (map string_bytes words.items) × (source.new ≡ source.old)
         × (text : List ℕ) × Appends (K.contents sink.old) (K.contents sink.new) text) }
     // The job that the words ask for failed; or else nothing was read: a write of help failed, or memory ran out while
-    // the words were read, which is told, and nothing is written.
+    // the words were read, which is reported, and nothing is written.
     ensures failed { result ≡ 1 → ((job : Job) × WordsAsk (map string_bytes words.items) job
         × HasFailed (S.remaining source.old) job (S.has_failed source.new) (K.has_failed sink.new)
         (K.contents sink.old) (K.contents sink.new))
         ⊎ ((source.new ≡ source.old) × ((AskForHelp (map string_bytes words.items) × (K.has_failed sink.new ≡ true)
         × (text : List ℕ) × AppendsPart (K.contents sink.old) (K.contents sink.new) text)
-        ⊎ ((sink.new ≡ sink.old) × AppendsPart (E.contents faults.old) (E.contents faults.new)
-        (memory_line Program.Precopy)))) }
+        ⊎ ((sink.new ≡ sink.old) × IsTold (memory_line Program.Precopy) (E.contents faults.old)
+        (E.contents faults.new) (E.has_failed faults.new)))) }
     // Words are refused before any byte of the trace is read, and nothing is written then.
     ensures refused { result ≡ 2 → AreRefusedWords (map string_bytes words.items) × (source.new ≡ source.old)
         × (sink.new ≡ sink.old) }

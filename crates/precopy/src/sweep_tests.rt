@@ -1,9 +1,9 @@
-//! Sweeps by the command line, whose lines were worked out by hand.
+//! Sweeps from the command line, with lines worked out by hand.
 
 use crate::tests::{told, whole};
 use std::test::Fail;
 
-/// Three cases, of which the first is the best.
+/// Three cases, the first of which is the best.
 static THREE: &str =
     "case 0 min 2 max 4 inc 1 threshold 1 limit 8 skip 0 rounds 3 stop few at 3667 down 0 total 8
 case 1 min 2 max 2 inc 1 threshold 1 limit 8 skip 0 rounds 2 stop fast at 3000 down 1000 total 8
@@ -67,7 +67,7 @@ fn refuses_cases_before_the_trace(rt: HostRuntime) -> Result<(), Fail> {
         (&["--workers=17", "2,4,1,1,8,0"], "precopy: case 0 S9\n"),
     ];
     for (words, line) in refused {
-        // No trace at all: E1 where it was read.
+        // No trace at all: E1 if it was read.
         let (status, output, faults) = told(&rt, alloc, "sweep", Vec::new(alloc), words)?;
         assert!(rt;
             status == 2 && faults.bytes() == line.as_bytes() && output.bytes().is_empty(),

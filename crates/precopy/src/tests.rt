@@ -1,4 +1,4 @@
-//! Worked examples of the command line: what is written, what is told, and the status.
+//! Worked examples of the command line: what is written, what is reported, and the status.
 
 ghost use Rattle.std.specs.Prelude.{◌≡◌, false};
 
@@ -11,7 +11,7 @@ use std::thread::Threads;
 use trace_codec::TestSource;
 use worked_guest::TRACE;
 
-/// The first `len` bytes of the trace with `patch` over those from `place` on, and `more` behind them.
+/// The first `len` bytes of the trace with `patch` over those from `place` on, and `more` after them.
 pub(crate) fn changed(
     alloc: Global,
     len: usize,

@@ -1,4 +1,4 @@
--- Cases of a sweep that are tested one after the other.
+-- Cases of a sweep, tested one after the other.
 use Rattle.std.proofs.Common.{◌≡◌, ℕ, ◌+◌, ◌<◌, List, [], ◌∷◌, ◌++◌, length, get_or, take, drop, map, Some, sym, ap}
 use Rattle.std.proofs.Common.{◌∙◌, arith}
 use Rattle.std.specs.List.{All}
@@ -11,7 +11,7 @@ use Rattle.precopy_c.specs.declared.settings.PlanSettings.{PlanSettings}
 use Rattle.precopy_c.specs.Settings.{settings_in}
 use Rattle.precopy_c.specs.Sweeps.{RefusesCase}
 
--- the case at an index is refused, behind others that are in range
+-- the case at an index is refused, after others that are in range
 pub RefusesCase-at : (cases : List PlanSettings) (i : ℕ) (d : PlanSettings) (checked : List MigrationSettings)
     (e : SettingsError) → i < length cases
     → checked ≡ map settings_in (take i cases) → All AreSettings checked
@@ -32,7 +32,7 @@ RefusesCase-at cases i d checked e low made in_range refused =
       refused = refused;
     }
 
--- one case more
+-- one more case
 pub made_more : (cases : List PlanSettings) (i : ℕ) (d : PlanSettings) (checked next : List MigrationSettings)
     (settings : MigrationSettings) → i < length cases
     → checked ≡ map settings_in (take i cases) → settings ≡ settings_in (get_or cases i d)
@@ -50,7 +50,7 @@ in_range_more checked next settings in_range fits pushed =
     rw pushed (All-append AreSettings checked (settings ∷ []) in_range
     (All-cons AreSettings settings [] fits (All-nil AreSettings)))
 
--- of cases that are all in range each is
+-- if all cases are in range, each is
 pub case_in_range : (cases : List PlanSettings) (i : ℕ) (d : PlanSettings) → i < length cases
     → All AreSettings (map settings_in cases)
     → AreSettings (settings_in (get_or cases i d))

@@ -1,25 +1,21 @@
 -- Flat memory, as frames come to it.
-use Rattle.std.proofs.Common.{◌⊎◌, ◌≡◌, ◌≢◌, ℕ, inl, inr, ◌+◌, ◌-◌, ◌*◌, ◌^◌, ◌<◌, ◌≤◌, cond, eqb, Bool, true, false}
-use Rattle.std.proofs.Common.{List, [], ◌∷◌, ◌++◌, length, get_or, set, take, drop, map, replicate, Option, Some, None}
-use Rattle.std.proofs.Common.{refl, sym, subst, ap, ◌∙◌, arith}
-use Rattle.std.specs.List.{range_with_len}
+use Rattle.std.proofs.Common.{◌⊎◌, ◌≡◌, ◌≢◌, ℕ, inl, inr, ◌+◌, ◌-◌, ◌*◌, ◌^◌, ◌<◌, ◌≤◌, cond, eqb}
+use Rattle.std.proofs.Common.{List, [], ◌∷◌, ◌++◌, length, get_or, set, take, drop, replicate, Option, Some, None}
+use Rattle.std.proofs.Common.{refl, sym, ap, ◌∙◌, arith}
 use Rattle.std.proofs.Math.ListN.{drop_of_length-le}
 use Rattle.std.proofs.Math.Nat.{mul-le-mul_right, one-le-pow}
 use Rattle.std.proofs.lemmas.Bool.{cases_eq, cond-true, cond-false, eq-eqb, ne_eqb}
 use Rattle.std.proofs.lemmas.Grind.{get_or-set_at}
 use Rattle.std.proofs.lemmas.List.{append-nil, ext_get_or, drop-drop, get_or-set_other, length-set, set-get_or}
-use Rattle.std.proofs.lemmas.List.{length-replicate}
 use Rattle.std.proofs.lemmas.List.Edits.{length-between}
 use Rattle.std.proofs.lemmas.List.Elements.{All-cons, All-nil}
 use Rattle.std.proofs.lemmas.List.FromFn.{get_or-map-range_with_len, length-map-range_with_len}
-use Rattle.std.specs.Prelude.{unwrap_or, IfSome}
-use Rattle.migration_model.specs.Frames.{GuestShape, IsFrame, IsZeros, PageFrame, SpellsFrame, content_of}
+use Rattle.migration_model.specs.Frames.{GuestShape, IsFrame, PageFrame, SpellsFrame, content_of}
 use Rattle.migration_model.specs.Memory.{bytes_put, memory_with, page_of, put}
 use Rattle.migration_model.specs.Parts.{GuestPart, PageCopy, copy_at, copy_in, later, part_with, with_frame}
 use Rattle.migration_model.specs.Trace.{GuestWrite, IsGuestWrite}
 use Rattle.migration_model.proofs.Pages.{pages_fold}
 use Rattle.migration_model.proofs.Parts.{later_first, later_second, same_copy}
-use Rattle.collector.specs.Streams.{TakesFrames}
 use Rattle.collector.proofs.Taken.{Takes-more, Takes-nothing, Takes-one}
 use Rattle.precopy_c.specs.declared.flat_memory.PageState.{PageState}
 use Rattle.precopy_c.specs.declared.flat_memory.StreamTaken.{StreamTaken}
@@ -47,7 +43,7 @@ length-bytes_at shape bytes page low len =
 abbrev page_write : ℕ → List ℕ → GuestWrite
 page_write page content = record { tick = 0; page = page; offset = 0; bytes = content }
 
--- a page after the bytes of one are put over memory
+-- a page after the bytes of one are written over memory
 page_put : (shape : GuestShape) (bytes content : List ℕ) (page other : ℕ) → page < shape.pages → other < shape.pages
     → length bytes ≡ shape.pages * 2 ^ shape.shift → length content ≡ 2 ^ shape.shift
     → bytes_at shape (put bytes (page * 2 ^ shape.shift) content) other
@@ -91,7 +87,7 @@ page_put_other shape bytes content page other low within apart len whole =
     ∙ cond-false (eqb page other) (put (bytes_at shape bytes other) 0 content) (bytes_at shape bytes other)
     (ne_eqb page other (λ is. apart (sym is)))
 
--- ---- what a state says of a page
+-- ---- what a state says about a page
 
 -- a frame that is newer, or the first of its page, is the later copy
 pub later_new : (shape : GuestShape) (bytes : List ℕ) (page : ℕ) (state : PageState) (copy : PageCopy)
@@ -109,7 +105,7 @@ later_new shape bytes page state copy why =
           ∙ (elim why [ inl none ↦ absurd (came none) | inr newer ↦ later_second kept copy newer ])
     ]
 
--- of one that is not, the copy that is there stays
+-- otherwise the copy that is there stays
 pub later_old : (shape : GuestShape) (bytes : List ℕ) (page : ℕ) (state : PageState) (copy : PageCopy) → state.came ≢ 0
     → copy.stamp ≤ state.stamp
     → later (copy_in_state shape bytes page state) (Some copy) ≡ copy_in_state shape bytes page state
@@ -119,7 +115,7 @@ later_old shape bytes page state copy came old =
     cond-false (eqb state.came 0) None (Some kept) (ne_eqb state.came 0 came) in
     ap (λ (o : Option PageCopy). later o (Some copy)) is ∙ later_first kept copy old ∙ sym is
 
--- ---- a frame more
+-- ---- one more frame
 
 pub flat_copy : (shape : GuestShape) (bytes : List ℕ) (states : List PageState) (page : ℕ) → page < shape.pages
     → copy_at (flat_part shape bytes states) page ≡ copy_in_state shape bytes page (get_or states page not_come)
@@ -127,7 +123,7 @@ flat_copy shape bytes states page low =
     get_or-map-range_with_len (λ p. copy_in_state shape bytes p (get_or states p not_come)) 0 shape.pages page page None
     low (omega arith)
 
--- a frame whose page is there as late leaves the part as it is
+-- a frame whose page is there at as late a stamp leaves the part as it is
 pub flat_kept : (shape : GuestShape) (bytes : List ℕ) (states : List PageState) (frame : PageFrame)
     → IsFrame shape frame
     → (get_or states frame.page not_come).came ≢ 0 → frame.stamp ≤ (get_or states frame.page not_come).stamp
@@ -145,7 +141,7 @@ flat_kept shape bytes states frame fits came old =
 abbrev pub came_with : ℕ → PageState
 came_with stamp = record { came = 1; stamp = stamp }
 
--- one that is taken stands in the part
+-- one that is taken is in the part
 pub flat_taken : (shape : GuestShape) (bytes new : List ℕ) (states : List PageState) (frame : PageFrame)
     → IsFlat shape bytes states → IsFrame shape frame
     → new ≡ put bytes (frame.page * 2 ^ shape.shift) (content_of shape frame)
@@ -222,7 +218,7 @@ others_kept shape bytes new states frame flat fits is page low none =
 
 -- ---- frames of a stream
 
--- no page has come anew to nothing
+-- no page that came is missing later
 abbrev pub ComeLater : List PageState → List PageState → Type 0
 ComeLater old new = (page : ℕ) → (get_or new page not_come).came ≡ 0 → (get_or old page not_come).came ≡ 0
 

@@ -1,11 +1,11 @@
 -- Items over the front of a buffer.
-use Rattle.std.proofs.Common.{◌≡◌, ℕ, ◌+◌, ◌<◌, ◌≤◌, List, [], ◌∷◌, ◌++◌, length, get_or, set, take, drop, map, refl}
+use Rattle.std.proofs.Common.{◌≡◌, ℕ, ◌+◌, ◌<◌, ◌≤◌, List, [], ◌∷◌, ◌++◌, length, get_or, set, take, map, refl}
 use Rattle.std.proofs.Common.{sym, ap, ◌∙◌, arith}
 use Rattle.std.proofs.lemmas.List.{length-map, length-take-le, map_more}
 use Rattle.std.proofs.Math.Seq.{take-length}
 use Rattle.precopy_c.specs.Buffers.{over}
 
--- one more item behind those at the front
+-- one more item after those at the front
 over_more : {X : Type 0} (items old : List X) (y : X) → length items < length old
     → set (over items old) (length items) y ≡ over (items ++ y ∷ []) old
 over_more [] [] y low = absurd (omega (arith, low))
@@ -13,7 +13,7 @@ over_more [] (z ∷ old) y low = refl
 over_more (x ∷ items) [] y low = absurd (omega (arith, low))
 over_more {X} (x ∷ items) (z ∷ old) y low = ap (λ (l : List X). x ∷ l) (over_more items old y (omega (arith, low)))
 
--- so many of the images of a list stand at the front, and then one more
+-- the first `i` images of a list are at the front, and then one more
 pub front_more : {X Y : Type 0} (f : X → Y) (xs : List X) (i : ℕ) (x : X) (y : Y) (old room : List Y)
     → i < length xs → length xs ≤ length old → x ≡ get_or xs i x → y ≡ f x → room ≡ over (map f (take i xs)) old
     → set room i y ≡ over (map f (take (i + 1) xs)) old

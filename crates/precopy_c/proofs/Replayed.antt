@@ -1,5 +1,5 @@
 -- Memory on the way through the writes, of which those before a tick count.
-use Rattle.std.proofs.Common.{◌≡◌, ℕ, ◌+◌, ◌*◌, ◌^◌, ◌<◌, ◌≤◌, cond, ltb, List, [], ◌∷◌, length, inl, inr, refl, ap}
+use Rattle.std.proofs.Common.{◌≡◌, ℕ, ◌+◌, ◌*◌, ◌^◌, ◌<◌, ◌≤◌, ltb, List, [], ◌∷◌, refl, ap}
 use Rattle.std.proofs.Common.{subst, ◌∙◌, arith}
 use Rattle.std.specs.List.{All, filter}
 use Rattle.std.proofs.lemmas.Bool.{cond-true, cond-false, lt-ltb, le-ltb}
@@ -8,11 +8,11 @@ use Rattle.migration_model.specs.Memory.{GuestMemory, bytes_put, image_before, i
 use Rattle.migration_model.specs.Trace.{GuestTrace, GuestWrite, IsGuestWrite, IsTrace}
 use Rattle.image_build.proofs.Replays.{Becomes, Becomes-next}
 
--- those of some writes that are before a tick
+-- the writes before a tick among these
 abbrev pub before_tick : ℕ → List GuestWrite → List GuestWrite
 before_tick tick writes = filter (λ write. ltb write.tick tick) writes
 
--- a write before the tick is put
+-- a write before the tick is applied
 pub Becomes-put : (version shift pages tick : ℕ) (memory next : List ℕ) (write : GuestWrite) (left : List GuestWrite)
     (whole : GuestMemory)
     → Becomes shift pages memory (before_tick tick (write ∷ left)) whole → IsGuestWrite version shift pages write
@@ -26,7 +26,7 @@ Becomes-put version shift pages tick memory next write left whole before fits lo
     Becomes-next version shift pages memory next write (before_tick tick left) whole
     (subst (λ (l : List GuestWrite). Becomes shift pages memory l whole) counts before) fits is
 
--- one at the tick or behind it is left out
+-- one at the tick or after it is left out
 pub Becomes-left_out : (shift pages tick : ℕ) (memory : List ℕ) (write : GuestWrite) (left : List GuestWrite)
     (whole : GuestMemory)
     → Becomes shift pages memory (before_tick tick (write ∷ left)) whole → tick ≤ write.tick

@@ -1,6 +1,6 @@
--- Of a stream of frames all is taken.
-use Rattle.std.proofs.Common.{◌≡◌, ℕ, ◌+◌, ◌^◌, ◌<◌, Bool, true, false, cond, List, [], length, Option, Some, None}
-use Rattle.std.proofs.Common.{Result, Ok, Err, inl, inr, arith}
+-- All of a stream of frames is taken.
+use Rattle.std.proofs.Common.{◌≡◌, ℕ, ◌+◌, ◌^◌, ◌<◌, Bool, true, false, cond, List, [], length, Some, None}
+use Rattle.std.proofs.Common.{Ok, Err, inr}
 use Rattle.std.specs.Prelude.{◌==◌, nat_lt, nat_le}
 use Rattle.std.specs.List.{list_all}
 use Rattle.std.proofs.lemmas.Option.{none-some, same_Some}
@@ -15,7 +15,7 @@ use Rattle.precopy_c.specs.declared.flat_memory.PageState.{PageState}
 use Rattle.precopy_c.specs.declared.flat_memory.StreamTaken.{StreamTaken}
 use Rattle.precopy_c.specs.FlatMemory.{TakesFlat, flat_part}
 
--- no cause is want of memory
+-- no cause is lack of memory
 no_memory : (short page stamp kind none cut zeros : Bool)
     → cond short (Some Short) (cond page (Some Page) (cond stamp (Some Stamp)
     (cond kind (Some Kind) (cond none None (cond cut (Some Short) (cond zeros (Some ZeroData) None))))))
@@ -37,7 +37,7 @@ never_memory shape bytes is =
     (nat_lt 1 (kind_in bytes)) (kind_in bytes == 0)
     (nat_lt (length bytes) (9 + 2 ^ shape.shift)) (list_all (λ byte. byte == 0) (bytes_in shape bytes)) is
 
--- frames that were taken to the end of a stream are those of the stream
+-- frames taken to the end of a stream are those of the stream
 pub flat_only : (shape : GuestShape) (old new : List ℕ) (old_states new_states : List PageState) (stream : List ℕ)
     (taken : StreamTaken) (frames : List PageFrame)
     → IsGuestShape shape → TakesFlat shape old new old_states new_states stream taken []

@@ -1,4 +1,4 @@
--- The numbers that C sees of refusals. Those of traces are the numbers of their names in fault lines, E1 to E17; those
+-- The numbers that C sees for refusals. Those of traces are the numbers of their names in fault lines, E1 to E17; those
 -- of settings, S1 to S10, begin at 21, and those of frames, F1 to F5, at 41. This project's own.
 use Rattle.std.specs.Prelude.{◌≡◌, ℕ, Option, Some, None}
 use Rattle.trace_codec.specs.declared.error.TraceError.{TraceError}
@@ -60,7 +60,7 @@ number_of refusals.MemoryLength = 63
 number_of refusals.PageCount = 64
 number_of refusals.PageMissing = 65
 
--- this is the number of a refusal of which that holds
+-- this is the number of a refusal for which that holds
 abbrev pub IsNumberOf : ℕ → (Refusal → Type 0) → Type 0
 IsNumberOf number Holds = (refusal : Refusal) × (number ≡ number_of refusal) × Holds refusal
 

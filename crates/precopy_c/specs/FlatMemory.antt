@@ -1,27 +1,25 @@
--- Flat memory of a caller that frames come to: the bytes of all pages, and a state for each page. It holds a part, in
--- the sense of the definitions, and what a stream of frames does to it is said of that part. This project's own.
+-- A caller's flat memory to which frames come: the bytes of all pages, and a state for each page. It holds a part, in
+-- the sense of the definitions, and the effect of a stream of frames is stated for that part. This project's own.
 use Rattle.std.specs.Prelude.{◌≡◌, ◌≢◌, ℕ, ◌*◌, ◌^◌, ◌==◌, ◌<◌, if◌then◌else◌, List, length, map, drop, Option, Some}
 use Rattle.std.specs.Prelude.{None}
-use Rattle.std.specs.Prelude.{slice_index_or, ⊤}
+use Rattle.std.specs.Prelude.{slice_index_or}
 use Rattle.std.specs.List.{range_with_len}
 use Rattle.migration_model.specs.Frames.{GuestShape}
 use Rattle.migration_model.specs.Memory.{memory_with, page_of}
-use Rattle.migration_model.specs.Parts.{GuestPart, PageCopy, copy_at, part_with}
+use Rattle.migration_model.specs.Parts.{GuestPart, PageCopy, part_with}
 use Rattle.collector.specs.Streams.{TakesFrames}
-use Rattle.page_message.specs.Refusals.{frame_refusal}
-use Rattle.page_message.specs.declared.error.FrameError.{FrameError}
 use Rattle.precopy_c.specs.declared.flat_memory.PageState.{PageState}
 use Rattle.precopy_c.specs.declared.flat_memory.StreamTaken.{StreamTaken}
 use Rattle.precopy_c.specs.declared.sizes.GuestSizes.{GuestSizes}
 use Rattle.precopy_c.specs.declared.answers.Refusal.{Refusal}
 use Rattle.precopy_c.specs.declared.answers.Refusal.TheVariants as refusals
-use Rattle.precopy_c.specs.Settings.{shape_in, shape_refusal}
+use Rattle.precopy_c.specs.Settings.{shape_refusal}
 
 -- the state of a page that did not come
 abbrev pub not_come : PageState
 not_come = record { came = 0; stamp = 0 }
 
--- what the memory with these bytes has of a page in a state
+-- what the memory with these bytes has for a page in a state
 abbrev pub copy_in_state : GuestShape → List ℕ → ℕ → PageState → Option PageCopy
 copy_in_state shape bytes page state = if state.came == 0 then None else Some (record {
   stamp = state.stamp;
@@ -45,14 +43,14 @@ KeepsOthers shape old new states = (page : ℕ) → page < shape.pages
     → (slice_index_or states page not_come).came ≡ 0
     → page_of (memory_with shape.shift shape.pages new) page ≡ page_of (memory_with shape.shift shape.pages old) page
 
--- so many frames, of so many bytes together, were taken from the front of the bytes; the rest is left
+-- `taken.frames` frames, `taken.bytes` bytes in total, were taken from the front of the bytes; the rest is left
 pub record TakesFlat (shape : GuestShape) (old new : List ℕ) (old_states new_states : List PageState) (bytes : List ℕ)
     (taken : StreamTaken) (rest : List ℕ) : Type 0 where
   pub takes : TakesFrames (flat_part shape old old_states) (flat_part shape new new_states) bytes taken.frames rest
   pub rest_is : rest ≡ drop taken.bytes bytes
   pub others : KeepsOthers shape old new new_states
 
--- no frame is taken: the sizes are refused, or memory or states are not as many as they say
+-- no frame is taken: the sizes are refused, or there are not as many bytes or states as they say
 abbrev pub RefusesFlat : GuestSizes → ℕ → ℕ → Refusal → Type 0
 RefusesFlat sizes bytes states (refusals.Trace e) = shape_refusal sizes ≡ Some e
 RefusesFlat sizes bytes states refusals.MemoryLength = bytes ≢ sizes.pages * 2 ^ sizes.shift

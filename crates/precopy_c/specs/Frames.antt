@@ -1,6 +1,5 @@
 -- What C sees of frames, and why there is none.
 use Rattle.std.specs.Prelude.{◌≡◌, ◌⊎◌, ◌≢◌, ℕ, ◌^◌, ◌<◌, ◌≤◌, List, length, Some, ⊤}
-use Rattle.migration_model.specs.Frames.{GuestShape, PageFrame}
 use Rattle.page_message.specs.Refusals.{frame_refusal}
 use Rattle.page_message.specs.declared.error.FrameError.TheVariants as frames
 use Rattle.precopy_c.specs.declared.answers.Refusal.{Refusal}
@@ -21,7 +20,7 @@ RefusesEncoding sizes page stamp bytes refusals.MemoryLength = ⊥
 RefusesEncoding sizes page stamp bytes refusals.PageCount = ⊥
 RefusesEncoding sizes page stamp bytes refusals.PageMissing = ⊥
 
--- bytes are not decoded: the sizes are refused, or the bytes, which begin with no frame, or a page has no room
+-- bytes are not decoded: the sizes or the bytes, which begin with no frame, are refused, or a page has no room
 abbrev pub RefusesDecoding : GuestSizes → List ℕ → ℕ → Refusal → Type 0
 RefusesDecoding sizes bytes room (refusals.Trace e) = shape_refusal sizes ≡ Some e
 RefusesDecoding sizes bytes room (refusals.Frame e) = frame_refusal (shape_in sizes) bytes ≡ Some e

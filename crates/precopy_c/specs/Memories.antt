@@ -1,6 +1,6 @@
 -- Memory of a trace, as C sees it, and why there is none.
-use Rattle.std.specs.Prelude.{◌≡◌, ℕ, ◌*◌, ◌^◌, List}
-use Rattle.migration_model.specs.Trace.{GuestTrace, Spells}
+use Rattle.std.specs.Prelude.{ℕ, ◌*◌, ◌^◌}
+use Rattle.migration_model.specs.Trace.{GuestTrace}
 
 -- how many bytes the memory of a trace has
 abbrev pub memory_length : GuestTrace → ℕ

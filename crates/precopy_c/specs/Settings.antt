@@ -1,5 +1,5 @@
 -- The settings and sizes that C asks for, as the definitions' values.
-use Rattle.std.specs.Prelude.{◌≡◌, ℕ, ◌==◌, not, if◌then◌else◌, Option, Some, None, true}
+use Rattle.std.specs.Prelude.{ℕ, ◌==◌, not, if◌then◌else◌, Option, Some, None, true}
 use Rattle.migration_model.specs.Frames.{GuestShape, shape_with}
 use Rattle.migration_model.specs.Rates.{MigrationSettings}
 use Rattle.trace_codec.specs.Refusals.{sizes_refusal}
@@ -7,11 +7,11 @@ use Rattle.trace_codec.specs.declared.error.TraceError.{TraceError}
 use Rattle.precopy_c.specs.declared.settings.PlanSettings.{PlanSettings}
 use Rattle.precopy_c.specs.declared.sizes.GuestSizes.{GuestSizes}
 
--- the tick that a base stands at, where there is one
+-- the tick of a base, if there is one
 abbrev pub base_in : PlanSettings → Option ℕ
 base_in s = if s.has_base == 0 then None else Some s.base
 
--- what a plan keeps to; no call starts a thread, so there is one worker, one stream, one replayer, and a lane of one
+-- what a plan uses; no call starts a thread, so there is one worker, one stream, one replayer, and a lane of one
 abbrev pub settings_in : PlanSettings → MigrationSettings
 settings_in s = record {
   min = s.min;
@@ -33,6 +33,6 @@ settings_in s = record {
 abbrev pub shape_in : GuestSizes → GuestShape
 shape_in sizes = shape_with sizes.shift sizes.pages sizes.writes
 
--- what sizes are refused for, by themselves
+-- why sizes are refused, on their own
 abbrev pub shape_refusal : GuestSizes → Option TraceError
 shape_refusal sizes = sizes_refusal true 1 sizes.shift sizes.pages sizes.writes

@@ -23,7 +23,7 @@ pub record IsSweepOf (bytes : List ℕ) (cases : List MigrationSettings) (lines 
   pub spells : Spells bytes trace
   pub are_lines : AreLines trace.pages (touches_of trace) cases lines
 
--- the first case that is out of range is refused for this, all before it being in range
+-- the first case out of range is refused for this, and all before it are in range
 pub record RefusesCase (cases : List MigrationSettings) (e : SettingsError) : Type 0 where
   pub before : List MigrationSettings
   pub case : MigrationSettings

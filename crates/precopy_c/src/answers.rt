@@ -1,4 +1,4 @@
-//! What calls answer.
+//! What calls return.
 
 ghost use Rattle.std.specs.Prelude.{◌≡◌, ◌≤◌};
 ghost use Rattle.precopy_c.specs.Answers.{number_of_frame, number_of_settings, number_of_trace};
@@ -16,7 +16,7 @@ use working_sets::TablesError;
 /// Why a call refuses.
 #[derive(Clone, Copy)]
 pub enum Refusal {
-    /// The bytes are no trace, or sizes are those of no guest.
+    /// The bytes are not a trace, or no guest has these sizes.
     Trace(TraceError),
     /// The settings are out of range.
     Settings(SettingsError),
@@ -26,9 +26,9 @@ pub enum Refusal {
     Memory,
     /// A buffer is too short for what belongs there.
     ShortBuffer,
-    /// The bytes of a page are not as many as a page has.
+    /// The number of bytes is not that of a page.
     PageLength,
-    /// Memory does not have as many bytes as all pages.
+    /// The number of bytes of memory is not that of all pages.
     MemoryLength,
     /// There is not a state for each page.
     PageCount,

@@ -1,4 +1,4 @@
-//! What is written into buffers of a caller.
+//! Writes into a caller's buffers.
 
 ghost use Rattle.std.specs.Prelude.{◌≡◌, ◌<◌, ◌≤◌, IfErr, OnErr, OnOk, length};
 ghost use Rattle.precopy_c.specs.Buffers.{over};
@@ -13,7 +13,7 @@ pub(crate) fn put_front(room: &mut [u8], bytes: &[u8])
     room[..bytes.len()].copy_from_slice(bytes);
 }
 
-/// Copies bytes over the front of a buffer where there is room for all of them, and tells how many they are.
+/// Copies bytes over the front of a buffer if there is room for all of them, and sets `needed` to their number.
 pub(crate) fn answer_bytes(room: &mut [u8], needed: &mut usize, bytes: &[u8]) -> Result<(), Refusal>
     ensures needed { needed.new ≡ length bytes.now }
     ensures put { OnOk result (room.new ≡ over bytes.now room.old) }

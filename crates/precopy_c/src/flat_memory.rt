@@ -1,4 +1,4 @@
-//! Frames accepted into flat memory of the caller.
+//! Frames accepted into the caller's flat memory.
 
 ghost use Rattle.std.specs.Prelude.{◌≡◌, ◌≢◌, ◌*◌, ◌^◌, ◌<◌, ◌≤◌, ◌⊎◌, ℕ, List, [], IfErr, IfOk, OnErr, OnOk, Some};
 ghost use Rattle.std.specs.Prelude.{length, slice_index_or};
@@ -19,13 +19,13 @@ use crate::sizes::GuestSizes;
 use guest_log::Shape;
 use page_message::{FrameError, FrameView, view_frame};
 
-/// What is known of a page of flat memory: C's `struct precopy_page`.
+/// What is known about a page of flat memory: C's `struct precopy_page`.
 #[derive(Clone, Copy)]
 #[repr(C)]
 pub struct PageState {
     /// Whether the page came: 0 for no.
     pub came: u32,
-    /// The stamp of its frame, where it came.
+    /// The stamp of its frame, if it came.
     pub stamp: u32,
 }
 
@@ -35,7 +35,7 @@ pub struct PageState {
 pub struct StreamTaken {
     /// How many frames.
     pub frames: usize,
-    /// How many bytes they have together.
+    /// How many bytes they have in total.
     pub bytes: usize,
 }
 
@@ -51,7 +51,7 @@ fn put_at_page(memory: &mut [u8], shape: &Shape, view: &FrameView<'_>)
     put_page(rest, shape, view);
 }
 
-/// Takes a frame into flat memory where its page did not come, or came with a lower stamp.
+/// Takes a frame into flat memory if its page did not come, or came with a lower stamp.
 fn accept_view(shape: &Shape, view: &FrameView<'_>, memory: &mut [u8], states: &mut [PageState])
     requires fits { IsFrame (shape_of shape.now) view.now }
     requires flat { IsFlat (shape_of shape.now) memory.old states.old }
@@ -73,8 +73,8 @@ fn accept_view(shape: &Shape, view: &FrameView<'_>, memory: &mut [u8], states: &
     };
 }
 
-/// Takes frame after frame to the end of the bytes, and tells how many. An error is that of the first frame that is
-/// refused; the frames in front of it are taken.
+/// Takes frame after frame to the end of the bytes, and counts them. An error is that of the first frame that is
+/// refused; the frames before it are taken.
 fn take_frames(
     shape: &Shape,
     bytes: &[u8],
@@ -107,7 +107,7 @@ fn take_frames(
     Ok(())
 }
 
-/// Returns the shape, where memory and states are as many as it says.
+/// Returns the shape, if there are as many bytes and states as it says.
 fn flat_shape(sizes: &GuestSizes, memory: &[u8], states: &[PageState]) -> Result<Shape, Refusal>
     ensures accepted { IfOk result (λ shape. (shape_of shape ≡ shape_in sizes.now)
         × IsFlat (shape_in sizes.now) memory.now states.now) }
@@ -124,9 +124,8 @@ fn flat_shape(sizes: &GuestSizes, memory: &[u8], states: &[PageState]) -> Result
 }
 
 /// Takes a stream of frames into flat memory, in which each page gets the bytes of the frame with the greatest stamp
-/// that came, whatever the order. It tells how many frames were taken, and how many bytes they have. The first frame
-/// that is refused ends it; the frames in front of it are taken, and `taken.bytes` is where it begins. It allocates
-/// nothing.
+/// that came, whatever the order. `taken` says how many frames were taken, and how many bytes they have. The first
+/// refused frame ends it; the frames before it are taken, and `taken.bytes` is where it begins. It allocates nothing.
 #[unsafe(no_mangle)]
 pub extern "C" fn precopy_accept(
     sizes: &GuestSizes,
@@ -159,7 +158,7 @@ pub extern "C" fn precopy_accept(
     }
 }
 
-/// Answers 0 where each page came. Where one did not, it tells the first that did not.
+/// Returns 0 if each page came. If not, it sets `page` to the first that did not.
 #[unsafe(no_mangle)]
 pub extern "C" fn precopy_missing(pages: &[PageState], page: &mut usize) -> u32
     ensures all { result ≡ 0 → (page : ℕ) → page < length pages.now

@@ -18,8 +18,7 @@ use guest_log::Shape;
 use page_message::{FrameError, FrameView, append_frame, view_frame};
 use std::alloc::Global;
 
-/// What stands in front of the bytes of a page in a frame, and how many bytes the frame has: C's `struct
-/// precopy_frame`.
+/// What comes before the bytes of a page in a frame, and how many bytes the frame has: C's `struct precopy_frame`.
 #[derive(Clone, Copy)]
 #[repr(C)]
 pub struct FrameHead {
@@ -58,8 +57,8 @@ fn encoded(
     Ok(text)
 }
 
-/// Answers the encoding of the frame of a page at a stamp, with these bytes of the page, over the front of a buffer,
-/// and tells how many bytes it has. Where the buffer is too short for them, it tells how many, and writes none.
+/// Writes the encoding of the frame of a page at a stamp, with these bytes of the page, over the front of a buffer, and
+/// sets `needed` to its length. If the buffer is too short, it sets only that.
 #[unsafe(no_mangle)]
 pub extern "C" fn precopy_encode_frame(
     alloc: Global,
@@ -99,8 +98,8 @@ pub(crate) fn put_page(room: &mut [u8], shape: &Shape, view: &FrameView<'_>)
     }
 }
 
-/// Decodes the frame at the front of some bytes: puts the bytes of its page over the front of a buffer, and returns
-/// what else it has.
+/// Decodes the frame at the front of some bytes: writes the bytes of its page over the front of a buffer, and returns
+/// the rest.
 fn decoded(sizes: &GuestSizes, bytes: &[u8], content: &mut [u8]) -> Result<FrameHead, Refusal>
     ensures found { IfOk result (λ head. (f : PageFrame) × SpellsFrame (shape_in sizes.now) (take head.size bytes.now) f
         × (head.page ≡ f.page) × (head.stamp ≡ f.stamp) × (head.size ≤ length bytes.now)
@@ -123,8 +122,8 @@ fn decoded(sizes: &GuestSizes, bytes: &[u8], content: &mut [u8]) -> Result<Frame
     })
 }
 
-/// Decodes the frame at the front of some bytes: answers the bytes of its page over the front of a buffer, and what
-/// else it has. It allocates nothing.
+/// Decodes the frame at the front of some bytes: writes the bytes of its page over the front of a buffer, and sets
+/// `head` to the rest. It allocates nothing.
 #[unsafe(no_mangle)]
 pub extern "C" fn precopy_decode_frame(
     sizes: &GuestSizes,
@@ -150,7 +149,7 @@ pub extern "C" fn precopy_decode_frame(
     }
 }
 
-/// Answers whether each byte is 0; so it is of no bytes.
+/// Returns whether each byte is 0; with no bytes it is true.
 #[unsafe(no_mangle)]
 pub extern "C" fn precopy_is_zero(bytes: &[u8]) -> bool
     ensures { IsTrue result ↔ All (λ byte. byte ≡ 0) bytes.now }

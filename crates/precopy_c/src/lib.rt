@@ -1,8 +1,7 @@
 //! The calls that a program in C, or in a language that calls C, makes: plans, reports, sweeps, memory and frames.
 //!
-//! `include/precopy.h` declares them, and says what a caller keeps to. No call keeps anything between two calls, starts
-//! a thread or waits. A call answers 0, or the number of a refusal; where that is not 0, it has written nothing but
-//! what its contract names.
+//! `include/precopy.h` declares them, and says what a caller must do. No call keeps anything between two calls, starts
+//! a thread or waits. A call returns 0, or the number of a refusal; it has then written only what its contract names.
 #![tactic(auto)]
 
 mod answers;

@@ -1,4 +1,4 @@
-//! Memory as the writes of a trace leave it, in a buffer of the caller.
+//! Memory as the writes of a trace leave it, in the caller's buffer.
 
 ghost use Rattle.std.specs.Prelude.{◌≡◌, ◌≢◌, ◌+◌, ◌*◌, ◌^◌, ◌<◌, ◌≤◌, ◌⊎◌, IfErr, OnErr, OnOk, length};
 ghost use Rattle.migration_model.specs.Memory.{bytes_put, image_before, image_of, put};
@@ -14,10 +14,10 @@ use crate::answers::Refusal;
 use guest_log::{Shape, WriteView};
 use trace_codec::TraceView;
 
-/// A tick behind those of all writes: ticks are below `2^40`.
+/// A tick after those of all writes: ticks are below `2^40`.
 const END: u64 = 1 << 40;
 
-/// Puts a write over memory of this shape, in which it stands at its offset of its page.
+/// Applies a write to memory of this shape, at its offset in its page.
 fn write_over(memory: &mut [u8], shape: Shape, write: &WriteView<'_>)
     requires { write.now.page * 2 ^ shape.shift + write.now.offset + length (bytes_put shape.shift (shown write.now))
         ≤ length memory.old }
@@ -43,7 +43,7 @@ fn replay_before(trace: &TraceView<'_>, tick: u64, memory: &mut [u8])
     }
 }
 
-/// Makes the memory after the writes before a tick over the front of a buffer, and tells how many bytes it has.
+/// Makes the memory after the writes before a tick over the front of a buffer, and sets `needed` to its length.
 fn answer_memory(
     trace: &TraceView<'_>,
     tick: u64,
@@ -67,7 +67,7 @@ fn answer_memory(
     Ok(())
 }
 
-/// Answers the memory after the writes before a tick, for both calls.
+/// Writes the memory after the writes before a tick, for both calls.
 fn answer_before(trace: &[u8], tick: u64, memory: &mut [u8], needed: &mut usize) -> u32
     ensures made { result ≡ 0 → (t : GuestTrace) × Spells trace.now t × (needed.new ≡ memory_length t)
         × (memory.new ≡ over (image_before t tick).bytes memory.old) }
@@ -87,8 +87,8 @@ fn answer_before(trace: &[u8], tick: u64, memory: &mut [u8], needed: &mut usize)
     }
 }
 
-/// Answers the memory after all writes of a trace, page after page, over the front of a buffer, and tells how many
-/// bytes it has. Where the buffer is too short for them, it tells how many, and writes none. It allocates nothing.
+/// Writes the memory after all writes of a trace, page after page, over the front of a buffer, and sets `needed` to its
+/// length. If the buffer is too short, it sets only that. It allocates nothing.
 #[unsafe(no_mangle)]
 pub extern "C" fn precopy_memory(trace: &[u8], memory: &mut [u8], needed: &mut usize) -> u32
     ensures made { result ≡ 0 → (t : GuestTrace) × Spells trace.now t × (needed.new ≡ memory_length t)
@@ -103,7 +103,7 @@ pub extern "C" fn precopy_memory(trace: &[u8], memory: &mut [u8], needed: &mut u
     answer_before(trace, END, memory, needed)
 }
 
-/// Answers the memory after the writes before a tick, as [`precopy_memory`] does that after all of them.
+/// Writes the memory after the writes before a tick, as [`precopy_memory`] does after all of them.
 #[unsafe(no_mangle)]
 pub extern "C" fn precopy_memory_before(
     trace: &[u8],

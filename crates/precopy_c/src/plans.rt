@@ -1,9 +1,9 @@
-//! Plans: their sums, and their rounds.
+//! Plans: their sums and their rounds.
 
 ghost use Rattle.std.specs.Prelude.{◌≡◌, ◌≢◌, ◌<◌, ◌≤◌, ◌⊎◌, IfErr, IfOk, length, map};
 ghost use Rattle.migration_model.specs.Rates.{AreSettings};
 ghost use Rattle.migration_model.specs.Rounds.{MigrationPlan};
-ghost use Rattle.migration_model.specs.Sweeps.{PlanOutcome, outcome_of};
+ghost use Rattle.migration_model.specs.Sweeps.{outcome_of};
 ghost use Rattle.migration_model.specs.Trace.{GuestTrace, Spells};
 ghost use Rattle.rate_limit.specs.Pacing.{reason_of};
 ghost use Rattle.precopy_c.specs.Answers.{IsNumberOf, number_of};
@@ -24,7 +24,7 @@ use trace_readers::TouchLog;
 pub struct PlanSums {
     /// How many rounds there are.
     pub rounds: u64,
-    /// Why no further round comes: 0 where few pages remain, 1 where the next rate is too high, 2 after the last round.
+    /// Why no further round follows: 0 if few pages remain, 1 if the next rate is too high, 2 after the last round.
     pub reason: u64,
     /// The tick at which the guest is stopped.
     pub stop: u64,
@@ -40,7 +40,7 @@ pub struct PlanSums {
 pub struct PlanRound {
     /// The round's first tick.
     pub from: u64,
-    /// The first tick behind it.
+    /// The first tick after it.
     pub to: u64,
     /// Its rate, in pages per 1,000 ticks.
     pub rate: u64,
@@ -102,7 +102,7 @@ fn planned(alloc: Global, trace: &[u8], settings: &PlanSettings) -> Result<Plan,
     Ok(plan(alloc, &log, &settings)?)
 }
 
-/// Answers the sums of the plan of a trace with some settings.
+/// Sets the sums of the plan of a trace with these settings.
 #[unsafe(no_mangle)]
 pub extern "C" fn precopy_plan(
     alloc: Global,
@@ -136,8 +136,8 @@ fn put_rounds(rounds: &[Round], room: &mut [PlanRound])
     }
 }
 
-/// Answers the rounds of the plan of a trace, in order, over the front of a buffer, and tells how many there are. Where
-/// the buffer is too short for them, it tells how many, and writes no round.
+/// Writes the rounds of the plan of a trace, in order, over the front of a buffer, and sets `count` to their number. If
+/// the buffer is too short, it sets only that.
 #[unsafe(no_mangle)]
 pub extern "C" fn precopy_rounds(
     alloc: Global,

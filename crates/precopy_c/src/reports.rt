@@ -31,8 +31,8 @@ fn reported(alloc: Global, trace: &[u8], settings: &PlanSettings) -> Result<Vec<
     Ok(report_text(alloc, &log.shape(), &settings, &sets, &planned)?)
 }
 
-/// Answers the text of the report on a trace, in ASCII, over the front of a buffer, and tells how many bytes it has.
-/// Where the buffer is too short for them, it tells how many, and writes none.
+/// Writes the text of the report on a trace, in ASCII, over the front of a buffer, and sets `needed` to its length. If
+/// the buffer is too short, it sets only that.
 #[unsafe(no_mangle)]
 pub extern "C" fn precopy_report(
     alloc: Global,

@@ -20,7 +20,7 @@ pub struct PlanSettings {
     pub max: u64,
     /// What is added to a dirtying rate, in pages per 1,000 ticks.
     pub increment: u64,
-    /// Rounds end after one that dirtied fewer pages than these.
+    /// Rounds end after one that dirtied fewer pages than this.
     pub threshold: u64,
     /// The most rounds.
     pub rounds: u64,
@@ -28,9 +28,9 @@ pub struct PlanSettings {
     pub start: u64,
     /// The length of a window, in ticks.
     pub window: u64,
-    /// In how many windows a page has to be written to be hot.
+    /// In how many windows a page must be written to be hot.
     pub hot: u64,
-    /// A warm start, where `has_base` is not 0: the destination begins with the memory before this tick.
+    /// A warm start, if `has_base` is not 0: the destination begins with the memory before this tick.
     pub base: u64,
     /// Whether there is a base: 0 for a cold start.
     pub has_base: u32,
@@ -44,7 +44,7 @@ impl PlanSettings {
     ghost use Rattle.rate_limit.specs.Refusals.{refusal_of};
     ghost use Rattle.precopy_c.specs.Settings.{base_in, settings_in};
 
-    /// Returns the tick of the base, where there is one.
+    /// Returns the tick of the base, if there is one.
     fn base(&self) -> Option<u64>
         ensures { result ≡ base_in self.now }
     {
@@ -76,7 +76,7 @@ impl PlanSettings {
         }
     }
 
-    /// Returns these settings where each is in its range, or else the first refusal. It allocates nothing.
+    /// Returns these settings if each is in its range, or else the first refusal. It allocates nothing.
     pub(crate) fn checked(&self) -> Result<Settings, SettingsError>
         ensures accepted { IfOk result (λ settings. settings ≡ settings_in self.now) }
         ensures in_range { IsOk result ↔ AreSettings (settings_in self.now) }
@@ -86,7 +86,7 @@ impl PlanSettings {
     }
 }
 
-/// Tests settings: answers 0 where each is in its range, or else the number of the first that is not.
+/// Tests settings: returns 0 if each is in its range, or else the number of the first that is not.
 #[unsafe(no_mangle)]
 pub extern "C" fn precopy_check_settings(settings: &PlanSettings) -> u32
     ensures in_range { (result ≡ 0) ↔ AreSettings (settings_in settings.now) }

@@ -21,7 +21,7 @@ impl GuestSizes {
     ghost use Rattle.page_message.specs.Shapes.{shape_of};
     ghost use Rattle.precopy_c.specs.Settings.{shape_in, shape_refusal};
 
-    /// Returns the shape of a trace of these sizes, or what they are refused for.
+    /// Returns the shape of a trace of these sizes, or why they are refused.
     pub(crate) fn shape(&self) -> Result<Shape, TraceError>
         ensures accepted { IfOk result (λ shape. shape_of shape ≡ shape_in self.now) }
         ensures in_range { IsOk result ↔ IsGuestShape (shape_in self.now) }

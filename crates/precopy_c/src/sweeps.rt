@@ -73,7 +73,7 @@ fn put_lines(lines: &[Line], room: &mut [PlanSums])
     }
 }
 
-/// Returns the index of the best of some lines, 0 where there is none.
+/// Returns the index of the best of some lines, 0 if there is none.
 fn best(lines: &[Line]) -> usize
     ensures { result ≡ best_of lines.now }
 {
@@ -83,8 +83,8 @@ fn best(lines: &[Line]) -> usize
     best_case(lines)
 }
 
-/// Answers the sums of the plan of a trace for each of some cases, in order, over the front of a buffer, and the index
-/// of the best of them. All is done on the caller's thread.
+/// Writes the sums of the plan of a trace for each of some cases, in order, over the front of a buffer, and sets
+/// `chosen` to the index of the best. All is done on the caller's thread.
 #[unsafe(no_mangle)]
 pub extern "C" fn precopy_sweep(
     alloc: Global,

@@ -27,7 +27,8 @@ fn record_of(error: TraceError) -> Option<u32>
     }
 }
 
-/// Tests the bytes of a trace, and tells its sizes. Where they are refused for a record, it tells which, from 0.
+/// Tests the bytes of a trace, and sets its sizes. If they are refused for a record, it sets `number` to its number,
+/// from 0.
 #[unsafe(no_mangle)]
 pub extern "C" fn precopy_check_trace(trace: &[u8], sizes: &mut GuestSizes, number: &mut u32) -> u32
     ensures found { result ≡ 0 → (t : GuestTrace) × Spells trace.now t × (shape_in sizes.new ≡ shape_of_trace t)

@@ -1,4 +1,4 @@
--- How words end that make no view.
+-- How words that make no view end.
 use Rattle.std.specs.Prelude.{ℕ, List, ⊤}
 use Rattle.job_words.specs.Commands.{IsWordsRefusal}
 use Rattle.program_edge.specs.Ends.{IsHelpText}
@@ -6,10 +6,14 @@ use Rattle.view_words.specs.Views.{WordsFail}
 use Rattle.view_words.specs.declared.command.ViewWordsError.{ViewWordsError}
 use Rattle.view_words.specs.declared.command.ViewWordsError.TheVariants as asked
 
+-- the text of a request for help
+abbrev pub IsHelpOf : ViewWordsError → List ℕ → Type 0
+IsHelpOf (asked.Words e) text = IsHelpText e text
+IsHelpOf (asked.Limits refusal) text = ⊥
+
 -- a request for help
 abbrev pub IsHelp : ViewWordsError → Type 0
-IsHelp (asked.Words e) = (text : List ℕ) × IsHelpText e text
-IsHelp (asked.Limits refusal) = ⊥
+IsHelp e = (text : List ℕ) × IsHelpOf e text
 
 -- words that are not taken, or refused
 abbrev pub IsRefusal : ViewWordsError → Type 0

@@ -10,7 +10,7 @@ FitsScale None shift pages = ⊤
 FitsScale (Some scale) shift pages =
     (2 ^ shift ≡ scale.page) × (scale.sampled < scale.guest → pages ≤ scale.sampled)
 
--- the error says in which way the trace does not have the scale
+-- the error says how the trace does not have the scale
 abbrev pub IsMisfitOf : TraceScale → ℕ → ℕ → ShowError → Type 0
 IsMisfitOf scale shift pages (errors.PageSize size) = (size ≡ 2 ^ shift) × (size ≢ scale.page)
 IsMisfitOf scale shift pages (errors.TooManyPages count) =

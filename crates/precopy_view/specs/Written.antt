@@ -1,5 +1,5 @@
 -- What the program writes, and why it does not.
-use Rattle.std.specs.Prelude.{◌≡◌, ℕ, Bool, List, Option}
+use Rattle.std.specs.Prelude.{ℕ, Bool, List, Option}
 use Rattle.std.specs.Io.KnownBytes.{Appends}
 use Rattle.migration_jobs.specs.Output.{RefusesRun}
 use Rattle.migration_jobs.specs.Sink.{AppendsPart}
@@ -19,7 +19,7 @@ pub record MakesView (known : Option (List ℕ)) (asked : AskedView) (output : L
   pub fits : FitsScale asked.scale log.shift log.pages
   pub is_view : IsView log asked.view output is_kept
 
--- the view was added to what a sink held, or a beginning of it
+-- the view, or a prefix of it, was added to what a sink held
 pub record WritesView (known : Option (List ℕ)) (asked : AskedView) (is_kept : Bool)
     (old new : Option (List ℕ)) : Type 0 where
   pub output : List ℕ
@@ -32,21 +32,21 @@ pub record WritesViewPart (known : Option (List ℕ)) (asked : AskedView) (old n
   pub is_shown : MakesView known asked output is_kept
   pub added : AppendsPart old new output
 
--- the trace does not have the scale that is asked for
+-- the trace does not have the requested scale
 pub record RefusesScale (known : Option (List ℕ)) (asked : AskedView) (e : ShowError) : Type 0 where
   pub log : GuestTouches
   pub is_log : IsLogOf known log
   pub misfit : IsMisfit asked.scale log.shift log.pages e
 
--- the view that is asked for cannot be made of the trace
+-- the requested view cannot be made of the trace
 pub record RefusesMaking (known : Option (List ℕ)) (asked : AskedView) (e : ViewError) : Type 0 where
   pub log : GuestTouches
   pub is_log : IsLogOf known log
   pub fits : FitsScale asked.scale log.shift log.pages
   pub refused : RefusesView log asked.view e
 
--- A trace is refused only for a cause in what the source held, or for one outside of it, or for its scale
--- or for what the view asks of it.
+-- A trace is refused only for a cause in what the source held or outside of it, for its scale, or for what the view
+-- asks of it.
 abbrev pub RefusesAskedView : Option (List ℕ) → AskedView → ShowError → Type 0
 RefusesAskedView known asked (errors.Run e) = RefusesRun known e
 RefusesAskedView known asked (errors.PageSize size) = RefusesScale known asked (errors.PageSize size)

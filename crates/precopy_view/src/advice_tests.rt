@@ -1,4 +1,4 @@
-//! What is advised of cases whose downtime and pages sent are given.
+//! The advice for cases whose downtime and pages sent are given.
 
 use rate_limit::{Asked, Reason, Settings};
 use std::test::Fail;
@@ -6,7 +6,7 @@ use sweep_report::Line;
 use trace_views::{Advice, Budget, advise};
 use worked_guest::asked;
 
-/// A case with this downtime and so many pages sent.
+/// A case with this downtime and this many pages sent.
 fn case(down: u64, total: u64) -> Result<Line, Fail> {
     let settings = Settings::new(Asked {
         min: 1000,

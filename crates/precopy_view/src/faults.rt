@@ -1,7 +1,10 @@
-//! What is told on standard error, and the statuses that go with it.
+//! What is written on standard error, and the statuses that go with it.
 
-ghost use Rattle.std.specs.Prelude.{◌≡◌, ◌≤◌, IfErr, OnOk, false, true};
-ghost use Rattle.precopy_view.specs.Ends.{IsHelp, IsRefusal};
+ghost use Rattle.std.specs.Prelude.{◌≡◌, ◌≤◌, ◌⊎◌, IfErr, List, OnOk, ℕ, false, true};
+ghost use Rattle.std.specs.Io.KnownBytes.{Appends};
+ghost use Rattle.migration_jobs.specs.Sink.{AppendsPart};
+ghost use Rattle.program_edge.specs.Ends.{IsTold, memory_line};
+ghost use Rattle.precopy_view.specs.Ends.{IsHelpOf, IsRefusal};
 ghost use Rattle.precopy_view.specs.Fitting.{FitsScale, IsMisfit};
 
 use guest_units::Scale;
@@ -13,16 +16,16 @@ use trace_readers::TouchLog;
 use trace_views::ViewError;
 use view_words::ViewWordsError;
 
-/// Why a view was not shown. It is written behind `precopy-view: ` in a fault line.
+/// Why a view was not shown. It follows `precopy-view: ` in a fault line.
 #[derive(Clone, Copy, Debug, PartialEq, Eq, Error)]
 pub enum ShowError {
-    /// As a run of `precopy` ends.
+    /// The run failed as one of `precopy`.
     #[error("{0}")]
     Run(RunError),
-    /// The pages of the trace have another size than the words say: so many bytes.
+    /// The pages of the trace have a size other than the words say: this many bytes.
     #[error("a page of the trace has {0} bytes; say so by --page")]
     PageSize(u64),
-    /// The trace has so many pages, which is more than were sampled.
+    /// The trace has this many pages, which is more than were sampled.
     #[error("the trace has {0} pages, more than --sampled says")]
     TooManyPages(u64),
     /// A view could not be made.
@@ -61,12 +64,12 @@ fn cause_of(error: &TraceError) -> &'static str {
         TraceError::BadPages => "it does not have 1 to 65,536 pages",
         TraceError::TooManyWrites => "it has more than 1,048,576 writes",
         TraceError::ShortRecord(_) => "it ends within this record",
-        TraceError::TickOrder(_) => "the tick is below that of the record before",
+        TraceError::TickOrder(_) => "the tick is below that of the previous record",
         TraceError::TickTooLarge(_) => "the tick is 2^40 or more",
         TraceError::PageOutOfRange(_) => "the guest does not have the page",
         TraceError::EmptyWrite(_) => "the write has no bytes, and is no release",
         TraceError::OutOfPage(_) => "the write goes beyond its page",
-        TraceError::TrailingBytes => "bytes stand after the last record",
+        TraceError::TrailingBytes => "bytes follow the last record",
         TraceError::TooLong => "it has more than 2^28 bytes",
         TraceError::Memory => "memory ran out",
         TraceError::ReadFault => "it could not be read",
@@ -98,8 +101,14 @@ pub fn refuse<K: Sink, E: Sink>(error: ViewWordsError, sink: &mut K, faults: &mu
     requires untold { E.has_failed faults.old ≡ false }
     ensures status { result ≤ 2 }
     ensures flushed { result ≡ 0 → K.is_flushed sink.new ≡ true }
-    ensures help { result ≡ 0 → IsHelp error }
+    ensures help { result ≡ 0 → (text : List ℕ) × IsHelpOf error text
+        × Appends (K.contents sink.old) (K.contents sink.new) text }
     ensures refused { result ≡ 2 → IsRefusal error × (sink.new ≡ sink.old) }
+    // Help that could not be written, or memory that ran out.
+    ensures failed { result ≡ 1 → ((text : List ℕ) × IsHelpOf error text × (K.has_failed sink.new ≡ true)
+        × AppendsPart (K.contents sink.old) (K.contents sink.new) text)
+        ⊎ ((sink.new ≡ sink.old) × IsTold (memory_line Program.PrecopyView) (E.contents faults.old)
+        (E.contents faults.new) (E.has_failed faults.new)) }
 {
     match error {
         ViewWordsError::Words(error) => {

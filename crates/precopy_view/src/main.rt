@@ -1,4 +1,4 @@
-//! `precopy-view`: what precopy tells of a trace, for people and for programs.
+//! `precopy-view`: what precopy says about a trace, for people and for programs.
 #![tactic(auto)]
 
 #[cfg(test)]

@@ -1,15 +1,16 @@
 //! The program over words, a source and two sinks.
 
-ghost use Rattle.std.specs.Prelude.{◌≡◌, ◌≢◌, ◌≤◌, ◌⊎◌, Bool, List, ℕ, IfErr, IfOk, OnOk, false, map, string_bytes};
-ghost use Rattle.std.specs.Prelude.{true};
+ghost use Rattle.std.specs.Prelude.{◌≡◌, ◌≢◌, ◌≤◌, ◌⊎◌, IfErr, IfOk, List, OnOk, ℕ, false, map, string_bytes, true};
 ghost use Rattle.std.specs.Io.KnownBytes.{Appends};
 ghost use Rattle.migration_jobs.specs.Sink.{AppendsPart};
+ghost use Rattle.program_edge.specs.Ends.{IsTold, memory_line};
 ghost use Rattle.precopy_view.specs.Ends.{FailsAs, IsHelp, IsRefusal};
 ghost use Rattle.precopy_view.specs.Written.{MakesView, RefusesAskedView, WritesView, WritesViewPart};
 ghost use Rattle.view_words.specs.Views.{WordsAsk};
 
 use crate::faults::{ShowError, check_scale, fault, refuse};
 use migration_jobs::{RunError, Sink, write_out};
+use program_edge::Program;
 use std::alloc::Global;
 use std::thread::Threads;
 use trace_codec::Source;
@@ -98,7 +99,7 @@ fn show<R: Threads + Sync, S: Source, K: Sink, E: Sink>(
 /// for help go to `sink`, and the line of a fault or the text of a refused command line to `faults`.
 ///
 /// Returns the program's status: 0 is success, 1 a run that failed, 2 a refused command line, and 3 a prediction whose
-/// downtime is over its limit. A failure of `faults` is passed over.
+/// downtime is over its limit. A failure of `faults` is ignored.
 pub fn start<R: Threads + Sync, S: Source, K: Sink, E: Sink>(
     rt: &R,
     alloc: Global,
@@ -111,24 +112,30 @@ pub fn start<R: Threads + Sync, S: Source, K: Sink, E: Sink>(
     requires unwritten { K.has_failed sink.old ≡ false }
     requires untold { E.has_failed faults.old ≡ false }
     ensures status { result ≤ 3 }
-    // Nothing that was written is kept back.
+    // Nothing that was written is held back.
     ensures flushed { (result ≡ 0) ⊎ (result ≡ 3) → K.is_flushed sink.new ≡ true }
     // What was written is the view of what was read that the words ask for, and its limit is kept; or else they ask for
     // help, and nothing was read.
     ensures written { result ≡ 0 → ((asked : AskedView) × WordsAsk (map string_bytes words.items) asked
         × WritesView (S.remaining source.old) asked true (K.contents sink.old) (K.contents sink.new))
-        ⊎ (FailsAs IsHelp (map string_bytes words.items) × (source.new ≡ source.old)) }
+        ⊎ (FailsAs IsHelp (map string_bytes words.items) × (source.new ≡ source.old)
+        × (text : List ℕ) × Appends (K.contents sink.old) (K.contents sink.new) text) }
     // What was written is the view of what was read that the words ask for, and its limit is not kept.
     ensures missed { result ≡ 3 → (asked : AskedView) × WordsAsk (map string_bytes words.items) asked
         × WritesView (S.remaining source.old) asked false (K.contents sink.old) (K.contents sink.new) }
     // Words are refused before any byte of the trace is read, and nothing is written then.
     ensures refused { result ≡ 2 → FailsAs IsRefusal (map string_bytes words.items) × (source.new ≡ source.old)
         × (sink.new ≡ sink.old) }
-    // Nothing was written, or a beginning of the view of what was read that the words ask for, or else of a text of
-    // help, and nothing was read.
-    ensures part { result ≡ 1 → ((sink.new ≡ sink.old) ⊎ ((asked : AskedView) × WordsAsk
-        (map string_bytes words.items) asked × WritesViewPart (S.remaining source.old) asked (K.contents sink.old)
-        (K.contents sink.new))) ⊎ (source.new ≡ source.old) }
+    // The view that the words ask for failed, and nothing or a prefix of it was written; or else nothing was read: a
+    // write of help failed, or memory ran out while the words were read, which is reported, and nothing is written.
+    ensures failed { result ≡ 1 → ((asked : AskedView) × WordsAsk (map string_bytes words.items) asked
+        × ((sink.new ≡ sink.old) ⊎ WritesViewPart (S.remaining source.old) asked (K.contents sink.old)
+        (K.contents sink.new)))
+        ⊎ ((source.new ≡ source.old) × ((FailsAs IsHelp (map string_bytes words.items)
+        × (K.has_failed sink.new ≡ true) × (text : List ℕ) × AppendsPart (K.contents sink.old) (K.contents sink.new)
+        text)
+        ⊎ ((sink.new ≡ sink.old) × IsTold (memory_line Program.PrecopyView) (E.contents faults.old)
+        (E.contents faults.new) (E.has_failed faults.new)))) }
 {
     match view_of(alloc, &words) {
         Ok(asked) => show(rt, alloc, &asked, source, sink, faults),

@@ -1,4 +1,4 @@
-//! Worked examples of the command line: what is written, what is told, and the status.
+//! Worked examples of the command line: what is written, what is reported, and the status.
 
 ghost use Rattle.std.specs.Prelude.{◌≡◌, false};
 
@@ -16,8 +16,7 @@ fn sink(alloc: Global) -> TestSink
     TestSink::new(Vec::new(alloc), usize::MAX, None, false)
 }
 
-/// What the program does with these words over the first bytes of the trace, so many: its status, its output and its
-/// faults.
+/// What the program does with these words over the trace's first `len` bytes: its status, output and faults.
 pub(crate) fn told<R: Threads + Sync>(
     rt: &R,
     alloc: Global,
@@ -84,7 +83,7 @@ fn writes_a_sweep_document(rt: HostRuntime) -> Result<(), Fail> {
     Ok(())
 }
 
-/// Advice for a downtime of 0 ticks at 4 pages per 1,000 ticks. Only where a round skips page 1 are 6 pages enough.
+/// Advice for a downtime of 0 ticks at 4 pages per 1,000 ticks. Only if a round skips page 1 are 6 pages enough.
 static ADVICE: &str = "budget down 0
 grid start 0
 grid max 4
@@ -215,7 +214,7 @@ fn unknown_words_are_told(rt: HostRuntime) -> Result<(), Fail> {
 /// A prediction for a guest of which one page in four was recorded, over a link of 64 pages of the guest in 1,000
 /// ticks: 16 of the trace. The first round sends 4 pages in 250 ticks. The 2 that are left take 125 ticks. The 4 pages
 /// are sent 2, 2, 1 and 1 times, so the square of the standard error is 16 * 12 * (4 * 10 - 6 * 6) / (4 * 4 * 3) = 16,
-/// and the same for the pages that are left. Such 4 pages of the guest take 62.5 ticks.
+/// and the same for the pages that are left. These 4 pages of the guest take 62.5 ticks.
 static PREDICTION: &str = "converges: yes, rounds: 1
 total time: 0.385 s
 sent: 0.00 MiB
@@ -266,19 +265,19 @@ fn refuses_limits(rt: HostRuntime) -> Result<(), Fail> {
     let cases: [(&[&str], &str); 5] = [
         (
             &["predict", "--link=1KiB"],
-            "precopy-view: --link and --downtime stand together, and --first and --reserve beside them\n",
+            "precopy-view: --link and --downtime go together, and --first and --reserve need them\n",
         ),
         (
             &["predict"],
-            "precopy-view: --link and --downtime are needed, as --link 10Gbit --downtime 300ms\n",
+            "precopy-view: --link and --downtime are needed, as in --link 10Gbit --downtime 300ms\n",
         ),
         (
             &["show", "--link=1GB", "--downtime=1s", "--max=5"],
-            "precopy-view: --min, --max and --threshold do not stand beside --link and --downtime\n",
+            "precopy-view: --min, --max and --threshold cannot be used with --link and --downtime\n",
         ),
         (
             &["chart", "--tick=1"],
-            "precopy-view: --tick: a whole number with us, ms or s behind it, as 1ms\n",
+            "precopy-view: --tick: a whole number followed by us, ms or s, as in 1ms\n",
         ),
         (
             &["json", "report", "--link=10Gbit", "--downtime=1s"],

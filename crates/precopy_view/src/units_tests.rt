@@ -98,11 +98,11 @@ fn refuses_two_budgets_and_none(rt: HostRuntime) -> Result<(), Fail> {
     let cases: [(&[&str], &str); 3] = [
         (
             &["advise", "--max=4"],
-            "precopy-view: --down is needed, or --link and --downtime, as --link 10Gbit --downtime 300ms\n",
+            "precopy-view: --down is needed, or --link and --downtime, as in --link 10Gbit --downtime 300ms\n",
         ),
         (
             &["advise", "--down=3", "--link=1KiB", "--downtime=1s"],
-            "precopy-view: --down does not stand beside --link and --downtime\n",
+            "precopy-view: --down cannot be used with --link and --downtime\n",
         ),
         (
             &["json", "sweep", "--tick=0s", "2,4,1,1,8,0"],
@@ -148,13 +148,14 @@ fn writes_times_and_bytes(rt: HostRuntime) -> Result<(), Fail> {
     Ok(())
 }
 
-/// Starts at every 800th tick up to 2400. Only from 0 and from 2400 on are pages written in the 250 ticks of the first
-/// round, 2 of them, which take 125 ticks more. The migration from 2400 on ends after the last tick of the trace, 2500.
+/// Starts at every 800th tick up to 2400. Only from 0 and from 2400 on are pages written in the 250 ticks of the
+/// first round: 2 of them, which take another 125 ticks. The migration from 2400 on ends after the last tick of the
+/// trace, 2500.
 static STARTS: &str = "          tick         start          time          sent      downtime
              0       0.000 s       0.385 s      0.00 MiB       0.135 s  kept
            800       0.800 s       0.260 s      0.00 MiB       0.010 s  kept
           1600       1.600 s       0.260 s      0.00 MiB       0.010 s  kept
-          2400       2.400 s       0.385 s      0.00 MiB       0.135 s  ends behind the trace
+          2400       2.400 s       0.385 s      0.00 MiB       0.135 s  ends after the trace
 best:  0.800 s, --start 800: time 0.260 s, sent 0.00 MiB, downtime 0.010 s, kept
 worst: 0.000 s, --start 0: time 0.385 s, sent 0.00 MiB, downtime 0.135 s, kept
 ";

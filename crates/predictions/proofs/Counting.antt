@@ -1,5 +1,5 @@
--- One page more, counted.
-use Rattle.std.proofs.Common.{◌≡◌, ℕ, ◌+◌, ◌*◌, ◌<◌, Bool, true, false, cond, ◌==◌, eqb, List, [], ◌∷◌, ◌++◌, length}
+-- One more page, counted.
+use Rattle.std.proofs.Common.{◌≡◌, ℕ, ◌+◌, ◌*◌, ◌<◌, Bool, cond, ◌==◌, List, [], ◌∷◌, ◌++◌, length}
 use Rattle.std.proofs.Common.{get_or, set, refl, ap, sym, ◌∙◌, inl, inr, arith, map, take, length-append}
 use Rattle.std.specs.List.{count_by, flat_map, range_with_len, sum_by}
 use Rattle.std.proofs.lemmas.Bool.{cases_eq, eq-eqb, ne_eqb}
@@ -78,7 +78,7 @@ module _ (pages page count : ℕ) (sent : List ℕ) (old new : Tally) (before : 
     number_is = omega (arith, number, before.number_is, length-append sent (page ∷ []));
   }
 
--- the pages of one round more, in front of those of the rounds after it
+-- the pages of one more round, in front of those of the rounds after it
 pub rounds_more : (rounds : List PlannedRound) (i : ℕ) (round : PlannedRound) (some : List ℕ) → i < length rounds
     → round ≡ get_or rounds i round → some ≡ round.sent
     → flat_map (λ (r : PlannedRound). r.sent) (take (i + 1) rounds)

@@ -8,7 +8,7 @@ use Rattle.migration_model.specs.Sweeps.{PlanOutcome, outcome_of}
 use Rattle.migration_model.specs.Touches.{GuestTouch}
 use Rattle.migration_model.specs.Trace.{last_by}
 
--- What a migration costs. Times are in microseconds: from the first round's begin until the guest runs again, and
+-- What a migration costs. Times are in microseconds: from the start of the first round until the guest runs again, and
 -- without the guest running. Bytes are of the guest. Whether the downtime is within its limit, and whether the stop
 -- comes after the trace's last tick.
 pub record MigrationCost : Type 0 where
@@ -29,12 +29,11 @@ pub record GuestPrediction : Type 0 where
 abbrev pub downtime_of : TraceScale → Limits → ℕ → ℕ
 downtime_of scale limits ticks = micros_of scale ticks + limits.reserve
 
--- the tick of the last touch, or 0 where there is none
+-- the tick of the last touch, or 0 if there is none
 abbrev pub last_tick_of : List GuestTouch → ℕ
 last_tick_of touches = last_by (λ touch. touch.tick) touches
 
--- what a migration costs that begins at a tick and whose plan comes to this, over touches of which the last has this
--- tick
+-- what a migration costs that begins at a tick and whose plan has this result, over touches with this last tick
 abbrev pub cost_of : TraceScale → Limits → ℕ → PlanOutcome → ℕ → MigrationCost
 cost_of scale limits start outcome last_tick = record {
   rounds = outcome.rounds;

@@ -21,7 +21,7 @@ abbrev pub downtime_line : ℕ → GuestPrediction → List ℕ
 downtime_line limit p = line (codes "downtime: " ∷ seconds_text p.cost.downtime ∷ codes ", limit: " ∷ seconds_text limit
     ∷ verdict p.cost.is_kept ∷ [])
 
--- the line on the time of all
+-- the line on the total time
 abbrev pub time_line : ℕ → List ℕ
 time_line time = codes "total time: " ++ (seconds_text time ++ 10 ∷ [])
 
@@ -30,7 +30,7 @@ abbrev pub facts_text : ℕ → GuestPrediction → List ℕ
 facts_text limit p = line (field (ending p.reason) p.cost.rounds ∷ []) ++ (time_line p.cost.time
     ++ (line (codes "sent: " ∷ bytes_text p.cost.bytes ∷ []) ++ downtime_line limit p))
 
--- a line where something holds
+-- a line, if something holds
 abbrev pub line_if : Bool → List ℕ → List ℕ
 line_if holds words = if holds then words ++ 10 ∷ [] else []
 
@@ -49,11 +49,11 @@ reason_words rounds_done = codes
 
 -- what speaks against the prediction
 abbrev pub warnings : GuestPrediction → List ℕ
-warnings p = line_if p.cost.is_late (codes "warning: the stop lies behind the end of the trace; record longer")
+warnings p = line_if p.cost.is_late (codes "warning: the stop lies after the end of the trace; record longer")
     ++ (line_if (nat_lt p.left 100) (codes "warning: fewer than 100 pages decided the stop; chance moves it")
     ++ line_if (ends_early p.reason) (reason_words p.reason))
 
--- how far chance moves the prediction, where pages were sampled
+-- how far chance moves the prediction, if pages were sampled
 abbrev pub errors_line : Option GuestErrors → List ℕ
 errors_line None = []
 errors_line (Some errors) = line (codes "standard errors: sent " ∷ bytes_text errors.bytes ∷ codes ", downtime "

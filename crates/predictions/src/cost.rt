@@ -10,7 +10,7 @@ use sweep_report::Line;
 pub struct Cost {
     /// How many rounds there are.
     pub rounds: u64,
-    /// From the first round's begin until the guest runs again, in microseconds.
+    /// From the start of the first round until the guest runs again, in microseconds.
     pub time: u128,
     /// How many bytes of the guest are sent, over all rounds and after the stop.
     pub bytes: u128,

@@ -1,4 +1,4 @@
-//! How far chance moves a prediction, where pages were sampled.
+//! How far chance moves a prediction, if pages were sampled.
 
 ghost use Rattle.std.specs.Prelude.{◌≡◌, ◌↔◌, ◌≤◌, ◌^◌, IfOk, IsTrue};
 ghost use Rattle.guest_units.specs.Scales.{IsScale};
@@ -36,7 +36,7 @@ impl Model for Errors {
     ghost inverse = { λ e. record { bytes = e.bytes; downtime = e.downtime } };
 }
 
-/// Returns whether standard errors are told for a trace of this scale.
+/// Returns whether standard errors are given for a trace of this scale.
 fn has_errors(scale: &Scale) -> bool
     ensures told { IsTrue result ↔ HasErrors scale.now }
     ensures in_range { IsScale scale.now }
@@ -45,8 +45,7 @@ fn has_errors(scale: &Scale) -> bool
     2 <= sampled && sampled < guest && sampled <= MOST_PAGES
 }
 
-/// Returns a standard error in pages of the guest, from the sum of a number of each sampled page, and that of the
-/// squares.
+/// Returns a standard error in pages of the guest, from the sums of a number of each sampled page and of its square.
 fn error_of(scale: &Scale, sum: u64, squares: u64) -> u128
     requires sampled { HasErrors scale.now }
     requires sum { sum ≤ 4_259_840 }
@@ -61,7 +60,7 @@ fn error_of(scale: &Scale, sum: u64, squares: u64) -> u128
     root_above_quotient(guest * left * spread, sampled * sampled * (sampled - 1))
 }
 
-/// Returns how long so many pages of the guest take at a rate of the trace, in microseconds and rounded up.
+/// Returns how long this many pages of the guest take at a rate of the trace, in microseconds and rounded up.
 fn time_of(scale: &Scale, rate: u64, pages: u128) -> u128
     requires sampled { HasErrors scale.now }
     requires rate { 1 ≤ rate }
@@ -74,8 +73,8 @@ fn time_of(scale: &Scale, rate: u64, pages: u128) -> u128
 }
 
 impl Errors {
-    /// Returns the standard errors of what a plan predicts, over a trace of so many pages and with this greatest rate,
-    /// where pages were sampled.
+    /// Returns the standard errors of what a plan predicts, over a trace of this many pages and with this greatest
+    /// rate, if pages were sampled.
     pub fn of_plan(
         alloc: Global,
         scale: &Scale,

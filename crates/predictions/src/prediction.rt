@@ -9,7 +9,7 @@ use std::marker::Model;
 /// What a migration will be: how it ends, and what it costs.
 #[derive(Debug, Drop)]
 pub struct Prediction {
-    /// Why no further round comes.
+    /// Why there are no more rounds.
     pub reason: Reason,
     /// What it costs, in time and bytes.
     pub cost: Cost,

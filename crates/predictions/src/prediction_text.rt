@@ -1,9 +1,8 @@
 //! A prediction as lines.
 
 ghost use Rattle.std.specs.Prelude.{◌≡◌, ◌++◌, ◌∷◌, ◌<◌, ◌^◌, [], OnOk, codes};
-ghost use Rattle.migration_model.specs.Rates.{StopReason};
 ghost use Rattle.predictions.specs.Quantities.{bytes_text, seconds_text};
-ghost use Rattle.predictions.specs.Texts.{downtime_line, ending, ends_early, errors_line, facts_text, line_if};
+ghost use Rattle.predictions.specs.Texts.{ending, ends_early, errors_line, facts_text, line_if};
 ghost use Rattle.predictions.specs.Texts.{prediction_text, reason_words, time_line, verdict, warnings};
 ghost use Rattle.rate_limit.specs.Pacing.{reason_of};
 ghost use Rattle.sweep_report.specs.Lines.{field, line};
@@ -15,7 +14,7 @@ use rate_limit::Reason;
 use std::alloc::AllocError;
 use sweep_report::{end_line, push_field};
 
-/// How many pages have to be left for chance to move the downtime by less than a tenth.
+/// How many pages must be left for chance to move the downtime by less than a tenth.
 const MANY_PAGES: u64 = 100;
 
 /// Returns what a reason says of convergence.
@@ -38,7 +37,7 @@ fn push_ending(text: &mut Vec<u8>, reason: &Reason, rounds: u64) -> Result<(), A
     end_line(text)
 }
 
-/// Appends the line on the time of all.
+/// Appends the line on the total time.
 fn push_time(text: &mut Vec<u8>, time: u128) -> Result<(), AllocError>
     ensures { OnOk result (text.new.items ≡ text.old.items ++ time_line time) }
 {
@@ -99,7 +98,7 @@ fn push_facts(text: &mut Vec<u8>, limit: u64, prediction: &Prediction) -> Result
     Ok(())
 }
 
-/// Appends a line, where something holds.
+/// Appends a line, if something holds.
 fn push_if(text: &mut Vec<u8>, holds: bool, words: &str) -> Result<(), AllocError>
     ensures { OnOk result (text.new.items ≡ text.old.items ++ line_if holds words.now) }
 {
@@ -139,7 +138,7 @@ fn push_warnings(text: &mut Vec<u8>, prediction: &Prediction) -> Result<(), Allo
     push_if(
         text,
         prediction.cost.is_late,
-        "warning: the stop lies behind the end of the trace; record longer",
+        "warning: the stop lies after the end of the trace; record longer",
     )?;
     push_if(
         text,
@@ -165,7 +164,7 @@ fn push_both(text: &mut Vec<u8>, bytes: u128, downtime: u128) -> Result<(), Allo
     Ok(())
 }
 
-/// Appends the line on standard errors, where they are told.
+/// Appends the line on standard errors, if they are given.
 fn push_errors(text: &mut Vec<u8>, errors: &Option<Errors>) -> Result<(), AllocError>
     ensures { OnOk result (text.new.items ≡ text.old.items ++ errors_line errors.now) }
 {

@@ -46,7 +46,7 @@ fn push_three(text: &mut Vec<u8>, n: u64) -> Result<(), AllocError>
     text.extend_from_slice(&[digit(n / 100), digit(n / 10 % 10), digit(n % 10)])
 }
 
-/// Appends a time, given in microseconds: seconds and three digits behind a point, rounded down.
+/// Appends a time, given in microseconds: seconds and three digits after the point, rounded down.
 #[tactic(auto, unfolding(crate::specs::Quantities::seconds_text))]
 pub fn push_seconds(text: &mut Vec<u8>, micros: u128) -> Result<(), AllocError>
     ensures { OnOk result (text.new.items ≡ text.old.items ++ seconds_text micros) }
@@ -57,7 +57,7 @@ pub fn push_seconds(text: &mut Vec<u8>, micros: u128) -> Result<(), AllocError>
     text.extend_from_slice(" s".as_bytes())
 }
 
-/// Appends hundredths: a number and two digits behind a point.
+/// Appends hundredths: a number and two digits after the point.
 #[tactic(auto, unfolding(crate::specs::Quantities::hundredths_text))]
 fn push_hundredths(text: &mut Vec<u8>, n: u128) -> Result<(), AllocError>
     ensures { OnOk result (text.new.items ≡ text.old.items ++ hundredths_text n) }
@@ -67,7 +67,7 @@ fn push_hundredths(text: &mut Vec<u8>, n: u128) -> Result<(), AllocError>
     push_two(text, (n % 100) as u64)
 }
 
-/// Appends a size: in GiB where it has one, and else in MiB, with two digits behind a point, rounded down.
+/// Appends a size: in GiB if it has one, and else in MiB, with two digits after the point, rounded down.
 pub fn push_bytes(text: &mut Vec<u8>, bytes: u128) -> Result<(), AllocError>
     requires { bytes < 2 ^ 120 }
     ensures { OnOk result (text.new.items ≡ text.old.items ++ bytes_text bytes) }

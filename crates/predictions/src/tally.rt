@@ -10,7 +10,7 @@ use round_planner::Plan;
 use std::alloc::{AllocError, Global};
 
 impl Tally {
-    /// Returns a tally of no pages, for the first pages, so many.
+    /// Returns an empty tally for the first `pages` pages.
     fn new(alloc: Global, pages: u32) -> Result<Tally, AllocError>
         ensures { IfOk result (λ tally. IsTally pages [] tally) }
     {
@@ -50,7 +50,7 @@ impl Tally {
     }
 }
 
-/// Returns how often a plan sends each of the first pages, so many.
+/// Returns how often a plan sends each of the first `pages` pages.
 pub(crate) fn tally_of(alloc: Global, plan: &Plan, pages: u32) -> Result<Tally, AllocError>
     ensures tally { IfOk result (IsTally pages (pages_sent plan.now)) }
     ensures number { IfOk result (λ tally. tally.number ≡ total_of plan.now) }

@@ -1,7 +1,7 @@
 //! The programs, by name.
 
 ghost use Rattle.std.specs.Prelude.{◌≡◌};
-ghost use Rattle.program_edge.specs.Ends.{memory_line};
+ghost use Rattle.program_edge.specs.Ends.{memory_line, name_of};
 
 /// A program. Its name begins each of its fault lines.
 #[derive(Clone, Copy, Debug, PartialEq, Eq)]
@@ -14,7 +14,9 @@ pub enum Program {
 
 impl Program {
     /// Returns the name of the program.
-    pub fn name(self) -> &'static str {
+    pub fn name(self) -> &'static str
+        ensures { result.now ≡ name_of self }
+    {
         match self {
             Program::Precopy => "precopy",
             Program::PrecopyView => "precopy-view",

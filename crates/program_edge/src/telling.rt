@@ -4,7 +4,7 @@ ghost use Rattle.std.specs.Prelude.{◌≡◌, ◌≤◌, ◌⊎◌, ◌↔◌, 
 ghost use Rattle.std.specs.Io.KnownBytes.{Appends};
 ghost use Rattle.job_words.specs.Commands.{IsWordsRefusal};
 ghost use Rattle.migration_jobs.specs.Sink.{AppendsPart};
-ghost use Rattle.program_edge.specs.Ends.{IsHelpText, memory_line};
+ghost use Rattle.program_edge.specs.Ends.{IsHelpText, IsTold, memory_line};
 
 use crate::program::Program;
 use arrayvec::ArrayString;
@@ -15,7 +15,7 @@ use std::fmt::{Display, Write};
 /// Writes a text of faults. If that fails, nobody can be told.
 fn tell<E: Sink>(faults: &mut E, text: &str)
     requires { E.has_failed faults.old ≡ false }
-    ensures { AppendsPart (E.contents faults.old) (E.contents faults.new) text.now }
+    ensures { IsTold text.now (E.contents faults.old) (E.contents faults.new) (E.has_failed faults.new) }
 {
     let _ = write_out(faults, text.as_bytes());
 }
@@ -23,6 +23,7 @@ fn tell<E: Sink>(faults: &mut E, text: &str)
 /// Writes a fault line: the program's name, and a cause. It has at most 128 bytes, and allocates nothing.
 pub fn tell_line<E: Sink, D: Display>(program: Program, cause: &D, faults: &mut E)
     requires { E.has_failed faults.old ≡ false }
+    ensures { (line : List ℕ) × IsTold line (E.contents faults.old) (E.contents faults.new) (E.has_failed faults.new) }
 {
     let mut line = ArrayString::<128>::new();
     let _ = write!(line, "{}: {cause}\n", program.name());
@@ -32,7 +33,9 @@ pub fn tell_line<E: Sink, D: Display>(program: Program, cause: &D, faults: &mut 
 /// Writes the fault line of an error, and returns the error's status, 1.
 pub fn fault<E: Sink, D: Display>(program: Program, error: &D, faults: &mut E) -> u8
     requires { E.has_failed faults.old ≡ false }
-    ensures { result ≡ 1 }
+    ensures status { result ≡ 1 }
+    ensures told { (line : List ℕ) × IsTold line (E.contents faults.old) (E.contents faults.new)
+        (E.has_failed faults.new) }
 {
     tell_line(program, error, faults);
     1
@@ -42,7 +45,8 @@ pub fn fault<E: Sink, D: Display>(program: Program, error: &D, faults: &mut E) -
 fn short_of_memory<E: Sink>(program: Program, faults: &mut E) -> u8
     requires { E.has_failed faults.old ≡ false }
     ensures status { result ≡ 1 }
-    ensures told { AppendsPart (E.contents faults.old) (E.contents faults.new) (memory_line program) }
+    ensures told { IsTold (memory_line program) (E.contents faults.old) (E.contents faults.new)
+        (E.has_failed faults.new) }
 {
     tell(faults, program.memory_line());
     1
@@ -84,8 +88,8 @@ pub fn refuse<K: Sink, E: Sink>(
     // Help that could not be written, or memory that ran out.
     ensures failed { result ≡ 1 → ((K.has_failed sink.new ≡ true) × (text : List ℕ) × IsHelpText error text
         × AppendsPart (K.contents sink.old) (K.contents sink.new) text)
-        ⊎ ((error ≡ WordsError.Memory) × AppendsPart (E.contents faults.old) (E.contents faults.new)
-        (memory_line program)) }
+        ⊎ ((error ≡ WordsError.Memory) × IsTold (memory_line program) (E.contents faults.old) (E.contents faults.new)
+        (E.has_failed faults.new)) }
 {
     match error {
         WordsError::Help(text) => run_help(program, text.as_str(), sink, faults),

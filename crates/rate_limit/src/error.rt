@@ -2,8 +2,8 @@
 
 use thiserror::Error;
 
-/// Why settings are refused: the setting that is out of its range. An error is written as its name in fault lines.
-/// Where several settings are out of range, the error is the first in this order.
+/// Why settings are refused: the setting that is out of its range. An error is written as its name in fault lines. If
+/// several settings are out of range, the error is the first in this order.
 #[derive(Clone, Copy, Debug, PartialEq, Eq, Error)]
 pub enum SettingsError {
     /// The least rate is not 1 to 1,000,000 pages per 1,000 ticks.

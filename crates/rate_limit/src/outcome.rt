@@ -2,7 +2,7 @@
 
 use std::fmt;
 
-/// Why pre-copying ends. A reason is written as the word that reports have for it.
+/// Why pre-copying ends. A reason is written as the word that reports use for it.
 #[derive(Clone, Copy, Debug, PartialEq, Eq)]
 pub enum Reason {
     /// Fewer pages than the threshold were dirtied.
@@ -16,7 +16,7 @@ pub enum Reason {
 /// What comes after a round.
 #[derive(Clone, Copy, Debug, PartialEq, Eq)]
 pub enum Next {
-    /// A further round, at this rate in pages per 1,000 ticks.
+    /// Another round, at this rate in pages per 1,000 ticks.
     Go(u64),
     /// The stop.
     Stop(Reason),
@@ -27,7 +27,7 @@ impl Reason {
     ghost use Rattle.migration_model.specs.Rates.{word_of};
     ghost use Rattle.rate_limit.specs.Pacing.{reason_of};
 
-    /// Returns the word that reports have for the reason: `few`, `fast` or `rounds`.
+    /// Returns the word that reports use for the reason: `few`, `fast` or `rounds`.
     pub fn word(&self) -> &'static str
         ensures { result.now ≡ word_of (reason_of self.now) }
     {

@@ -8,7 +8,7 @@ ghost use Rattle.rate_limit.specs.Pacing.{outcome_of};
 use crate::outcome::{Next, Reason};
 use crate::settings::Settings;
 
-/// Returns how many ticks so many pages take at a rate in pages per 1,000 ticks, rounded up.
+/// Returns how many ticks it takes to send this many pages at a rate in pages per 1,000 ticks, rounded up.
 pub fn duration(pages: u32, rate: u64) -> u64
     requires { 1 ≤ rate }
     ensures value { result ≡ duration_of pages rate }
@@ -18,7 +18,7 @@ pub fn duration(pages: u32, rate: u64) -> u64
     (1000 * pages as u64).div_ceil(rate)
 }
 
-/// Returns the rate, in pages per 1,000 ticks, at which so many pages were dirtied in these ticks, rounded up.
+/// Returns the rate, in pages per 1,000 ticks, at which this many pages were dirtied in these ticks, rounded up.
 pub fn dirty_rate(pages: u32, ticks: u64) -> u64
     requires { 1 ≤ ticks }
     ensures value { result ≡ dirtying_rate_of pages ticks }
@@ -28,8 +28,7 @@ pub fn dirty_rate(pages: u32, ticks: u64) -> u64
     (1000 * pages as u64).div_ceil(ticks)
 }
 
-/// Returns what comes after a round that lasted these ticks and in which so many pages were dirtied, with `done`
-/// rounds done.
+/// Returns what comes after a round that lasted these ticks and dirtied this many pages, with `done` rounds done.
 ///
 /// The stop tests come in the order few, fast, rounds. The next rate is the dirtying rate plus the increment (Clark
 /// and others 2005, section 5.3), and at least the least rate. Only the first round of a warm start may have no page

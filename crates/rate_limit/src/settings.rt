@@ -22,7 +22,7 @@ pub const MAX_WINDOW: u64 = 1_099_511_627_776;
 /// The most windows that may be asked of a hot page.
 pub const MAX_HOT: u64 = 1_048_576;
 
-/// The first tick that is no start any more, `2^40`.
+/// The first tick at which no migration may start, `2^40`.
 pub const START_LIMIT: u64 = 1_099_511_627_776;
 
 /// The most workers, streams or replayers.
@@ -48,7 +48,7 @@ pub struct Asked {
     pub start: u64,
     /// The length of a window, in ticks.
     pub window: u64,
-    /// In how many windows a page has to be written to be hot.
+    /// In how many windows a page must be written to be hot.
     pub hot: u64,
     /// Threads that copy.
     pub workers: u64,
@@ -135,7 +135,7 @@ fn is_parallel(asked: &Asked) -> bool
         && is_within(1, MAX_LANE, asked.lane)
 }
 
-/// Returns whether the base, where there is one, comes after the first tick.
+/// Returns whether the base, if there is one, comes after the first tick.
 fn is_base_late(asked: &Asked) -> bool
     ensures { result ≡ is_late asked.now.base asked.now.start }
 {
@@ -184,7 +184,7 @@ fn check(asked: &Asked) -> Result<(), SettingsError>
 }
 
 impl Settings {
-    /// Returns these settings where each is in its range, or else the first refusal. It allocates nothing.
+    /// Returns these settings if each is in its range, or else the first refusal. It allocates nothing.
     pub fn new(asked: Asked) -> Result<Settings, SettingsError>
         ensures accepted { IfOk result (λ settings. settings ≡ asked) }
         ensures in_range { IsOk result ↔ AreSettings asked }

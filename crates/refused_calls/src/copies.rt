@@ -72,10 +72,10 @@ pub(crate) fn drive_final_copy<R: Print + Threads + Wait + Sync>(
     Ok(show_copied(rt, copied)?)
 }
 
-/// So many pages that two workers share them.
+/// Enough pages for two workers to share them.
 const PAGES: u32 = 600;
 
-/// A guest of so many pages of 16 bytes, which writes every seventh of them.
+/// A guest of `PAGES` pages of 16 bytes, which writes every seventh of them.
 fn wide_guest(alloc: Global) -> anyhow::Result<Trace> {
     let mut writes = Vec::new(alloc);
     for page in 0..PAGES {
@@ -149,7 +149,7 @@ fn copied_by_two<R: Threads + Wait + Sync>(
     Ok(final_copy(rt, alloc, trace, index, closed, 2, 2, parts)?)
 }
 
-/// Two workers copy a guest of which every page is marked.
+/// Two workers copy a guest whose pages are all marked.
 pub(crate) fn drive_final_copy_by_workers<R: Print + Threads + Wait + Sync>(
     rt: &R,
     alloc: Global,

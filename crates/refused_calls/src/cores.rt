@@ -1,4 +1,4 @@
-//! A run of events from an opening on.
+//! A run of events from an opening.
 
 ghost use Rattle.std.specs.Prelude.{◌≡◌, IfOk};
 ghost use Rattle.dirty_core.specs.Kept.{kept_sizes};

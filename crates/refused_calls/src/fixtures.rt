@@ -1,4 +1,4 @@
-//! The guest whose pages the calls are about, and frames and parts of such pages.
+//! The guest whose pages the calls use, and frames and parts of them.
 
 ghost use Rattle.std.specs.Prelude.{◌≡◌, IfOk};
 ghost use Rattle.migration_model.specs.Frames.{IsFrame};

@@ -1,6 +1,6 @@
 //! Makes one call, for checks that refuse what it asks for. It sets up what the call needs, and prints the line
-//! `ready`. Then it makes the call, and prints what it returned and what stands after it. Then it makes the call again,
-//! and prints the same of that. Its word names the call; with none it makes all of them.
+//! `ready`. Then it makes the call, and prints what it returned and the state after it. Then it makes the call again,
+//! and prints the same for that. Its argument names the call; with none it makes all of them.
 #![tactic(auto)]
 
 mod copies;

@@ -20,7 +20,7 @@ fn shape() -> Shape {
     }
 }
 
-/// So many pages that the table of a part grows in several steps before it has a place for the last one.
+/// Enough pages for the table of a part to grow in several steps before it has a place for the last one.
 fn wide() -> Shape {
     Shape {
         shift: 4,
@@ -37,7 +37,7 @@ fn accepted(part: &mut Part, frame: Frame) -> Result<Fate, PartError>
     part.accept(frame)
 }
 
-/// A part has two pages. It gets a third one far behind them, and then an older frame of the first, for which it needs
+/// A part has two pages. It gets a third one far after them, and then an older frame of the first, for which it needs
 /// no memory.
 pub(crate) fn drive_accept(rt: &impl Print, alloc: Global) -> Result<()> {
     let shape = wide();
@@ -56,7 +56,7 @@ pub(crate) fn drive_accept(rt: &impl Print, alloc: Global) -> Result<()> {
 }
 
 /// Frames of pages 2, 3, 1, 1, 1 and 0: the first of page 1 has zeros, so that the second needs room for its bytes, and
-/// the third stands in that room.
+/// the third uses that room.
 static STREAM: [u8; 118] = [
     2, 0, 0, 0, 0, 0, 0, 0, 0, //
     3, 0, 0, 0, 4, 0, 0, 0, 1, 0, 0, 4, 5, 0, 0, 0, 0, 0, 0, 0, 0, 0, 0, 0, 0, //
@@ -101,7 +101,7 @@ fn show_merged(rt: &impl Print, merged: Result<Part, PartError>) -> io::Result<(
     }
 }
 
-/// Two parts are merged, and the table of the first has to grow.
+/// Two parts are merged, and the table of the first must grow.
 pub(crate) fn drive_merge(rt: &impl Print, alloc: Global) -> Result<()> {
     let shape = wide();
     let (first, second) = two_parts(alloc, &shape)?;

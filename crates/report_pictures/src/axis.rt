@@ -15,7 +15,7 @@ pub(crate) const LEFT: u64 = 90;
 
 pub(crate) const SPAN: u64 = 800;
 
-/// The most labels of an axis, beside the last.
+/// The most labels of an axis, besides the last.
 const MOST_LABELS: u64 = 6;
 
 /// The first and the last tick of a chart.
@@ -25,7 +25,7 @@ pub(crate) struct Axis {
     pub(crate) last: u64,
 }
 
-/// Returns how much of some room a part takes of a whole, rounded down.
+/// Returns a part's share of some room for the whole, rounded down.
 pub(crate) fn share(part: u64, whole: u64, room: u64) -> u64
     ensures { result ≤ room }
 {
@@ -38,13 +38,13 @@ pub(crate) fn window_start(window: &Window, length: u64) -> u64 {
     window.number.saturating_mul(length)
 }
 
-/// Returns the first tick behind a window.
+/// Returns the first tick after a window.
 pub(crate) fn window_end(window: &Window, length: u64) -> u64 {
     window.number.saturating_add(1).saturating_mul(length)
 }
 
 impl Axis {
-    /// Returns this axis made longer, so that it has all windows.
+    /// Returns this axis extended to cover all windows.
     pub(crate) fn with_windows(self, length: u64, tables: &Tables) -> Axis {
         let mut axis = self;
         for window in &tables.windows {
@@ -54,7 +54,7 @@ impl Axis {
         axis
     }
 
-    /// Returns the axis that has all rounds and the downtime.
+    /// Returns the axis that covers all rounds and the downtime.
     pub(crate) fn of_rounds(settings: &Settings, plan: &Plan) -> Axis {
         Axis {
             first: settings.asked().start,
@@ -62,7 +62,7 @@ impl Axis {
         }
     }
 
-    /// Returns where a tick stands.
+    /// Returns where a tick is.
     pub(crate) fn place(&self, tick: u64) -> u64
         ensures { result ≤ 890 }
     {
@@ -88,8 +88,8 @@ impl Axis {
         u64::MAX
     }
 
-    /// Appends the numbers of the axis below a panel that ends at this height, and the axis' title: ticks, or times
-    /// where it is known what a tick stands for.
+    /// Appends the numbers of the axis below a panel that ends at this height, and the axis' title: ticks, or times if
+    /// it is known what a tick stands for.
     pub(crate) fn push_labels(
         &self,
         text: &mut Vec<u8>,
@@ -126,7 +126,7 @@ fn push_mark(text: &mut Vec<u8>, x: u64, bottom: u64) -> Result<(), AllocError> 
     push_rect(text, "line", &mark)
 }
 
-/// Appends a tick as a label: as a number, or as a time in the greatest unit in which the labels are whole numbers.
+/// Appends a tick as a label: as a number, or as a time in the largest unit that makes the labels whole numbers.
 fn push_label(
     text: &mut Vec<u8>,
     scale: &Option<Scale>,

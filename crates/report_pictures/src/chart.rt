@@ -69,8 +69,8 @@ fn push_place(
 }
 
 /// Returns a report as a picture, an SVG document: the pages of each window, and below them, on an axis of their own,
-/// the rounds, the stop and the downtime. Where they lie is marked on the windows. Where windows are narrower than a
-/// unit of the picture, the one with the most pages is drawn. With a scale it has times and sizes too.
+/// the rounds, the stop and the downtime. The windows are marked where these lie. If windows are narrower than a unit
+/// of the picture, the one with the most pages is drawn. With a scale it also has times and sizes.
 pub fn report_chart(
     alloc: Global,
     shape: &Shape,

@@ -8,7 +8,7 @@ use sweep_report::push_field;
 /// The most lines of runs.
 const MOST_LINES: usize = 8;
 
-/// The parts of a cell of the strip: as many of its pages are hot, from none to all.
+/// The shades of a cell of the strip, by how many of its pages are hot, from none to all.
 const SHADES: [&str; 5] = [" ", "░", "▒", "▓", "█"];
 
 /// Pages one after another: the first and the last.
@@ -18,7 +18,7 @@ struct Run {
     last: u32,
 }
 
-/// Returns the runs of some pages, which rise.
+/// Returns the runs of some pages, given in ascending order.
 fn runs_of(alloc: Global, pages: &[u32]) -> Result<Vec<Run>, AllocError> {
     let mut runs = Vec::new(alloc);
     let mut pending: Option<Run> = None;
@@ -47,7 +47,7 @@ fn runs_of(alloc: Global, pages: &[u32]) -> Result<Vec<Run>, AllocError> {
     Ok(runs)
 }
 
-/// Returns a run in words, with a comma behind it where more follow.
+/// Returns a run in words, with a comma after it if more follow.
 fn run_words(alloc: Global, run: &Run, is_last: bool) -> Result<Vec<u8>, AllocError> {
     let mut words = Vec::new(alloc);
     push_wide(&mut words, run.first as u128)?;
@@ -60,8 +60,7 @@ fn run_words(alloc: Global, run: &Run, is_last: bool) -> Result<Vec<u8>, AllocEr
     Ok(words)
 }
 
-/// Appends runs in lines that are no wider than the style has it, up to a screen's worth. Returns how many pages they
-/// have.
+/// Appends runs in lines no wider than the style allows, up to a screen's worth. Returns how many pages they have.
 fn push_runs(
     alloc: Global,
     text: &mut Vec<u8>,
@@ -92,7 +91,7 @@ fn push_runs(
     Ok(shown)
 }
 
-/// Returns how many of some pages, which are below `count`, lie in each of so many cells.
+/// Returns how many of some pages, which are below `count`, lie in each of `cells` cells.
 fn cells_of(
     alloc: Global,
     pages: &[u32],
@@ -109,7 +108,7 @@ fn cells_of(
     Ok(hot)
 }
 
-/// Returns the shade for so many hot pages of some.
+/// Returns the shade for `hot` hot pages of `pages`.
 fn shade_of(hot: u64, pages: u64) -> &'static str {
     if hot == 0 {
         return SHADES[0];
@@ -121,12 +120,12 @@ fn shade_of(hot: u64, pages: u64) -> &'static str {
     SHADES[part.min(2) as usize + 1]
 }
 
-/// Returns the first page of a cell, of so many cells.
+/// Returns the first page of a cell, of `cells` cells.
 fn first_page(cell: u64, cells: u64, count: u64) -> u64 {
     cell.saturating_mul(count).div_ceil(cells.max(1))
 }
 
-/// Appends the strip that shows where in a guest of so many pages the hot ones lie.
+/// Appends the strip that shows where in a guest of `count` pages the hot ones lie.
 fn push_strip(
     alloc: Global,
     text: &mut Vec<u8>,
@@ -144,7 +143,7 @@ fn push_strip(
     push_words(text, "|\n")
 }
 
-/// Appends the hot pages of a guest of so many pages: how many they are, their runs, and where they lie.
+/// Appends the hot pages of a guest of `count` pages: how many there are, their runs, and where they lie.
 pub(crate) fn push_hot(
     alloc: Global,
     text: &mut Vec<u8>,

@@ -15,24 +15,24 @@ pub(crate) struct Panel {
 }
 
 impl Panel {
-    /// Returns how high a number stands in the panel.
+    /// Returns the height of a number in the panel.
     pub(crate) fn height_of(&self, number: u64) -> u64
         ensures { result ≤ self.now.height }
     {
         share(number, self.most, self.height)
     }
 
-    /// Returns the unit behind the panel's last.
+    /// Returns the unit after the panel's last.
     pub(crate) fn bottom(&self) -> u64 {
         self.top.saturating_add(self.height)
     }
 
-    /// Returns where a number stands in the picture.
+    /// Returns where a number is in the picture.
     pub(crate) fn level(&self, number: u64) -> u64 {
         self.bottom().saturating_sub(self.height_of(number))
     }
 
-    /// Appends a bar for a number, on top of another that is so high. Returns how high both are.
+    /// Appends a bar for a number, on top of another of this height. Returns the height of both.
     pub(crate) fn push_bar(
         &self,
         text: &mut Vec<u8>,

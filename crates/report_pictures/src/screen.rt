@@ -25,7 +25,7 @@ const CYAN: &str = "\x1b[36m";
 
 const YELLOW: &str = "\x1b[33m";
 
-/// Appends the names of the parts of a bar, each behind its character.
+/// Appends the names of the parts of a bar, each after its character.
 fn push_legend(
     text: &mut Vec<u8>,
     style: &Style,
@@ -47,7 +47,7 @@ fn push_trace(text: &mut Vec<u8>, shape: &Shape) -> Result<(), AllocError> {
     push_words(text, " writes\n")
 }
 
-/// Returns the part of a bar for pages that were written in the window before, too.
+/// Returns the part of a bar for pages that were also written in the previous window.
 fn again(count: u64) -> Part {
     Part {
         block: "█",
@@ -65,7 +65,7 @@ fn earlier(count: u64) -> Part {
     }
 }
 
-/// Returns the part of a bar for pages that were never written before, or are not sent.
+/// Returns the part of a bar for pages that were never written before or are not sent.
 fn fresh(count: u64) -> Part {
     Part {
         block: "░",
@@ -249,7 +249,7 @@ fn push_tables(
 }
 
 /// Returns a report for a terminal, in UTF-8: the working sets and the plan of a trace of this shape as tables, with
-/// bars of block characters. It has colors only where the style asks for them.
+/// bars of block characters. It has colors only if the style asks for them.
 pub fn report_screen(
     alloc: Global,
     style: &Style,
@@ -264,7 +264,7 @@ pub fn report_screen(
     Ok(text)
 }
 
-/// Returns the same report in times and bytes of the guest, where it is known what ticks and pages stand for.
+/// Returns the same report in times and bytes of the guest, if it is known what ticks and pages stand for.
 pub fn measured_screen(
     alloc: Global,
     style: &Style,

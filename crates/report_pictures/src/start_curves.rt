@@ -20,7 +20,7 @@ use working_sets::Tables;
 enum Quantity {
     /// The downtime, in milliseconds.
     Downtime,
-    /// The time of all, in milliseconds.
+    /// The total time, in milliseconds.
     Time,
     /// What is sent, in MiB.
     Sent,
@@ -36,7 +36,7 @@ fn number_of(quantity: Quantity, at: &StartCost) -> u64 {
     number.min(1 << 50) as u64
 }
 
-/// Returns the panel of a curve, whose greatest number is that of a start, or at least this one.
+/// Returns the panel of a curve, whose greatest number is a start's, but at least this one.
 fn panel_of(quantity: Quantity, costs: &[StartCost], least: u64, top: u64) -> Panel {
     let mut most = least.max(1);
     for at in costs {
@@ -72,7 +72,7 @@ fn push_points(
     push_words(text, "\"/>\n")
 }
 
-/// Appends a line over a panel, where a start is.
+/// Appends a line over a panel, at a start.
 fn push_start(
     text: &mut Vec<u8>,
     axis: &Axis,
@@ -127,10 +127,10 @@ fn push_limit(text: &mut Vec<u8>, panel: &Panel, limit: u64) -> Result<(), Alloc
     panel.push_key(text, "limit", 330, "limit")?;
     panel.push_key(text, "best", 420, "best start")?;
     panel.push_key(text, "worst", 540, "worst start")?;
-    panel.push_key(text, "latekey", 670, "ends behind the trace")
+    panel.push_key(text, "latekey", 670, "ends after the trace")
 }
 
-/// Appends the line of a start that is chosen.
+/// Appends the line of a chosen start.
 fn push_chosen(
     text: &mut Vec<u8>,
     scale: &Scale,
@@ -171,7 +171,7 @@ fn push_curves(
     push_curve(text, axis, &sent, Quantity::Sent, costs, chosen)
 }
 
-/// Returns the axis that has all starts.
+/// Returns the axis that covers all starts.
 fn axis_of(costs: &[StartCost]) -> Axis {
     let mut axis = Axis {
         first: u64::MAX,

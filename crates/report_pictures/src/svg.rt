@@ -3,7 +3,7 @@
 use std::alloc::AllocError;
 use sweep_report::push_field;
 
-/// Where a rectangle stands, and how large it is.
+/// Where a rectangle is, and how large.
 #[derive(Clone, Copy)]
 pub(crate) struct Area {
     pub(crate) x: u64,

@@ -3,7 +3,7 @@
 use itoa::Buffer;
 use std::alloc::{AllocError, Global};
 
-/// What stands between two columns.
+/// What separates two columns.
 const GAP: &str = "  ";
 
 /// What ends a color on a terminal.
@@ -44,7 +44,7 @@ fn push_cell(text: &mut Vec<u8>, width: usize, word: &str) -> Result<(), AllocEr
     text.extend_from_slice(word.as_bytes())
 }
 
-/// Returns how many characters a column takes that has this name and no greater number.
+/// Returns how many characters a column with this name and no greater number takes.
 fn column_width(name: &str, most: u64) -> usize {
     let mut digits = Buffer::new();
     digits.format(most).len().max(name.len())
@@ -58,13 +58,13 @@ pub(crate) fn push_right(text: &mut Vec<u8>, width: usize, words: &[u8]) -> Resu
     text.extend_from_slice(words)
 }
 
-/// Returns how many of some cells a part takes of a bar for the greatest number.
+/// Returns how many cells a part takes, if the bar for the greatest number takes them all.
 pub(crate) fn part_cells(count: u64, most: u64, cells: usize) -> usize {
     let share = count.saturating_mul(cells as u64) / most.max(1);
     share.min(cells as u64) as usize
 }
 
-/// Appends so many characters of a part, in its color where colors are on.
+/// Appends `cells` characters of a part, in its color if colors are on.
 pub(crate) fn push_part(
     text: &mut Vec<u8>,
     part: &Part,

@@ -128,7 +128,7 @@ fn round_words(
     Ok(line)
 }
 
-/// Appends the share of the link that a round takes, where the line has room for it.
+/// Appends the share of the link that a round takes, if the line has room for it.
 fn push_share(
     line: &mut Vec<u8>,
     style: &Style,

@@ -5,7 +5,7 @@ use crate::panel::Panel;
 use std::alloc::AllocError;
 use working_sets::Window;
 
-/// The windows that stand in the same units of the picture: the one with the most pages stands for all.
+/// The windows that fall in the same units of the picture: the one with the most pages stands for all.
 #[derive(Clone, Copy)]
 struct Column {
     from: u64,
@@ -24,7 +24,7 @@ fn column_of(axis: &Axis, length: u64, window: &Window) -> Column {
     }
 }
 
-/// Returns the column for two that stand in the same units.
+/// Returns the column for two that fall in the same units.
 fn merged(column: &Column, next: &Column) -> Column {
     let window = if next.window.pages > column.window.pages {
         next.window
@@ -38,7 +38,7 @@ fn merged(column: &Column, next: &Column) -> Column {
     }
 }
 
-/// Returns where a bar begins and ends, with a gap behind it where there is room for one.
+/// Returns where a bar begins and ends, with a gap after it if there is room for one.
 pub(crate) fn parted(from: u64, to: u64) -> (u64, u64) {
     let is_wide = to.saturating_sub(from) > 3;
     (from, if is_wide { to.saturating_sub(1) } else { to })
@@ -95,7 +95,7 @@ pub(crate) fn panel_of_windows(windows: &[Window]) -> Panel {
     }
 }
 
-/// Appends the panel of the working set. Where windows are narrower than a unit of the picture, the one with the most
+/// Appends the panel of the working set. If windows are narrower than a unit of the picture, the one with the most
 /// pages is drawn.
 pub(crate) fn push_windows(
     text: &mut Vec<u8>,

@@ -58,7 +58,7 @@ last_other touches n page place inside other before = record {
       ];
 }
 
--- one touch more, in a table of the last ones
+-- one more touch, in a table of the last ones
 pub last_more : (touches : List GuestTouch) (n pages p page : ℕ) (last : List ℕ) → n < length touches
     → length last ≡ pages → p ≡ (get_or touches n no_touch).page
     → ((q : ℕ) → q < pages → IsLast touches n q (get_or last q 0)) → page < pages
@@ -77,7 +77,7 @@ last_more touches n pages p page last inside len is before low = elim (cases_eq 
       (λ e. other (sym e ∙ sym is)) (before page low))
 ]
 
--- one number more that has what it should
+-- one more number that has what it should
 pub push_more : (P : ℕ → ℕ → Type 0) (xs new : List ℕ) (n y : ℕ) → length xs ≡ n → new ≡ xs ++ y ∷ []
     → ((i : ℕ) → i < n → P i (get_or xs i 0)) → P n y
     → (i : ℕ) → i < n + 1 → P i (get_or new i 0)
@@ -114,7 +114,7 @@ filter_none f a (suc m) fails =
     let head : one_if (f a) ≡ 0 = ap one_if (fails a) in
     omega (arith, kept_len (f a) a (filter f (range_with_len (a + 1) m)), head, filter_none f (a + 1) m fails)
 
--- a test that one number more may pass
+-- a test that one more number may pass
 filter_one : (f g : ℕ → Bool) (a m p : ℕ) → a ≤ p → p < a + m → ((i : ℕ) → (i ≡ p → ⊥) → g i ≡ f i) → g p ≡ true
     → length (filter g (range_with_len a m)) ≡ length (filter f (range_with_len a m)) + none_if (f p)
 filter_one f g a zero p low high same hit = absurd (omega arith)
@@ -184,7 +184,7 @@ pages_met pages touches places from low (suc k) len last small point fits =
     ∙ sym (ap (λ m. counted places low m) (sym more) ∙ ap (count_by (λ x. leb x low)) taken
     ∙ count_push low place (take k (drop low places)))
 
--- the pages that a round dirties are as many as touches are the first of their pages in it
+-- the pages that a round dirties are as many as the touches in it that are the first of their pages
 pub pages_counted : (pages : ℕ) (touches : List GuestTouch) (places : List ℕ) (from to low high : ℕ)
     → length places ≡ length touches
     → ((i : ℕ) → i < length touches → IsLast touches i (get_or touches i no_touch).page (get_or places i 0))

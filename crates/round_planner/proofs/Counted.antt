@@ -36,7 +36,7 @@ pub one_at_most : (b : Bool) (sent new : ℕ) → new ≡ cond b (sent + 1) sent
 one_at_most true sent new is = omega (arith, is)
 one_at_most false sent new is = omega (arith, is)
 
--- a page of the round is sent where it was not met
+-- a page of the round is sent if it was not met
 pub looked_at : (pages : ℕ) (touches : List GuestTouch) (from end n page sent : ℕ) (marks : List ℕ) (mark b : Bool)
     → IsScan pages touches from end n marks
     → page < pages → mark ≡ in_words marks page → mark ≡ b → one_more (not b) sent
@@ -46,7 +46,7 @@ looked_at pages touches from end n page sent marks mark b scan low is b_is =
     sym b_is ∙ is ∙ mark_is pages touches from end n page marks scan low in
     ap (λ x. one_more (not x) sent) met
 
--- a count goes up where one more is counted
+-- a count goes up if one more is counted
 pub counts_up : (b : Bool) (sent new : ℕ) → new ≡ cond b (sent + 1) sent → ltb sent new ≡ b
 counts_up true sent new is = lt-ltb sent new (omega (arith, is))
 counts_up false sent new is = le-ltb sent new (omega (arith, is))

@@ -53,7 +53,7 @@ first_is pages touches s now are few step total listed bound point = record {
   in_range = are;
 }
 
--- the rounds so far, of which the code keeps the numbers alone, and the round that may come
+-- the rounds so far, of which the code keeps only the numbers, and the round that may come
 pub record AreDone (pages : ℕ) (touches : List GuestTouch) (s : MigrationSettings) (now : RoundNumbers)
     (coming : NextRound) (rounds : List PlannedRound) : Type 0 where
   pub at : StandsAt pages touches s coming now
@@ -72,7 +72,7 @@ starts pages touches s now first = record {
   few = omega (arith, first.total);
 }
 
--- the rounds so far, of a plan that is made of numbers alone
+-- the rounds so far, of a plan that is made only of numbers
 pub record IsUnderWay (pages : ℕ) (touches : List GuestTouch) (s : MigrationSettings) (now : RoundNumbers) : Type
     0 where
   pub coming : NextRound

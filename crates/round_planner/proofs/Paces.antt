@@ -1,9 +1,9 @@
--- A quotient and its rest, when a thousand is added to what is divided.
+-- A quotient and its remainder, when a thousand is added to the dividend.
 use Rattle.std.proofs.Common.{◌≡◌, ℕ, ◌+◌, ◌-◌, ◌*◌, ◌/◌, ◌%◌, ◌<◌, ◌≤◌, sym, ap, ◌∙◌, arith}
 use Rattle.std.proofs.Math.Nat.{div-add-mod}
 use Rattle.std.proofs.lemmas.Nat.{div-mul-add, mod-mul-add, mod_below}
 
--- so many ticks and parts are what is divided
+-- these ticks and parts are the quotient and the remainder
 parts_of : (n rate ticks part : ℕ) → part < rate → n ≡ ticks * rate + part → (ticks ≡ n / rate) × (part ≡ n % rate)
 parts_of n rate ticks part low is = (
   sym (ap (λ m. m / rate) is ∙ div-mul-add ticks rate part low),

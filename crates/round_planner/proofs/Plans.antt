@@ -1,4 +1,4 @@
--- A guest has one plan, and what is found round by round is it.
+-- A guest has one plan, and the one found round by round is it.
 use Rattle.std.proofs.Common.{◌≡◌, ℕ, ◌+◌, ◌-◌, ◌*◌, ◌/◌, ◌≤◌, Bool, true, false, cond, not, ◌&&◌, leb, Option, Some}
 use Rattle.std.proofs.Common.{None, List, [], ◌∷◌, ◌++◌, length, refl, sym, ap, subst, ◌∙◌, append_assoc, inl, inr}
 use Rattle.std.proofs.Common.{arith}
@@ -225,7 +225,7 @@ abbrev rate_in : AfterRound → ℕ
 rate_in (goes_on rate) = rate
 rate_in (stops reason) = 0
 
--- what holds where a further round comes
+-- what holds if another round comes
 record GoesOn (s : MigrationSettings) (dirtied done rate : ℕ) : Type 0 where
   pub not_done : done ≡ s.rounds → ⊥
   pub rate_low : s.min ≤ rate

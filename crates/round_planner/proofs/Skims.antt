@@ -1,5 +1,5 @@
--- The pages of a round that are sent where those soon written again are skipped: found one by one, and why no other
--- list is what the definition says.
+-- The pages of a round that are sent if those soon written again are skipped: found one by one, and why no other list
+-- is what the definition says.
 use Rattle.std.proofs.Common.{◌≡◌, ℕ, zero, suc, ◌+◌, ◌*◌, ◌/◌, ◌<◌, ◌≤◌, Bool, true, false, cond, not, ◌&&◌, eqb, leb}
 use Rattle.std.proofs.Common.{ltb, List, [], ◌∷◌, ◌++◌, length, get_or, take, refl, sym, ap, ◌∙◌, append_assoc, inl}
 use Rattle.std.proofs.Common.{inr, arith}
@@ -11,7 +11,7 @@ use Rattle.std.proofs.lemmas.List.Sums.{sum_by-cons, sum_by-append, fold-append}
 use Rattle.migration_model.specs.Touches.{GuestTouch, is_written}
 use Rattle.migration_model.specs.Rounds.{pages_below, IsSent}
 
--- a list that rises from a number on
+-- a list in ascending order from a number on
 abbrev pub Rises : ℕ → List ℕ → Type 0
 Rises low [] = Unit {0}
 Rises low (x ∷ xs) = (low ≤ x) × Rises (x + 1) xs
@@ -24,7 +24,7 @@ Rises-kept : (b : Bool) (x low : ℕ) (xs : List ℕ) → low ≤ x → Rises (x
 Rises-kept true x low xs le rises = (le, rises)
 Rises-kept false x low xs le rises = Rises-weaker low (x + 1) xs (omega arith) rises
 
--- what passes of a list that rises does too
+-- what passes of an ascending list is ascending too
 Rises-filter : (test : ℕ → Bool) (low : ℕ) (xs : List ℕ) → Rises low xs → Rises low (filter test xs)
 Rises-filter test low [] rises = tt
 Rises-filter test low (x ∷ xs) rises = Rises-kept (test x) x low (filter test xs) rises.0
@@ -80,11 +80,11 @@ AllBelow-push low x xs le all = record {
 
 -- ---- page by page
 
--- whether a page is sent behind so many
+-- whether a page is sent after `sent` others
 abbrev pub stays : List GuestTouch → ℕ → ℕ → ℕ → ℕ → Bool
 stays touches from rate sent page = not (is_written touches from (from + 1_000 * sent / rate) page)
 
--- the pages sent so far with one more, where it stays
+-- the pages sent so far with one more, if it stays
 abbrev pub skim_one : List GuestTouch → ℕ → ℕ → List ℕ → ℕ → List ℕ
 skim_one touches from rate sent page = cond (stays touches from rate (length sent) page) (sent ++ page ∷ []) sent
 
@@ -109,7 +109,7 @@ decided touches from rate low q sent others all below le rises is =
     ) in
     ap (λ n. not (is_written touches from (from + 1_000 * n / rate) q)) count
 
--- what is shown of a rest of the pages, for whatever was sent before it
+-- what is shown of the rest of the pages, for whatever was sent before it
 abbrev pub Keeps : List GuestTouch → ℕ → ℕ → List ℕ → List ℕ → Type 0
 Keeps touches from rate pages all = (low : ℕ) (sent : List ℕ) → AllBelow low sent → Rises low pages
     → all ≡ skim touches from rate sent pages → all ≡ sent ++ filter (is_sent touches from rate all) pages
@@ -184,7 +184,7 @@ pub sent_is_skim : (touches : List GuestTouch) (from rate : ℕ) (pages sent : L
     → sent ≡ skim touches from rate [] pages
 sent_is_skim touches from rate pages sent rises is = only touches from rate pages sent 0 [] (AllBelow-nil 0) rises is
 
--- where nothing is skipped, all pages are sent
+-- if nothing is skipped, all pages are sent
 pub filter_all : (pages : List ℕ) → filter (λ page. true) pages ≡ pages
 filter_all [] = refl
 filter_all (q ∷ pages) = ap (λ (l : List ℕ). q ∷ l) (filter_all pages)
@@ -197,7 +197,7 @@ pub all_is_sent : (touches : List GuestTouch) (from rate : ℕ) (pages sent : Li
     → IsSent false touches from rate pages sent
 all_is_sent touches from rate pages sent is = is ∙ sym (filter_all pages)
 
--- ---- one page more, as the code finds it
+-- ---- one more page, as the code finds it
 
 pub skim_more : (touches : List GuestTouch) (from rate n page : ℕ) (pages sent new : List ℕ) (mark : Bool)
     → n < length pages → page ≡ get_or pages n page

@@ -1,5 +1,5 @@
 -- The index that plans of one trace share, and a plan that is made of counts. The contracts of the index and of the
--- planner cite the first part alone.
+-- planner cite only the first part.
 use Rattle.std.specs.Prelude.{◌≡◌, ℕ, ◌+◌, ◌*◌, ◌/◌, ◌&&◌, ◌<◌, ◌≤◌, nat_lt, nat_le, not, true, false, List, length}
 use Rattle.std.specs.Prelude.{slice_index_or, take}
 use Rattle.std.specs.List.Sorted.{IsPartitionPoint}
@@ -11,22 +11,22 @@ use Rattle.round_planner.specs.Scanning.{is_met, CanCome, HasRun, IsScan, IsScan
 use Rattle.round_planner.specs.declared.numbers.RoundNumbers.{RoundNumbers}
 use Rattle.round_planner.specs.declared.numbers.RoundSums.{RoundSums}
 
--- so many touches are before a tick
+-- `n` touches are before a tick
 abbrev pub IsPoint : List GuestTouch → ℕ → ℕ → Type 0
 IsPoint touches tick n = IsPartitionPoint (λ touch. nat_lt touch.tick tick ≡ true)
     (λ touch. nat_lt touch.tick tick ≡ false) touches n
 
--- `place` tells when the last of the first n touches to a page was: it is no greater than the count of touches before
--- a tick exactly where none of them from that tick on is to the page.
+-- `place` says when the last of the first n touches to a page was: it is no greater than the count of touches before a
+-- tick exactly if none of them from that tick on is to the page.
 pub record IsLast (touches : List GuestTouch) (n page place : ℕ) : Type 0 where
   pub high : place ≤ n
   pub tells : (from low : ℕ) → IsPoint touches from low → low ≤ n → nat_le place low ≡ not (is_met touches from n page)
 
--- for each touch, when the one before to its page was
+-- for each touch, when the previous one to its page was
 pub record RoundColumns : Type 0 where
   pub earlier : List ℕ
 
--- the index of a guest of so many pages with these touches
+-- the index of a guest of `pages` pages with these touches
 pub record IsRoundIndexOf (pages : ℕ) (touches : List GuestTouch) (index : RoundColumns) : Type 0 where
   pub fits : AreTouches pages touches
   pub earlier_len : length index.earlier ≡ length touches
@@ -35,13 +35,13 @@ pub record IsRoundIndexOf (pages : ℕ) (touches : List GuestTouch) (index : Rou
 
 -- ---- a plan that is made of counts, on its way
 
--- so many of a round's pages are sent where pages may be skipped
+-- `count` of a round's pages are sent if pages may be skipped
 pub record HasSent (touches : List GuestTouch) (from rate : ℕ) (pages : List ℕ) (count : ℕ) : Type 0 where
   pub list : List ℕ
   pub sent : IsSent true touches from rate pages list
   pub count_is : count ≡ length list
 
--- a round that may come, by its numbers alone
+-- a round that may come, only by its numbers
 pub record StandsAt (pages : ℕ) (touches : List GuestTouch)
     (s : MigrationSettings) (coming : NextRound) (now : RoundNumbers) : Type 0 where
   pub can : CanCome pages s coming
@@ -58,7 +58,7 @@ pub record IsStanding (pages : ℕ) (touches : List GuestTouch) (s : MigrationSe
   pub coming : NextRound
   pub at : StandsAt pages touches s coming now
 
--- the round that came, by its numbers alone
+-- the round that came, only by its numbers
 pub record RanTo (pages : ℕ) (touches : List GuestTouch)
     (s : MigrationSettings) (coming : NextRound) (ran : RoundSums) : Type 0 where
   pub round : PlannedRound
@@ -79,13 +79,12 @@ pub record IsFirst (pages : ℕ) (touches : List GuestTouch) (s : MigrationSetti
 
 -- ---- a plan whose rounds are found by marks, on its way
 
--- marks for the pages of a guest of so many, and a buffer for a list of them
+-- marks for the pages of a guest of `pages`, and a buffer for a list of them
 pub record AreMarksOf (pages : ℕ) (marks room : List ℕ) : Type 0 where
   pub marks_len : length marks ≡ word_count pages
   pub room_len : length room ≡ pages
 
--- a round that may come, by its numbers and, behind the first one, the list of its pages; the walk stands at its first
--- tick
+-- a round that may come, by its numbers and, after the first one, the list of its pages; the walk is at its first tick
 pub record IsMarkedAt (pages : ℕ) (touches : List GuestTouch)
     (s : MigrationSettings) (coming : NextRound) (now : RoundNumbers) (marks room : List ℕ) : Type 0 where
   pub at : StandsAt pages touches s coming now
@@ -99,14 +98,14 @@ pub record CanMark (pages : ℕ) (touches : List GuestTouch)
   pub coming : NextRound
   pub is : IsMarkedAt pages touches s coming now marks room
 
--- the first slots of the buffer, so many, list the pages that were written in these ticks, and the walk begins anew at
+-- the first `count` slots of the buffer list the pages that were written in these ticks, and the walk begins anew at
 -- the last of them
 pub record IsTurned (pages : ℕ) (touches : List GuestTouch)
     (from tick count next : ℕ) (marks room : List ℕ) : Type 0 where
   pub list : take count room ≡ pages_written pages touches from tick
   pub scan : IsScan pages touches tick tick next marks
 
--- so many of a round's pages are sent, and the walk is not past their ticks
+-- `count` of a round's pages are sent, and the walk is not past their ticks
 pub record HasSentOf (pages : ℕ) (touches : List GuestTouch)
     (s : MigrationSettings) (coming : NextRound) (count next : ℕ) (marks : List ℕ) : Type 0 where
   pub list : List ℕ

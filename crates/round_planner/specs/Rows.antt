@@ -1,4 +1,4 @@
--- The numbers of the rounds of a plan, in a buffer of a caller.
+-- The numbers of the rounds of a plan, in a caller's buffer.
 use Rattle.std.specs.Prelude.{◌≡◌, ℕ, List, ◌++◌, length, drop, map}
 use Rattle.migration_model.specs.Rates.{MigrationSettings}
 use Rattle.migration_model.specs.Rounds.{IsPlan, MigrationPlan, PlannedRound}
@@ -17,12 +17,11 @@ row_of round = record {
   dirtied = round.dirtied;
 }
 
--- a buffer with a row for each of these rounds over its front, and behind them what was there
+-- a buffer with a row for each of these rounds over its front, and after them what was there
 abbrev pub rows_over : List PlannedRound → List RoundRow → List RoundRow
 rows_over rounds old = map row_of rounds ++ drop (length rounds) old
 
--- the plan of a guest of so many pages with these touches comes to this, and its rounds stand over the front of a
--- buffer
+-- the plan of a guest of `pages` pages with these touches has this result, and its rounds fill the front of a buffer
 pub record IsPlanned (pages : ℕ) (touches : List GuestTouch)
     (s : MigrationSettings) (outcome : PlanOutcome) (old new : List RoundRow) : Type 0 where
   pub plan : MigrationPlan

@@ -1,4 +1,4 @@
--- Where a plan stands before a round, and what comes after that round.
+-- The state of a plan before a round, and what comes after that round.
 use Rattle.std.specs.Prelude.{◌≡◌, ℕ, ◌+◌, ◌-◌, List}
 use Rattle.migration_model.specs.Rates.{MigrationSettings, after_round, goes_on, stops}
 use Rattle.migration_model.specs.Rounds.{NextRound}

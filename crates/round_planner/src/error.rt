@@ -12,8 +12,7 @@ pub enum PlanError {
     /// Memory ran out.
     #[error("memory")]
     Memory,
-    /// A thread could not be started. No call returns it: where a thread cannot be started, the caller's thread does
-    /// the work.
+    /// A thread could not be started. No call returns it: in that case the caller's thread does the work.
     #[error("thread")]
     Thread,
 }

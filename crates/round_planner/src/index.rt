@@ -13,7 +13,7 @@ use std::marker::Model;
 /// pages of a round, and marks no page.
 #[derive(Debug, Drop)]
 pub struct RoundIndex {
-    /// 1 more than the index of the last touch before to the same page, or 0.
+    /// 1 more than the index of the previous touch to the same page, or 0.
     earlier: Vec<u32>,
 }
 
@@ -26,7 +26,7 @@ impl Model for RoundIndex {
 }
 
 impl RoundIndex {
-    /// Returns the index of a trace. The error is `Memory`, where memory runs out.
+    /// Returns the index of a trace. The error is `Memory`, if memory runs out.
     pub fn build<T: Timeline>(alloc: Global, timeline: &T) -> Result<RoundIndex, PlanError>
         ensures index { IfOk result (λ index. IsRoundIndexOf (T.pages timeline.now) (T.touches timeline.now) index) }
         ensures refusal { IfErr result (λ e. e ≡ PlanError.Memory) }

@@ -4,7 +4,7 @@ ghost use Rattle.std.specs.Prelude.{◌≡◌, ◌≤◌, ℕ, List, length};
 ghost use Rattle.migration_model.specs.Rounds.{NextRound, pages_lacking};
 ghost use Rattle.migration_model.specs.Touches.{GuestTouch};
 ghost use Rattle.page_bitmap.specs.Listing.{pages_of, word_count};
-ghost use Rattle.round_planner.specs.Indexing.{AreMarksOf, CanMark, HasSentOf, IsFirst, IsMarkedAt, IsPoint, IsTurned};
+ghost use Rattle.round_planner.specs.Indexing.{AreMarksOf, CanMark, HasSentOf, IsFirst, IsMarkedAt, IsTurned};
 ghost use Rattle.round_planner.specs.Indexing.{RanTo};
 ghost use Rattle.round_planner.specs.Rows.{IsPlanned};
 ghost use Rattle.round_planner.specs.Scanning.{IsScan};
@@ -18,7 +18,7 @@ use guest_log::Timeline;
 use page_bitmap::list_pages;
 use rate_limit::{Settings, duration};
 
-/// Returns how many pages a round sends, and how many touches are behind the walk then.
+/// Returns how many pages a round sends, and how many touches the walk has passed then.
 fn sent_pages<T: Timeline>(
     timeline: &T,
     settings: &Settings,
@@ -46,7 +46,7 @@ fn sent_pages<T: Timeline>(
     (walk.at.sent, walk.next)
 }
 
-/// Lists the pages that are marked, and clears the marks. Returns how many pages there were.
+/// Lists the marked pages, and clears the marks. Returns how many pages there were.
 fn turn(marks: &mut [u64], room: &mut [u32]) -> u32
     requires marks { length marks.old ≤ 1_024 }
     requires room { length (pages_of marks.old) ≤ length room.old }
@@ -127,7 +127,7 @@ pub(crate) fn marked_rounds<T: Timeline>(
     }
 }
 
-/// Returns how many pages are written from a base on and before a tick, before which there are so many touches.
+/// Returns how many pages are written from a base on and before a tick.
 fn count_since<T: Timeline>(
     timeline: &T,
     base: u64,
@@ -168,11 +168,11 @@ fn first_marked<T: Timeline>(
 }
 
 /// Returns the sums of the plan of some settings, and writes the numbers of its rounds, in order, over the front of
-/// `rows`. It allocates nothing: the caller lends a bit of `marks` for each page, and a slot of `room`. What is in them
+/// `rows`. It allocates nothing: the caller lends a bit of `marks` for each page, and a slot of `room`. What they hold
 /// does not matter.
 ///
-/// It marks the pages of the touches in the ticks of its rounds, and walks over one word for 64 pages in each round.
-/// Where the settings have a base, the touches from there on count too, and one walk more.
+/// It marks the pages of the touches in the ticks of its rounds, and walks over one word for 64 pages in each round. If
+/// the settings have a base, the touches from there on count too, and one more walk.
 pub fn plan_rows<T: Timeline>(
     timeline: &T,
     settings: &Settings,

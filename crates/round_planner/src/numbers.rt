@@ -1,4 +1,4 @@
-//! Rounds by their numbers: what is kept of them where no list of pages is.
+//! Rounds by their numbers: what is kept of them if there is no list of pages.
 
 ghost use Rattle.std.specs.Prelude.{◌≡◌, ◌<◌, ◌+◌, ◌^◌};
 ghost use Rattle.migration_model.specs.Rates.{duration_of};
@@ -17,7 +17,7 @@ pub(crate) struct RoundNumbers {
     pub(crate) listed: u32,
     /// How many touches there are before its first tick.
     pub(crate) next: usize,
-    /// How many pages the rounds before it sent.
+    /// How many pages the previous rounds sent.
     pub(crate) total: u64,
 }
 
@@ -35,8 +35,7 @@ impl RoundNumbers {
     ghost use Rattle.std.specs.Prelude.{◌≡◌};
     ghost use Rattle.round_planner.specs.Steps.{first_step};
 
-    /// Returns the numbers of the first round: before its first tick there are so many touches, and it has so many
-    /// pages.
+    /// Returns the numbers of the first round, which has `listed` pages and `next` touches before its first tick.
     pub(crate) fn first(settings: &Settings, next: usize, listed: u32) -> RoundNumbers
         ensures step { result.step ≡ first_step settings.now }
         ensures listed { result.listed ≡ listed }
@@ -71,7 +70,7 @@ impl RoundNumbers {
     }
 }
 
-/// Returns the sums of a plan that ends with a round, after so many rounds that sent so many pages.
+/// Returns the sums of a plan that ends with a round, after `rounds` rounds that sent `sent` pages.
 pub(crate) fn ended(
     settings: &Settings,
     rounds: u64,

@@ -3,7 +3,7 @@
 ghost use Rattle.std.specs.Prelude.{◌≡◌, ◌≤◌, ◌<◌, ◌+◌, ◌^◌};
 ghost use Rattle.round_planner.specs.Scanning.{IsPace, IsProgress};
 
-/// How far a round has come: so many of its pages are sent, which takes it to a tick and some parts of the next one.
+/// How far a round has come: `sent` of its pages are sent, which takes it to a tick and some parts of the next one.
 #[derive(Clone, Copy)]
 pub(crate) struct Progress {
     pub(crate) sent: u32,
@@ -53,7 +53,7 @@ impl Pace {
         }
     }
 
-    /// Returns the progress after one page more is sent.
+    /// Returns the progress after one more page is sent.
     pub(crate) fn send(&self, at: Progress) -> Progress
         requires pace { IsPace self.now }
         requires at { IsProgress self.now at }

@@ -5,12 +5,12 @@ ghost use Rattle.std.specs.Prelude.{◌≡◌};
 use rate_limit::Reason;
 use std::marker::Model;
 
-/// One round of a plan. Its pages rise.
+/// One round of a plan. Its pages are in ascending order.
 #[derive(Debug, Drop)]
 pub struct Round {
     /// The round's first tick.
     pub from: u64,
-    /// The first tick behind it.
+    /// The first tick after it.
     pub to: u64,
     /// Its rate, in pages per 1,000 ticks.
     pub rate: u64,
@@ -42,11 +42,11 @@ impl Model for Round {
 pub struct Plan {
     /// The rounds, at least one.
     pub rounds: Vec<Round>,
-    /// Why no further round comes.
+    /// Why there are no more rounds.
     pub reason: Reason,
     /// The tick at which the guest is stopped.
     pub stop: u64,
-    /// The pages that are sent then, rising.
+    /// The pages that are sent then, in ascending order.
     pub last: Vec<u32>,
     /// The downtime: how many ticks that takes at the greatest rate.
     pub down: u64,
@@ -76,7 +76,7 @@ impl Model for Plan {
 pub struct RoundRow {
     /// The round's first tick.
     pub from: u64,
-    /// The first tick behind it.
+    /// The first tick after it.
     pub to: u64,
     /// Its rate, in pages per 1,000 ticks.
     pub rate: u64,
@@ -89,7 +89,7 @@ pub struct RoundRow {
 }
 
 impl RoundRow {
-    /// A row of no round.
+    /// An empty row.
     pub(crate) const NONE: RoundRow = RoundRow {
         from: 0,
         to: 0,
@@ -105,7 +105,7 @@ impl RoundRow {
 pub struct Outcome {
     /// How many rounds there are.
     pub rounds: u64,
-    /// Why no further round comes.
+    /// Why there are no more rounds.
     pub reason: Reason,
     /// The tick at which the guest is stopped.
     pub stop: u64,

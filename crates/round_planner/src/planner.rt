@@ -39,8 +39,8 @@ impl Model for Planner {
 }
 
 impl Planner {
-    /// Returns a planner for a guest. The error is `Memory`, where memory runs out for its buffers of 33 bits a page
-    /// and of 64 rounds.
+    /// Returns a planner for a guest. The error is `Memory`, if memory runs out for its buffers of 33 bits a page and
+    /// of 64 rounds.
     pub fn new<T: Timeline>(alloc: Global, timeline: &T) -> Result<Planner, PlanError>
         ensures pages { IfOk result (λ planner. planner ≡ T.pages timeline.now) }
         ensures refusal { IfErr result (λ e. e ≡ PlanError.Memory) }
@@ -56,9 +56,9 @@ impl Planner {
     /// Returns the sums of the plan of some settings: as many rounds, the same end and as many pages sent as the plan
     /// of `plan` has. It allocates nothing.
     ///
-    /// Where no page is skipped, it reads 4 bytes for each touch in the ticks of its rounds and no more. Where pages
-    /// are skipped, it marks the pages of these touches. Where the settings have a base, it reads 4 bytes for each
-    /// touch from there to the first tick as well.
+    /// If no page is skipped, it reads 4 bytes for each touch in the ticks of its rounds and no more. If pages are
+    /// skipped, it marks the pages of these touches. If the settings have a base, it also reads 4 bytes for each touch
+    /// from there to the first tick.
     pub fn outcome<T: Timeline>(
         &mut self,
         timeline: &T,

@@ -19,7 +19,7 @@ use rate_limit::{Reason, Settings, duration};
 use std::alloc::{AllocError, Global};
 use std::thread::Threads;
 
-/// Returns the first pages, so many, rising.
+/// Returns the first `count` pages, in ascending order.
 fn first_pages(alloc: Global, count: u32) -> Result<Vec<u32>, AllocError>
     ensures { IfOk result (λ pages. pages.items ≡ range_with_len 0 count) }
 {
@@ -30,7 +30,7 @@ fn first_pages(alloc: Global, count: u32) -> Result<Vec<u32>, AllocError>
     Ok(pages)
 }
 
-/// Returns a walk that stands at a tick with no page marked, and all pages of the guest.
+/// Returns a walk that is at a tick with no page marked, and all pages of the guest.
 fn all_pages<T: Timeline>(
     alloc: Global,
     timeline: &T,
@@ -46,8 +46,7 @@ fn all_pages<T: Timeline>(
     Ok((scan, pages))
 }
 
-/// Returns a walk that stands at a tick with no page marked, and the pages that are written from a base on and before
-/// that tick.
+/// Returns a walk that is at a tick with no page marked, and the pages written from a base on and before that tick.
 fn pages_since<T: Timeline>(
     alloc: Global,
     timeline: &T,
@@ -68,8 +67,8 @@ fn pages_since<T: Timeline>(
     Ok((scan, pages))
 }
 
-/// Returns a walk that stands at the first tick with no page marked, and the pages that the destination lacks then:
-/// all, or, where it begins with the memory before a base, those written since.
+/// Returns a walk that is at the first tick with no page marked, and the pages that the destination lacks then: all,
+/// or, if it begins with the memory before a base, those written since.
 fn begin<T: Timeline>(
     alloc: Global,
     timeline: &T,
@@ -89,7 +88,7 @@ fn begin<T: Timeline>(
     }
 }
 
-/// Returns whether pages may be skipped in a round behind so many.
+/// Returns whether pages may be skipped in a round after `done` rounds.
 pub(crate) fn may_skip(settings: &Settings, done: u64) -> bool
     ensures { result ≡ settings.now.skip && nat_le 1 done }
 {
@@ -152,7 +151,7 @@ fn run_round<T: Timeline>(
     Ok((round, dirtied))
 }
 
-/// Returns the plan of a migration that ends with a round, which goes on to tick `stop`.
+/// Returns the plan of a migration that ends with a round, which lasts until tick `stop`.
 fn ended(settings: &Settings, rounds: Vec<Round>, reason: Reason, stop: u64, last: Vec<u32>) -> Plan
     requires { IsSmallPlan rounds.items last.items }
     ensures { result ≡ plan_with rounds.items (reason_of reason) stop last.items
@@ -168,12 +167,11 @@ fn ended(settings: &Settings, rounds: Vec<Round>, reason: Reason, stop: u64, las
     }
 }
 
-/// Returns the plan of a migration. The error is `Memory`, where memory runs out for a list of pages or for the
-/// rounds.
+/// Returns the plan of a migration. The error is `Memory`, if memory runs out for a list of pages or for the rounds.
 ///
-/// It costs as much as the touches in the ticks that its rounds cover, the pages of its lists, and a walk over one
-/// word for 64 pages in each round. It finds the first of those touches by binary search. Where the settings have a
-/// base, the touches from there on count too, and one walk more.
+/// It costs as much as the touches in the ticks that its rounds cover, the pages of its lists, and a walk over one word
+/// for 64 pages in each round. It finds the first of those touches by binary search. If the settings have a base, the
+/// touches from there on count too, and one more walk.
 pub fn plan<T: Timeline>(
     alloc: Global,
     timeline: &T,

@@ -14,15 +14,15 @@ use guest_log::Timeline;
 use page_bitmap::{add_page, has_page, pages_in, word_count};
 use std::alloc::{AllocError, Global};
 
-/// The touches before index `next` are behind the walk. A page is marked where one of them, from the round's first
-/// tick on, was to it. The marks have 64 pages a word, the lowest bit first.
+/// The walk has passed the touches before index `next`. A page is marked if one of them, from the round's first tick
+/// on, was to it. The marks have 64 pages a word, the lowest bit first.
 #[derive(Drop)]
 pub(crate) struct Scan {
     pub(crate) next: usize,
     pub(crate) marks: Vec<u64>,
 }
 
-/// Appends a page where `keep` is set.
+/// Appends a page if `keep` is set.
 fn push_if(pages: &mut Vec<u32>, keep: bool, page: u32) -> Result<(), AllocError>
     ensures { OnOk result (pages.new.items ≡ (if keep then pages.old.items ++ page ∷ [] else pages.old.items)) }
 {
@@ -32,7 +32,7 @@ fn push_if(pages: &mut Vec<u32>, keep: bool, page: u32) -> Result<(), AllocError
     Ok(())
 }
 
-/// Returns the page of touch `next`, where there is one and it is before the tick.
+/// Returns the page of touch `next`, if there is one and it is before the tick.
 fn page_before<T: Timeline>(timeline: &T, next: usize, tick: u64) -> Option<u32>
     ensures some { IfSome result (λ page. IsNextBefore (T.pages timeline.now) (T.touches timeline.now) next tick page) }
     ensures none { result ≡ None → next < length (T.touches timeline.now)
@@ -50,8 +50,8 @@ fn page_before<T: Timeline>(timeline: &T, next: usize, tick: u64) -> Option<u32>
     }
 }
 
-/// Marks the pages of the touches from index `next` on and before a tick. Returns the index of the touch that comes
-/// then. It takes the walk's fields as arguments, so that they can be kept in registers.
+/// Marks the pages of the touches from index `next` on and before a tick. Returns the index of the next touch. It takes
+/// the walk's fields as arguments, so that they can be kept in registers.
 pub(crate) fn mark_until<T: Timeline>(
     timeline: &T,
     marks: &mut [u64],
@@ -72,7 +72,7 @@ pub(crate) fn mark_until<T: Timeline>(
     at
 }
 
-/// A walk on its way through a round: the touches before index `next` are behind it, and the round has come so far.
+/// A walk on its way through a round: it has passed the touches before index `next`, and the round has come this far.
 #[derive(Clone, Copy)]
 pub(crate) struct Walk {
     pub(crate) next: usize,
@@ -133,7 +133,7 @@ pub(crate) fn count_sent<T: Timeline>(
 }
 
 impl Scan {
-    /// Returns a walk that stands at a tick, with no page marked.
+    /// Returns a walk that is at a tick, with no page marked.
     pub(crate) fn new<T: Timeline>(
         alloc: Global,
         timeline: &T,
@@ -161,7 +161,7 @@ impl Scan {
         self.next = mark_until(timeline, &mut self.marks, self.next, tick);
     }
 
-    /// Clears the marks: the walk begins anew where it stands.
+    /// Clears the marks: the walk begins anew where it is.
     pub(crate) fn restart(&mut self)
         ensures { (pages from tick : ℕ) (touches : List GuestTouch)
             → IsScan pages touches from tick self.old.next self.old.marks.items
@@ -170,7 +170,7 @@ impl Scan {
         self.marks.fill(0);
     }
 
-    /// Returns the pages that are marked, rising.
+    /// Returns the marked pages, in ascending order.
     pub(crate) fn pages(&self, alloc: Global) -> Result<Vec<u32>, AllocError>
         requires { length self.now.marks.items ≤ 1_024 }
         ensures { IfOk result (λ pages. pages.items ≡ pages_of self.now.marks.items) }
@@ -178,8 +178,8 @@ impl Scan {
         pages_in(alloc, &self.marks)
     }
 
-    /// Returns the pages of a round that are sent where those soon written again are skipped. The walk goes on to
-    /// where the scan of the last page ends.
+    /// Returns the pages of a round that are sent if those soon written again are skipped. The walk goes on to where
+    /// the scan of the last page ends.
     pub(crate) fn skim<T: Timeline>(
         &mut self,
         alloc: Global,

@@ -1,11 +1,11 @@
-//! Where a plan stands before a round, and what comes after that round.
+//! The state of a plan before a round, and what comes after that round.
 
 ghost use Rattle.std.specs.Prelude.{◌≡◌, ◌⊎◌, ◌≤◌, ◌<◌, ◌-◌};
 ghost use Rattle.round_planner.specs.Steps.{IsAfter, first_step};
 
 use rate_limit::{Next, Reason, Settings, next};
 
-/// Where a plan stands before a round: how many rounds are done, and the first tick and the rate of the next one.
+/// The state of a plan before a round: how many rounds are done, and the first tick and the rate of the next one.
 #[derive(Clone, Copy)]
 pub(crate) struct Step {
     pub(crate) done: u64,
@@ -24,7 +24,7 @@ pub(crate) enum After {
 }
 
 impl Step {
-    /// Returns where a plan stands before its first round.
+    /// Returns the state of a plan before its first round.
     pub(crate) fn first(settings: &Settings) -> Step
         ensures { result ≡ first_step settings.now }
     {
@@ -36,7 +36,7 @@ impl Step {
         }
     }
 
-    /// Returns what comes after the round, which ends at tick `to` and while which so many pages are dirtied.
+    /// Returns what comes after the round, which ends at tick `to` and while which `dirtied` pages are dirtied.
     pub(crate) fn after(self, settings: &Settings, to: u64, dirtied: u32) -> After
         requires few { self.done < 64 }
         requires order { self.from ≤ to }

@@ -12,8 +12,8 @@ use crate::step::After;
 use guest_log::Timeline;
 use rate_limit::{Settings, duration};
 
-/// Returns how many pages the destination lacks at the first tick, before which there are so many touches: all, or,
-/// where it begins with the memory before a base, those written since.
+/// Returns how many pages the destination lacks at the first tick, before which there are `next` touches: all, or, if
+/// it begins with the memory before a base, those written since.
 fn count_lacking<T: Timeline>(
     timeline: &T,
     index: &RoundIndex,
@@ -48,8 +48,7 @@ pub(crate) fn first_counted<T: Timeline>(
     RoundNumbers::first(settings, next, listed)
 }
 
-/// Runs a round by the index, where no page is skipped in any round. The settings are an argument for the contract
-/// alone.
+/// Runs a round by the index, if no page is skipped in any round. The settings are an argument only for the contract.
 fn counted_round<T: Timeline>(
     timeline: &T,
     index: &RoundIndex,
@@ -74,7 +73,7 @@ fn counted_round<T: Timeline>(
     }
 }
 
-/// Returns the sums of the plan that begins with a round, where no page is skipped.
+/// Returns the sums of the plan that begins with a round, if no page is skipped.
 pub(crate) fn counted_rounds<T: Timeline>(
     timeline: &T,
     index: &RoundIndex,

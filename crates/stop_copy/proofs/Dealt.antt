@@ -17,7 +17,7 @@ use Rattle.stop_copy.specs.Copies.{IsCurrentFrame, AreCurrentFrames, after_deali
 abbrev none : GuestPart
 none = empty_part (shape_with 0 0 0)
 
--- one frame more
+-- one more frame
 pub dealt-step : (turn streams own next : ℕ) (parts : List GuestPart) (old new : GuestPart) (frame : PageFrame)
     (frames : List PageFrame) → streams ≡ length parts
     → own ≡ turn → next ≡ (turn + 1) % streams → own < length parts → old ≡ get_or parts own old → new
@@ -97,7 +97,7 @@ skipped marked p q is = elim (cases_eq q p) [
   | inr apart ↦ below-other marked p q apart
 ]
 
--- one part takes one page more
+-- one part takes one more page
 takes-next : (trace : GuestTrace) (versions : List ℕ) (t u : ℕ → Bool) (p : ℕ) (old part : GuestPart)
     (frame : PageFrame)
     → TakesCurrent trace versions t old part → part.shape ≡ shape_of_trace trace → IsCurrentFrame trace versions frame
@@ -213,7 +213,7 @@ abbrev rest_of : List ℕ → List ℕ
 rest_of [] = []
 rest_of (p ∷ ps) = ps
 
--- one page more, where the others go by what is given
+-- one more page, with the others taken as given
 one-more : (trace : GuestTrace) (versions : List ℕ) (marked : ℕ → Bool) (old : List GuestPart) (a n turn : ℕ)
     (parts : List GuestPart) (frames : List PageFrame) (b : Bool)
     → ((turn : ℕ) (parts : List GuestPart) (frames : List PageFrame) → turn < length old → map (λ f. f.page) frames

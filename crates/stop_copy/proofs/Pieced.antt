@@ -1,4 +1,4 @@
--- Pieces of the marked pages, and the frames that were made of them.
+-- Pieces of the marked pages, and the frames that were made from them.
 use Rattle.std.proofs.Common.{◌≡◌, ℕ, suc, ◌<◌, List, [], ◌∷◌, ◌++◌, length, map, get_or, Result, Ok, IfOk, refl, sym}
 use Rattle.std.proofs.Common.{ap, subst, ◌∙◌, append_assoc, arith}
 use Rattle.std.specs.Global.{Vec}
@@ -15,7 +15,7 @@ use Rattle.stop_copy.specs.declared.error.CopyError.{CopyError}
 abbrev pub MadeOne : Type 0
 MadeOne = Result (Vec PageFrame) CopyError
 
--- one piece more was cut off
+-- one more piece was cut off
 pub whole-next : {H : Type 0} (pages_of : H → List ℕ) (hs : List H) (h : H) (piece behind rest pages : List ℕ)
     → flat_map pages_of hs ++ rest ≡ pages
     → pages_of h ≡ piece → piece ++ behind ≡ rest → flat_map pages_of (hs ++ h ∷ []) ++ behind ≡ pages
@@ -51,7 +51,7 @@ AreMade-from_each {H} trace versions pages_of (h ∷ hs) (m ∷ ms) len each = (
   AreMade-from_each trace versions pages_of hs ms (omega (arith, len)) (λ i d low. each (suc i) d (omega (arith, low))),
 )
 
--- what was made of the first pieces was put together, and the rest is still to come
+-- what was made from the first pieces was put together, and the rest is still to come
 pub record AreJoined (trace : GuestTrace) (versions pages : List ℕ) (frames : List PageFrame)
     (rest : List MadeOne) : Type 0 where
   pub done : List ℕ

@@ -6,7 +6,7 @@ use Rattle.migration_model.specs.Frames.{PageFrame, IsFrame, shape_with}
 use Rattle.migration_model.specs.Parts.{GuestPart, copy_in, empty_part, with_frame}
 use Rattle.migration_model.specs.Trace.{GuestTrace}
 
--- the marked pages of a guest of so many, rising
+-- the marked pages of a guest with `pages` pages, in ascending order
 abbrev pub marked_pages : (ℕ → Bool) → ℕ → List ℕ
 marked_pages marked pages = filter marked (range_with_len 0 pages)
 
@@ -20,7 +20,7 @@ pub record AreCurrentFrames (trace : GuestTrace) (versions pages : List ℕ) (fr
   pub pages_are : map (λ frame. frame.page) frames ≡ pages
   pub each : All (IsCurrentFrame trace versions) frames
 
--- the parts after these frames came to them in turn, the first to the part of this number
+-- the parts after these frames came to them in turn, the first to the part with this number
 abbrev pub after_dealing : ℕ → List GuestPart → List PageFrame → List GuestPart
 after_dealing turn parts [] = parts
 after_dealing turn parts (frame ∷ frames) =

@@ -1,4 +1,4 @@
--- Pieces of the marked pages, and what threads made of them.
+-- Pieces of the marked pages, and what threads made from them.
 use Rattle.std.specs.Prelude.{◌≡◌, ℕ, List, [], ◌∷◌, IfOk, ⊤, Result}
 use Rattle.std.specs.Global.{Vec}
 use Rattle.std.specs.List.{flat_map}
@@ -7,7 +7,7 @@ use Rattle.migration_model.specs.Trace.{GuestTrace}
 use Rattle.stop_copy.specs.Copies.{AreCurrentFrames}
 use Rattle.stop_copy.specs.declared.error.CopyError.{CopyError}
 
--- of each piece of the pages the current frames were made, or making them was refused
+-- for each piece of the pages the current frames were made, or making them was refused
 abbrev pub AreMade : GuestTrace → List ℕ → List (List ℕ) → List (Result (Vec PageFrame) CopyError) → Type 0
 AreMade trace versions [] [] = ⊤
 AreMade trace versions (pages ∷ pieces) (made ∷ rest) = IfOk made

@@ -21,9 +21,9 @@ use std::sync::Wait;
 use std::thread::Threads;
 use stream_split::Dealer;
 
-/// Sends each page that is still marked once more, at its version, to one of the parts, of which there is one for each
-/// stream. Returns the parts. Up to `workers` threads make the frames, which are dealt out in the order of their
-/// pages. After an error the parts are dropped. The error is `Thread` only where a thread could not be started.
+/// Sends each page that is still marked once more, at its version, to one of the parts, one for each stream. Returns
+/// the parts. Up to `workers` threads make the frames, which are dealt out in page order. After an error the parts are
+/// dropped. The error is `Thread` only if a thread could not be started.
 pub fn final_copy<R: Threads + Wait + Sync, W: WriteLog + Sync>(
     rt: &R,
     alloc: Global,

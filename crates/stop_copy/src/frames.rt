@@ -11,7 +11,7 @@ use page_message::{Frame, frame_of};
 use page_versions::PageIndex;
 use std::alloc::Global;
 
-/// The guest's pages, each at a version of its own.
+/// The guest's pages, each at its own version.
 #[derive(Drop)]
 pub(crate) struct CurrentPages<'a, W: WriteLog> {
     pub(crate) trace: &'a W,

@@ -1,4 +1,4 @@
-//! The final copy of a guest that stands still: each page that is still marked is sent once more.
+//! The final copy of a stopped guest: each page that is still marked is sent once more.
 #![tactic(auto)]
 
 mod copying;

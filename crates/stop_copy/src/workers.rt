@@ -21,7 +21,7 @@ use std::thread::{Promise, PromisedHandle, Scope, Threads};
 /// Making the frames of this many pages takes longer than starting a thread.
 const WORTH_A_THREAD: usize = 512;
 
-/// The frames that a thread made of its piece of the pages, or why it could not.
+/// The frames that a thread made from its piece of the pages, or why it could not.
 type Made = Result<Vec<Frame>, CopyError>;
 
 /// A thread's promise: the frames of these pages, at these versions of the trace.
@@ -105,7 +105,7 @@ fn start_pieces<'s, E, W: WriteLog + Sync>(
     Ok(())
 }
 
-/// Starts the threads and joins them. Those that run are joined before any refusal is answered.
+/// Starts the threads and joins them. Those that run are joined before any refusal is returned.
 fn make_in_scope<'s, E, R: Threads, W: WriteLog + Sync>(
     rt: &R,
     scope: &'s Scope<'s, E>,
@@ -140,7 +140,7 @@ fn all_frames(alloc: Global, made: Vec<Made>) -> Result<Vec<Frame>, CopyError>
     Ok(all)
 }
 
-/// Returns the frames of these pages, in order, each at its version, made by up to so many threads. For few pages it
+/// Returns the frames of these pages, in order, each at its version, made by up to `workers` threads. For few pages it
 /// starts none.
 pub(crate) fn frames_by_workers<R: Threads + Wait + Sync, W: WriteLog + Sync>(
     rt: &R,

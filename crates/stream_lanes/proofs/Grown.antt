@@ -8,7 +8,7 @@ use Rattle.std.proofs.lemmas.Option.{none-some, same_Some, slice_get_within, get
 use Rattle.stream_lanes.specs.Ends.{OutView, InView}
 use Rattle.stream_lanes.specs.Grids.{IsNewLane, IsGrid, AddsLane, AddsWorker}
 
--- what stands in a list with one more
+-- what is in a list with one more
 pub at_push : {X : Type 0} (xs : List X) (y x : X) (k : ℕ) → slice_get (xs ++ y ∷ []) k ≡ Some x
     → (slice_get xs k ≡ Some x) ⊎ ((k ≡ length xs) × (y ≡ x))
 at_push [] y x zero there = inr (refl, same_Some y x there)
@@ -28,7 +28,7 @@ length_added : (capacity : ℕ) (out : OutView) (before after : List InView) →
     → length after ≡ length before + 1
 length_added capacity out before after adds = ap length adds.added ∙ length_push before adds.end
 
--- an end of a list with one more stood there before, or is that of the new lane
+-- an end in a list with one more was there before, or is that of the new lane
 at_added : (capacity : ℕ) (out : OutView) (before after : List InView) (end : InView) (worker : ℕ)
     → AddsLane capacity out before after
     → slice_get after worker ≡ Some end → (slice_get before worker ≡ Some end)

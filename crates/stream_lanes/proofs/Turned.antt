@@ -1,4 +1,4 @@
--- The ends that send, turned from workers to streams, worker by worker.
+-- The sending ends, transposed from workers to streams, worker by worker.
 use Rattle.std.proofs.Common.{Vec, Global, ◌≡◌, inl, inr, ℕ, zero, suc, ◌+◌, ◌<◌, List, [], ◌∷◌, ◌++◌, length, get_or}
 use Rattle.std.proofs.Common.{set, map, replicate, Some, refl, sym, ap, subst, ◌∙◌, arith}
 use Rattle.std.specs.List.{All, slice_get}
@@ -9,7 +9,7 @@ use Rattle.stream_lanes.specs.Ends.{OutView}
 use Rattle.stream_lanes.specs.Grids.{AreColumns, AddsRow}
 use Rattle.stream_lanes.proofs.Grown.{at_push, within, set_other, set_same}
 
--- what stood in a list stands there after one more
+-- what was in a list is there after one more
 before_push : {X : Type 0} (xs : List X) (y : X) (k : ℕ) → k < length xs → slice_get (xs ++ y ∷ []) k ≡ slice_get xs k
 before_push [] y k low = absurd (omega (arith, low))
 before_push (x ∷ xs) y zero low = refl
@@ -114,7 +114,7 @@ adds-none columns = record {
   rest = λ stream past. refl;
 }
 
--- the next of what is left is one of all
+-- the next of the remaining ones is one of all
 pub next_holds : {X : Type 0} (P : X → Type 0) (front old rest all : List X) (x : X) → old ≡ x ∷ rest
     → front ++ old ≡ all → All P all → P x
 next_holds P front old rest all x steps is holds =

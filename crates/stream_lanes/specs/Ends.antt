@@ -3,27 +3,26 @@ use Rattle.std.specs.Prelude.{◌≡◌, ℕ, ◌<◌, List, ◌++◌}
 use Rattle.std.specs.List.{Any, Contains}
 use denote.RawPtr.{Ptr}
 
--- Which lane it is: where its ring lies, how many frames that holds, and the names of what its two ends know.
+-- A lane's identity: where its ring is, how many frames that holds, and the names of what its two ends know.
 pub record LaneId : Type 0 where
   pub words : Ptr
   pub slots : Ptr
   pub capacity : ℕ
   pub names : ℕ × ℕ
 
--- the end that sends: its lane, how many more frames are known to fit, and all frames sent so far, the first one first
+-- the sending end: its lane, how many more frames are known to fit, and all frames sent so far, in order
 pub record OutView : Type 0 where
   pub lane : LaneId
   pub room : ℕ
   pub sent : List (List ℕ)
 
--- the end that takes: its lane, all frames taken so far, the first one first, and those that it has seen and takes
--- next
+-- the taking end: its lane, all frames taken so far, in order, and those that it has seen and takes next
 pub record InView : Type 0 where
   pub lane : LaneId
   pub taken : List (List ℕ)
   pub seen : List (List ℕ)
 
--- the first frames of all these are these
+-- all these frames begin with these
 pub record Begins (first all : List (List ℕ)) : Type 0 where
   pub later : List (List ℕ)
   pub is : first ++ later ≡ all

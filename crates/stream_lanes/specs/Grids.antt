@@ -13,8 +13,8 @@ pub record IsNewLane (capacity : ℕ) (out : OutView) (end : InView) : Type 0 wh
   pub taken : end.taken ≡ []
   pub seen : end.seen ≡ []
 
--- the lane of each worker and each stream: its ends stand in the worker's slot for the stream, and in the stream's
--- slot for the worker
+-- the lane of each worker and each stream: its ends are in the worker's slot for the stream, and in the stream's slot
+-- for the worker
 pub record IsGrid (workers streams capacity : ℕ) (outs : List (Vec OutView Global))
     (ins : List (Vec InView Global)) : Type 0 where
   pub workers_are : length outs ≡ workers
@@ -27,7 +27,7 @@ pub record IsGrid (workers streams capacity : ℕ) (outs : List (Vec OutView Glo
       → slice_get ins stream ≡ Some in_row → slice_get in_row.items worker ≡ Some end
       → IsNewLane capacity out end
 
--- one more end stands in a list: that of a new lane whose other end is `out`
+-- one more end is in a list: that of a new lane whose other end is `out`
 pub record AddsLane (capacity : ℕ) (out : OutView) (before after : List InView) : Type 0 where
   pub end : InView
   pub added : after ≡ before ++ end ∷ []

@@ -1,4 +1,4 @@
--- How the ends of a ring are seen as those of a lane.
+-- How the ends of a ring are viewed as those of a lane.
 use Rattle.std.specs.Prelude.{Vec, ℕ, List, map}
 use Rattle.std.specs.Global.{Global}
 use Rattle.rtrb.specs.Ring.{sent, received, known_free, known_items}

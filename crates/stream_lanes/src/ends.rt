@@ -8,12 +8,12 @@ use rtrb::{Consumer, Producer, RingBuffer};
 use std::alloc::{AllocError, Global};
 use std::marker::Model;
 
-/// The most buffers that wait at once to be used again. No caller needs more of them to wait, and a ring of so many
-/// takes 24 KB, which stay in the processor's cache.
+/// The most buffers that wait at once to be reused. No caller needs more, and a ring of this size takes 24 KB, which
+/// stay in the processor's cache.
 const SPARE: usize = 1024;
 
-/// The end of a lane that sends. To a contract it is which lane it is of, how many more frames it knows to fit, and
-/// what it sent.
+/// The sending end of a lane. A contract sees which lane it belongs to, how many more frames it knows to fit, and what
+/// it sent.
 #[derive(Drop)]
 pub struct LaneOut {
     pub(crate) producer: Producer<Vec<u8>>,
@@ -29,7 +29,7 @@ impl Model for LaneOut {
     ghost view = { λ o. out_view o.producer };
 }
 
-/// The end of a lane that takes. To a contract it is which lane it is of, what it took, and what it has seen.
+/// The taking end of a lane. A contract sees which lane it belongs to, what it took, and what it has seen.
 #[derive(Drop)]
 pub struct LaneIn {
     pub(crate) consumer: Consumer<Vec<u8>>,
@@ -45,7 +45,7 @@ impl Model for LaneIn {
     ghost view = { λ i. in_view i.consumer };
 }
 
-/// Returns the ends of a lane with room for so many frames. The buffers that go back have a ring of their own.
+/// Returns the ends of a lane with room for `capacity` frames. The buffers that go back have a ring of their own.
 pub(crate) fn lane(alloc: Global, capacity: usize) -> Result<(LaneOut, LaneIn), AllocError>
     ensures { IfOk result (λ ends. IsNewLane capacity ends.0 ends.1) }
 {
@@ -63,7 +63,7 @@ pub(crate) fn lane(alloc: Global, capacity: usize) -> Result<(LaneOut, LaneIn), 
 }
 
 impl LaneOut {
-    /// Returns whether one more frame fits. It looks at the other end, which makes room as it takes.
+    /// Returns whether one more frame fits. It checks the other end, which makes room as it takes.
     pub fn has_room(&mut self) -> bool
         ensures lane { SameOut self.old self.new }
         ensures sent { self.new.sent ≡ self.old.sent }
@@ -84,7 +84,7 @@ impl LaneOut {
         self.producer.push_reserved(frame);
     }
 
-    /// Returns a buffer that the other end gave back, if one has come, to be used again. It allocates nothing.
+    /// Returns a buffer that the other end gave back for reuse, if one has come. It allocates nothing.
     pub fn spare(&mut self) -> Option<Vec<u8>>
         ensures { self.new ≡ self.old }
     {
@@ -96,7 +96,7 @@ impl LaneOut {
 }
 
 impl LaneIn {
-    /// Returns the first frame that was sent and not taken yet, if one has come. It allocates nothing.
+    /// Returns the first frame that was sent and not yet taken, if one has come. It allocates nothing.
     #[tactic(auto, using(crate::proofs::Seen::begins_with_next))]
     pub fn take(&mut self) -> Option<Vec<u8>>
         ensures lane { SameIn self.old self.new }
@@ -110,8 +110,8 @@ impl LaneIn {
         Some(self.consumer.pop_known())
     }
 
-    /// Gives a buffer back to the other end, which may use it again. Where the ring of such buffers is full, the
-    /// buffer is dropped. It allocates nothing.
+    /// Gives a buffer back to the other end for reuse. If the ring of such buffers is full, the buffer is dropped. It
+    /// allocates nothing.
     pub fn give_back(&mut self, text: Vec<u8>)
         ensures { self.new ≡ self.old }
     {

@@ -1,4 +1,4 @@
-//! Lanes of frames, from each sender to each receiver: nobody waits at either end.
+//! Lanes of frames, from each sender to each receiver: neither end ever waits.
 #![tactic(auto)]
 
 mod ends;

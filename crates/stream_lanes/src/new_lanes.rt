@@ -8,7 +8,7 @@ use crate::error::LaneError;
 use crate::grid::Lanes;
 use std::alloc::Global;
 
-/// Returns so many streams with no ends, each with slots for one of each worker.
+/// Returns this many streams with no ends, each with room for one end from each worker.
 fn empty_ins(alloc: Global, streams: usize, workers: usize) -> Result<Vec<Vec<LaneIn>>, LaneError>
     ensures { IfOk result (λ ins. map (λ row. row.items) ins.items ≡ replicate streams []) }
 {
@@ -19,7 +19,7 @@ fn empty_ins(alloc: Global, streams: usize, workers: usize) -> Result<Vec<Vec<La
     Ok(ins)
 }
 
-/// Makes a new lane, and adds its taking end to those of its stream. Returns the sending end.
+/// Makes a lane, and adds its taking end to those of its stream. Returns the sending end.
 fn add_lane(alloc: Global, capacity: usize, ends: &mut Vec<LaneIn>) -> Result<LaneOut, LaneError>
     ensures { IfOk result (λ out. AddsLane capacity out ends.old.items ends.new.items) }
 {
@@ -44,8 +44,7 @@ fn add_worker(
     Ok(outs)
 }
 
-/// Returns a lane from each worker to each stream, each with room for so many frames. The other calls of lanes
-/// allocate nothing.
+/// Returns a lane from each worker to each stream, each with room for `capacity` frames. No other lane call allocates.
 pub fn lanes(
     alloc: Global,
     workers: usize,

@@ -1,4 +1,4 @@
-//! The frames that are left on a lane.
+//! The frames left on a lane.
 
 ghost use Rattle.std.specs.Prelude.{◌≡◌, ◌∷◌, ◌++◌, [], IfSome, IfNone};
 ghost use Rattle.stream_lanes.specs.Ends.{IsLane};
@@ -7,7 +7,7 @@ use crate::ends::{LaneIn, LaneOut};
 use rtrb::Consumer;
 use std::marker::Model;
 
-/// The frames that were sent on a lane and not taken, the first one first.
+/// The frames that were sent on a lane and not taken, in order.
 #[derive(Drop)]
 pub struct Rest {
     consumer: Consumer<Vec<u8>>,

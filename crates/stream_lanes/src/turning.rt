@@ -1,4 +1,4 @@
-//! The ends that send, by stream.
+//! The sending ends, by stream.
 
 ghost use Rattle.std.specs.Prelude.{◌≡◌, [], length, map, replicate, IfOk, OnOk};
 ghost use Rattle.std.specs.List.{All};
@@ -8,7 +8,7 @@ use crate::ends::LaneOut;
 use crate::error::LaneError;
 use std::alloc::Global;
 
-/// Returns so many streams with no ends, each with slots for one of each worker.
+/// Returns this many streams with no ends, each with room for one end from each worker.
 fn empty_columns(
     alloc: Global,
     streams: usize,
@@ -34,7 +34,7 @@ fn add_row(columns: &mut Vec<Vec<LaneOut>>, row: Vec<LaneOut>) -> Result<(), Lan
     Ok(())
 }
 
-/// Returns the ends that send, by stream: of each stream the ends of all workers, in order.
+/// Returns the sending ends, by stream: for each stream, the ends of all workers, in order.
 pub fn by_stream(
     alloc: Global,
     streams: usize,

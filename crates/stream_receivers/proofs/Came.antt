@@ -47,7 +47,7 @@ other_copy : (part : GuestPart) (frame : PageFrame) (page : ℕ) → (page ≡ f
 other_copy part frame page apart = get_or-set_other part.copies frame.page page
     (later (copy_at part frame.page) (Some (copy_in part.shape frame))) None apart
 
--- each copy was there before, or is that of the frame
+-- each copy was there before, or is the frame's
 pub one_had : (part : GuestPart) (frame : PageFrame) (page : ℕ) (copy : PageCopy) → IsPart part
     → IsFrame part.shape frame → copy_at (with_frame part frame) page ≡ Some copy
     → (copy_at part page ≡ Some copy) ⊎ ((frame.page ≡ page) × (copy_in part.shape frame ≡ copy))
@@ -60,7 +60,7 @@ one_had part frame page copy is fits there = elim (cases_eq page frame.page) [
   | inr apart ↦ inl (sym (other_copy part frame page apart) ∙ there)
 ]
 
--- each copy that was there is there, or a later one
+-- each copy that was there is still there, or a later one
 pub one_kept : (part : GuestPart) (frame : PageFrame) (page : ℕ) (copy : PageCopy) → IsPart part
     → IsFrame part.shape frame → copy_at part page ≡ Some copy
     → (later : PageCopy) × (copy_at (with_frame part frame) page ≡ Some later) × (copy.stamp ≤ later.stamp)

@@ -12,7 +12,7 @@ use Rattle.stream_receivers.specs.Receivers.{AreEnds, AreNewEnds}
 pub holds_at : {X : Type 0} (P : X → Type 0) (xs : List X) (k : ℕ) (x : X) → All P xs → slice_get xs k ≡ Some x → P x
 holds_at P xs k x all there = subst P (get_or_from_slice_get xs k x x there) (all k x (slice_get_within xs k x there))
 
--- a stream's column and its row are of the same lanes
+-- a stream's column and its row have the same lanes
 pub new_ends : (workers streams capacity : ℕ) (rows columns : List (Vec OutView Global))
     (ins : List (Vec InView Global)) (stream : ℕ) (column : Vec OutView Global)
     (row : Vec InView Global) → IsGrid workers streams capacity rows ins → AreColumns streams rows columns

@@ -1,4 +1,4 @@
--- What a part has of some texts.
+-- What a part has from some texts.
 use Rattle.std.proofs.Common.{◌≡◌, ℕ, zero, suc, ◌≤◌, ◌⊎◌, inl, inr, List, [], ◌∷◌, map, refl, sym, ap, subst, ◌∙◌}
 use Rattle.std.proofs.Common.{arith}
 use Rattle.std.specs.Prelude.{Some, None}
@@ -9,7 +9,7 @@ use Rattle.migration_model.specs.Parts.{GuestPart, PageCopy, IsPart, copy_at, co
 use Rattle.migration_model.specs.Parts.{with_frames}
 use Rattle.migration_model.proofs.Final.{IsPart-with_frame}
 use Rattle.migration_model.proofs.Frames.{one_frame_lem}
-use Rattle.stream_receivers.specs.Receivers.{AreFrames, HasFrames}
+use Rattle.stream_receivers.specs.Receivers.{HasFrames}
 use Rattle.stream_receivers.proofs.Came.{one_had, one_kept, one_came}
 
 pub in_rest : {X : Type 0} (y x : X) (xs : List X) → Contains xs x → Contains (y ∷ xs) x
@@ -78,7 +78,7 @@ has_more shape A B part text frame to back here spells has =
       ];
     }
 
--- these texts more
+-- more texts
 pub has_all : (shape : GuestShape) (A B : List ℕ → Type 0) (part : GuestPart) (frames : List PageFrame)
     → ((t : List ℕ) → A t → B t)
     → ((t : List ℕ) → B t → A t ⊎ Contains (map frame_text frames) t)

@@ -1,5 +1,5 @@
--- Frames whose bytes are those behind the head of a text.
-use Rattle.std.proofs.Common.{◌≡◌, ℕ, ◌+◌, ◌-◌, ◌≤◌, List, length, take, drop, Bool, true, false, cond, is_some, Option}
+-- Frames whose bytes are those after the head of a text.
+use Rattle.std.proofs.Common.{◌≡◌, ℕ, ◌+◌, ◌-◌, ◌≤◌, List, length, take, drop, true, false, is_some, Option}
 use Rattle.std.proofs.Common.{Some, None, option_map, Result, Ok, Err, IfErr, refl, sym, ap, subst, ◌∙◌, arith}
 use Rattle.std.proofs.lemmas.List.{take_all, length-drop}
 use Rattle.std.proofs.lemmas.List.Edits.{take-paste}
@@ -8,7 +8,7 @@ use Rattle.std.proofs.lemmas.Bool.{false≢true}
 use Rattle.migration_model.specs.Numbers.{text_of}
 use Rattle.migration_model.specs.Frames.{GuestShape, PageFrame, frame_with, frame_text, SpellsFrame}
 
--- what is shifted to the front, and cut behind it
+-- what is shifted to the front, with the rest cut off
 pub shifted : (text new : List ℕ) (size : ℕ) → 9 ≤ length text → size ≡ length text - 9 → new
     ≡ take size (copy_within text 9 (length text) 0) → new ≡ drop 9 text
 shifted text new size long size_is is =
@@ -19,7 +19,7 @@ shifted text new size long size_is is =
     ∙ take_all (length text - 9) (drop 9 text) (let low : length (drop 9 text) ≤ length text - 9 = omega (arith, len) in
     low)
 
--- behind the head of a frame with bytes stand these
+-- these are the bytes after the head of a frame with bytes
 body_behind : (page stamp : ℕ) (bytes : List ℕ) → drop 9 (frame_text (frame_with page stamp (Some bytes))) ≡ bytes
 unfolding frame_text text_of
 body_behind page stamp bytes = refl
@@ -36,7 +36,7 @@ owns_bytes shape text page stamp bytes spells =
     subst (λ (b : List ℕ). SpellsFrame shape text (frame_with page stamp (Some b)))
     (sym (ap (drop 9) spells.text ∙ body_behind page stamp bytes)) spells
 
--- a result that is refused isn't answered
+-- a refused result isn't an answer
 pub never_both : {X E : Type 0} (r : Result X E) (x : X) (e : E) → r ≡ Ok x → r ≡ Err e → ⊥
 never_both {X} {E} r x e good bad = subst (λ (q : Result X E). IfErr q (λ _. ⊥)) bad
     (subst (λ (q : Result X E). IfErr q (λ _. ⊥)) (sym good) tt)
@@ -61,7 +61,7 @@ owns_some shape text view size spells whole some =
     some_body shape text view.page view.stamp view.body
     (subst (λ (t : List ℕ). SpellsFrame shape t view) text_is spells) some
 
--- what is viewed behind a reference is there
+-- what is viewed through a reference is there
 pub some_mapped : {X Y : Type 0} (f : X → Y) (o : Option X) → is_some o ≡ true → is_some (option_map f o) ≡ true
 some_mapped f None some = some
 some_mapped f (Some x) some = refl

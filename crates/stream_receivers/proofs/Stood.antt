@@ -1,4 +1,4 @@
--- The end of one lane among those of all workers, before and after it took.
+-- The end of one lane among those of all workers, before and after it takes.
 use Rattle.std.proofs.Common.{◌≡◌, ℕ, ◌<◌, List, [], length, get_or, set, Some, sym, ap, ◌∙◌}
 use Rattle.std.specs.List.{slice_get}
 use Rattle.std.proofs.lemmas.List.{set-get_or}

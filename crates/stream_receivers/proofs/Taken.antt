@@ -11,7 +11,7 @@ use Rattle.std.proofs.lemmas.List.Quantifiers.{Any-push}
 use Rattle.stream_lanes.specs.Ends.{OutView, InView, IsSentOn, IsTakenFrom}
 use Rattle.stream_receivers.specs.Receivers.{AreEnds}
 
--- ---- one of a list with one more
+-- ---- an element of a list with one more
 
 any_first : {X : Type 0} (P : X → Type 0) (x : X) (xs : List X) → P x → Any P (x ∷ xs)
 any_first P x xs p = (0, x, omega arith, refl, p)
@@ -144,7 +144,7 @@ come_rest outs out end ends rest all t left =
     inl (Any-push (λ o. Contains o.sent t) outs out
     (subst (λ (texts : List (List ℕ)). Contains texts t) all (Contains-append_right end.taken rest t left)))
 
--- ---- the lanes that are left
+-- ---- the remaining lanes
 
 pub ends_rest : (outs later : List OutView) (ends rest : List InView) (out : OutView) (end : InView) → outs ≡ out
     ∷ later → ends ≡ end ∷ rest → AreEnds outs ends → AreEnds later rest

@@ -4,7 +4,7 @@ use Rattle.std.specs.List.{All}
 use Rattle.std.proofs.lemmas.List.{map-append}
 use Rattle.std.proofs.lemmas.List.Elements.{All-nil, All-push, All-append}
 use Rattle.std.proofs.lemmas.List.Sums.{fold-append}
-use Rattle.migration_model.specs.Frames.{GuestShape, PageFrame, IsFrame, frame_text}
+use Rattle.migration_model.specs.Frames.{GuestShape, IsFrame, frame_text}
 use Rattle.migration_model.specs.Parts.{GuestPart, with_frame, with_frames}
 use Rattle.stream_receivers.specs.Texts.{TakesText, TakesTexts}
 use Rattle.collector.proofs.Taken.{shape-with_frames}

@@ -1,4 +1,4 @@
--- The receiver of a stream: the lanes that it takes frames from, and the part that they come into. This project's own.
+-- The receiver of a stream: the lanes it takes frames from, and the part they go into. This project's own.
 use Rattle.std.specs.Prelude.{◌≡◌, ℕ, ◌≤◌, List, [], ◌∷◌, ◌++◌, Option, Some, length, slice_get, slice_set}
 use Rattle.std.specs.List.{All}
 use Rattle.migration_model.specs.Frames.{GuestShape, PageFrame, SpellsFrame}
@@ -6,7 +6,7 @@ use Rattle.migration_model.specs.Parts.{GuestPart, PageCopy, IsPart, copy_at, co
 use Rattle.stream_lanes.specs.Ends.{OutView, InView, Begins, IsLane, SameIn}
 use Rattle.stream_receivers.specs.declared.error.ReceiverError.{ReceiverError}
 
--- the lanes of a stream as their receiver holds them, in order of the workers; what came of the guest's memory; and
+-- the lanes of a stream as their receiver holds them, in order of the workers; what arrived of the guest's memory; and
 -- why a frame was refused, if one was: the first refusal
 pub record ReceiverView : Type 0 where
   pub ends : List InView
@@ -20,8 +20,8 @@ receiver_with ends part refusal = record { ends = ends; part = part; refusal = r
 abbrev pub AreFrames : GuestShape → (List ℕ → Type 0) → Type 0
 AreFrames shape IsText = (text : List ℕ) → IsText text → (frame : PageFrame) × SpellsFrame shape text frame
 
--- A part that has what these texts bring and nothing else: each of its copies is that of a frame among them, and of
--- each frame among them it has the page at the frame's stamp or at a later one.
+-- A part that has what these texts bring and nothing else: each of its copies is that of a frame among them, and for
+-- each frame among them it has the page at the frame's stamp or a later one.
 pub record HasFrames (shape : GuestShape) (IsText : List ℕ → Type 0) (part : GuestPart) : Type 0 where
   pub is_part : IsPart part
   pub shape_is : part.shape ≡ shape
@@ -38,7 +38,7 @@ pub record AreEnds (outs : List OutView) (ends : List InView) : Type 0 where
       → slice_get ends worker ≡ Some end
       → IsLane out end
 
--- the same, where nothing was taken yet
+-- the same, with nothing taken yet
 pub record AreNewEnds (outs : List OutView) (ends : List InView) : Type 0 where
   pub are_ends : AreEnds outs ends
   pub nothing : All (λ end. end.taken ≡ []) ends

@@ -1,16 +1,16 @@
--- Texts that come to a part, each the spelling of one frame.
+-- Texts that come to a part, each the encoding of one frame.
 use Rattle.std.specs.Prelude.{◌≡◌, ℕ, List, map}
 use Rattle.std.specs.List.{All}
 use Rattle.migration_model.specs.Frames.{PageFrame, IsFrame, SpellsFrame, frame_text}
 use Rattle.migration_model.specs.Parts.{GuestPart, with_frame, with_frames}
 
--- the part took the frame that this text spells
+-- the part took the frame that this text encodes
 pub record TakesText (old new : GuestPart) (text : List ℕ) : Type 0 where
   pub frame : PageFrame
   pub spells : SpellsFrame old.shape text frame
   pub part : new ≡ with_frame old frame
 
--- the part took the frames that these texts spell, in order
+-- the part took the frames that these texts encode, in order
 pub record TakesTexts (old new : GuestPart) (texts : List (List ℕ)) : Type 0 where
   pub frames : List PageFrame
   pub are_frames : All (IsFrame old.shape) frames

@@ -8,9 +8,8 @@ use collector::{Part, PartError, merge};
 use std::alloc::Global;
 use std::mem;
 
-/// Joins the part that the destination began with, if it began with one, to that of the first stream. In a warm start
-/// the first stream's part is then the join of that first part and of the frames of its lanes. The only error is that
-/// memory runs out.
+/// Joins the part that the destination began with, if any, to that of the first stream. In a warm start the first
+/// stream's part is then the join of that part and the frames of its lanes. The only error is that memory runs out.
 pub fn join_first(
     alloc: Global,
     first: Option<Part>,

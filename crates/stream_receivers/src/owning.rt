@@ -1,4 +1,4 @@
-//! Frames that keep the buffers that they came in.
+//! Frames that keep the buffers they came in.
 
 ghost use Rattle.std.specs.Prelude.{◌≡◌, ◌≤◌, drop, IfErr, IfOk, length};
 ghost use Rattle.migration_model.specs.Frames.{PageFrame, SpellsFrame};
@@ -8,10 +8,10 @@ use crate::error::ReceiverError;
 use guest_log::Shape;
 use page_message::{Body, Frame, view_frame};
 
-/// How many bytes a frame has in front of those of its page.
+/// How many bytes a frame has before those of its page.
 const HEAD: usize = 9;
 
-/// Returns the bytes behind a frame's head, in the buffer of the whole frame.
+/// Returns the bytes after a frame's head, in the buffer of the whole frame.
 #[tactic(auto, using(crate::proofs::Owned::shifted))]
 fn behind_head(text: Vec<u8>) -> Vec<u8>
     requires { 9 ≤ length text.items }
@@ -24,7 +24,7 @@ fn behind_head(text: Vec<u8>) -> Vec<u8>
     text
 }
 
-/// Decodes a frame, which keeps the buffer that it came in. It allocates nothing.
+/// Decodes a frame, which keeps the buffer it came in. It allocates nothing.
 pub(crate) fn own_frame(shape: &Shape, text: Vec<u8>) -> Result<Frame, ReceiverError>
     ensures found { IfOk result (λ frame. SpellsFrame (shape_of shape.now) text.items frame) }
     ensures only { (frame : PageFrame) → SpellsFrame (shape_of shape.now) text.items frame

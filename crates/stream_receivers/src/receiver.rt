@@ -17,10 +17,10 @@ use std::alloc::Global;
 use std::marker::Model;
 use stream_lanes::{LaneIn, LaneOut};
 
-/// What takes the frames of one stream, which come on a lane from each worker, into a part of the guest's memory.
+/// Takes the frames of one stream, which come on a lane from each worker, into a part of the guest's memory.
 ///
-/// Once a frame is refused, since memory runs out or since the bytes are not the encoding of one frame, the part stays
-/// as it is: frames that are taken after it are dropped. At the end the receiver returns why, in place of its part.
+/// Once a frame is refused, because memory runs out or the bytes are not the encoding of one frame, the part stays as
+/// it is: frames taken after it are dropped. At the end the receiver returns why, instead of its part.
 #[derive(Drop)]
 pub struct Receiver {
     ends: Vec<LaneIn>,
@@ -42,8 +42,8 @@ impl Model for Receiver {
 }
 
 impl Receiver {
-    /// Returns a receiver of the lanes with these ends, in order of the workers. It took nothing yet, and allocates
-    /// nothing.
+    /// Returns a receiver of the lanes with these ends, in order of the workers. It has taken nothing yet, and
+    /// allocates nothing.
     pub fn new(alloc: Global, shape: Shape, ends: Vec<LaneIn>) -> Receiver
         requires { All (λ end. end.taken ≡ []) ends.items }
         ensures { result ≡ receiver_with ends.items (empty_part (shape_of shape)) None }
@@ -70,8 +70,8 @@ impl Receiver {
         self.refusal.is_some()
     }
 
-    /// Takes the next frame from a worker's lane, if one has come, and returns whether. The part has it then, unless a
-    /// frame is refused or was before. The buffer of the frame that it replaces goes back on the lane.
+    /// Takes the next frame from a worker's lane, and returns whether one had come. The part then has it, unless a
+    /// frame is or was refused. The buffer of the frame that it replaces goes back on the lane.
     pub fn take(&mut self, worker: usize) -> bool
         requires { worker < length self.old.ends }
         ensures lanes { map (λ end. end.lane) self.new.ends ≡ map (λ end. end.lane) self.old.ends }
@@ -90,8 +90,8 @@ impl Receiver {
         true
     }
 
-    /// Takes what is left on its lanes, whose other ends these are, in order of the workers, and returns its part. The
-    /// error is the first refusal, if there was one.
+    /// Takes what is left on its lanes, given their other ends in order of the workers, and returns its part. The error
+    /// is the first refusal, if there was one.
     pub fn finish(self, outs: Vec<LaneOut>) -> Result<Part, ReceiverError>
         requires { AreEnds outs.items self.ends }
         ensures received { AreFrames self.part.shape (IsSentOn outs.items)

@@ -13,7 +13,7 @@ use collector::Part;
 use page_message::{Body, Frame};
 use stream_lanes::{LaneIn, LaneOut, Rest, drain};
 
-/// Returns the bytes of a frame, if there is one and not all of them are 0.
+/// Returns the bytes of a frame, if there is one and not all its bytes are 0.
 fn bytes_of(frame: Option<Frame>) -> Option<Vec<u8>> {
     match frame?.body {
         Body::Zero => None,
@@ -22,7 +22,7 @@ fn bytes_of(frame: Option<Frame>) -> Option<Vec<u8>> {
 }
 
 /// Takes one encoded frame into a part. The page's bytes keep the frame's buffer. Returns the buffer of the frame that
-/// it replaces, if there is one.
+/// it replaces, if any.
 fn exchange(part: &mut Part, text: Vec<u8>) -> Result<Option<Vec<u8>>, ReceiverError>
     ensures shape { part.new.shape ≡ part.old.shape }
     ensures taken { OnOk result (TakesText part.old part.new text.items) }
@@ -37,7 +37,7 @@ fn exchange(part: &mut Part, text: Vec<u8>) -> Result<Option<Vec<u8>>, ReceiverE
 }
 
 /// Takes one encoded frame, unless something was refused before, and keeps the first refusal. Returns the buffer of the
-/// frame that it replaces, if there is one.
+/// frame that it replaces, if any.
 pub(crate) fn accept(
     part: &mut Part,
     refusal: &mut Option<ReceiverError>,

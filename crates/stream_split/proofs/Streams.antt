@@ -25,7 +25,7 @@ enumerate_from-push n (y ∷ ys) x =
     ap (λ (rest : List (ℕ × PageFrame)). (n, y) ∷ rest)
     (enumerate_from-push (n + 1) ys x ∙ ap (λ (m : ℕ). enumerate_from (n + 1) ys ++ (m, x) ∷ []) (omega arith))
 
--- the one more goes to its stream
+-- the new frame goes to its stream
 dealt-push_own : (streams stream : ℕ) (frames : List PageFrame) (frame : PageFrame) → length frames % streams ≡ stream
     → dealt streams (frames ++ frame ∷ []) stream ≡ dealt streams frames stream ++ frame ∷ []
 dealt-push_own streams stream frames frame is =

@@ -3,7 +3,7 @@ use Rattle.std.specs.Prelude.{ℕ, ◌%◌, ◌==◌, List, map, filter}
 use Rattle.std.specs.List.{enumerate_from, flat_map, range_with_len}
 use Rattle.migration_model.specs.Frames.{PageFrame, frame_text}
 
--- so many streams, and the one whose turn it is
+-- how many streams there are, and the one whose turn it is
 pub record Turn : Type 0 where
   pub streams : ℕ
   pub next : ℕ

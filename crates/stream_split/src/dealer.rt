@@ -21,7 +21,7 @@ impl Model for Dealer {
 }
 
 impl Dealer {
-    /// Returns a dealer to so many streams, before its first turn.
+    /// Returns a dealer over this many streams, before its first turn.
     pub fn new(streams: usize) -> Dealer
         requires some { 1 ≤ streams }
         requires few { streams ≤ 16 }
@@ -30,7 +30,7 @@ impl Dealer {
         Dealer { streams, next: 0 }
     }
 
-    /// Returns the stream whose turn it is, and passes the turn to the next one; after the last comes the first.
+    /// Returns the stream whose turn it is, and passes the turn to the next one; the first follows the last.
     pub fn deal(&mut self) -> usize
         ensures next { result ≡ self.old.next }
         ensures within { result < self.old.streams }

@@ -1,4 +1,4 @@
-//! Frames to streams. No program runs it: it serves users of the library, and tests.
+//! Frames to streams. No program runs it: it is for users of the library, and tests.
 
 ghost use Rattle.std.specs.Prelude.{◌≡◌, ◌≤◌, ◌++◌, IfOk, OnOk, replicate, map, []};
 ghost use Rattle.std.specs.List.{All};
@@ -12,7 +12,7 @@ use guest_log::Shape;
 use page_message::{Frame, encode_frame};
 use std::alloc::Global;
 
-/// Returns so many empty streams, each with `room` bytes reserved.
+/// Returns this many empty streams, each with `room` bytes reserved.
 pub fn empty_streams(alloc: Global, streams: usize, room: usize) -> Result<Vec<Vec<u8>>, SplitError>
     ensures { IfOk result (λ v. map (λ s. s.items) v.items ≡ replicate streams []) }
 {
@@ -41,7 +41,7 @@ fn add_frame(
 }
 
 /// Returns the streams of these frames: frame n, counted from 0, goes to stream n modulo their number. Each stream is
-/// the encodings of its frames, one after the other. The only error is that memory runs out.
+/// the concatenated encodings of its frames. The only error is that memory runs out.
 pub fn split(
     alloc: Global,
     shape: &Shape,

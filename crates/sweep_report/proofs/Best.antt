@@ -10,7 +10,7 @@ use Rattle.std.proofs.lemmas.List.Folds.{list_any_none, list_any_at}
 use Rattle.std.proofs.lemmas.List.Sums.{position_or_len_is}
 use Rattle.migration_model.specs.Sweeps.{SweepLine, is_better, best_of}
 
--- the pair d, t is lesser than e, u
+-- the pair d, t is less than e, u
 abbrev lesser : ℕ → ℕ → ℕ → ℕ → Bool
 lesser d t e u = ltb d e || (eqb d e && ltb t u)
 
@@ -43,7 +43,7 @@ never_both d t e u (inl a) (inr b) = omega (arith, b.0)
 never_both d t e u (inr a) (inl b) = omega (arith, a.0)
 never_both d t e u (inr a) (inr b) = omega (arith, a.1, b.1)
 
--- lesser than one than which another is not lesser
+-- less than one than which another is not less
 through : (d t e u f v : ℕ) → (d < e) ⊎ ((d ≡ e) × (t < u)) → (e < f) ⊎ ((f ≡ e) × (u ≤ v))
     → (d < f) ⊎ ((d ≡ f) × (t < v))
 through d t e u f v (inl a) (inl b) = inl (omega arith)
@@ -77,7 +77,7 @@ not_self a = false_from_ne_true (is_better a a) (λ is. elim (lesser_is a.outcom
       | inr even ↦ omega (arith, even.1)
     ])
 
--- the best of the first lines, so many
+-- the best of the first `n` lines
 pub record IsBestOf (lines : List SweepLine) (n best : ℕ) : Type 0 where
   pub low : best < n
   pub first : (k : ℕ) (d : SweepLine) → k < best → is_better (get_or lines best d) (get_or lines k d) ≡ true

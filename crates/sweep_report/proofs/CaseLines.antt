@@ -9,7 +9,7 @@ use Rattle.migration_model.specs.Sweeps.{SweepLine}
 use Rattle.sweep_report.specs.Lines.{case_line}
 use Rattle.sweep_report.specs.Texts.{case_lines}
 
--- the lines of the first cases, so many
+-- the lines of the first `n` cases
 abbrev pub first_cases : ℕ → List SweepLine → List ℕ
 first_cases n lines = flat_map (λ (at : ℕ × SweepLine). case_line at.0 at.1) (take n (enumerate_from 0 lines))
 

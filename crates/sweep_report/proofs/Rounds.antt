@@ -9,7 +9,7 @@ use Rattle.migration_model.specs.Rounds.{PlannedRound}
 use Rattle.sweep_report.specs.Lines.{round_line}
 use Rattle.sweep_report.specs.Texts.{round_lines}
 
--- the lines of the first rounds, so many
+-- the lines of the first `n` rounds
 abbrev pub first_lines : ℕ → List PlannedRound → List ℕ
 first_lines n rounds = flat_map (λ (at : ℕ × PlannedRound). round_line at.0 at.1) (take n (enumerate_from 0 rounds))
 

@@ -8,7 +8,7 @@ use Rattle.migration_model.specs.Rounds.{PlannedRound, MigrationPlan, total_of}
 use Rattle.migration_model.specs.Sweeps.{PlanOutcome, SweepLine}
 use Rattle.migration_model.specs.Windows.{WindowRow}
 
--- some words and a number behind them
+-- some words and a number after them
 unfoldable pub field : List ℕ → ℕ → List ℕ
 field words number = words ++ decimal number
 
@@ -26,7 +26,7 @@ window_line row = line (field (codes "window ") row.number ∷ field (codes " wr
     (codes " pages ") row.pages
     ∷ field (codes " again ") row.again ∷ field (codes " fresh ") row.fresh ∷ [])
 
--- how many pages are in so many windows
+-- how many pages are in `hot` windows
 abbrev pub hot_line : ℕ → ℕ → List ℕ
 hot_line hot pages = line (field (codes "hot ") hot ∷ field (codes " pages ") pages ∷ [])
 

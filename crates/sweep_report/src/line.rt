@@ -11,7 +11,7 @@ pub struct Line {
     pub settings: Settings,
     /// How many rounds there are.
     pub rounds: u64,
-    /// Why no further round comes.
+    /// Why there are no more rounds.
     pub reason: Reason,
     /// The tick at which the guest is stopped.
     pub stop: u64,

@@ -9,7 +9,7 @@ use round_planner::{Plan, Round};
 use std::alloc::AllocError;
 use working_sets::Window;
 
-/// Appends some words and a number behind them.
+/// Appends some words and a number after them.
 #[tactic(auto, unfolding(crate::specs::Lines::field))]
 pub fn push_field(text: &mut Vec<u8>, words: &str, number: u64) -> Result<(), AllocError>
     ensures { OnOk result (text.new.items ≡ text.old.items ++ field words.now number) }

@@ -98,7 +98,7 @@ fn place(taken: &mut Vec<Option<Line>>, made: Vec<CaseLine>)
     }
 }
 
-/// Returns the line of a case, which is there already or is made now.
+/// Returns the line of a case, which is already there or is made now.
 fn line_or_new<T: Timeline>(
     planner: &mut Planner,
     timeline: &T,
@@ -142,8 +142,7 @@ fn in_order<T: Timeline>(
     Ok(lines)
 }
 
-/// Puts the lines that workers made into the slots of their cases. The trace and the cases are arguments for the
-/// contract alone.
+/// Puts the lines that workers made into the slots of their cases. Only the contract needs the trace and the cases.
 fn place_all<T: Timeline>(
     _timeline: &T,
     _cases: &[Settings],
@@ -189,20 +188,20 @@ fn make_beside<R: Threads + Sync, T: Timeline + Sync>(
     Ok(())
 }
 
-/// How many touches and pages a worker has to look at, in all of its cases, to pay for its thread.
+/// How many touches and pages a worker must look at, in all of its cases, to pay for its thread.
 const WORTH_A_THREAD: usize = 1 << 20;
 
-/// How many cases there have to be for them to share an index.
+/// How many cases there must be for them to share an index.
 const WORTH_AN_INDEX: usize = 2;
 
-/// Returns how many workers are worth their threads: no more than are asked for, nor than there are cases.
+/// Returns how many workers are worth their threads: no more than are asked for, and no more than there are cases.
 fn workers_for<T: Timeline>(timeline: &T, cases: usize, workers: usize) -> usize {
     let each = timeline.touch_count() + timeline.page_count() as usize;
     let most = cases.saturating_mul(each) / WORTH_A_THREAD;
     workers.min(cases).min(most)
 }
 
-/// Puts lines into the slots of their cases where it is worth it to start threads for them.
+/// Puts lines into the slots of their cases if it is worth starting threads for them.
 fn make_some<R: Threads + Sync, T: Timeline + Sync>(
     rt: &R,
     alloc: Global,
@@ -242,9 +241,9 @@ fn one_by_one<T: Timeline>(
     Ok(lines)
 }
 
-/// Returns the line of each case, in order: the sums of its plan, each case planned by itself. Up to `workers`
-/// workers, 1 to 16, take case after case, where there is enough to do; the lines are the same for any number of them.
-/// The error is `Memory`, where memory runs out for a list or for marks of pages.
+/// Returns the line of each case, in order: the sums of its plan, each case planned by itself. Up to `workers` workers,
+/// 1 to 16, take case after case, if there is enough to do; the lines are the same for any number of them. The error is
+/// `Memory`, if memory runs out for a list or for marks of pages.
 pub fn sweep<R: Threads + Sync, T: Timeline + Sync>(
     rt: &R,
     alloc: Global,

@@ -13,7 +13,7 @@ use Rattle.trace_codec.specs.Refusals.{header_refusal, Begins, Refuses, in_write
 use Rattle.trace_codec.specs.declared.error.TraceError.{TraceError}
 use Rattle.trace_codec.proofs.Headers.{IsHeader-from_none}
 
--- bytes that hold so many writes are the encodings of those, and the bytes behind them
+-- bytes that hold `n` writes are the encodings of those, and the bytes after them
 pub texts_read : (n : ℕ) (bytes : List ℕ) → IsBytes bytes → HoldsWrites n bytes
     → bytes ≡ flat_map write_text (writes_in n bytes) ++ rest_of n bytes
 texts_read zero bytes fits holds = refl
@@ -104,7 +104,7 @@ is_refused bytes e fits none refused =
           behind b (length-writes_in _ body) w.3 w.4
     ]
 
--- ---- these facts by the names that the code has for the parts
+-- ---- these facts, by the names that the code has for the parts
 
 pub cut_spelled : (bytes : List ℕ) (version shift pages count : ℕ) (body : List ℕ)
     → IsCut bytes version shift pages count body → IsBody version shift pages count body

@@ -1,6 +1,6 @@
 -- A header that is not refused is the one that its fields encode.
-use Rattle.std.proofs.Common.{◌≡◌, ℕ, ◌^◌, ◌≤◌, Bool, true, false, not, ◌&&◌, List, ◌∷◌, ◌++◌, length, get_or, drop}
-use Rattle.std.proofs.Common.{None, refl, sym, ap, ◌∙◌, arith}
+use Rattle.std.proofs.Common.{◌≡◌, ℕ, ◌^◌, ◌≤◌, List, ◌∷◌, ◌++◌, length, get_or, drop}
+use Rattle.std.proofs.Common.{None, sym, ap, ◌∙◌, arith}
 use Rattle.std.specs.Int.{w32}
 use Rattle.std.proofs.lemmas.Bool.{eqb-true, leb-true, ltb-false, not-false, and_parts}
 use Rattle.std.proofs.lemmas.List.{length-drop, drop-drop}
@@ -29,7 +29,7 @@ front_is (b0 ∷ b1 ∷ b2 ∷ b3 ∷ b4 ∷ b5 ∷ b6 ∷ b7 ∷ rest) long a b
     λ i. a i ∷ b i ∷ c i ∷ d i ∷ b4 ∷ b5 ∷ f i ∷ g i ∷ rest
 front_is _ long a b c d f g = absurd (omega arith)
 
--- the bytes behind them: two numbers, and the rest
+-- the bytes after them: two numbers, and the rest
 sizes_are : (bytes : List ℕ) → IsBytes bytes → 16 ≤ length bytes
     → drop 8 bytes ≡ text_of w32 (number_in w32 (drop 8 bytes))
     ++ (text_of w32 (number_in w32 (drop 12 bytes)) ++ drop 16 bytes)

@@ -1,6 +1,6 @@
 -- Writes that are tested one by one before they are a trace.
-use Rattle.std.proofs.Common.{◌≡◌, ℕ, ◌+◌, ◌^◌, ◌<◌, ◌≤◌, Bool, true, false, cond, not, leb, ◌&&◌, List, [], ◌∷◌, ◌++◌}
-use Rattle.std.proofs.Common.{length, get_or, take, drop, Option, Some, None, refl, sym, ap, subst, ◌∙◌, arith}
+use Rattle.std.proofs.Common.{◌≡◌, ℕ, ◌+◌, ◌^◌, ◌<◌, ◌≤◌, true, false, not, List, [], ◌∷◌, ◌++◌}
+use Rattle.std.proofs.Common.{length, get_or, take, drop, Some, None, refl, sym, ap, subst, ◌∙◌, arith}
 use Rattle.std.specs.List.{All, flat_map, sum_by}
 use Rattle.std.specs.List.Sorted.{IsNonDecreasingBy}
 use Rattle.std.proofs.lemmas.Bool.{ltb-false, leb-false, le-ltb, le-leb, lt-leb}
@@ -8,7 +8,6 @@ use Rattle.std.proofs.lemmas.List.{get_or_at, take_more, drop_more, take-append-
 use Rattle.std.proofs.lemmas.List.Elements.{All-push, All-same}
 use Rattle.std.proofs.lemmas.List.Sums.{sum_by-take-le, sum_by_push}
 use Rattle.std.proofs.lemmas.List.Concat.{length-flat_map}
-use Rattle.migration_model.specs.Numbers.{text_of}
 use Rattle.migration_model.specs.Trace.{GuestWrite, GuestTrace, IsGuestWrite, AreGuestWrites, last_tick, trace_with}
 use Rattle.migration_model.specs.Trace.{write_text, header_text, trace_text, IsTrace}
 use Rattle.migration_model.proofs.Order.{last_by-push, in_order-push, last_by-le, in_order-front}
@@ -100,14 +99,14 @@ length_of_text version shift pages writes =
       body,
     )
 
--- whether it is short enough, where the bytes are counted
+-- whether it is short enough, if the bytes are counted
 pub counted_short : (version shift pages bytes : ℕ) (writes : List GuestWrite)
     → bytes ≡ 16 + sum_by (λ (w : GuestWrite). 16 + length w.bytes) writes
     → bytes ≤ 2 ^ 28 → true ≡ is_short (trace_with version shift pages writes)
 counted_short version shift pages bytes writes is low = sym (le-leb _ _
     (omega (arith, length_of_text version shift pages writes)))
 
--- an encoding is too long, where the bytes of the first writes and one more are too many
+-- an encoding is too long if the bytes of the first writes and one more are too many
 pub counted_long : (bytes len n : ℕ) (writes : List GuestWrite) (write : GuestWrite) → n < length writes
     → write ≡ get_or writes n write
     → bytes ≡ 16 + sum_by (λ (w : GuestWrite). 16 + length w.bytes) (take n writes) → len ≡ length write.bytes

@@ -12,7 +12,7 @@ use Rattle.std.proofs.lemmas.List.Elements.{All-same}
 use Rattle.std.specs.List.Sorted.{IsNonDecreasingBy}
 use Rattle.migration_model.proofs.Order.{last_by-le, in_order-front}
 use Rattle.migration_model.specs.Numbers.{text_of, number_in}
-use Rattle.migration_model.specs.Trace.{GuestWrite, GuestTrace, IsGuestSize, IsGuestWrite, write_text, header_text}
+use Rattle.migration_model.specs.Trace.{GuestWrite, GuestTrace, IsGuestWrite, write_text, header_text}
 use Rattle.migration_model.specs.Trace.{trace_text, last_tick, Spells}
 use Rattle.migration_model.specs.TraceReading.{tick_in, page_in, offset_in, length_in, write_in}
 use Rattle.migration_model.proofs.Writes.{HasPlaces, HasPlaces-from_guest, write_again, len_again, length-write_text}
@@ -82,7 +82,7 @@ write_passes version shift pages before i write rest places fits order =
     (passes _ _ _ (rw (offset, len) (passes_empty version write.offset (length write.bytes) fits.some))
     (passes _ _ _ (le-ltb (2 ^ shift) (offset_in bytes + length_in bytes) (rw (offset, len) fits.within)) refl))))))
 
--- the same header, and the writes of the longer one behind those of the shorter one
+-- the same header, and the writes of the longer one after those of the shorter one
 record Meets (bytes : List ℕ) (b c : Begins bytes) : Type 0 where
   pub version : b.version ≡ c.version
   pub shift : b.shift ≡ c.shift
@@ -122,7 +122,7 @@ meets bytes b c few =
           found.2;
     }
 
--- the write behind the shorter one is not refused
+-- the write after the shorter one is not refused
 next_passes : (bytes : List ℕ) (b c : Begins bytes) → b.version ≡ c.version → b.shift ≡ c.shift → b.pages ≡ c.pages
     → (others : List GuestWrite) → c.writes ≡ b.writes ++ others → b.rest ≡ flat_map write_text others ++ c.rest
     → 0 < length others
@@ -245,7 +245,7 @@ pub is_only : (bytes : List ℕ) (r : Result GuestTrace TraceError) → IfOk r (
 is_only bytes (Ok found) spells refused trace is = ap (λ t. Ok t) (one_trace_lem bytes found trace spells is)
 is_only bytes (Err e) spells refused trace is = absurd (never_refused bytes trace e is refused)
 
--- so a trace that is encoded is refused for memory alone
+-- so a trace that is encoded is refused only for lack of memory
 pub only_memory : {X : Type 0} (bytes : List ℕ) (r : Result X TraceError) → IfErr r (RefusesUnlessMemory bytes)
     → (trace : GuestTrace) → Spells bytes trace → IfErr r (λ e. e ≡ Memory)
 only_memory bytes (Ok found) refused trace is = tt
@@ -259,7 +259,7 @@ pub only_found : (bytes : List ℕ) (r : Result GuestTrace TraceError) → IfOk 
 only_found bytes (Ok found) spells refused trace is = one_trace_lem bytes found trace spells is
 only_found bytes (Err e) spells refused trace is = only_memory {X = GuestTrace} bytes (Err e) refused trace is
 
--- and bytes in which a cause stands are refused for it
+-- and bytes that contain a cause are refused for it
 pub is_first : (bytes : List ℕ) (r : Result GuestTrace TraceError) → IfOk r (λ t. Spells bytes t)
     → IfErr r (Refuses bytes)
     → (e : TraceError) → Refuses bytes e → r ≡ Err e

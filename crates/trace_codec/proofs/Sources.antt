@@ -1,5 +1,5 @@
 -- Bytes that a source gives one after another.
-use Rattle.std.proofs.Common.{◌≡◌, false, ℕ, ◌+◌, ◌^◌, ◌<◌, ◌≤◌, inl, inr, subst, List, [], ◌++◌, length, take, drop}
+use Rattle.std.proofs.Common.{◌≡◌, ℕ, ◌+◌, ◌^◌, ◌<◌, ◌≤◌, inl, inr, subst, List, [], ◌++◌, length, take, drop}
 use Rattle.std.proofs.Common.{Option, Some, None, Result, Ok, Err, refl, sym, ap, ◌∙◌, append_assoc, arith}
 use Rattle.std.specs.Io.KnownBytes.{Consumes, IsAtEnd}
 use Rattle.std.proofs.Math.Seq.{take-add}
@@ -16,7 +16,7 @@ use Rattle.trace_codec.specs.declared.error.TraceError.TheVariants.{TooLong}
 abbrev given : TraceError → Option TraceError
 given e = Some e
 
--- to consume no bytes leaves what is known of the source
+-- consuming no bytes leaves what is known of the source
 pub Consumes-nil : (a : Option (List ℕ)) → Consumes a a []
 Consumes-nil None = tt
 Consumes-nil (Some a) = refl
@@ -28,7 +28,7 @@ Consumes-then (Some a) None c xs ys p q = absurd p
 Consumes-then (Some a) (Some b) None xs ys p q = absurd q
 Consumes-then (Some a) (Some b) (Some c) xs ys p q = p ∙ ap (λ (x : List ℕ). xs ++ x) q ∙ sym (append_assoc xs ys c)
 
--- what one more read behind the first bytes makes of the front of a buffer
+-- what one more read after the first bytes makes of the front of a buffer
 pub Consumes-front : (a b c : Option (List ℕ)) (filled n : ℕ) (old room new : List ℕ) → Consumes a b (take filled old)
     → take filled room ≡ take filled old
     → take filled new ≡ take filled room → Consumes b c (take n (drop filled new))
@@ -59,7 +59,7 @@ reads_from_memory bytes buffer front taken count fits left is ended =
 
 -- ---- what was read, and what the source held
 
--- Where no more was read than a trace may have, it was all.
+-- If no more was read than a trace may have, it was all.
 whole_is : (xs ys v : List ℕ) → xs ≡ v ++ ys → (length v ≤ 2 ^ 28 → ys ≡ []) → length v ≤ 2 ^ 28 → v ≡ xs
 whole_is xs ys v cut ended short = sym (cut ∙ ap (λ (y : List ℕ). v ++ y) (ended short) ∙ append-nil v)
 
@@ -71,7 +71,7 @@ spelled_whole (Some xs) (Some ys) v trace whole spells =
     let short : length v ≤ 2 ^ 28 = rw spells.text spells.is_trace.short in
     subst (λ (x : List ℕ). Spells x trace) (whole_is xs ys v whole.0 whole.1 short) spells
 
--- bytes that are longer than a trace may be are refused for that alone
+-- bytes that are longer than a trace may be are refused only for that
 header_too_long : (bytes : List ℕ) → 2 ^ 28 < length bytes → header_refusal bytes ≡ Some TooLong
 header_too_long bytes long = rw (lt-ltb (2 ^ 28) (length bytes) long) refl
 

@@ -1,5 +1,5 @@
--- What one more write that is read adds.
-use Rattle.std.proofs.Common.{◌≡◌, ℕ, zero, suc, ◌+◌, ◌-◌, ◌^◌, ◌<◌, ◌≤◌, ltb, Bool, true, false, not, ◌&&◌, ◌⊎◌, inl}
+-- What reading one more write adds.
+use Rattle.std.proofs.Common.{◌≡◌, ℕ, zero, suc, ◌+◌, ◌-◌, ◌^◌, ◌<◌, ◌≤◌, ltb, Bool, true, false, ◌&&◌, ◌⊎◌, inl}
 use Rattle.std.proofs.Common.{inr, eqb, cond, List, [], ◌∷◌, ◌++◌, length, take, drop, Option, Some, None, refl, sym}
 use Rattle.std.proofs.Common.{ap, ◌∙◌, add-one, arith}
 use Rattle.std.specs.List.{All}
@@ -43,7 +43,7 @@ passes_empty version offset len (inr release) = elim (cases_eq len 0) [
   | inr some ↦ rw (ne_eqb len 0 some) refl
 ]
 
--- the bytes behind the first n are all that are left
+-- the bytes after the first n are all that are left
 pub all_behind : (n : ℕ) (bytes : List ℕ) → take (length bytes - n) (drop n bytes) ≡ drop n bytes
 all_behind n bytes = take_all (length bytes - n) (drop n bytes) (omega (arith, length-drop n bytes))
 
@@ -56,7 +56,7 @@ skip b e others r is same = rw is same
 abbrev pub end_test : ℕ → ℕ → List ℕ → Option TraceError
 end_test shift i bytes = cond (ltb (2 ^ shift) (offset_in bytes + length_in bytes)) (Some (OutOfPage i)) None
 
--- where all other tests are passed, it is the one that decides
+-- if all other tests pass, it is the one that decides
 pub last_test : (version shift pages before i : ℕ) (bytes : List ℕ) → 16 ≤ length bytes
     → 16 + length_in bytes ≤ length bytes → before ≤ tick_in bytes
     → tick_in bytes < 2 ^ 40 → page_in bytes < pages → is_empty_write version (offset_in bytes) (length_in bytes)

@@ -9,12 +9,12 @@ use Rattle.trace_codec.specs.Refusals.{header_refusal, write_refusal}
 use Rattle.trace_codec.specs.declared.error.TraceError.{TraceError}
 use Rattle.trace_codec.specs.declared.error.TraceError.TheVariants.{TrailingBytes}
 
--- the bytes hold so many writes, each of them whole
+-- the bytes hold this many writes, each of them whole
 abbrev pub HoldsWrites : ℕ → List ℕ → Type 0
 HoldsWrites zero bytes = Unit {0}
 HoldsWrites (suc n) bytes = (16 + length_in bytes ≤ length bytes) × HoldsWrites n (rest_after bytes)
 
--- the first n writes in the bytes are right, the last of them at this tick, and `rest` is the bytes behind them
+-- the first n writes in the bytes are right, the last of them at this tick, and `rest` is the bytes after them
 pub record ReadsTo (version shift pages n : ℕ) (bytes : List ℕ) (last : ℕ) (rest : List ℕ) : Type 0 where
   pub holds : HoldsWrites n bytes
   pub fit : AreGuestWrites version shift pages (writes_in n bytes)
@@ -22,13 +22,13 @@ pub record ReadsTo (version shift pages n : ℕ) (bytes : List ℕ) (last : ℕ)
   pub below : All (λ write. write.tick ≤ last) (writes_in n bytes)
   pub rest_is : rest ≡ rest_of n bytes
 
--- so many writes are in the bytes, all of them right, and nothing else
+-- `count` writes are in the bytes, all of them right, and nothing else
 pub record IsBody (version shift pages count : ℕ) (bytes : List ℕ) : Type 0 where
   pub holds : HoldsWrites count bytes
   pub fit : AreGuestWrites version shift pages (writes_in count bytes)
   pub all : rest_of count bytes ≡ []
 
--- the first cause why the bytes are not so many right writes
+-- the first cause why the bytes are not `count` right writes
 abbrev pub RefusesBody : ℕ → ℕ → ℕ → ℕ → List ℕ → TraceError → Type 0
 RefusesBody version shift pages count bytes e =
     ((n : ℕ) × (last : ℕ) × (rest : List ℕ) × (n < count) × ReadsTo version shift pages n bytes last rest
@@ -36,7 +36,7 @@ RefusesBody version shift pages count bytes e =
     ⊎ ((last : ℕ) × (rest : List ℕ) × ReadsTo version shift pages count bytes last rest × (0 < length rest)
     × (e ≡ TrailingBytes))
 
--- the version and the sizes in the first 16 bytes, and the bytes behind them
+-- the version and the sizes in the first 16 bytes, and the bytes after them
 pub record IsCut (bytes : List ℕ) (version shift pages count : ℕ) (body : List ℕ) : Type 0 where
   pub fits : IsBytes bytes
   pub header : header_refusal bytes ≡ None

@@ -46,8 +46,7 @@ header_refusal bytes =
 abbrev pub is_empty_write : ℕ → ℕ → ℕ → Bool
 is_empty_write version offset len = (len == 0) && not ((version == 2) && (offset == 0))
 
--- what the write at the front of these bytes is refused for: write i of a guest of this size, the one before it at
--- this tick
+-- what the write at the front is refused for: write i of a guest of this size, the previous one at this tick
 abbrev pub write_refusal : ℕ → ℕ → ℕ → ℕ → ℕ → List ℕ → Option TraceError
 write_refusal version shift pages before i bytes =
     if nat_lt (length bytes) 16 then Some (ShortRecord i)
@@ -75,7 +74,7 @@ pub record Begins (bytes : List ℕ) : Type 0 where
   pub fit : AreGuestWrites version shift pages writes
   pub parts : bytes ≡ header_text version shift pages count ++ (flat_map write_text writes ++ rest)
 
--- The first cause in the bytes: in the header; in a write, all before it being right; or bytes behind the last write.
+-- The first cause in the bytes: in the header; in a write, all before it being right; or bytes after the last write.
 pub data Refuses (bytes : List ℕ) (e : TraceError) : Type 0 where
   in_header : header_refusal bytes ≡ Some e → Refuses bytes e
   in_write : (b : Begins bytes) → length b.writes < b.count
@@ -88,7 +87,7 @@ RefusesUnlessMemory bytes e = (e ≡ Memory) ⊎ Refuses bytes e
 
 -- ---- of a trace that is not encoded yet
 
--- what the version and the sizes of a trace are refused for, whose encoding is short enough or not
+-- what the version and the sizes of a trace are refused for, with an encoding that is short enough or not
 abbrev pub sizes_refusal : Bool → ℕ → ℕ → ℕ → ℕ → Option TraceError
 sizes_refusal short version shift pages writes =
     if not short then Some TooLong
@@ -102,7 +101,7 @@ sizes_refusal short version shift pages writes =
 abbrev pub is_short : GuestTrace → Bool
 is_short trace = nat_le (length (trace_text trace)) (2 ^ 28)
 
--- what a write is refused for: write i of a guest of this size, the one before it at this tick
+-- what a write is refused for: write i of a guest of this size, the previous one at this tick
 abbrev pub record_refusal : ℕ → ℕ → ℕ → ℕ → ℕ → GuestWrite → Option TraceError
 record_refusal version shift pages before i write =
     if nat_lt write.tick before then Some (TickOrder i)

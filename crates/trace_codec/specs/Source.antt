@@ -1,4 +1,4 @@
--- What is known of a source of bytes: the bytes that reads will give from here on, where they are known, and whether a
+-- What is known of a source of bytes: the bytes that reads will give from here on, if they are known, and whether a
 -- read failed.
 use Rattle.std.specs.Prelude.{◌≡◌, ◌<◌, ◌≤◌, ◌^◌, ℕ, Bool, List, length, take, Option, Some, None, IfSome, ◌⊎◌}
 use Rattle.std.specs.Io.KnownBytes.{Keeps, Consumes, IsAtEnd}

@@ -24,7 +24,7 @@ fn has_short_text(writes: &[Write]) -> bool
     true
 }
 
-/// Tests write `index` of a trace with this header; the write before it was at tick `before`.
+/// Tests write `index` of a trace with this header; the previous write was at tick `before`.
 fn check_record(header: Header, before: u64, index: u32, write: &Write) -> Result<(), TraceError>
     ensures refused { IfErr result (λ e. record_refusal header.version header.shape.shift header.shape.pages before
         index write.now ≡ Some e) }

@@ -6,9 +6,9 @@ ghost use Rattle.trace_codec.specs.declared.error.TraceError.TheVariants.{Memory
 use std::alloc::{AllocError, AllocFailed};
 use thiserror::Error;
 
-/// Why bytes are no trace. An error is written as its name in fault lines, with the record where one is at fault;
-/// records count from 0. Where the bytes have several causes, the error is the first in the order of the names'
-/// numbers, with `E15` before all others and `E8` to `E13` record by record.
+/// Why bytes are no trace. An error is written as its name in fault lines, with the record if one is at fault; records
+/// count from 0. If the bytes have several causes, the error is the first in the order of the names' numbers, with
+/// `E15` before all others and `E8` to `E13` record by record.
 #[derive(Clone, Copy, Debug, PartialEq, Eq, Error)]
 pub enum TraceError {
     /// Fewer than 16 bytes.
@@ -35,7 +35,7 @@ pub enum TraceError {
     /// Fewer than 16 bytes are left for a record, or fewer data bytes than its length says.
     #[error("E8 record {0}")]
     ShortRecord(u32),
-    /// A tick is below that of the record before.
+    /// A tick is below that of the previous record.
     #[error("E9 record {0}")]
     TickOrder(u32),
     /// A tick is 2^40 or more.
@@ -50,7 +50,7 @@ pub enum TraceError {
     /// Offset plus length is more than the page size.
     #[error("E13 record {0}")]
     OutOfPage(u32),
-    /// Bytes stand after the last record.
+    /// Bytes follow the last record.
     #[error("E14")]
     TrailingBytes,
     /// More than 2^28 bytes.

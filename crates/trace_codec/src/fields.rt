@@ -92,8 +92,8 @@ pub fn read_header(bytes: &[u8]) -> Result<Header, TraceError>
     Ok(Header { version, shape })
 }
 
-/// Tests the write at the front, which is write `index` of a trace with this header; the write before it was at tick
-/// `before`. Returns its tick and the bytes behind it, or what it is refused for, `E8` to `E13`.
+/// Tests the write at the front, which is write `index` of a trace with this header; the previous write was at tick
+/// `before`. Returns its tick and the bytes after it, or what it is refused for, `E8` to `E13`.
 #[tactic(auto, unfolding(migration_model::specs::TraceReading::rest_after))]
 pub fn checked_write<'a>(
     header: Header,

@@ -4,7 +4,7 @@
 //! [`TraceReader`] hands them out record by record. Tables and plans take any [`Timeline`]; what needs the bytes of
 //! writes takes any [`WriteLog`].
 //!
-//! A guest of 4 pages of `2^4` bytes writes page 1 at tick 5 and releases it at tick 9, which version 2 alone has:
+//! A guest of 4 pages of `2^4` bytes writes page 1 at tick 5 and releases it at tick 9, which only version 2 has:
 //!
 //! ```
 //! let mut writes = Vec::new(alloc);

@@ -32,7 +32,7 @@ pub(crate) fn is_shift(shift: u8) -> bool
     4 <= shift && shift <= 12
 }
 
-/// Returns whether a guest may have so many pages.
+/// Returns whether a guest may have this many pages.
 pub(crate) fn is_page_count(pages: u32) -> bool
     ensures { result ≡ is_count pages }
 {

@@ -13,8 +13,8 @@ use crate::records::first_write;
 use guest_log::{Header, Shape, WriteView};
 use std::marker::Model;
 
-/// A reader on its way through the bytes of a trace, for a caller that can undo what it did with the first writes
-/// where a later one is refused. It allocates nothing.
+/// A reader on its way through the bytes of a trace, for a caller that can undo what it did with the first writes if a
+/// later one is refused. It allocates nothing.
 #[derive(Drop)]
 pub struct TraceReader<'a> {
     bytes: &'a [u8],
@@ -71,8 +71,8 @@ impl<'a> TraceReader<'a> {
         self.header.shape
     }
 
-    /// Returns the next write, within the guest's pages and not before the one in front of it. After a refusal the
-    /// reader is as before.
+    /// Returns the next write, within the guest's pages and not before the previous one. After a refusal the reader is
+    /// as before.
     pub fn read_record(&mut self) -> Result<WriteView<'a>, TraceError>
         requires { length self.old.writes < self.old.count }
         ensures read { IfOk result (λ write. self.new
@@ -92,7 +92,7 @@ impl<'a> TraceReader<'a> {
         Ok(write)
     }
 
-    /// Tests that nothing stands behind the last write.
+    /// Tests that nothing follows the last write.
     pub fn finish(self) -> Result<(), TraceError>
         requires { length self.writes ≡ self.count }
         ensures spelled { OnOk result (Spells self.entry.bytes

@@ -16,7 +16,7 @@ use std::alloc::{AllocError, Global};
 /// The most bytes that a buffer grows by for one read: pieces of this size stay in a processor's cache.
 const PIECE: usize = 262_144;
 
-/// Returns the bytes with space behind the first `filled` ones, and never more than one byte past the longest trace.
+/// Returns the bytes with space after the first `filled` ones, and never more than one byte past the longest trace.
 fn with_room(bytes: Vec<u8>, filled: usize) -> Result<Vec<u8>, AllocError>
     requires within { filled ≤ vec_len bytes }
     requires short { filled ≤ MAX_LENGTH }
@@ -34,8 +34,8 @@ fn with_room(bytes: Vec<u8>, filled: usize) -> Result<Vec<u8>, AllocError>
     Ok(bytes)
 }
 
-/// Reads once into the bytes behind the first `filled` ones. Returns how many bytes came: 0 at the end of the source,
-/// and None where the read failed.
+/// Reads once into the bytes after the first `filled` ones. Returns how many bytes came: 0 at the end of the source,
+/// and None if the read failed.
 pub fn read_behind<S: Source>(source: &mut S, bytes: &mut Vec<u8>, filled: usize) -> Option<usize>
     requires unfailed { S.has_failed source.old ≡ false }
     requires room { filled < vec_len bytes.old }
@@ -49,7 +49,7 @@ pub fn read_behind<S: Source>(source: &mut S, bytes: &mut Vec<u8>, filled: usize
 }
 
 /// Returns the bytes of a source to its end, or until more have come than a trace may have. Memory follows the bytes
-/// that come. The errors are `E16` and `E17` alone.
+/// that come. The only errors are `E16` and `E17`.
 pub fn read_bytes<S: Source>(alloc: Global, source: &mut S) -> Result<Vec<u8>, TraceError>
     requires { S.has_failed source.old ≡ false }
     ensures whole { IfOk result (λ v. ReadsWhole (S.remaining source.old) (S.remaining source.new) v.items) }

@@ -11,7 +11,7 @@ use crate::fields::{u16_in, u32_in, u64_in};
 use guest_log::WriteView;
 use std::marker::Model;
 
-/// Returns the write at the front of some bytes, and the bytes behind it.
+/// Returns the write at the front of some bytes, and the bytes after it.
 #[tactic(auto, unfolding(migration_model::specs::TraceReading::write_in, migration_model::specs::TraceReading::rest_after))]
 pub fn first_write<'a>(bytes: &'a [u8]) -> (WriteView<'a>, &'a [u8])
     requires { 16 + length_in bytes.now ≤ length bytes.now }
@@ -49,7 +49,7 @@ impl<'a> Model for Records<'a> {
 }
 
 impl<'a> Records<'a> {
-    /// Returns an iterator over so many writes, which the bytes hold.
+    /// Returns an iterator over `count` writes, which the bytes hold.
     pub(crate) fn of(count: u32, bytes: &'a [u8]) -> Records<'a>
         requires { HoldsWrites count bytes.now }
         ensures { result ≡ writes_in count bytes.entry.now }

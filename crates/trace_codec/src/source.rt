@@ -9,14 +9,14 @@ use std::marker::Model;
 
 /// A source of bytes.
 pub trait Source {
-    // The bytes that reads will give from here on, where they are known.
+    // The bytes that reads will give from here on, if they are known.
     ghost remaining: { Self → Option (List ℕ) };
 
     // Whether a read failed.
     ghost has_failed: { Self → Bool };
 
-    /// Reads some bytes into the front of `buffer`, and returns how many. 0 into a buffer that is not empty is the
-    /// end. None is a read that failed, after which the source may not be read again.
+    /// Reads some bytes into the front of `buffer`, and returns how many. 0 into a buffer that is not empty is the end.
+    /// None is a failed read, after which the source may not be read again.
     fn read(&mut self, buffer: &mut [u8]) -> Option<usize>
         requires { has_failed self.old ≡ false }
         ensures bytes { ReadsFrom (remaining self.old) (remaining self.new) result buffer.new }
@@ -27,7 +27,7 @@ pub trait Source {
         ensures { result ≡ has_failed self.now };
 }
 
-/// One of std's readers as a source. It tries a read again that a signal interrupts.
+/// One of std's readers as a source. It retries a read that a signal interrupts.
 #[derive(Drop)]
 pub struct FromRead<R: Read + Drop> {
     reader: R,

@@ -32,7 +32,7 @@ impl Model for Trace {
 }
 
 impl Trace {
-    /// Returns the trace of these writes. It is refused for `E15` where its encoding would be too long, then for its
+    /// Returns the trace of these writes. It is refused for `E15` if its encoding would be too long, then for its
     /// version (`E3`) and its sizes (`E4`, `E6`, `E7`), and then record by record (`E9` to `E13`); records count from
     /// 0. It allocates nothing.
     pub fn new(version: u8, shift: u8, pages: u32, writes: Vec<Write>) -> Result<Trace, TraceError>

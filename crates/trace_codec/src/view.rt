@@ -14,7 +14,7 @@ use guest_log::{Header, Shape};
 use std::alloc::{AllocError, Global};
 use std::marker::Model;
 
-/// Tests the writes of a trace with this header, behind which the bytes may hold nothing.
+/// Tests the writes of a trace with this header, after which the bytes may hold nothing.
 fn check_writes(header: Header, bytes: &[u8]) -> Result<(), TraceError>
     ensures refused { IfErr result (RefusesBody header.version header.shape.shift header.shape.pages
         header.shape.writes bytes.now) }

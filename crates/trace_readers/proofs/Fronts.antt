@@ -1,4 +1,4 @@
--- How the tested records of a trace's bytes go on, and end.
+-- How the tested records of a trace's bytes continue, and end.
 use Rattle.std.proofs.Common.{◌≡◌, ℕ, ◌+◌, ◌-◌, ◌^◌, ◌<◌, ◌≤◌, List, [], ◌∷◌, ◌++◌, length, drop, take, None, Some}
 use Rattle.std.proofs.Common.{Result, Ok, Err, sym, ap, subst, ◌∙◌, arith}
 use Rattle.std.specs.Prelude.{IfOk, IfSome}
@@ -19,7 +19,7 @@ use Rattle.trace_codec.proofs.Readers.{end_refused, end_spelled, read_refused, r
 use Rattle.trace_codec.proofs.Steps.{IsRight-from_none}
 use Rattle.trace_readers.proofs.Texts.{positions_more}
 
--- the bytes behind the next record are the last of all the bytes
+-- the bytes after the next record are the last of all the bytes
 behind_next : (text rest behind : List ℕ) (end : ℕ) → end ≤ length text → rest ≡ drop end text
     → 16 + length_in rest ≤ length rest
     → behind ≡ rest_after rest → (length behind ≤ length text) × (behind ≡ drop (length text - length behind) text)
@@ -70,7 +70,7 @@ tested_more text old new index rest behind count low here is header positions la
       within = omega (arith, end);
     }
 
--- where the next one is refused
+-- if the next one is refused
 pub tested_refused : (text : List ℕ) (front : FrontRecords) (index : ℕ) (rest : List ℕ) (e : TraceError)
     → index ≡ length front.positions.items
     → index < front.header.shape.writes → rest ≡ drop front.end text
@@ -108,7 +108,7 @@ pub begun_now : (text : List ℕ) (made : Result FrontRecords TraceError) → If
 begun_now text (Ok front) on = tested_now text front on
 begun_now text (Err e) on = tt
 
--- ---- where all records are tested
+-- ---- if all records are tested
 
 pub tested_trailing : (text : List ℕ) (front : FrontRecords) → length front.positions.items ≡ front.header.shape.writes
     → front.end < length text

@@ -1,4 +1,4 @@
--- What more bytes behind some bytes change of what is read at their front: nothing, where it stands there whole.
+-- What more bytes after some bytes change in what is read at their front: nothing, if it is whole.
 use Rattle.std.proofs.Common.{◌≡◌, ℕ, zero, suc, ◌+◌, ◌^◌, ◌<◌, ◌≤◌, Bool, true, false, cond, List, ◌∷◌, ◌++◌, length}
 use Rattle.std.proofs.Common.{get_or, take, drop, Option, Some, None, refl, sym, ap, subst, ◌∙◌, append_assoc, inl, inr}
 use Rattle.std.proofs.Common.{arith}
@@ -75,13 +75,13 @@ each_or : (P : TraceError → Type 0) (b : Bool) (x : TraceError) (others : Opti
 each_or P true x others here there e is = let same : x ≡ e = cc in subst P same here
 each_or P false x others here there e is = there e is
 
--- where a test passes
+-- if a test passes
 each_else : (P : TraceError → Type 0) (b : Bool) (x : TraceError) (others : Option TraceError) → b ≡ false
     → Each P others → Each P (cond b (Some x) others)
 each_else P true x others is there = absurd cc
 each_else P false x others is there = there
 
--- where a test does not pass
+-- if a test does not pass
 each_here : (P : TraceError → Type 0) (b : Bool) (x : TraceError) (others : Option TraceError) → b ≡ true → P x
     → Each P (cond b (Some x) others)
 each_here P true x others is here e same = let back : x ≡ e = cc in subst P back here
@@ -98,7 +98,7 @@ pub record IsKnown (e : TraceError) : Type 0 where
 known : (e : TraceError) → wants_bytes e ≡ false → (e ≡ ReadFault → ⊥) → IsKnown e
 known e some fault = record { some = some; fault = fault }
 
--- why a write is refused that stands whole
+-- why a write is refused that is whole
 whole_causes : (version shift pages before i : ℕ) (bytes : List ℕ) → 16 + length_in bytes ≤ length bytes
     → Each IsKnown (write_refusal version shift pages before i bytes)
 whole_causes version shift pages before i bytes long =
@@ -110,7 +110,7 @@ whole_causes version shift pages before i bytes long =
     (each_or IsKnown _ _ _ (known (EmptyWrite i) refl (λ same. absurd cc))
     (each_or IsKnown _ _ _ (known (OutOfPage i) refl (λ same. absurd cc)) (each_none IsKnown)))))))
 
--- why a write is refused that does not stand whole
+-- why a write is refused that is not whole
 abbrev IsCutOff : ℕ → TraceError → Type 0
 IsCutOff i e = e ≡ ShortRecord i
 
@@ -203,7 +203,7 @@ begins_longer bytes more short b =
           ∙ ap (λ (x : List ℕ). head ++ x) (append_assoc body b.rest more);
     }
 
--- A cause that does not want more bytes is the first in all longer bytes too.
+-- A cause that does not call for more bytes is the first in all longer bytes too.
 pub stays : (bytes more : List ℕ) (e : TraceError) → Refuses bytes e → wants_bytes e ≡ false
     → length (bytes ++ more) ≤ 2 ^ 28 → Refuses (bytes ++ more) e
 unfolding begins_longer
@@ -225,7 +225,7 @@ stays bytes more e (in_write b left is) some short = elim (cases_lt (length b.re
 stays bytes more e (behind b all left is) some short = behind (begins_longer bytes more short b) all
     (omega (arith, length-append b.rest more)) is
 
--- a header that is not refused stands there whole
+-- a header that is not refused is whole
 pub header_long : (bytes : List ℕ) → header_refusal bytes ≡ None → 16 ≤ length bytes
 header_long bytes none =
     let short = passed _ _ _ none in
@@ -267,7 +267,7 @@ SameFront-from (suc n) bytes more holds =
       rest = ap (rest_of n) behind ∙ next.rest;
     }
 
--- what was read of some bytes is read of longer ones
+-- what was read from some bytes is read from longer ones
 pub reading_longer : (bytes more : List ℕ) (version shift pages count n last : ℕ) (rest : List ℕ)
     → IsReading bytes version shift pages count n last rest
     → 16 ≤ length bytes → IsBytes (bytes ++ more) → length (bytes ++ more) ≤ 2 ^ 28

@@ -22,7 +22,7 @@ IsBytes-append xs ys front back k = elim (cases_lt k (length xs)) [
   | inr high ↦ rw (get_or-append_right xs ys (length xs) k 0 refl high) (back _)
 ]
 
--- what a read put behind the first bytes of a buffer, of which some are taken
+-- what a read put after the first bytes of a buffer, of which some are taken
 pub read_behind_is : (old new : Option (List ℕ)) (start filled n count : ℕ) (room : List ℕ) (before : PiecesState)
     → IsBytes room → ReadsFrom old new (Some n) (drop filled room) → start ≤ filled
     → filled < length room → length room ≤ filled + 262_144 → drop start (take filled room) ≡ before.rest
@@ -74,7 +74,7 @@ CameAs-end old mid new text before after more none came read =
     let whole : text ++ read.bytes ≡ text = ap (λ (x : List ℕ). text ++ x) last.0 ∙ append-nil text in
     (subst (Consumes old new) whole (CameAs-more old mid new text before after more came read).came, last.1)
 
--- a cause that stands in what came, after the rest came too
+-- a cause in what came, after the rest came too
 pub early_refused : (old new end : Option (List ℕ)) (text more : List ℕ) (e : TraceError) → Consumes old new text
     → Consumes new end more → IsAtEnd end
     → length text + length more ≤ 2 ^ 28 → wants_bytes e ≡ false → Refuses text e → SourceRefuses old e

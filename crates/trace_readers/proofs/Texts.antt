@@ -13,14 +13,14 @@ use Rattle.trace_codec.specs.Reading.{HoldsWrites}
 use Rattle.trace_readers.specs.Texts.{ArePositions, IsHeldText, held_trace}
 use Rattle.guest_log.specs.Writes.{no_write}
 
--- one of the writes stands behind those before it
+-- one of the writes follows those before it
 pub write_at : (count n : ℕ) (bytes : List ℕ) (d : GuestWrite) → n < count
     → get_or (writes_in count bytes) n d ≡ write_in (rest_of n bytes)
 write_at zero n bytes d low = absurd (omega arith)
 write_at (suc count) zero bytes d low = refl
 write_at (suc count) (suc n) bytes d low = write_at count n (rest_after bytes) d (omega arith)
 
--- and stands there whole
+-- and is whole
 pub whole_at : (count n : ℕ) (bytes : List ℕ) → HoldsWrites count bytes → n < count
     → 16 + length_in (rest_of n bytes) ≤ length (rest_of n bytes)
 whole_at zero n bytes holds low = absurd (omega arith)
@@ -103,7 +103,7 @@ earlier_to touches tick middle here order low is before k d inside =
     let rises = order k middle d (omega arith) low in
     omega (arith, rises, same, is)
 
--- none behind one that is not before a tick is before it
+-- none after one that is not before a tick is before it
 pub later_from : (touches : List GuestTouch) (tick middle here : ℕ) → IsNonDecreasingBy (λ t. t.tick) touches
     → middle < length touches
     → here ≡ (get_or touches middle no_touch).tick → tick ≤ here

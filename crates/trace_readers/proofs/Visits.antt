@@ -1,4 +1,4 @@
--- How a visit on its way goes on, and ends.
+-- How a visit on its way continues, and ends.
 use Rattle.std.proofs.Common.{◌≡◌, ℕ, ◌+◌, ◌-◌, ◌^◌, ◌<◌, ◌≤◌, Bool, false, Option, List, [], ◌∷◌, ◌++◌, length, drop}
 use Rattle.std.proofs.Common.{map, None, Some, Result, Ok, Err, refl, sym, ap, subst, ◌∙◌, inl, inr, arith}
 use Rattle.std.proofs.lemmas.List.{drop-drop, length-append, length-drop, length-map}
@@ -32,7 +32,7 @@ pub map_push : (f : GuestWrite → GuestTouch) (xs : List GuestWrite) (x : Guest
 map_push f [] x = refl
 map_push f (y ∷ xs) x = ap (λ (ts : List GuestTouch). f y ∷ ts) (map_push f xs x)
 
--- one write more
+-- one more write
 pub visited_more : (old_made new_made : List GuestWrite → Type 0) (text : List ℕ) (old new : Taken)
     (bytes rest : List ℕ) (write : GuestWrite) → old.count < old.header.shape.writes
     → new.header ≡ old.header → new.count ≡ old.count + 1 → new.last ≡ tick_in bytes → rest ≡ rest_after bytes
@@ -68,7 +68,7 @@ pub visited_refused : (made : List GuestWrite → Type 0) (text : List ℕ) (tak
     ≡ Some e → IsVisited made text taken bytes → Refuses text e
 visited_refused made text taken bytes e low is on = read_refused text _ _ _ _ _ _ bytes e on.reads low is
 
--- the bytes behind a write are the last of the bytes
+-- the bytes after a write are the last of the bytes
 pub behind_is : (bytes rest : List ℕ) → 16 + length_in bytes ≤ length bytes → rest ≡ rest_after bytes
     → (length rest ≤ length bytes) × (rest ≡ drop (length bytes - length rest) bytes)
 unfolding rest_after
@@ -109,7 +109,7 @@ visited_longer made text more taken rest on fits short =
 
 -- ---- a visit of a source
 
--- after the records in the pieces were taken and a read put more behind them
+-- after the records in the pieces were taken and a read put more after them
 pub visiting_more : (old_made new_made : List GuestWrite → Type 0) (old mid new : Option (List ℕ)) (start taken : Taken)
     (before left after : PiecesState) (more : Bool) → left.count ≡ before.count
     → ((text : List ℕ) → IsVisited old_made text start before.rest → IsVisited new_made text taken left.rest)
@@ -128,7 +128,7 @@ visiting_more old_made new_made old mid new start taken before left after more c
           (step text (on.visited (omega (arith, short, length-append text read.bytes)))) fits short);
     }
 
--- at the end of the source, where all records were taken
+-- at the end of the source, if all records were taken
 pub visiting_all : (old_made new_made : List GuestWrite → Type 0) (old mid new : Option (List ℕ)) (start taken : Taken)
     (before left after : PiecesState) (more : Bool) → more ≡ false
     → before.count ≤ 2 ^ 28 → left.count ≡ before.count → left.rest ≡ []
@@ -184,7 +184,7 @@ visited_none made text taken rest count last rest_is cut start =
       made = rw count start;
     }
 
--- behind the header of the bytes that came
+-- after the header of the bytes that came
 pub visiting_none : (made : List GuestWrite → Type 0) (old new : Option (List ℕ)) (text : List ℕ) (taken : Taken)
     (pieces : PiecesState) → taken.count ≡ 0 → taken.last ≡ 0 → pieces.rest ≡ drop 16 text
     → CameAs old new pieces.count text → IsHeaderOf text taken.header → made [] → IsVisiting made old new taken pieces
@@ -196,7 +196,7 @@ visiting_none made old new text taken pieces count last rest came cut start =
       visited = λ short. visited_none made text taken pieces.rest count last rest cut start;
     }
 
--- behind the header that was taken
+-- after the header that was taken
 pub visiting_header : (made : List GuestWrite → Type 0) (old new : Option (List ℕ)) (taken : Taken)
     (pieces : PiecesState) → taken.count ≡ 0 → taken.last ≡ 0
     → HasHeader old new taken.header.version taken.header.shape.shift taken.header.shape.pages taken.header.shape.writes

@@ -17,7 +17,7 @@ pub record PiecesState : Type 0 where
 abbrev pub pieces_state : List ℕ → ℕ → PiecesState
 pieces_state rest count = record { rest = rest; count = count }
 
--- what one more read put behind the bytes that were left: some bytes, or none at the end of the source
+-- what one more read put after the bytes that were left: some bytes, or none at the end of the source
 pub record HasRead (old new : Option (List ℕ)) (before after : PiecesState) (more : Bool) : Type 0 where
   pub bytes : List ℕ
   pub fits : IsBytes bytes
@@ -28,7 +28,7 @@ pub record HasRead (old new : Option (List ℕ)) (before after : PiecesState) (m
   pub some : more ≡ true → 0 < length bytes
   pub ended : more ≡ false → (bytes ≡ []) × IsAtEnd new
 
--- the pieces are all that came of a source, and these are its bytes so far
+-- the pieces are all that came from a source, and these are its bytes so far
 pub record CameAs (old new : Option (List ℕ)) (count : ℕ) (text : List ℕ) : Type 0 where
   pub came : Consumes old new text
   pub count_is : count ≡ length text

@@ -5,16 +5,16 @@ use Rattle.migration_model.specs.TraceReading.{rest_of, writes_in}
 use Rattle.trace_codec.specs.Reading.{IsReading, IsView}
 use Rattle.trace_readers.specs.declared.front_records.FrontRecords.{FrontRecords}
 
--- the trace whose writes, so many, stand behind the header in these bytes
+-- the trace whose `count` writes follow the header in these bytes
 abbrev pub held_trace : ℕ → ℕ → ℕ → ℕ → List ℕ → GuestTrace
 held_trace version shift pages count bytes = trace_with version shift pages (writes_in count (drop 16 bytes))
 
--- the offsets of the first records of a trace, so many: at each of them begin the bytes behind the records before
+-- the offsets of the first `count` records of a trace: at each of them begin the bytes after the previous records
 pub record ArePositions (bytes : List ℕ) (count : ℕ) (positions : List ℕ) : Type 0 where
   pub count_is : length positions ≡ count
   pub stands : (n d : ℕ) → n < count → drop (slice_index_or positions n d) bytes ≡ rest_of n (drop 16 bytes)
 
--- what a trace that is held as its bytes keeps: the bytes hold its writes behind the header, and these are the offsets
+-- what a trace that is held as its bytes keeps: the bytes hold its writes after the header, and these are the offsets
 -- of all
 pub record IsHeldText (version shift pages count : ℕ) (bytes positions : List ℕ) : Type 0 where
   pub is_view : IsView version shift pages count (drop 16 bytes)

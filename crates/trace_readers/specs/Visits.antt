@@ -19,7 +19,7 @@ abbrev pub IsHeaderOf : List ℕ → Header → Type 0
 IsHeaderOf text header = IsCut text header.version header.shape.shift header.shape.pages header.shape.writes
     (drop 16 text)
 
--- the visitor is made of the first writes of these bytes, and `rest` is the bytes behind them
+-- the visitor is made of the first writes of these bytes, and `rest` is the bytes after them
 pub record IsVisited (made_of : List GuestWrite → Type 0) (text : List ℕ) (taken : Taken) (rest : List ℕ) : Type 0 where
   pub reads : IsReading text taken.header.version taken.header.shape.shift taken.header.shape.pages
       taken.header.shape.writes taken.count taken.last rest

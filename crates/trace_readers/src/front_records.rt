@@ -1,6 +1,6 @@
-//! The records at the front of a trace's bytes that are tested already, while more may come.
+//! The records at the front of a trace's bytes that are already tested, while more may come.
 
-ghost use Rattle.std.specs.Prelude.{◌≡◌, ◌+◌, ◌<◌, IfErr, IfOk, OnErr, OnOk, length};
+ghost use Rattle.std.specs.Prelude.{◌≡◌, ◌+◌, ◌<◌, IfErr, IfOk, OnOk, length};
 ghost use Rattle.migration_model.specs.Trace.{Spells};
 ghost use Rattle.trace_codec.specs.Refusals.{RefusesUnlessMemory};
 ghost use Rattle.trace_readers.specs.Texts.{IsHeldText, IsTested, held_trace};
@@ -19,7 +19,7 @@ pub(crate) struct FrontRecords {
 }
 
 impl FrontRecords {
-    /// Returns no records yet, behind a header that is right. It reserves slots for as many offsets as the header
+    /// Returns no records yet, after a header that is right. It reserves slots for as many offsets as the header
     /// counts, and for no more than `most`.
     pub(crate) fn new(alloc: Global, bytes: &[u8], most: usize) -> Result<FrontRecords, TraceError>
         ensures tested { IfOk result (IsTested bytes.now) }
@@ -54,7 +54,7 @@ impl FrontRecords {
     }
 
     /// Tests the records from the first that is not tested yet on, until all that the header counts are tested, or one
-    /// is refused. The records tested by then stay so, and bytes that come behind them may end the refusal.
+    /// is refused. The records tested by then stay so, and bytes that come after them may end the refusal.
     pub(crate) fn go_on(&mut self, bytes: &[u8]) -> Result<(), TraceError>
         requires { IsTested bytes.now self.old }
         ensures header { self.new.header ≡ self.old.header }
@@ -68,7 +68,7 @@ impl FrontRecords {
         Ok(())
     }
 
-    /// Returns all records of a whole trace, behind which no bytes follow.
+    /// Returns all records of a whole trace, after which no bytes follow.
     pub(crate) fn all(self, bytes: &[u8]) -> Result<FrontRecords, TraceError>
         requires { IsTested bytes.now self }
         ensures spelled { IfOk result (λ all. Spells bytes.now

@@ -19,7 +19,7 @@ use trace_codec::{
     Header, Shape, Source, Timeline, Touch, TraceError, WriteLog, WriteView, first_write,
 };
 
-/// A trace that is held as its bytes, with the offset of each record: 4 bytes a write beside the bytes of the trace,
+/// A trace that is held as its bytes, with the offset of each record: 4 bytes a write besides the bytes of the trace,
 /// and no other copy of what is written.
 #[derive(Debug, Drop)]
 pub struct HeldTrace {
@@ -39,8 +39,8 @@ impl Model for HeldTrace {
 }
 
 impl HeldTrace {
-    /// Takes over the bytes of a trace, of which the first records may be tested already. Where none are, the slots
-    /// for the offsets follow the bytes, whatever the header claims.
+    /// Takes over the bytes of a trace, of which the first records may be tested already. If none are, the slots for
+    /// the offsets follow the bytes, whatever the header claims.
     pub(crate) fn of_text(alloc: Global, text: ComingText) -> Result<HeldTrace, TraceError>
         ensures found { IfOk result (λ trace. Spells text trace) }
         ensures refused { IfErr result (RefusesUnlessMemory text) }
@@ -69,8 +69,8 @@ impl HeldTrace {
         HeldTrace::of_text(alloc, ComingText { bytes, front: None })
     }
 
-    /// Returns the trace that a source holds. It reads the source to its end, or past the longest trace and no
-    /// further, also where it found a refusal before. Any failed read is `E17`, whatever came before it.
+    /// Returns the trace that a source holds. It reads the source to its end, or past the longest trace and no further,
+    /// even if it found a refusal before. Any failed read is `E17`, whatever came before it.
     ///
     /// Once 1 MiB has come, it tests each piece as it comes. The offsets then take 4 bytes for each write that the
     /// header counts, at most 4 MiB. For a shorter trace they take a quarter of the bytes' length, whatever the header

@@ -17,8 +17,8 @@ use std::alloc::Global;
 use std::marker::Model;
 use trace_codec::{Header, Source, TraceError, read_header};
 
-/// The bytes of a trace that came from a source so far, all of them. Whoever knows its header decides how to go on: to
-/// hold the trace, or to hand its writes to a visitor, and hold none of them.
+/// All bytes of a trace that came from a source so far. Whoever knows its header decides how to continue: to hold the
+/// trace, or to hand its writes to a visitor, and hold none of them.
 #[derive(Drop)]
 pub struct IncomingTrace {
     pieces: Pieces,
@@ -33,7 +33,7 @@ impl Model for IncomingTrace {
 }
 
 impl IncomingTrace {
-    /// Reads until there are the 16 bytes of a header, or the source ends. The errors are `E16` and `E17` alone.
+    /// Reads until there are the 16 bytes of a header, or the source ends. The only errors are `E16` and `E17`.
     pub fn open<S: Source>(alloc: Global, source: &mut S) -> Result<IncomingTrace, TraceError>
         requires { S.has_failed source.old ≡ false }
         ensures came { IfOk result (Consumes (S.remaining source.old) (S.remaining source.new)) }
@@ -54,8 +54,8 @@ impl IncomingTrace {
         read_header(self.pieces.rest())
     }
 
-    /// Reads on until so many bytes have come, or the source ends. Returns whether they have come. Memory follows the
-    /// bytes that come. The errors are `E16` and `E17` alone.
+    /// Reads on until `count` bytes have come, or the source ends. Returns whether they have come. Memory follows the
+    /// bytes that come. The only errors are `E16` and `E17`.
     pub fn read_to<S: Source>(&mut self, source: &mut S, count: usize) -> Result<bool, TraceError>
         requires unfailed { S.has_failed source.old ≡ false }
         requires bound { count ≤ 2 ^ 28 }
@@ -75,7 +75,7 @@ impl IncomingTrace {
     }
 
     /// Hands all writes of the trace to a visitor, in order: those that came, and then those that come, piece by piece.
-    /// It reads the source to its end, or past the longest trace and no further, also where it found a refusal before.
+    /// It reads the source to its end, or past the longest trace and no further, even if it found a refusal before.
     pub fn visit<S: Source, V: WriteVisitor>(
         self,
         source: &mut S,

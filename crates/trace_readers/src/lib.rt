@@ -1,7 +1,7 @@
 //! Traces read from a source piece by piece, or held as their bytes: what reports, sweeps and live runs read.
 //!
 //! [`TouchLog`] keeps when each write was and to which page, and nothing of what is written; tables, plans and sweeps
-//! need it alone. [`HeldTrace`] keeps the bytes of the trace and the offset of each record; a live run needs it.
+//! need only that. [`HeldTrace`] keeps the bytes of the trace and the offset of each record; a live run needs it.
 #![tactic(auto)]
 
 mod front_records;

@@ -1,4 +1,4 @@
-//! The bytes of a source piece by piece, in one buffer that is used again.
+//! The bytes of a source piece by piece, in one reused buffer.
 
 ghost use Rattle.std.specs.Prelude.{◌≡◌, ◌≢◌, ◌<◌, ◌≤◌, ◌+◌, ◌-◌, ◌↔◌, ◌^◌, [], ℕ, List, Option, IfErr, IfOk, OnErr};
 ghost use Rattle.std.specs.Prelude.{OnOk};
@@ -12,12 +12,12 @@ use std::alloc::{AllocError, Global};
 use std::marker::Model;
 use trace_codec::{MAX_LENGTH, Source, TraceError, read_behind};
 
-/// How many bytes the buffer has that pieces are read into: many more than the longest record, and no more than stay
-/// in a processor's cache.
+/// How many bytes the buffer that pieces are read into has: many more than the longest record, and no more than stay in
+/// a processor's cache.
 pub(crate) const ROOM: usize = 262_144;
 
 /// The bytes of a source that came and are not taken yet, and how many came at all. The buffer holds them from `start`
-/// on and before `filled`, and has room for one more piece at most.
+/// on and before `filled`, and has room for at most one more piece.
 #[derive(Drop)]
 pub(crate) struct Pieces {
     room: Vec<u8>,
@@ -42,7 +42,7 @@ fn wants_bytes(cause: TraceError) -> bool
     matches!(cause, TraceError::ShortHeader | TraceError::ShortRecord(_))
 }
 
-/// Returns a buffer of so many zeros.
+/// Returns a buffer of `size` zeros.
 pub(crate) fn room_of(alloc: Global, size: usize) -> Result<Vec<u8>, AllocError>
     ensures { IfOk result (λ room. vec_len room ≡ size) }
 {
@@ -52,7 +52,7 @@ pub(crate) fn room_of(alloc: Global, size: usize) -> Result<Vec<u8>, AllocError>
 }
 
 /// Moves the bytes from `start` on and before `filled` to the front of the buffer, which is cut to the usual size.
-/// Returns how many they are.
+/// Returns how many there are.
 fn move_to_front(room: &mut Vec<u8>, start: usize, filled: usize) -> usize
     requires order { start ≤ filled }
     requires bound { filled ≤ vec_len room.old }
@@ -67,7 +67,7 @@ fn move_to_front(room: &mut Vec<u8>, start: usize, filled: usize) -> usize
     filled - start
 }
 
-/// Makes room for one more piece behind the first `filled` bytes, where there is none.
+/// Makes room for one more piece after the first `filled` bytes, if there is none.
 fn grow(room: &mut Vec<u8>, filled: usize) -> Result<(), AllocError>
     requires bound { filled ≤ vec_len room.old }
     requires few { vec_len room.old ≤ filled + 262_144 }
@@ -83,7 +83,7 @@ fn grow(room: &mut Vec<u8>, filled: usize) -> Result<(), AllocError>
 }
 
 impl Pieces {
-    /// Returns pieces of which no bytes came yet.
+    /// Returns pieces of which no bytes have come yet.
     pub(crate) fn new(alloc: Global) -> Result<Pieces, AllocError>
         ensures { IfOk result (λ pieces. pieces ≡ pieces_state [] 0) }
     {
@@ -111,7 +111,7 @@ impl Pieces {
         self.count
     }
 
-    /// Takes so many bytes from the front.
+    /// Takes this many bytes from the front.
     pub(crate) fn take(&mut self, taken: usize)
         requires { taken ≤ length self.old.rest }
         ensures rest { self.new.rest ≡ drop taken self.old.rest }
@@ -120,7 +120,7 @@ impl Pieces {
         self.start += taken;
     }
 
-    /// Reads once behind the bytes that are left, which move to the front. Returns false at the end of the source.
+    /// Reads once after the bytes that are left, which move to the front. Returns false at the end of the source.
     pub(crate) fn read_more<S: Source>(&mut self, source: &mut S) -> Result<bool, TraceError>
         requires unfailed { S.has_failed source.old ≡ false }
         requires room { length self.old.rest < 262_144 }
@@ -142,8 +142,8 @@ impl Pieces {
         }
     }
 
-    /// Reads once behind the bytes that are left, which stay where they are: the buffer grows where it is full. Returns
-    /// false at the end of the source. The errors are `E16` and `E17` alone.
+    /// Reads once after the bytes that are left, which stay where they are: the buffer grows if it is full. Returns
+    /// false at the end of the source. The only errors are `E16` and `E17`.
     pub(crate) fn read_grown<S: Source>(&mut self, source: &mut S) -> Result<bool, TraceError>
         requires unfailed { S.has_failed source.old ≡ false }
         requires short { self.old.count ≤ 2 ^ 28 }
@@ -204,8 +204,8 @@ impl Pieces {
         TraceError::TooLong
     }
 
-    /// Goes on after a refusal of the bytes that came: reads once more where more bytes may end the refusal, and
-    /// returns it where they may not.
+    /// Continues after a refusal of the bytes that came: reads once more if more bytes may end the refusal, and returns
+    /// it if they may not.
     pub(crate) fn read_after<S: Source>(
         &mut self,
         source: &mut S,

@@ -11,7 +11,7 @@ use std::alloc::{AllocError, Global};
 use std::marker::Model;
 use trace_codec::{MAX_LENGTH, MAX_WRITES, Source, TraceError};
 
-/// How many bytes have to come before the first records are tested, `2^20`: only then is the header's count of writes
+/// How many bytes must come before the first records are tested, `2^20`: only then is the header's count of writes
 /// believed, and memory reserved for all of them at once.
 const TESTED_FROM: usize = 1_048_576;
 
@@ -30,8 +30,8 @@ impl Model for ComingText {
     ghost invariant = { λ t. IfSome t.front (IsTested t.bytes.items) };
 }
 
-/// Returns the records that were tested before, or begins with none. Returns None where the header is refused or
-/// memory runs out.
+/// Returns the records that were tested before, or begins with none. Returns None if the header is refused or memory
+/// runs out.
 fn begun(alloc: Global, front: Option<FrontRecords>, bytes: &[u8]) -> Option<FrontRecords>
     requires { IfSome front (IsTestedBefore bytes.now) }
     ensures { IfSome result (IsTestedBefore bytes.now) }
@@ -42,8 +42,8 @@ fn begun(alloc: Global, front: Option<FrontRecords>, bytes: &[u8]) -> Option<Fro
     }
 }
 
-/// Returns the records in front of these bytes, tested as far as they go. There are none where the bytes are too few
-/// or too many, where the header is refused, and where memory ran out: then all records are tested at the end.
+/// Returns the records in front of these bytes, tested as far as they go. There are none if the bytes are too few or
+/// too many, if the header is refused, or if memory ran out: then all records are tested at the end.
 fn tested_on(alloc: Global, front: Option<FrontRecords>, bytes: &[u8]) -> Option<FrontRecords>
     requires { IfSome front (IsTestedBefore bytes.now) }
     ensures { IfSome result (IsTested bytes.now) }
@@ -57,7 +57,7 @@ fn tested_on(alloc: Global, front: Option<FrontRecords>, bytes: &[u8]) -> Option
 }
 
 impl ComingText {
-    /// Returns these bytes with one more piece behind them.
+    /// Returns these bytes with one more piece after them.
     fn with_piece(self, alloc: Global, piece: &[u8]) -> Result<ComingText, AllocError>
         ensures { IfOk result (λ text. text ≡ self ++ piece.now) }
     {
@@ -68,8 +68,8 @@ impl ComingText {
     }
 }
 
-/// Returns the bytes that came of a source and those that still come, to its end, or until more have come than a trace
-/// may have. The errors are `E16` and `E17` alone.
+/// Returns the bytes that came from a source and those that still come, to its end, or until more have come than a
+/// trace may have. The only errors are `E16` and `E17`.
 pub(crate) fn read_on<S: Source>(
     alloc: Global,
     source: &mut S,

@@ -16,7 +16,7 @@ use std::alloc::{AllocError, Global};
 use std::marker::Model;
 use trace_codec::{Header, Shape, Source, Timeline, Touch, TraceError, TraceReader, WriteView};
 
-/// How many bytes the shortest record has: that of a release, which has its 16 bytes of numbers alone.
+/// How many bytes the shortest record has: that of a release, which has only its 16 bytes of numbers.
 pub(crate) const SHORTEST_RECORD: usize = 16;
 
 /// When each write of a trace was, and to which page: 16 bytes a write, however long the writes are.
@@ -125,7 +125,7 @@ impl TouchLog {
     }
 
     /// Reads the touches of the trace that a source holds, piece by piece in one buffer of 256 KiB; it never holds the
-    /// bytes whole. It reads the source to its end, or past the longest trace and no further, also where it found a
+    /// bytes whole. It reads the source to its end, or past the longest trace and no further, even if it found a
     /// refusal before. Any failed read is `E17`, whatever came before it.
     pub fn read<S: Source>(alloc: Global, source: &mut S) -> Result<TouchLog, TraceError>
         requires { S.has_failed source.old ≡ false }

@@ -14,7 +14,7 @@ use trace_codec::{
     Header, MAX_LENGTH, Source, TraceError, checked_write, first_write, read_header,
 };
 
-/// How far the records of a trace are taken: so many of them, the last at tick `last`.
+/// How far the records of a trace are taken: `count` of them, the last at tick `last`.
 #[derive(Clone, Copy)]
 pub(crate) struct Taken {
     header: Header,
@@ -23,7 +23,7 @@ pub(crate) struct Taken {
 }
 
 impl Taken {
-    /// Returns that no record is taken yet of a trace with this header.
+    /// Returns the state in which no record of a trace with this header is taken yet.
     pub(crate) fn none(header: Header) -> Taken
         ensures header { result.header ≡ header }
         ensures count { result.count ≡ 0 }
@@ -37,7 +37,7 @@ impl Taken {
     }
 }
 
-/// Hands the write at the front of the bytes to a visitor, and returns the bytes behind it.
+/// Hands the write at the front of the bytes to a visitor, and returns the bytes after it.
 fn visit_record<'a, V: WriteVisitor>(
     taken: &mut Taken,
     visitor: &mut V,
@@ -70,8 +70,8 @@ fn visit_record<'a, V: WriteVisitor>(
     Ok(rest)
 }
 
-/// Hands the writes that stand whole at the front of the bytes to a visitor. Returns how many bytes they have, and
-/// what the trace is refused for if no more bytes come.
+/// Hands the whole writes at the front of the bytes to a visitor. Returns how many bytes they have, and what the trace
+/// is refused for if no more bytes come.
 fn visit_records<V: WriteVisitor>(
     taken: &mut Taken,
     visitor: &mut V,
@@ -152,8 +152,8 @@ pub(crate) fn take_header<S: Source>(
     }
 }
 
-/// Hands the writes that stand whole in the pieces to a visitor, and reads one piece more. Returns false at the end of
-/// the source, where all writes were taken.
+/// Hands the whole writes in the pieces to a visitor, and reads one more piece. Returns false at the end of the source,
+/// if all writes were taken.
 fn visit_piece<S: Source, V: WriteVisitor>(
     source: &mut S,
     pieces: &mut Pieces,
@@ -188,7 +188,7 @@ fn visit_piece<S: Source, V: WriteVisitor>(
     }
 }
 
-/// Hands the writes that were not taken yet to a visitor, those in the pieces and those that still come.
+/// Hands the writes that were not taken yet to a visitor: those in the pieces and those still to come.
 pub(crate) fn visit_rest<S: Source, V: WriteVisitor>(
     source: &mut S,
     pieces: &mut Pieces,

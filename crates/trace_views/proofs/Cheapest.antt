@@ -8,7 +8,7 @@ use Rattle.sweep_report.proofs.Best.{better_through, worse_not, not_self}
 use Rattle.trace_views.specs.Advice.{keeps, is_cheaper, NoneKeeps, IsCheapest}
 use Rattle.trace_views.specs.declared.budget.Budget.{Budget}
 
--- a line with its downtime and its pages exchanged: what is better of such lines is cheaper of the lines themselves
+-- a line with its downtime and its pages exchanged: a better line so exchanged is a cheaper line
 abbrev turned : SweepLine → SweepLine
 turned line = line_with line.settings (outcome_with line.outcome.rounds line.outcome.reason line.outcome.stop
     line.outcome.total line.outcome.down)

@@ -1,4 +1,4 @@
--- Decimal digits, with a fraction behind them or without one, are a number of JSON.
+-- Decimal digits, with or without a fraction after them, are a JSON number.
 use Rattle.std.proofs.Common.{◌≡◌, ℕ, zero, suc, ◌+◌, ◌/◌, ◌%◌, ◌^◌, ◌<◌, ◌≤◌, Bool, false, cond, ◌==◌, List, [], ◌∷◌}
 use Rattle.std.proofs.Common.{◌++◌, length, drop, get_or, Option, Some, option_and_then, decimal, refl, ap, subst, sym}
 use Rattle.std.proofs.Common.{◌∙◌, arith}
@@ -9,7 +9,7 @@ use Rattle.std.proofs.lemmas.Fmt.{decimal_by_steps_wide, decimal_digit, decimal_
 use Rattle.std.proofs.lemmas.Str.Parse.{digit_at}
 use Rattle.std.specs.List.{prefix_len}
 use Rattle.std.specs.Char.{is_ascii_digit}
-use Rattle.json.specs.Word.{head, after_digits, after_exponent, after_fraction, after_minus, after_number, after_whole}
+use Rattle.json.specs.Word.{head, after_digits, after_exponent, after_fraction, after_number, after_whole}
 use Rattle.json.specs.Print.{IsNumber}
 use Rattle.trace_views.specs.Json.{millionths_text, six_digits}
 
@@ -39,7 +39,7 @@ drop_front : (ds rest : List ℕ) → drop (length ds) (ds ++ rest) ≡ rest
 drop_front [] rest = refl
 drop_front (d ∷ ds) rest = drop_front ds rest
 
--- how decimal digits begin: with 0 only where they are nothing else
+-- how decimal digits begin: with 0 only if they are nothing else
 record BeginsWell (n : ℕ) (ds : List ℕ) : Type 0 where
   some : 0 < length ds
   first : 0 < n → 48 < get_or ds 0 0

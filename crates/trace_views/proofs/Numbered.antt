@@ -1,4 +1,4 @@
--- The tokens of numbered things, one more at a time.
+-- The tokens of numbered things, adding one at a time.
 use Rattle.std.proofs.Common.{◌≡◌, ℕ, ◌+◌, ◌<◌, ◌≤◌, List, [], ◌∷◌, ◌++◌, length, get_or, take, sym, ap, ◌∙◌}
 use Rattle.std.proofs.Common.{append_assoc, arith}
 use Rattle.std.specs.List.{flat_map, enumerate_from}
@@ -8,7 +8,7 @@ use Rattle.std.proofs.lemmas.List.FromFn.{length-enumerate_from, get_or-enumerat
 use Rattle.json.specs.Token.{Token}
 
 module _ {X : Type 0} (text : ℕ → X → List Token) where
-  -- the tokens of the first, so many
+  -- the tokens of the first `n`
   abbrev pub first_tokens : ℕ → List X → List Token
   first_tokens n xs = flat_map (λ (at : ℕ × X). text at.0 at.1) (take n (enumerate_from 0 xs))
 

@@ -9,13 +9,13 @@ use Rattle.trace_views.specs.declared.budget.Advice.{Advice}
 use Rattle.trace_views.specs.declared.budget.Advice.TheVariants as advices
 use Rattle.trace_views.specs.declared.view.Measured.{Measured}
 
--- the number of the case that is advised
+-- the number of the advised case
 abbrev pub case_of : Advice → ℕ
 case_of (advices.Fits case) = case
 case_of (advices.OverTotal nearest cheapest) = nearest
 case_of (advices.OverDown nearest) = nearest
 
--- the option for a base, where there is one
+-- the option for a base, if there is one
 abbrev pub base_field : Option ℕ → List ℕ
 base_field None = []
 base_field (Some base) = field (codes " --base ") base
@@ -40,12 +40,12 @@ abbrev pub cost_line : Option MigrationCost → List ℕ
 cost_line None = []
 cost_line (Some cost) = measures_line cost
 
--- an advised case: what it costs in time and bytes where that is known, its line, and the words that run a live
--- migration with its settings
+-- an advised case: what it costs in time and bytes if that is known, its line, and the words that run a live migration
+-- with its settings
 abbrev pub choice_text : ℕ → SweepLine → Option MigrationCost → List ℕ
 choice_text case chosen cost = cost_line cost ++ (case_line case chosen ++ live_line chosen.settings)
 
--- what a case costs where it is known what ticks and pages stand for, over touches of which the last has this tick
+-- what a case costs if it is known what ticks and pages stand for, over touches whose last has this tick
 abbrev pub known_cost : Option Measured → SweepLine → ℕ → Option MigrationCost
 known_cost None chosen last = None
 known_cost (Some known) chosen last =

@@ -1,5 +1,5 @@
--- The cases that advice is chosen from: the settings that were asked for, and then each that the values of some axes
--- make with one another, where none of its settings is out of range. This project's own.
+-- The cases that advice is chosen from: the given settings, and then each combination of the values of some axes, if
+-- none of its settings is out of range. This project's own.
 use Rattle.std.specs.Prelude.{ℕ, ◌+◌, ◌*◌, ◌/◌, min, max, true, false, if◌then◌else◌, is_none, List, [], ◌∷◌, ◌++◌}
 use Rattle.std.specs.List.{flat_map}
 use Rattle.migration_model.specs.Rates.{MigrationSettings}
@@ -7,7 +7,7 @@ use Rattle.rate_limit.specs.Refusals.{refusal_of}
 use Rattle.trace_views.specs.declared.budget.Budget.{Budget}
 use Rattle.trace_views.specs.declared.grid.Grid.{Grid}
 
--- a part of a number, and 1 at least
+-- a part of a number, at least 1
 abbrev pub part : ℕ → ℕ → ℕ
 part whole n = max (whole / n) 1
 
@@ -24,11 +24,11 @@ axes rate threshold = record {
   rounds = 2 ∷ 8 ∷ 30 ∷ [];
 }
 
--- the axes round some settings, for a budget
+-- the axes around some settings, for a budget
 abbrev pub grid_of : MigrationSettings → Budget → Grid
 grid_of s budget = axes s.max (threshold_within budget.down s.max)
 
--- settings, where none of them is out of range
+-- settings, if none of them is out of range
 abbrev pub kept : MigrationSettings → List MigrationSettings
 kept s = if is_none (refusal_of s) then s ∷ [] else []
 

@@ -30,11 +30,11 @@ unfoldable pub six_digits : ℕ → List ℕ
 six_digits n = (48 + n / 100_000) ∷ (48 + n / 10_000 % 10) ∷ (48 + n / 1_000 % 10) ∷ (48 + n / 100 % 10)
     ∷ (48 + n / 10 % 10) ∷ (48 + n % 10) ∷ []
 
--- millionths as a number, with six digits behind the point (46)
+-- millionths as a number, with six digits after the point (46)
 unfoldable pub millionths_text : ℕ → List ℕ
 millionths_text n = decimal (n / 1_000_000) ++ 46 ∷ six_digits (n % 1_000_000)
 
--- a member whose value is a time in seconds, of so many microseconds, or another number of millionths
+-- a member whose value is a time in seconds, given in microseconds, or another number of millionths
 unfoldable pub seconds_member : List ℕ → ℕ → List Token
 seconds_member name micros = key name ∷ number (millionths_text micros) ∷ []
 
@@ -63,7 +63,7 @@ page_members scale =
     number_member (codes "page_bytes") scale.page ∷ number_member (codes "sampled_pages") scale.sampled
     ∷ number_member (codes "guest_pages") scale.guest ∷ []
 
--- what ticks, windows of so many ticks, and pages stand for, where that is known
+-- what ticks, windows of `length` ticks, and pages stand for, if that is known
 abbrev pub units_object : TraceScale → ℕ → List Token
 units_object scale length =
     object_of (seconds_member (codes "tick_seconds") scale.tick ∷ seconds_member
@@ -73,7 +73,7 @@ abbrev pub units_member : Option TraceScale → ℕ → List Token
 units_member None length = []
 units_member (Some scale) length = member_of (codes "units") (units_object scale length)
 
--- the bytes of the guest that are written in a window, where they are known
+-- the bytes of the guest that are written in a window, if they are known
 abbrev pub window_units : Option TraceScale → WindowRow → List (List Token)
 window_units None row = []
 window_units (Some scale) row = number_member (codes "bytes") (bytes_of scale row.pages) ∷ []
@@ -90,7 +90,7 @@ hot_object hot pages =
     object_of (number_member (codes "windows") hot ∷ member_of (codes "pages")
     (array_of (flat_map (λ page. number_token page ∷ []) pages)) ∷ [])
 
--- the times, the bytes and the share of the link of a round, where they are known; `max` is the rate of the link
+-- the times, the bytes and the share of the link of a round, if they are known; `max` is the rate of the link
 abbrev pub round_measures : TraceScale → ℕ → PlannedRound → List (List Token)
 round_measures scale max round =
     seconds_member (codes "from_seconds") (micros_of scale round.from) ∷ seconds_member
@@ -116,7 +116,7 @@ round_object scale max n round =
 abbrev pub round_objects : Option TraceScale → ℕ → List PlannedRound → List Token
 round_objects scale max rounds = flat_map (λ at. round_object scale max at.0 at.1) (enumerate_from 0 rounds)
 
--- the times and the bytes of the end of a plan, where they are known
+-- the times and the bytes of the end of a plan, if they are known
 abbrev pub stop_measures : TraceScale → MigrationPlan → List (List Token)
 stop_measures scale plan =
     seconds_member (codes "at_seconds") (micros_of scale plan.stop) ∷ number_member
@@ -146,7 +146,7 @@ plan_members scale max plan =
     member_of (codes "rounds") (array_of (round_objects scale max plan.rounds)) ++ member_of
     (codes "stop") (stop_object scale plan)
 
--- the facts of a report, in ticks and pages, and in times and bytes of the guest where they are known
+-- the facts of a report, in ticks and pages, and in times and bytes of the guest if they are known
 abbrev pub report_object : ℕ → ℕ → ℕ → MigrationSettings → Option TraceScale → WorkingSets → MigrationPlan → List Token
 report_object shift pages writes s scale sets plan =
     object_of (member_of (codes "trace") (trace_object pages (2 ^ shift) writes) ∷ units_member scale s.window
@@ -168,7 +168,7 @@ outcome_members outcome =
     (codes "at") outcome.stop
     ∷ number_member (codes "down") outcome.down ∷ number_member (codes "total") outcome.total ∷ []
 
--- the times and the bytes of a case's plan, where they are known
+-- the times and the bytes of a case's plan, if they are known
 abbrev pub outcome_units : Option TraceScale → PlanOutcome → List (List Token)
 outcome_units None outcome = []
 outcome_units (Some scale) outcome =
@@ -185,7 +185,7 @@ case_object scale n line = object_of (number_member (codes "case") n ∷
 abbrev pub case_objects : Option TraceScale → List SweepLine → List Token
 case_objects scale lines = flat_map (λ at. case_object scale at.0 at.1) (enumerate_from 0 lines)
 
--- what ticks and pages stand for, where that is known
+-- what ticks and pages stand for, if that is known
 abbrev pub scale_object : TraceScale → List Token
 scale_object scale = object_of (seconds_member (codes "tick_seconds") scale.tick ∷ page_members scale)
 
@@ -193,7 +193,7 @@ abbrev pub scale_member : Option TraceScale → List Token
 scale_member None = []
 scale_member (Some scale) = member_of (codes "units") (scale_object scale)
 
--- the number of the best case, where there is a case
+-- the number of the best case, if there is a case
 abbrev pub best_member : List SweepLine → List Token
 best_member [] = []
 best_member (first ∷ others) = number_member (codes "best") (best_of (first ∷ others))

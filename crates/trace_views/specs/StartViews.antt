@@ -18,8 +18,7 @@ use Rattle.trace_views.specs.declared.view.AskedStarts.{AskedStarts}
 use Rattle.trace_views.specs.declared.view.StartsForm.{StartsForm}
 use Rattle.trace_views.specs.declared.view.StartsForm.TheVariants as forms
 
--- what a migration over a log costs from each start, by a plan of its own, and which start is the best and which the
--- worst of those that are known
+-- what a migration over a log costs from each start, by its own plan, and the best and the worst of the known starts
 pub record AreStartsOf (log : GuestTouches) (asked : AskedStarts) (costs : List CostAtStart)
     (best worst : Option CostAtStart) : Type 0 where
   pub lines : List SweepLine
@@ -29,7 +28,7 @@ pub record AreStartsOf (log : GuestTouches) (asked : AskedStarts) (costs : List 
   pub best_is : IsChosen is_better_start (known_of costs) best
   pub worst_is : IsChosen is_worse_start (known_of costs) worst
 
--- the starts in some form; nothing is said of a picture
+-- the starts in some form; nothing is said about a picture
 abbrev pub IsStartsText : StartsForm → TraceScale → Limits → List CostAtStart → Option CostAtStart → Option CostAtStart
     → List ℕ → Type 0
 IsStartsText forms.Table scale limits costs best worst text = text ≡ starts_text_of scale costs best worst

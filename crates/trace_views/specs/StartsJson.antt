@@ -1,5 +1,5 @@
 -- The costs of starts as a JSON document: its tokens.
-use Rattle.std.specs.Prelude.{ℕ, not, List, [], ◌∷◌, ◌++◌, Option, None, Some, codes}
+use Rattle.std.specs.Prelude.{ℕ, not, List, [], ◌∷◌, Option, None, Some, codes}
 use Rattle.std.specs.List.{flat_map}
 use Rattle.guest_units.specs.Scales.{TraceScale, micros_of}
 use Rattle.json.specs.Token.{Token}
@@ -19,7 +19,7 @@ abbrev pub start_object : TraceScale → CostAtStart → List Token
 start_object scale at = object_of (number_member (codes "start") at.start
     ∷ seconds_member (codes "start_seconds") (micros_of scale at.start) ∷ cost_members at.cost)
 
--- a start that is chosen, where one is
+-- the chosen start, if there is one
 abbrev pub chosen_member : TraceScale → List ℕ → Option CostAtStart → List Token
 chosen_member scale name None = []
 chosen_member scale name (Some at) = member_of name (start_object scale at)

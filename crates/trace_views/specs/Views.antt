@@ -21,8 +21,8 @@ use Rattle.trace_views.specs.declared.view.Measured.{Measured}
 use Rattle.trace_views.specs.declared.view.View.{View}
 use Rattle.trace_views.specs.declared.view.View.TheVariants as views
 
--- the facts of a report, as a JSON document: the working sets and the plan, in times and bytes too where it is known
--- what ticks and pages stand for
+-- the facts of a report, as a JSON document: the working sets and the plan, also in times and bytes if it is known what
+-- ticks and pages stand for
 pub record IsReportView (log : GuestTouches) (settings : MigrationSettings) (scale : Option TraceScale)
     (text : List ℕ) : Type 0 where
   pub plan : MigrationPlan
@@ -31,15 +31,15 @@ pub record IsReportView (log : GuestTouches) (settings : MigrationSettings) (sca
       ≡ line_of (report_object log.shift log.pages (length log.touches) settings scale
       (working_sets_of log.pages log.touches settings) plan)
 
--- the facts of a sweep, as a JSON document: the sums of each case's plan, in times and bytes too where it is known
--- what ticks and pages stand for, and the best of them
+-- the facts of a sweep, as a JSON document: the sums of each case's plan, also in times and bytes if it is known what
+-- ticks and pages stand for, and the best of them
 pub record IsSweepView (log : GuestTouches) (cases : List MigrationSettings) (scale : Option TraceScale)
     (text : List ℕ) : Type 0 where
   pub lines : List SweepLine
   pub are_lines : AreLines log.pages log.touches cases lines
   pub text_is : text ≡ line_of (sweep_object scale lines)
 
--- a text of advice for a budget: it ends with the case to take of those round some settings, each planned by itself
+-- a text of advice for a budget: it ends with the case to take of those around some settings, each planned by itself
 pub record IsAdviceView (log : GuestTouches) (settings : MigrationSettings) (budget : Budget)
     (measured : Option Measured) (text : List ℕ) : Type 0 where
   pub lines : List SweepLine
@@ -52,8 +52,7 @@ pub record IsAdviceView (log : GuestTouches) (settings : MigrationSettings) (bud
   pub text_is : text
       ≡ front ++ choice_text (case_of advice) chosen (known_cost measured chosen (last_tick_of log.touches))
 
--- What a view shows of a trace, and whether a limit is kept. Nothing is said of a picture, or of a report for a
--- terminal.
+-- What a view shows about a trace, and whether a limit is kept. Nothing is said about pictures and terminal reports.
 abbrev pub IsView : GuestTouches → View → List ℕ → Bool → Type 0
 IsView log (views.JsonReport settings scale) text is_kept = IsReportView log settings scale text × (is_kept ≡ true)
 IsView log (views.JsonSweep cases workers scale) text is_kept =

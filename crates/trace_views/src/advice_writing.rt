@@ -10,7 +10,7 @@ use rate_limit::Settings;
 use std::alloc::{AllocError, Global};
 use sweep_report::{Line, end_line, push_case, push_field};
 
-/// Appends a line of some words and numbers behind them.
+/// Appends a line of some words followed by numbers.
 fn push_numbers(text: &mut Vec<u8>, words: &str, numbers: &[u64]) -> Result<(), AllocError> {
     text.extend_from_slice(words.as_bytes())?;
     for number in numbers {
@@ -85,7 +85,7 @@ pub(crate) fn push_live(text: &mut Vec<u8>, settings: &Settings) -> Result<(), A
     Ok(())
 }
 
-/// Appends the option for a base, where there is one.
+/// Appends the option for a base, if there is one.
 fn push_base(text: &mut Vec<u8>, base: Option<u64>) -> Result<(), AllocError>
     ensures { OnOk result (text.new.items ≡ text.old.items ++ base_field base) }
 {
@@ -95,7 +95,7 @@ fn push_base(text: &mut Vec<u8>, base: Option<u64>) -> Result<(), AllocError>
     }
 }
 
-/// Appends the word for skipping, where it is on.
+/// Appends the word for skipping, if it is on.
 fn push_skip(text: &mut Vec<u8>, skip: bool) -> Result<(), AllocError>
     ensures { OnOk result (text.new.items ≡ text.old.items ++ (if skip then codes " --skip" else codes "")) }
 {
@@ -103,7 +103,7 @@ fn push_skip(text: &mut Vec<u8>, skip: bool) -> Result<(), AllocError>
     text.extend_from_slice(word.as_bytes())
 }
 
-/// Appends what a case costs in time and bytes, where that is known.
+/// Appends what a case costs in time and bytes, if that is known.
 fn push_cost(text: &mut Vec<u8>, cost: &Option<Cost>) -> Result<(), AllocError>
     ensures { OnOk result (text.new.items ≡ text.old.items ++ cost_line cost.now) }
 {
@@ -126,7 +126,7 @@ fn push_measures(text: &mut Vec<u8>, cost: &Cost) -> Result<(), AllocError>
     end_line(text)
 }
 
-/// Appends a case: what it costs in time and bytes where that is known, its line, and the words that run it.
+/// Appends a case: what it costs in time and bytes if that is known, its line, and the words that run it.
 pub(crate) fn push_choice(
     text: &mut Vec<u8>,
     case: usize,
@@ -141,8 +141,8 @@ pub(crate) fn push_choice(
     Ok(())
 }
 
-/// Returns what stands before the advised case: the budget, the grid, and whether a case keeps the budget or why none
-/// does. The text is ASCII.
+/// Returns what precedes the advised case: the budget, the grid, and whether a case keeps the budget or why none does.
+/// The text is ASCII.
 pub(crate) fn advice_head(
     alloc: Global,
     budget: &Budget,

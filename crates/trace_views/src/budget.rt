@@ -5,11 +5,11 @@
 pub struct Budget {
     /// The most downtime, in ticks.
     pub down: u64,
-    /// The most pages sent, over all rounds and after the stop; none where any number will do.
+    /// The most pages sent, over all rounds and after the stop; none if any number will do.
     pub total: Option<u64>,
 }
 
-/// What is advised of some cases, which are named by their numbers from 0.
+/// The advice for some cases, which are named by their numbers from 0.
 #[derive(Clone, Copy, Debug, PartialEq, Eq)]
 pub enum Advice {
     /// This case keeps the budget, with the fewest pages sent.
@@ -29,7 +29,7 @@ impl Advice {
     ghost use Rattle.std.specs.Prelude.{◌≡◌};
     ghost use Rattle.trace_views.specs.AdviceText.{case_of};
 
-    /// Returns the number of the case that is advised.
+    /// Returns the number of the advised case.
     pub fn case(&self) -> usize
         ensures { result ≡ case_of self.now }
     {

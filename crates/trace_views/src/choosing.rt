@@ -1,13 +1,13 @@
 //! The choice of a case for a budget.
 
-ghost use Rattle.std.specs.Prelude.{◌≡◌, ◌+◌, ◌<◌, ◌≤◌, IfSome, length};
+ghost use Rattle.std.specs.Prelude.{◌≡◌, ◌+◌, ◌<◌, ◌≤◌, length};
 ghost use Rattle.trace_views.specs.Advice.{IsAdvice, IsFound, is_cheaper, is_within, keeps};
 ghost use Rattle.trace_views.specs.AdviceText.{case_of};
 
 use crate::budget::{Advice, Budget};
 use sweep_report::{Line, best_case};
 
-/// Returns whether a number is within a limit, where there is one.
+/// Returns whether a number is within a limit, if there is one.
 fn is_within_limit(limit: Option<u64>, n: u64) -> bool
     ensures { result ≡ is_within limit n }
 {
@@ -31,7 +31,7 @@ fn is_less(line: &Line, other: &Line) -> bool
     line.total < other.total || line.total == other.total && line.down < other.down
 }
 
-/// Returns the cheapest case that keeps the budget of those up to a case, from the one of those before it.
+/// Returns the cheapest of the cases up to this one that keeps the budget, from the cheapest of those before it.
 fn with_case(lines: &[Line], budget: &Budget, found: Option<usize>, number: usize) -> Option<usize>
     requires inside { number < length lines.now }
     requires before { IsFound budget.now lines.now number found }
@@ -46,7 +46,7 @@ fn with_case(lines: &[Line], budget: &Budget, found: Option<usize>, number: usiz
     }
 }
 
-/// Returns the cheapest case that keeps a budget, the first of equals, where one keeps it.
+/// Returns the cheapest case that keeps a budget, the first of equals, if one keeps it.
 fn cheapest_case(lines: &[Line], budget: &Budget) -> Option<usize>
     ensures { IsFound budget.now lines.now (length lines.now) result }
 {
@@ -57,7 +57,7 @@ fn cheapest_case(lines: &[Line], budget: &Budget) -> Option<usize>
     found
 }
 
-/// Returns what to advise of some cases for a budget.
+/// Returns which of some cases to advise for a budget.
 pub fn advise(lines: &[Line], budget: &Budget) -> Advice
     requires { 1 ≤ length lines.now }
     ensures advice { IsAdvice budget.now lines.now result }

@@ -1,4 +1,4 @@
-//! A JSON document on its way.
+//! A JSON document in progress.
 
 ghost use Rattle.std.specs.Prelude.{◌≡◌, ◌++◌, ◌∷◌, [], IfOk, OnOk};
 ghost use Rattle.json.specs.Print.{print};
@@ -11,7 +11,7 @@ use json::Writer;
 use std::alloc::{AllocError, Global};
 use std::marker::Model;
 
-/// A JSON document on its way: the tokens that are written so far.
+/// A JSON document in progress: the tokens written so far.
 #[derive(Drop)]
 pub(crate) struct Document {
     writer: Writer,
@@ -97,7 +97,7 @@ impl Document {
         Ok(())
     }
 
-    /// Writes a member whose value is a great number.
+    /// Writes a member whose value is a large number.
     #[tactic(auto, unfolding(crate::specs::Json::number_member))]
     pub(crate) fn wide_member(&mut self, name: &str, n: u128) -> Result<(), AllocError>
         ensures { OnOk result (self.new ≡ self.old ++ number_member name.now n) }

@@ -11,11 +11,11 @@ use std::alloc::{AllocError, Global};
 /// One less than the greatest threshold that settings may have, in pages.
 const BELOW_MAX_THRESHOLD: u128 = 65_535;
 
-/// How many cases there are at most: the settings that were asked for, and each value of an axis with each of the
-/// others, with and without skipping.
+/// How many cases there are at most: the given settings, and each value of an axis with each of the others, with and
+/// without skipping.
 const MOST_CASES: usize = 1 + 4 * 2 * 5 * 3 * 2;
 
-/// The values that are tried with one another, beside the settings that were asked for.
+/// The values that are combined, besides the given settings.
 #[derive(Clone, Copy, Debug)]
 pub struct Grid {
     /// Least rates, in pages per 1,000 ticks: the greatest rate and parts of it.
@@ -28,7 +28,7 @@ pub struct Grid {
     pub rounds: [u64; 3],
 }
 
-/// Returns the least threshold above the number of pages that can be sent within some ticks at a rate. Where a round
+/// Returns the least threshold above the number of pages that can be sent within some ticks at a rate. If a round
 /// dirties fewer pages than that, they are sent within the ticks.
 fn threshold_for(ticks: u64, rate: u64) -> u64
     ensures { result ≡ threshold_within ticks rate }
@@ -37,7 +37,7 @@ fn threshold_for(ticks: u64, rate: u64) -> u64
     pages.min(BELOW_MAX_THRESHOLD) as u64 + 1
 }
 
-/// Returns a part of a number, and 1 at least.
+/// Returns a part of a number, at least 1.
 fn part_of(whole: u64, n: u64) -> u64
     requires { 1 ≤ n }
     ensures { result ≡ part whole n }
@@ -46,7 +46,7 @@ fn part_of(whole: u64, n: u64) -> u64
 }
 
 impl Grid {
-    /// Returns the grid round some settings, for a budget. Its greatest rate and its first tick are theirs.
+    /// Returns the grid around some settings, for a budget. Its greatest rate and its first tick are theirs.
     pub fn new(settings: &Settings, budget: &Budget) -> Grid
         ensures { result ≡ grid_of settings.now budget.now }
     {
@@ -66,7 +66,7 @@ impl Grid {
         }
     }
 
-    /// Returns the cases: the settings that were asked for, and then each that the axes make.
+    /// Returns the cases: the given settings, and then each that the axes make.
     pub fn cases(&self, alloc: Global, settings: &Settings) -> Result<Vec<Settings>, AllocError>
         ensures { IfOk result (λ cases. cases.items ≡ cases_on self.now settings.now) }
     {

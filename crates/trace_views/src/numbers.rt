@@ -1,6 +1,6 @@
-//! Numbers with digits behind the point, as texts.
+//! Numbers with digits after the point, as texts.
 
-ghost use Rattle.std.specs.Prelude.{◌≡◌, ◌+◌, ◌<◌, ◌^◌, ◌++◌, ◌∷◌, [], IfOk, OnOk, string_bytes};
+ghost use Rattle.std.specs.Prelude.{◌≡◌, ◌+◌, ◌<◌, ◌++◌, ◌∷◌, [], IfOk, OnOk, string_bytes};
 ghost use Rattle.trace_views.specs.Json.{millionths_text, six_digits};
 
 use itoa::Buffer;
@@ -28,7 +28,7 @@ fn push_six(text: &mut String, n: u32) -> Result<(), AllocError>
     push_digit(text, n % 10)
 }
 
-/// Returns millionths as a number, with six digits behind the point.
+/// Returns millionths as a number, with six digits after the point.
 #[tactic(auto, unfolding(crate::specs::Json::millionths_text))]
 pub(crate) fn millionths(alloc: Global, n: u128) -> Result<String, AllocError>
     ensures { IfOk result (λ text. string_bytes text ≡ millionths_text n) }

@@ -1,6 +1,6 @@
 //! Predictions of a log of touches.
 
-ghost use Rattle.std.specs.Prelude.{◌≡◌, ◌++◌, IfErr, IfOk, OnOk};
+ghost use Rattle.std.specs.Prelude.{◌≡◌, IfErr, IfOk};
 ghost use Rattle.predictions.specs.Predictions.{last_tick_of};
 ghost use Rattle.trace_views.specs.PredictionViews.{IsPredictionView, predicted_text};
 
@@ -15,7 +15,7 @@ use round_planner::plan;
 use std::alloc::{AllocError, Global};
 use trace_readers::TouchLog;
 
-/// Returns the tick of the last touch, or 0 where there is none.
+/// Returns the tick of the last touch, or 0 if there is none.
 pub(crate) fn last_tick(log: &TouchLog) -> u64
     ensures { result ≡ last_tick_of log.now.touches }
 {

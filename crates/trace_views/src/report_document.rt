@@ -1,8 +1,8 @@
 //! A report as a JSON document.
 
-ghost use Rattle.std.specs.Prelude.{◌≡◌, ◌≤◌, ◌*◌, ◌/◌, ◌^◌, ◌++◌, ◌∷◌, [], IfErr, IfOk, OnOk, length};
+ghost use Rattle.std.specs.Prelude.{◌≡◌, ◌≤◌, ◌*◌, ◌/◌, ◌++◌, ◌∷◌, [], IfErr, IfOk, OnOk, length};
 ghost use Rattle.std.specs.List.{flat_map};
-ghost use Rattle.trace_views.specs.Json.{array_of, hot_object, line_of, number_token, plan_members, report_object};
+ghost use Rattle.trace_views.specs.Json.{hot_object, line_of, number_token, plan_members, report_object};
 ghost use Rattle.trace_views.specs.Json.{round_measures, round_object, round_objects, round_units, sets_members};
 ghost use Rattle.trace_views.specs.Json.{stop_measures, stop_object, stop_units, trace_object, units_member};
 ghost use Rattle.trace_views.specs.Json.{units_object, window_object, window_units};
@@ -27,7 +27,7 @@ fn write_sizes(out: &mut Document, pages: u32, size: usize, writes: u32) -> Resu
     out.end_object()
 }
 
-/// Writes what ticks, windows of so many ticks, and pages stand for.
+/// Writes what ticks, windows of `length` ticks, and pages stand for.
 fn write_scale(
     alloc: Global,
     out: &mut Document,
@@ -46,7 +46,7 @@ fn write_scale(
     Ok(())
 }
 
-/// Writes what ticks, windows of so many ticks, and pages stand for as a member, where that is known.
+/// Writes what ticks, windows of `length` ticks, and pages stand for as a member, if that is known.
 fn write_units(
     alloc: Global,
     out: &mut Document,
@@ -64,7 +64,7 @@ fn write_units(
     }
 }
 
-/// Writes the bytes of a window as a member, where they are known.
+/// Writes the bytes of a window as a member, if they are known.
 fn write_window_units(
     out: &mut Document,
     scale: &Option<Scale>,
@@ -154,7 +154,7 @@ fn write_round_measures(
     Ok(())
 }
 
-/// Writes the times, the bytes and the share of the link of a round as members, where they are known.
+/// Writes the times, the bytes and the share of the link of a round as members, if they are known.
 fn write_round_units(
     alloc: Global,
     out: &mut Document,
@@ -229,7 +229,7 @@ fn write_stop_measures(
     Ok(())
 }
 
-/// Writes the times and the bytes of the end of a plan as members, where they are known.
+/// Writes the times and the bytes of the end of a plan as members, if they are known.
 fn write_stop_units(
     alloc: Global,
     out: &mut Document,
@@ -324,8 +324,8 @@ fn write_report(
     Ok(())
 }
 
-/// Returns the facts of a report on a trace of this shape as a JSON document, in one line. With a scale it has times
-/// and bytes of the guest too.
+/// Returns the facts of a report on a trace of this shape as a JSON document, in one line. With a scale it also has
+/// times and bytes of the guest.
 pub fn json_report(
     alloc: Global,
     shape: &Shape,

@@ -1,7 +1,6 @@
-//! The same migration over a log, begun at many ticks.
+//! The same migration over a log, started at many ticks.
 
 ghost use Rattle.std.specs.Prelude.{◌≡◌, IfErr, IfOk};
-ghost use Rattle.migration_model.specs.Sweeps.{AreLines};
 ghost use Rattle.trace_views.specs.StartViews.{AreStartsOf, IsStartsText, IsStartsView, RefusesStartsView};
 ghost use Rattle.trace_views.specs.StartViews.{is_limit_kept};
 
@@ -86,7 +85,7 @@ fn chart(
     )?)
 }
 
-/// Returns the starts in the form that is asked for.
+/// Returns the starts in the requested form.
 fn formed(
     alloc: Global,
     asked: &AskedStarts,

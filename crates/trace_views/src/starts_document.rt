@@ -1,8 +1,8 @@
 //! The costs of starts as a JSON document.
 
-ghost use Rattle.std.specs.Prelude.{◌≡◌, ◌<◌, ◌^◌, ◌++◌, IfOk, OnOk};
+ghost use Rattle.std.specs.Prelude.{◌≡◌, ◌<◌, ◌++◌, IfOk, OnOk};
 ghost use Rattle.std.specs.List.{flat_map};
-ghost use Rattle.trace_views.specs.Json.{array_of, line_of};
+ghost use Rattle.trace_views.specs.Json.{line_of};
 ghost use Rattle.trace_views.specs.StartsJson.{chosen_member, cost_members, start_object, starts_object};
 
 use crate::document::Document;
@@ -56,7 +56,7 @@ fn write_starts(
     Ok(())
 }
 
-/// Writes a start that is chosen as a member, where one is.
+/// Writes the chosen start as a member, if there is one.
 fn write_chosen(
     alloc: Global,
     out: &mut Document,

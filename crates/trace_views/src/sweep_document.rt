@@ -1,6 +1,6 @@
 //! A sweep as a JSON document.
 
-ghost use Rattle.std.specs.Prelude.{◌≡◌, ◌++◌, ◌∷◌, [], IfErr, IfOk, OnOk, Some};
+ghost use Rattle.std.specs.Prelude.{◌≡◌, ◌++◌, IfErr, IfOk, OnOk, Some};
 ghost use Rattle.std.specs.List.{flat_map};
 ghost use Rattle.trace_views.specs.Json.{best_member, case_object, case_objects, line_of, outcome_members};
 ghost use Rattle.trace_views.specs.Json.{outcome_units, scale_member, scale_object, settings_members, sweep_object};
@@ -53,7 +53,7 @@ fn write_measures(
     Ok(())
 }
 
-/// Writes the times and the bytes of a plan as members, where they are known.
+/// Writes the times and the bytes of a plan as members, if they are known.
 fn write_known(
     alloc: Global,
     out: &mut Document,
@@ -115,7 +115,7 @@ fn write_scale(alloc: Global, out: &mut Document, scale: &Scale) -> Result<(), A
     Ok(())
 }
 
-/// Writes what ticks and pages stand for as a member, where that is known.
+/// Writes what ticks and pages stand for as a member, if that is known.
 fn write_units(alloc: Global, out: &mut Document, scale: &Option<Scale>) -> Result<(), AllocError>
     ensures { OnOk result (out.new ≡ out.old ++ scale_member scale.now) }
 {
@@ -128,7 +128,7 @@ fn write_units(alloc: Global, out: &mut Document, scale: &Option<Scale>) -> Resu
     }
 }
 
-/// Writes the number of the best case as a member, where there is a case.
+/// Writes the number of the best case as a member, if there is a case.
 fn write_best(out: &mut Document, lines: &[Line]) -> Result<(), AllocError>
     ensures { OnOk result (out.new ≡ out.old ++ best_member lines.now) }
 {

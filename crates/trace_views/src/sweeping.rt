@@ -10,7 +10,7 @@ use std::thread::Threads;
 use sweep_report::{Line, sweep};
 use trace_readers::TouchLog;
 
-/// Returns the line of each case, planned by itself.
+/// Returns the line of each case, planned on its own.
 pub(crate) fn planned<R: Threads + Sync>(
     rt: &R,
     alloc: Global,

@@ -1,4 +1,4 @@
-//! What can be shown of a trace.
+//! What can be shown about a trace.
 
 use crate::budget::Budget;
 use guest_units::{Limits, Scale};
@@ -17,16 +17,16 @@ pub enum StartsForm {
     Chart,
 }
 
-/// Which migration is begun at which ticks, and how that is shown.
+/// Which migration begins at which ticks, and how that is shown.
 #[derive(Clone, Copy, Debug)]
 pub struct AskedStarts {
-    /// The settings of the plans. Each start takes the place of theirs.
+    /// The settings of the plans. Each start replaces theirs.
     pub settings: Settings,
     /// What ticks and pages stand for.
     pub scale: Scale,
     /// What the migration may take.
     pub limits: Limits,
-    /// At which ticks it begins.
+    /// The ticks at which it begins.
     pub starts: Starts,
     /// How the starts are shown.
     pub form: StartsForm,
@@ -49,14 +49,14 @@ pub enum View {
         settings: Settings,
         scale: Option<Scale>,
     },
-    /// The facts of a sweep, as a JSON document. Up to so many workers, 1 to 16, plan side by side.
+    /// The facts of a sweep, as a JSON document. Up to `workers` workers, 1 to 16, plan side by side.
     JsonSweep {
         cases: Vec<Settings>,
         workers: usize,
         scale: Option<Scale>,
     },
-    /// The case to take for a budget, of a grid round some settings. Where limits are known, it also says what that
-    /// case costs in time and bytes.
+    /// The case to take for a budget, of a grid around some settings. If limits are known, it also says what that case
+    /// costs in time and bytes.
     Advise {
         budget: Budget,
         settings: Settings,

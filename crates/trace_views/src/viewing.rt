@@ -91,7 +91,7 @@ fn sweep_view<R: Threads + Sync>(
     json_sweep(alloc, scale, &lines)
 }
 
-/// Returns what a case costs, where it is known what ticks and pages stand for.
+/// Returns what a case costs, if it is known what ticks and pages stand for.
 fn cost_of(measured: &Option<Measured>, line: &Line, last_tick: u64) -> Option<Cost>
     ensures { result ≡ known_cost measured.now line.now last_tick }
 {
@@ -125,7 +125,7 @@ fn advice_view<R: Threads + Sync>(
     Ok(text)
 }
 
-/// Returns the view with this text, which has no limit to keep.
+/// Returns the view with this text, without a limit to keep.
 fn shown(text: Result<Vec<u8>, ViewError>) -> Result<ViewText, ViewError>
     ensures made { IfOk result (λ shown. (shown.is_kept ≡ true) × (text ≡ Ok shown.text)) }
     ensures refused { IfErr result (λ e. text ≡ Err e) }

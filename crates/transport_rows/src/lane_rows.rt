@@ -23,7 +23,7 @@ fn first_of<T: Drop>(items: Vec<T>) -> Option<T>
     items.into_iter().next()
 }
 
-/// Returns a lane with room for so many frames.
+/// Returns a lane with room for `capacity` frames.
 fn one_lane(alloc: Global, capacity: usize) -> Result<(LaneOut, LaneIn), Fail>
     ensures { IfOk result (λ ends. IsLane ends.0 ends.1) }
 {
@@ -35,7 +35,7 @@ fn one_lane(alloc: Global, capacity: usize) -> Result<(LaneOut, LaneIn), Fail>
     Ok((out, end))
 }
 
-/// Sends one byte, where there is room. Returns false where there is none, or where memory runs out.
+/// Sends one byte, if there is room. Returns false if there is none, or if memory runs out.
 fn send_byte(alloc: Global, out: &mut LaneOut, byte: u8) -> bool
     ensures { SameOut out.old out.new }
 {
@@ -49,7 +49,7 @@ fn send_byte(alloc: Global, out: &mut LaneOut, byte: u8) -> bool
     true
 }
 
-/// Gives a buffer back, where there is one.
+/// Gives a buffer back, if there is one.
 fn give_back(end: &mut LaneIn, text: Option<Vec<u8>>) -> bool {
     let Some(text) = text else {
         return false;
@@ -58,7 +58,7 @@ fn give_back(end: &mut LaneIn, text: Option<Vec<u8>>) -> bool {
     true
 }
 
-/// Returns the first byte of a frame, or 0 where there is none.
+/// Returns the first byte of a frame, or 0 if there is none.
 fn first_byte(frame: Option<Vec<u8>>) -> u8 {
     match frame {
         Some(frame) => frame.first().copied().unwrap_or(0),
@@ -191,7 +191,7 @@ fn columns_are_of_the_same_lanes(rt: HostRuntime) -> Result<(), Fail> {
     Ok(())
 }
 
-/// The thread gives back the end that it was given.
+/// The thread returns the end that it was given.
 #[derive(Drop)]
 struct Sends {
     out: Snapshot<LaneOut>,
@@ -249,7 +249,7 @@ struct Taken {
     count: u16,
 }
 
-/// The thread gives back the end that it was given.
+/// The thread returns the end that it was given.
 #[derive(Drop)]
 struct Takes {
     end: Snapshot<LaneIn>,

@@ -1,4 +1,4 @@
-//! Worked examples of lanes and receivers: tests alone.
+//! Worked examples of lanes and receivers: only for tests.
 #![tactic(auto)]
 
 #[cfg(test)]

@@ -42,7 +42,7 @@ fn new_ends(alloc: Global) -> Result<(Vec<LaneOut>, Vec<LaneIn>), Fail>
     }
 }
 
-/// A stream: the ends that send, and what takes from their other ends.
+/// A stream: the sending ends, and what takes from their other ends.
 #[derive(Drop)]
 struct Stream {
     outs: Vec<LaneOut>,
@@ -56,7 +56,7 @@ fn new_stream(alloc: Global) -> Result<Stream, Fail> {
     Ok(Stream { outs, receiver })
 }
 
-/// Sends some bytes on one of the lanes. Returns false where there is no such lane, or no room.
+/// Sends some bytes on one of the lanes. Returns false if there is no such lane, or no room.
 fn send(outs: &mut Vec<LaneOut>, worker: usize, text: Vec<u8>) -> bool
     ensures { map (λ out. out.lane) outs.new.items ≡ map (λ out. out.lane) outs.old.items }
 {
@@ -77,7 +77,7 @@ impl Stream {
         send(&mut self.outs, worker, text)
     }
 
-    /// Sends a copy of some bytes. Returns false also where memory runs out for the copy.
+    /// Sends a copy of some bytes. Also returns false if memory runs out for the copy.
     fn send_text(&mut self, alloc: Global, worker: usize, text: &[u8]) -> bool {
         match Vec::from_slice(alloc, text) {
             Ok(text) => self.send(worker, text),
@@ -85,7 +85,7 @@ impl Stream {
         }
     }
 
-    /// Sends the encoding of a page, each of whose bytes is this one.
+    /// Sends the encoding of a page filled with this byte.
     fn send_page(&mut self, alloc: Global, worker: usize, page: u32, stamp: u32, byte: u8) -> bool
         requires page { page < 4 }
         requires stamp { stamp ≤ 5 }
@@ -106,7 +106,7 @@ impl Stream {
     }
 }
 
-/// Returns the encoding of a page, each of whose bytes is this one.
+/// Returns the encoding of a page filled with this byte.
 fn spelled(alloc: Global, page: u32, stamp: u32, byte: u8) -> Result<Vec<u8>, FrameError>
     requires page { page < 4 }
     requires stamp { stamp ≤ 5 }
@@ -116,7 +116,7 @@ fn spelled(alloc: Global, page: u32, stamp: u32, byte: u8) -> Result<Vec<u8>, Fr
     Ok(text)
 }
 
-/// Returns whether the part has the page, and each of its bytes is this one.
+/// Returns whether the part has the page, filled with this byte.
 fn is_filled(part: &Part, page: u32, byte: u8) -> bool {
     match part.frame(page).map(|frame| &frame.body) {
         Some(Body::Zero) => byte == 0,

@@ -1,4 +1,4 @@
--- Words that are no number with a unit behind it.
+-- Words that are not a number followed by a unit.
 use Rattle.std.proofs.Common.{◌≡◌, ℕ, zero, suc, map, ◌*◌, ◌<◌, ◌≤◌, ◌^◌, List, [], ◌∷◌, ◌++◌, length, get_or, Option}
 use Rattle.std.proofs.Common.{Some, None, sym, ap, subst, ◌∙◌, arith, inl, inr}
 use Rattle.std.specs.Prelude.{◌≢◌, IfNone, MatchOption}
@@ -11,7 +11,7 @@ use Rattle.std.proofs.lemmas.Str.Parse.{digit_at, without_leading_plus_none, wit
 use Rattle.std.proofs.lemmas.Str.Pattern.{IsSplitOnceResult, split_after}
 use Rattle.unit_words.specs.Quantities.{IsCounted, IsQuantity, IsSample, IsWhole, Unit, unit_with}
 
--- no value, whatever it would have to be
+-- no value, whatever it would be
 pub if_none : {A : Type 0} (o : Option A) (P : Type 0) → P → IfNone o P
 if_none None P holds = holds
 if_none (Some x) P holds = tt

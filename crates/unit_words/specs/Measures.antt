@@ -17,14 +17,14 @@ use Rattle.unit_words.specs.declared.limits.Said.{Said}
 abbrev pub IsThere : List Row → Text → Type 0
 IsThere rows name = (n : ℕ) × Says rows name (Some n)
 
--- a rate or the threshold is said in pages and ticks, or none of them is
+-- a rate or the threshold is given in pages and ticks, or none of them is
 abbrev pub IsMixed : List Row → Type 0
 IsMixed rows = IsThere rows (codes "min") ⊎ (IsThere rows (codes "max") ⊎ IsThere rows (codes "threshold"))
 
 abbrev pub AreUnsaid : List Row → Type 0
 AreUnsaid rows = Says rows (codes "min") None × Says rows (codes "max") None × Says rows (codes "threshold") None
 
--- the settings of limits, with the others and the increment that the options say
+-- the settings of limits, with the others and the increment that the options give
 pub record AsksForLimited (rows : List Row) (said : Said) (limits : Limits) (settings : MigrationSettings) : Type
     0 where
   pub unsaid : AreUnsaid rows
@@ -34,12 +34,12 @@ pub record AsksForLimited (rows : List Row) (said : Said) (limits : Limits) (set
   pub asks_others : AsksFor rows others
   pub settings_are : settings ≡ settings_in (scale_in said) limits increment others
 
--- the settings of the options: those of limits where they are said
+-- the settings of the options: those of limits if they are given
 abbrev pub AsksForSettings : List Row → Said → Option Limits → MigrationSettings → Type 0
 AsksForSettings rows said None settings = AsksFor rows settings
 AsksForSettings rows said (Some limits) settings = AsksForLimited rows said limits settings
 
--- the options ask for these settings, of these limits, and for this scale where one of limits is given
+-- the options ask for these settings, of these limits, and for this scale if an option of limits is given
 pub record AsksForMeasure (rows : List Row) (settings : MigrationSettings) (scale : Option TraceScale)
     (limits : Option Limits) : Type 0 where
   pub said : Said
@@ -48,7 +48,7 @@ pub record AsksForMeasure (rows : List Row) (settings : MigrationSettings) (scal
   pub scale_is : scale ≡ (if has_units said then Some (scale_in said) else None)
   pub settings_are : AsksForSettings rows said limits settings
 
--- the limits are refused, with the others and the increment that the options say
+-- the limits are refused, with the others and the increment that the options give
 pub record RefusesLimited (rows : List Row) (said : Said) (limits : Limits) (e : LimitsRefusal) : Type 0 where
   pub increment : Option ℕ
   pub says_increment : Says rows (codes "inc") increment
@@ -64,18 +64,18 @@ RefusesSettings rows said limits e = ((error : SettingsError) × (e ≡ refusals
     ⊎ ((some : Limits) × (limits ≡ Some some)
     × (((e ≡ refusals.Mixed) × IsMixed rows) ⊎ RefusesLimited rows said some e))
 
--- what the options say is refused: its scale, its limits where they are incomplete, or the settings
+-- what the options say is refused: its scale, its limits if they are incomplete, or the settings
 abbrev pub RefusesSaid : List Row → LimitsRefusal → Said → Type 0
 RefusesSaid rows e said =
     ((error : UnitsError) × (e ≡ refusals.Units error) × (scale_refusal (scale_in said) ≡ Some error))
     ⊎ (((e ≡ refusals.Incomplete) × (is_incomplete said ≡ true))
     ⊎ ((limits : Option Limits) × AreLimitsSaid said limits × RefusesSettings rows said limits e))
 
--- the options ask for this scale, where one of them says something of it
+-- the options ask for this scale, if one of them concerns it
 abbrev pub AsksForScale : List Row → Option TraceScale → Type 0
 AsksForScale rows scale = SaysWhat rows (λ said. scale ≡ (if has_units said then Some (scale_in said) else None))
 
--- the scale that the options say is refused
+-- the scale that the options give is refused
 abbrev pub RefusesScale : LimitsRefusal → Said → Type 0
 RefusesScale e said =
     (error : UnitsError) × (e ≡ refusals.Units error) × (scale_refusal (scale_in said) ≡ Some error)

@@ -1,9 +1,9 @@
--- Numbers with a unit behind them. A time is counted in microseconds, and a rate in bytes a second. Units are written
--- as `tc` and `ip` of Linux write them, without "per second".
+-- Numbers followed by a unit. A time is counted in microseconds, and a rate in bytes a second. Units are written as in
+-- `tc` and `ip` of Linux, without "per second".
 use Rattle.std.specs.Prelude.{◌≡◌, ℕ, ◌<◌, ◌*◌, ◌^◌, List, [], ◌∷◌, ◌++◌, Any, codes}
 use Rattle.std.specs.Str.Parse.{IsNumeral, digits_value, without_leading_plus}
 
--- a unit's name, and how many it stands for
+-- a unit's name and its factor
 pub record Unit : Type 0 where
   pub name : List ℕ
   pub factor : ℕ
@@ -11,13 +11,13 @@ pub record Unit : Type 0 where
 abbrev pub unit_with : List ℕ → ℕ → Unit
 unit_with name factor = record { name = name; factor = factor }
 
--- the text is a whole number below 2^64: decimal digits, behind a plus or behind nothing
+-- the text is a whole number below 2^64: decimal digits, with or without a plus before them
 pub record IsWhole (text : List ℕ) (n : ℕ) : Type 0 where
   pub digits : IsNumeral 10 (without_leading_plus text)
   pub value : digits_value 10 (without_leading_plus text) ≡ n
   pub fits : n < 2 ^ 64
 
--- the word is a whole number with this unit behind it, and stands for n, which is below 2^64
+-- the word is a whole number followed by this unit, and stands for n, which is below 2^64
 pub record IsCounted (word name : List ℕ) (factor n : ℕ) : Type 0 where
   pub text : List ℕ
   pub word_is : word ≡ text ++ name
@@ -26,7 +26,7 @@ pub record IsCounted (word name : List ℕ) (factor n : ℕ) : Type 0 where
   pub is_product : n ≡ count * factor
   pub fits : n < 2 ^ 64
 
--- the word is a whole number with one of these units behind it
+-- the word is a whole number followed by one of these units
 abbrev pub IsQuantity : List Unit → List ℕ → ℕ → Type 0
 IsQuantity units word n = Any (λ unit. IsCounted word unit.name unit.factor n) units
 
@@ -40,14 +40,14 @@ rate_units =
     ∷ unit_with (codes "KB") 1_000 ∷ unit_with (codes "MB") 1_000_000 ∷ unit_with (codes "GB") 1_000_000_000
     ∷ unit_with (codes "KiB") 1_024 ∷ unit_with (codes "MiB") 1_048_576 ∷ unit_with (codes "GiB") 1_073_741_824 ∷ []
 
--- the word is a time of so many microseconds, and a rate of so many bytes a second
+-- the word is a time of this many microseconds, and a rate of this many bytes a second
 abbrev pub IsTime : List ℕ → ℕ → Type 0
 IsTime word n = IsQuantity time_units word n
 
 abbrev pub IsRate : List ℕ → ℕ → Type 0
 IsRate word n = IsQuantity rate_units word n
 
--- the word says that so many of so many pages were sampled: two whole numbers with a slash (47) between
+-- the word says that `sampled` of `guest` pages were sampled: two whole numbers with a slash (47) between
 pub record IsSample (word : List ℕ) (sampled guest : ℕ) : Type 0 where
   pub before : List ℕ
   pub behind : List ℕ

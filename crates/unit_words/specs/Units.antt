@@ -25,12 +25,12 @@ abbrev pub unit_rules : List Rule
 unit_rules = quantity_rule (codes "link") ∷ quantity_rule (codes "first") ∷ quantity_rule (codes "downtime")
     ∷ quantity_rule (codes "reserve") ∷ scale_rules
 
--- what an option says whose word stands for a number, where it is given
+-- what an option whose word stands for a number says, if it is given
 abbrev pub SaysBy : (List ℕ → ℕ → Type 0) → List Row → Text → Option ℕ → Type 0
 SaysBy Is rows name None = first_of name rows ≡ None
 SaysBy Is rows name (Some n) = (word : Text) × (first_of name rows ≡ Some word) × Is word n
 
--- an option is given, and its word stands for no number
+-- an option is given, but its word stands for no number
 abbrev pub IsNo : (List ℕ → ℕ → Type 0) → List Row → Text → Type 0
 IsNo Is rows name = (word : Text) × (first_of name rows ≡ Some word) × ((n : ℕ) → ¬ Is word n)
 
@@ -67,12 +67,12 @@ pub record HasNoUnits (rows : List Row) : Type 0 where
 abbrev pub has_units : Said → Bool
 has_units said = is_some said.tick || (is_some said.page || (is_some said.sampled || is_some said.link))
 
--- a tick of 1 ms, a page of 4,096 bytes and all pages where nothing else is said
+-- a tick of 1 ms, a page of 4,096 bytes and all pages unless something else is given
 abbrev pub scale_in : Said → TraceScale
 scale_in said = scale_with (unwrap_or said.tick 1_000) (unwrap_or said.page 4_096) (unwrap_or said.sampled (1, 1)).0
     (unwrap_or said.sampled (1, 1)).1
 
--- these limits are said, or none
+-- these limits are given, or none
 abbrev pub AreLimitsSaid : Said → Option Limits → Type 0
 AreLimitsSaid said None =
     (said.link ≡ None) × (said.downtime ≡ None) × (said.first ≡ None) × (said.reserve ≡ None)
@@ -80,17 +80,17 @@ AreLimitsSaid said (Some limits) =
     (said.link ≡ Some limits.link) × (said.downtime ≡ Some limits.downtime) × (limits.first ≡ said.first)
     × (limits.reserve ≡ unwrap_or said.reserve 0)
 
--- a link without a downtime, a downtime without a link, or without them what belongs to them
+-- a link without a downtime, a downtime without a link, or what belongs to them without either
 abbrev pub is_incomplete : Said → Bool
 is_incomplete said =
     if is_some said.link then not (is_some said.downtime)
     else is_some said.downtime || (is_some said.first || is_some said.reserve)
 
--- the options say something of which this holds
+-- the options say something that this holds of
 abbrev pub SaysWhat : List Row → (Said → Type 0) → Type 0
 SaysWhat rows Holds = (said : Said) × IsSaid rows said × Holds said
 
--- the word of an option is none that it takes
+-- an option does not take its word
 abbrev pub RefusesWord : List Row → LimitsRefusal → Type 0
 RefusesWord rows refusals.Tick = IsNo IsTime rows (codes "tick")
 RefusesWord rows refusals.Downtime = IsNo IsTime rows (codes "downtime")

@@ -1,7 +1,6 @@
 //! Limits in time and bytes, in place of rates and thresholds in ticks and pages.
 
 ghost use Rattle.std.specs.Prelude.{◌≡◌, ◌≢◌, IfErr, IfNone, IfOk, IfSome, None, Some, false, map, true};
-ghost use Rattle.clap.specs.Simple.{new_rule};
 ghost use Rattle.clap.specs.Walk.{first_of};
 ghost use Rattle.clap.specs.Words.{found_of, rows_of, rule_of};
 ghost use Rattle.job_words.specs.Commands.{AddsRules};
@@ -19,41 +18,41 @@ use rate_limit::SettingsError;
 use std::alloc::{AllocError, Global};
 use thiserror::Error;
 
-/// Why words make no limits. It is written behind `precopy-view: ` in a fault line.
+/// Why words make no limits. It follows `precopy-view: ` in a fault line.
 #[derive(Clone, Copy, Debug, PartialEq, Eq, Error)]
 pub enum LimitsRefusal {
-    /// The length of a tick is no time.
-    #[error("--tick: a whole number with us, ms or s behind it, as 1ms")]
+    /// The length of a tick is not a time.
+    #[error("--tick: a whole number followed by us, ms or s, as in 1ms")]
     Tick,
-    /// The downtime is no time.
-    #[error("--downtime: a whole number with us, ms or s behind it, as 300ms")]
+    /// The downtime is not a time.
+    #[error("--downtime: a whole number followed by us, ms or s, as in 300ms")]
     Downtime,
-    /// What is reserved of the downtime is no time.
-    #[error("--reserve: a whole number with us, ms or s behind it, as 50ms")]
+    /// The reserved part of the downtime is not a time.
+    #[error("--reserve: a whole number followed by us, ms or s, as in 50ms")]
     Reserve,
-    /// The rate of the link is no rate.
-    #[error("--link: a whole number with a unit a second behind it, as 10Gbit, 1250MB or 128MiB")]
+    /// The rate of the link is not a rate.
+    #[error("--link: a whole number followed by a unit per second, as in 10Gbit, 1250MB or 128MiB")]
     Link,
-    /// The rate of the first round is no rate.
-    #[error("--first: a whole number with a unit a second behind it, as 1Gbit, 125MB or 64MiB")]
+    /// The rate of the first round is not a rate.
+    #[error("--first: a whole number followed by a unit per second, as in 1Gbit, 125MB or 64MiB")]
     First,
     /// The sample is not two numbers.
-    #[error("--sampled: two whole numbers with a slash between, as 16384/16777216")]
+    #[error("--sampled: two whole numbers with a slash between them, as in 16384/16777216")]
     Sampled,
-    /// A link stands there without a downtime, or what belongs to them without both.
-    #[error("--link and --downtime stand together, and --first and --reserve beside them")]
+    /// There is a link without a downtime, or what belongs to them without both.
+    #[error("--link and --downtime go together, and --first and --reserve need them")]
     Incomplete,
-    /// No limits stand there, where they are needed.
-    #[error("--link and --downtime are needed, as --link 10Gbit --downtime 300ms")]
+    /// There are no limits, though they are needed.
+    #[error("--link and --downtime are needed, as in --link 10Gbit --downtime 300ms")]
     Missing,
-    /// Rates or a threshold stand there in both kinds of words.
-    #[error("--min, --max and --threshold do not stand beside --link and --downtime")]
+    /// There are rates or a threshold in both kinds of words.
+    #[error("--min, --max and --threshold cannot be used with --link and --downtime")]
     Mixed,
-    /// No downtime stands there, where one is needed in either kind of words.
-    #[error("--down is needed, or --link and --downtime, as --link 10Gbit --downtime 300ms")]
+    /// There is no downtime, though one is needed in either kind of words.
+    #[error("--down is needed, or --link and --downtime, as in --link 10Gbit --downtime 300ms")]
     NoBudget,
-    /// A downtime stands there in both kinds of words.
-    #[error("--down does not stand beside --link and --downtime")]
+    /// There is a downtime in both kinds of words.
+    #[error("--down cannot be used with --link and --downtime")]
     TwoBudgets,
     /// A limit is out of its range.
     #[error("{0}")]
@@ -63,7 +62,7 @@ pub enum LimitsRefusal {
     Settings(SettingsError),
 }
 
-/// An option of a quantity: its name, what its value is called, and its help.
+/// An option of a quantity: its name, the name of its value, and its help.
 type Quantity<'a> = (&'a str, &'a str, &'a str);
 
 /// What a migration may take.
@@ -71,18 +70,18 @@ const LIMITS: [Quantity<'static>; 4] = [
     (
         "link",
         "RATE",
-        "What the migration may use of the link, as 10Gbit, 1250MB or 128MiB a second",
+        "What the migration may use of the link, as in 10Gbit, 1250MB or 128MiB per second",
     ),
     (
         "first",
         "RATE",
         "What the first round may use [default: the whole link]",
     ),
-    ("downtime", "TIME", "Longest downtime, as 300ms"),
+    ("downtime", "TIME", "Longest downtime, as in 300ms"),
     (
         "reserve",
         "TIME",
-        "What of it goes to switching over and to devices [default: 0s]",
+        "The part of it for switching over and for devices [default: 0s]",
     ),
 ];
 
@@ -159,7 +158,7 @@ pub(crate) struct Said {
     reserve: Option<u64>,
 }
 
-/// Returns the word that an option has, where it is given.
+/// Returns an option's word, if it is given.
 fn word_of<'a>(options: &ArgMatches<'a>, name: &str) -> Option<&'a str>
     ensures given { IfSome result (λ word. first_of name.now (rows_of (found_of options.now)) ≡ Some word.now) }
     ensures missing { IfNone result (first_of name.now (rows_of (found_of options.now)) ≡ None) }
@@ -189,7 +188,7 @@ pub fn says_units(options: &ArgMatches) -> bool
         || said(options, "page").is_some()
 }
 
-/// Returns the time that an option has, where it is given, or a refusal where its word is no time.
+/// Returns an option's time, if it is given, or a refusal if its word is not a time.
 fn time_said(
     options: &ArgMatches,
     name: &str,
@@ -207,7 +206,7 @@ fn time_said(
     }
 }
 
-/// Returns the rate that an option has, where it is given, or a refusal where its word is no rate.
+/// Returns an option's rate, if it is given, or a refusal if its word is not a rate.
 fn rate_said(
     options: &ArgMatches,
     name: &str,
@@ -225,7 +224,7 @@ fn rate_said(
     }
 }
 
-/// Returns the sample that its option has, where it is given, or a refusal where its word is none.
+/// Returns the sample of its option, if it is given, or a refusal if its word is not a sample.
 fn sample_said(options: &ArgMatches) -> Result<Option<(u64, u64)>, LimitsRefusal>
     ensures said { IfOk result (SaysSample (rows_of (found_of options.now))) }
     ensures refused { IfErr result (λ e. (e ≡ LimitsRefusal.Sampled) × IsNoSample (rows_of (found_of options.now))) }
@@ -261,15 +260,15 @@ pub(crate) fn said_of(options: &ArgMatches) -> Result<Said, LimitsRefusal>
     })
 }
 
-/// Returns whether some option of limits is given, where they are complete.
+/// Returns whether some option of limits is given, if they are complete.
 pub(crate) fn is_measured(said: &Said) -> bool
     ensures { result ≡ has_units said.now }
 {
     said.tick.is_some() || said.page.is_some() || said.sampled.is_some() || said.link.is_some()
 }
 
-/// Returns what ticks and pages stand for: a tick of 1 ms, a page of 4,096 bytes and all pages where nothing else is
-/// said.
+/// Returns what ticks and pages stand for: a tick of 1 ms, a page of 4,096 bytes and all pages unless something else
+/// is given.
 pub(crate) fn scale_of(said: &Said) -> Result<Scale, UnitsError>
     ensures made { IfOk result (λ scale. scale ≡ scale_in said.now) }
     ensures refused { IfErr result (λ e. scale_refusal (scale_in said.now) ≡ Some e) }
@@ -283,7 +282,7 @@ pub(crate) fn scale_of(said: &Said) -> Result<Scale, UnitsError>
     )
 }
 
-/// Returns the limits that are said, where some are.
+/// Returns the limits that are given, if any.
 pub(crate) fn limits_of(said: &Said) -> Result<Option<Limits>, LimitsRefusal>
     ensures made { IfOk result (AreLimitsSaid said.now) }
     ensures refused { IfErr result (λ e. (e ≡ LimitsRefusal.Incomplete) × (is_incomplete said.now ≡ true)) }

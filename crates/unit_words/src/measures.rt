@@ -13,18 +13,18 @@ use guest_units::{Limits, Scale};
 use job_words::{said, settings_of};
 use rate_limit::Settings;
 
-/// Settings, and what ticks and pages of the trace stand for where options of limits are given.
+/// Settings, and what ticks and pages of the trace stand for if options of limits are given.
 #[derive(Clone, Copy, Debug)]
 pub struct Measure {
     /// The settings of the plan.
     pub settings: Settings,
-    /// What ticks and pages stand for, where an option of limits is given.
+    /// What ticks and pages stand for, if an option of limits is given.
     pub scale: Option<Scale>,
-    /// The limits that the settings are made of, where they are.
+    /// The limits that the settings are made of, if any.
     pub limits: Option<Limits>,
 }
 
-/// Returns whether a rate or a threshold is said in pages and ticks.
+/// Returns whether a rate or a threshold is given in pages and ticks.
 fn is_mixed(options: &ArgMatches) -> bool
     ensures mixed { result ≡ true → IsMixed (rows_of (found_of options.now)) }
     ensures unsaid { result ≡ false → AreUnsaid (rows_of (found_of options.now)) }
@@ -34,7 +34,7 @@ fn is_mixed(options: &ArgMatches) -> bool
         || said(options, "threshold").is_some()
 }
 
-/// Returns the settings that limits make, with the others that the options say.
+/// Returns the settings that limits make, with the others that the options give.
 fn limited_settings(
     options: &ArgMatches,
     said: &Said,
@@ -80,7 +80,7 @@ fn settings_said(
     }
 }
 
-/// Returns the settings and the scale of what the options of limits say.
+/// Returns the settings and the scale that the options of limits give.
 fn measure_said(options: &ArgMatches, said: &Said) -> Result<Measure, LimitsRefusal>
     requires { IsSaid (rows_of (found_of options.now)) said.now }
     ensures made { IfOk result (λ m. AsksForMeasure (rows_of (found_of options.now)) m.settings m.scale m.limits) }
@@ -108,7 +108,7 @@ pub fn measure_of(options: &ArgMatches) -> Result<Measure, LimitsRefusal>
     measure_said(options, &said)
 }
 
-/// Returns what ticks and pages stand for, where an option says so, or why that is refused.
+/// Returns what ticks and pages stand for, if an option says so, or why that is refused.
 pub fn scale_said(options: &ArgMatches) -> Result<Option<Scale>, LimitsRefusal>
     ensures made { IfOk result (AsksForScale (rows_of (found_of options.now))) }
     ensures refused { IfErr result (RefusesScaleWords (rows_of (found_of options.now))) }

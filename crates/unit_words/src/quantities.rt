@@ -1,9 +1,9 @@
-//! Numbers with a unit behind them.
+//! Numbers followed by a unit.
 
 ghost use Rattle.std.specs.Prelude.{ℕ, IfNone, IfSome, map};
 ghost use Rattle.unit_words.specs.Quantities.{IsCounted, IsQuantity, IsRate, IsSample, IsTime, IsWhole, unit_with};
 
-/// A unit: its name, and how many it stands for.
+/// A unit: its name and its factor.
 type Unit<'a> = (&'a str, u64);
 
 /// Units of time, in microseconds.
@@ -30,7 +30,7 @@ fn whole_of(text: &str) -> Option<u64>
     text.parse::<u64>().ok()
 }
 
-/// Returns what a number with this unit behind it stands for.
+/// Returns what a number followed by this unit stands for.
 fn counted(word: &str, name: &str, factor: u64) -> Option<u64>
     ensures some { IfSome result (IsCounted word.now name.now factor) }
     ensures none { IfNone result ((n : ℕ) → ¬ IsCounted word.now name.now factor n) }
@@ -39,7 +39,7 @@ fn counted(word: &str, name: &str, factor: u64) -> Option<u64>
     whole_of(text)?.checked_mul(factor)
 }
 
-/// Returns what a number stands for that has one of these units behind it.
+/// Returns what a number followed by one of these units stands for.
 fn quantity_of(word: &str, units: &[Unit<'_>]) -> Option<u64>
     ensures some { IfSome result (IsQuantity (map (λ u. unit_with u.0.now u.1) units.now) word.now) }
     ensures none { IfNone result ((n : ℕ) → ¬ IsQuantity (map (λ u. unit_with u.0.now u.1) units.now) word.now n) }
@@ -52,7 +52,7 @@ fn quantity_of(word: &str, units: &[Unit<'_>]) -> Option<u64>
     None
 }
 
-/// Returns how many microseconds the word stands for: a whole number with `us`, `ms` or `s` behind it.
+/// Returns how many microseconds the word stands for: a whole number followed by `us`, `ms` or `s`.
 pub fn time_of(word: &str) -> Option<u64>
     ensures some { IfSome result (IsTime word.now) }
     ensures none { IfNone result ((n : ℕ) → ¬ IsTime word.now n) }
@@ -60,7 +60,7 @@ pub fn time_of(word: &str) -> Option<u64>
     quantity_of(word, &TIMES)
 }
 
-/// Returns how many bytes a second the word stands for: a whole number with a unit of bits or bytes behind it.
+/// Returns how many bytes a second the word stands for: a whole number followed by a unit of bits or bytes.
 pub fn link_rate_of(word: &str) -> Option<u64>
     ensures some { IfSome result (IsRate word.now) }
     ensures none { IfNone result ((n : ℕ) → ¬ IsRate word.now n) }
@@ -68,7 +68,7 @@ pub fn link_rate_of(word: &str) -> Option<u64>
     quantity_of(word, &RATES)
 }
 
-/// Returns of how many pages the word says that they were sampled, and of how many.
+/// Returns how many pages the word says were sampled, and out of how many.
 pub fn sample_of(word: &str) -> Option<(u64, u64)>
     ensures some { IfSome result (λ sample. IsSample word.now sample.0 sample.1) }
     ensures none { IfNone result ((sampled guest : ℕ) → ¬ IsSample word.now sampled guest) }

@@ -1,18 +1,18 @@
 -- The two command lines of `precopy-view`, as its commands make them.
-use Rattle.std.proofs.Common.{◌≡◌, Bool, true, false, List, [], ◌∷◌, ◌++◌, Option, Some, codes, refl, ap, ◌∙◌, inl, inr}
+use Rattle.std.proofs.Common.{◌≡◌, true, false, [], ◌∷◌, ◌++◌, Some, codes, refl, ap, ◌∙◌, inl, inr}
 use Rattle.clap.proofs.OnLiterals.{clap_on_literals}
 use Rattle.clap.specs.Faults.{is_simple_and_free}
 use Rattle.clap.specs.Simple.{App, app_of, app_of_fields, built, is_simple, on_top, with_subcommand}
-use Rattle.clap.specs.Walk.{Rule, Text}
+use Rattle.clap.specs.Walk.{Text}
 use Rattle.clap.specs.declared.builder.command.Command.{Command}
 use Rattle.clap.specs.declared.builder.command.Command.TheViews.{out-Command as fields_of}
-use Rattle.job_words.specs.Commands.{IsLeaf, case_rule, flag_rule, leaf, report_rules, sweep_rules}
+use Rattle.job_words.specs.Commands.{case_rule, flag_rule, leaf, report_rules, sweep_rules}
 use Rattle.job_words.proofs.HelpLemmas.{AreNamed}
 use Rattle.unit_words.specs.Units.{scale_rules, unit_rules}
 use Rattle.view_words.specs.Commands.{IsCommand, IsDocument, budget_rules, json_line, start_rules, style_rules}
 use Rattle.view_words.specs.Commands.{view_line}
 
--- a command line of this name before any command stands in it
+-- a command line of this name, before it has any command
 abbrev pub bare : Text → App
 bare name = record { top = leaf name []; subs = [] }
 

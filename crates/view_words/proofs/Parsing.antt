@@ -1,6 +1,5 @@
--- What a command line makes of words, as what the program is told.
-use Rattle.std.proofs.Common.{◌≡◌, List, [], Option, Some, None, IfOk, IfErr, inl, inr, refl, sym, ap, subst, ◌∙◌}
-use Rattle.std.proofs.Common.{option_map}
+-- What a command line makes of words, as the program gets it.
+use Rattle.std.proofs.Common.{◌≡◌, List, [], Option, Some, None, IfOk, IfErr, inl, inr, sym, subst}
 use Rattle.std.specs.Prelude.{◌⊎◌, Result, Ok, Err, MatchOption}
 use Rattle.clap.specs.Faults.{fault_of}
 use Rattle.clap.specs.Kinds.{HasKind}
@@ -18,7 +17,7 @@ use Rattle.view_words.specs.declared.command.AskedView.{AskedView}
 use Rattle.view_words.specs.declared.command.ViewWordsError.{ViewWordsError}
 use Rattle.view_words.specs.declared.command.ViewWordsError.TheVariants.{Words}
 
--- memory ran out, clap refuses the words, or their command does
+-- memory ran out, or clap or their command refuses the words
 abbrev pub Fails : App → List Text → (Text → List Row → ViewWordsError → Type 0) → ViewWordsError → Type 0
 Fails line words Refuses e = IsOutOfMemory e ⊎ (FailsOn line words e
     ⊎ Names line words (λ name rows. Refuses name rows e))
@@ -48,7 +47,7 @@ pub refused_at_once : (line : App) (words : List Text) (Refuses : Text → List 
     → Fails line words Refuses (Words told)
 refused_at_once line words Refuses error told has tells = inr (inl (fails_by_kind line words error told has tells))
 
--- ---- with `json` behind the program's name, and without it
+-- ---- with `json` after the program's name, and without it
 
 abbrev pub Asked : List Text → AskedView → Option (List Text) → Type 0
 Asked words asked o = MatchOption o (Names view_line words (λ name rows. AsksForView name rows asked.view asked.scale))

@@ -1,5 +1,5 @@
 -- What the options of advice ask for, in either kind of words, and why they are refused.
-use Rattle.std.specs.Prelude.{◌≡◌, ◌⊎◌, ℕ, ⊤, List, Option, Some, None, codes, min}
+use Rattle.std.specs.Prelude.{◌≡◌, ◌⊎◌, List, Option, Some, None, codes, min}
 use Rattle.clap.specs.Walk.{Row}
 use Rattle.guest_units.specs.Limits.{ticks_for_pages}
 use Rattle.guest_units.specs.Scales.{TraceScale}
@@ -19,8 +19,8 @@ use Rattle.view_words.specs.Lacks.{LacksLimits}
 use Rattle.view_words.specs.declared.command.ViewWordsError.{ViewWordsError}
 use Rattle.view_words.specs.declared.command.ViewWordsError.TheVariants as asked
 
--- The settings round which advice is sought, in ticks and pages: those of a sweep, with the greatest rate that is
--- given, and with the least rate no greater than that.
+-- The settings around which advice is sought, in ticks and pages: those of a sweep, with the given greatest rate, and a
+-- least rate no greater than that.
 pub record AsksForGrid (rows : List Row) (settings : MigrationSettings) : Type 0 where
   pub options : MigrationSettings
   pub asked : AsksForSweep rows options
@@ -46,13 +46,13 @@ pub record AsksInUnits (rows : List Row) (budget : Budget) (settings : Migration
     pub down : budget.down ≡ ticks_for_pages known.scale known.limits
     pub total : Says rows (codes "total") budget.total
 
--- the options of advice ask for this, in either kind of words, and for this scale where they have units
+-- the options of advice ask for this, in either kind of words, and for this scale if they have units
 abbrev pub AsksForAdvice : List Row → Budget → MigrationSettings → Option Measured → Option TraceScale → Type 0
 AsksForAdvice rows budget settings None scale = AsksInTicks rows budget settings × (scale ≡ None)
 AsksForAdvice rows budget settings (Some known) scale =
     AsksInUnits rows budget settings known × (scale ≡ Some known.scale)
 
--- what the options of advice are refused for, where it is limits
+-- what the options of advice are refused for, if it is limits
 abbrev pub RefusesBudget : List Row → LimitsRefusal → Type 0
 RefusesBudget rows e = ((e ≡ refused.NoBudget) × HasNoUnits rows × Says rows (codes "down") None)
     ⊎ ((¬ HasNoUnits rows) × (((e ≡ refused.TwoBudgets) × IsThere rows (codes "down"))

@@ -1,14 +1,13 @@
 -- The command lines of `precopy-view`: its commands, those below `json`, and the options of each.
 use Rattle.std.specs.Prelude.{◌≡◌, ◌⊎◌, List, [], ◌∷◌, ◌++◌, Option, Some, None, if◌then◌else◌, true, false, codes}
 use Rattle.std.specs.Str.{bytes_eq}
-use Rattle.clap.specs.Simple.{App, new_rule, new_shape}
+use Rattle.clap.specs.Simple.{App, new_shape}
 use Rattle.clap.specs.Walk.{Rule, Text}
-use Rattle.clap.specs.declared.builder.action.ArgAction.TheVariants.{Set}
 use Rattle.clap.specs.declared.builder.value_parser.ValueParser.TheVariants as parsers
 use Rattle.job_words.specs.Commands.{case_rule, flag_rule, leaf, number_rule, report_rules, sweep_rules}
 use Rattle.unit_words.specs.Units.{scale_rules, unit_rules}
 
--- the option of the first start, which has the place of `start`
+-- the option of the first start, which replaces `start`
 abbrev pub from_rule : Rule
 from_rule = record (number_rule (codes "start")) { long = Some (codes "from") }
 
@@ -27,7 +26,7 @@ budget_rules = sweep_rules ++ number_rule (codes "max") ∷ number_rule (codes "
 abbrev pub style_rules : List Rule
 style_rules = report_rules ++ number_rule (codes "width") ∷ flag_rule (codes "color") ∷ unit_rules
 
--- the commands of `precopy-view`, of which one has to stand behind the program's name
+-- the commands of `precopy-view`, one of which must follow the program's name
 unfoldable pub view_line : App
 view_line = record {
   top = record (new_shape (codes "precopy-view")) { is_leaf = false; has_version = true; subcommand_required = true };
@@ -37,7 +36,7 @@ view_line = record {
       (codes "chart") (report_rules ++ unit_rules) ∷ [];
 }
 
--- the commands below `json`, of which one has to stand behind it
+-- the commands below `json`, one of which must follow it
 unfoldable pub json_line : App
 json_line = record {
   top = record (new_shape (codes "json")) { is_leaf = false; subcommand_required = true };
@@ -46,7 +45,7 @@ json_line = record {
       ∷ leaf (codes "when") start_rules ∷ [];
 }
 
--- the words from `json` on, where that stands behind the program's name
+-- the words from `json` on, if it follows the program's name
 abbrev pub json_words : List Text → Option (List Text)
 json_words [] = None
 json_words (program ∷ []) = None

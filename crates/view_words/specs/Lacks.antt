@@ -1,4 +1,4 @@
--- Limits that are not said.
+-- Limits that are not given.
 use Rattle.std.specs.Prelude.{◌≡◌, ◌⊎◌, List, Option, None}
 use Rattle.clap.specs.Walk.{Row}
 use Rattle.guest_units.specs.Scales.{TraceScale}

@@ -1,5 +1,5 @@
--- What the options of starts ask for, and why they are refused. The first start has the place of `start`.
-use Rattle.std.specs.Prelude.{◌≡◌, ◌⊎◌, ℕ, ◌<◌, ◌≤◌, ◌^◌, true, false, ⊤, List, Option, Some, None, codes, unwrap_or}
+-- What the options of starts ask for, and why they are refused. The first start replaces `start`.
+use Rattle.std.specs.Prelude.{◌≡◌, ◌⊎◌, ℕ, ◌<◌, ◌≤◌, ◌^◌, true, false, ⊤, List, Option, Some, codes, unwrap_or}
 use Rattle.clap.specs.Walk.{Row}
 use Rattle.guest_units.specs.Scales.{TraceScale}
 use Rattle.guest_units.specs.declared.limits.Limits.{Limits}
@@ -16,7 +16,7 @@ use Rattle.view_words.specs.Lacks.{LacksLimits}
 use Rattle.view_words.specs.declared.command.ViewWordsError.{ViewWordsError}
 use Rattle.view_words.specs.declared.command.ViewWordsError.TheVariants as asked
 
--- the spacing is a tick at least, and the last start is neither before the first nor at tick 2^40 or later
+-- the spacing is at least a tick, and the last start is neither before the first nor at tick 2^40 or later
 pub record AreInRange (starts : Starts) : Type 0 where
   pub spaced : 1 ≤ unwrap_or starts.every 1
   pub order : starts.from ≤ unwrap_or starts.to starts.from
@@ -37,7 +37,7 @@ pub record AreTicksRefused (rows : List Row) (from : ℕ) : Type 0 where
   pub says_every : Says rows (codes "every") every
   pub out_of_range : (unwrap_or every 1 < 1) ⊎ ((unwrap_or to from < from) ⊎ (2 ^ 40 ≤ unwrap_or to from))
 
--- how starts are shown for people: as a picture where the flag for it is there
+-- how starts are shown for people: as a picture if the flag for it is present
 abbrev pub AsksForForm : List Row → StartsForm → Type 0
 AsksForForm rows forms.Chart = IsFlag rows (codes "chart") true
 AsksForForm rows forms.Table = IsFlag rows (codes "chart") false

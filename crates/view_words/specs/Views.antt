@@ -1,5 +1,5 @@
--- Which view a command asks for, by its name and by what clap found behind it, and why it is refused.
-use Rattle.std.specs.Prelude.{◌≡◌, ◌⊎◌, List, Option, Some, None, MatchOption, [], ⊤, codes}
+-- Which view a command asks for, by its name and by what clap found after it, and why it is refused.
+use Rattle.std.specs.Prelude.{◌≡◌, ◌⊎◌, List, Option, Some, MatchOption, [], ⊤, codes}
 use Rattle.clap.specs.Faults.{fault_of}
 use Rattle.clap.specs.Simple.{App, subcommand_of}
 use Rattle.clap.specs.Walk.{Row, Text}
@@ -29,7 +29,7 @@ use Rattle.view_words.specs.declared.command.ViewWordsError.TheVariants as asked
 abbrev pub AsksToMeasure : List Row → MigrationSettings → Option TraceScale → Type 0
 AsksToMeasure rows settings scale = (limits : Option Limits) × AsksForMeasure rows settings scale limits
 
--- A command of this name, with what clap found behind it, asks for this view, and for this scale where it has units.
+-- A command of this name, with what clap found after it, asks for this view, and for this scale if it has units.
 abbrev pub AsksForView : Text → List Row → View → Option TraceScale → Type 0
 AsksForView name rows (views.JsonReport settings shown) scale = ⊥
 AsksForView name rows (views.JsonSweep cases workers shown) scale = ⊥
@@ -45,7 +45,7 @@ AsksForView name rows (views.When asked) scale =
     (name ≡ codes "when") × AsksForStarts rows asked.form asked × AsksForForm rows asked.form
     × (scale ≡ Some asked.scale)
 
--- A command of this name below `json` asks for this document, and for this scale where it has units.
+-- A command of this name below `json` asks for this document, and for this scale if it has units.
 abbrev pub AsksForDocument : Text → List Row → View → Option TraceScale → Type 0
 AsksForDocument name rows (views.JsonReport settings shown) scale =
     (name ≡ codes "report") × AsksToMeasure rows settings scale × (shown ≡ scale)
@@ -71,7 +71,7 @@ abbrev pub RefusesSettings : List Row → ViewWordsError → Type 0
 RefusesSettings rows (asked.Words e) = ⊥
 RefusesSettings rows (asked.Limits e) = RefusesMeasure rows e
 
--- no limits are said, though a prediction needs them
+-- no limits are given, though a prediction needs them
 abbrev pub AreMissing : List Row → ViewWordsError → Type 0
 AreMissing rows e = (e ≡ asked.Limits refused.Missing) × LacksLimits rows
 
@@ -86,7 +86,7 @@ abbrev pub RefusesSweepWords : List Row → ViewWordsError → Type 0
 RefusesSweepWords rows (asked.Words e) = RefusesCases rows e
 RefusesSweepWords rows (asked.Limits e) = RefusesScaleWords rows e
 
--- A command of this name is refused for this. `json` is one that is met elsewhere than behind the program's name.
+-- A command of this name is refused for this. `json` is one if it does not come right after the program's name.
 abbrev pub RefusesView : Text → List Row → ViewWordsError → Type 0
 RefusesView name rows e = ((name ≡ codes "advise") × RefusesAdvice rows e)
     ⊎ (((name ≡ codes "show") × (RefusesSettings rows e ⊎ (IsUsage e × IsWidthRefused rows)))
@@ -101,8 +101,8 @@ RefusesDocument name rows e = ((name ≡ codes "report") × RefusesSettings rows
 
 -- ---- whole command lines
 
--- A command line takes the words, and they name a command of which this holds. `fault_of` is clap's: the kinds of error
--- that it finds in words, and none where it takes them.
+-- A command line takes the words, and they name a command for which this holds. `fault_of` is clap's: the kinds of
+-- error that it finds in words, none if it takes them.
 pub record Names (line : App) (words : List Text) (Holds : Text → List Row → Type 0) : Type 0 where
   pub taken : fault_of line words ≡ []
   pub name : Text
@@ -110,13 +110,13 @@ pub record Names (line : App) (words : List Text) (Holds : Text → List Row →
   pub command : subcommand_of line words ≡ Some (name, rows)
   pub holds : Holds name rows
 
--- the words, of which the program's name is the first, ask for this view
+-- the words, the first being the program's name, ask for this view
 abbrev pub WordsAsk : List Text → AskedView → Type 0
 WordsAsk words view = MatchOption (json_words words)
     (Names view_line words (λ name rows. AsksForView name rows view.view view.scale))
     (λ below. Names json_line below (λ name rows. AsksForDocument name rows view.view view.scale))
 
--- what a refusal by clap says of words
+-- what a clap refusal says about words
 abbrev pub FailsOn : App → List Text → ViewWordsError → Type 0
 FailsOn line words (asked.Words e) = FailsByKind line words e
 FailsOn line words (asked.Limits e) = ⊥

@@ -1,4 +1,4 @@
-//! Advice as words: a budget and the settings round it, in either kind of words.
+//! Advice as words: a budget and the settings around it, in either kind of words.
 
 ghost use Rattle.std.specs.Prelude.{◌≡◌, IfErr, IfOk, None, Some, codes, false, true};
 ghost use Rattle.clap.specs.Words.{found_of, rows_of};
@@ -55,7 +55,7 @@ fn ticks_of(scale: &Scale, limits: &Limits) -> u64
     scale.ticks(limits.downtime.saturating_sub(limits.reserve))
 }
 
-/// Returns whether a downtime in ticks is said.
+/// Returns whether a downtime in ticks is given.
 fn is_down_said(options: &ArgMatches) -> bool
     ensures there { result ≡ true → IsThere (rows_of (found_of options.now)) (codes "down") }
     ensures unsaid { result ≡ false → Says (rows_of (found_of options.now)) (codes "down") None }

@@ -1,6 +1,6 @@
 //! The command line: words in, a view or a refusal out.
 
-ghost use Rattle.std.specs.Prelude.{◌≡◌, ◌⊎◌, ◌++◌, ◌∷◌, [], IfErr, IfNone, IfOk, IfSome, IsErrAnd, MatchOption, None};
+ghost use Rattle.std.specs.Prelude.{◌≡◌, ◌⊎◌, ◌++◌, ◌∷◌, [], IfErr, IfNone, IfOk, IfSome, IsErrAnd, None};
 ghost use Rattle.std.specs.Prelude.{Ok, Some};
 ghost use Rattle.std.specs.Prelude.{codes, map, string_bytes, true};
 ghost use Rattle.clap.specs.Words.{app_of, found_of, rows_of};
@@ -11,7 +11,7 @@ ghost use Rattle.view_words.specs.Styles.{IsWidthRefused};
 ghost use Rattle.view_words.specs.Views.{IsOutOfMemory};
 ghost use Rattle.job_words.specs.declared.command.WordsError.TheVariants.{Memory};
 ghost use Rattle.view_words.specs.Commands.{IsCommand, IsDocument, json_line, json_words, start_rules, view_line};
-ghost use Rattle.view_words.specs.Starts.{AsksForStarts, RefusesStarts};
+ghost use Rattle.view_words.specs.Starts.{RefusesStarts};
 ghost use Rattle.view_words.specs.Views.{AreMissing, AsksForDocument, AsksForView, FailsOn, IsUsage, Names};
 ghost use Rattle.view_words.specs.Views.{RefusesCases};
 ghost use Rattle.view_words.specs.Views.{RefusesDocument, RefusesSettings, RefusesSweepWords, RefusesView, WordsAsk};
@@ -33,7 +33,7 @@ use unit_words::{LimitsRefusal, Measure, measure_of, scale_said, with_scale, wit
 /// Why words make no view.
 #[derive(Debug, Drop)]
 pub enum ViewWordsError {
-    /// As words of `precopy` are refused.
+    /// The words are refused as by `precopy`.
     Words(WordsError),
     /// Limits in time and bytes are refused.
     Limits(LimitsRefusal),
@@ -47,7 +47,7 @@ impl From<AllocError> for ViewWordsError {
     }
 }
 
-/// A view, and what ticks and pages stand for where an option of limits is given.
+/// A view, and what ticks and pages stand for if an option of limits is given.
 #[derive(Debug, Drop)]
 pub struct AskedView {
     /// What is shown.
@@ -56,13 +56,13 @@ pub struct AskedView {
     pub scale: Option<Scale>,
 }
 
-/// What is told of words without a command. `clap` refuses them itself.
+/// The message for words without a command. `clap` refuses them itself.
 const NO_COMMAND: &str = "error: a command is required\n";
 
-/// What is told behind the program's name by `--version`: that of all of precopy, as in tools/version.py.
+/// What `--version` prints after the program's name: the version of all of precopy, as in tools/version.py.
 const VERSION: &str = "(precopy) 0.6.0";
 
-/// What is told of the commands below `json` behind its help.
+/// What follows the help of `json`, on the commands below it.
 const JSON_COMMANDS: &str = "Commands: report, sweep, when. `precopy-view json --help` tells more.";
 
 /// Returns the command with the options of a report, in either kind of words.
@@ -85,9 +85,9 @@ fn with_scaled_cases<'a>(alloc: Global, command: Command<'a>) -> Result<Command<
 fn json_commands<'a>(alloc: Global) -> Result<Command<'a>, AllocError>
     ensures { IfOk result (λ line. app_of line ≡ json_line) }
 {
-    let report = leaf_command(alloc, "report", "Writes what `precopy report` tells");
-    let sweep = leaf_command(alloc, "sweep", "Writes what `precopy sweep` tells");
-    let when = leaf_command(alloc, "when", "Writes what `precopy-view when` tells");
+    let report = leaf_command(alloc, "report", "Writes what `precopy report` writes");
+    let sweep = leaf_command(alloc, "sweep", "Writes what `precopy sweep` writes");
+    let when = leaf_command(alloc, "when", "Writes what `precopy-view when` writes");
     leaf_command(
         alloc,
         "json",
@@ -107,7 +107,7 @@ fn when_command<'a>(alloc: Global) -> Result<Command<'a>, AllocError>
     let when = leaf_command(
         alloc,
         "when",
-        "Writes what it costs to migrate at many times, and which is the best; status 3 where none keeps the limit",
+        "Writes what it costs to migrate at many times, and which is the best; status 3 if none keeps the limit",
     );
     with_chart(alloc, with_starts(alloc, when)?)
 }
@@ -124,14 +124,14 @@ fn json_command<'a>(alloc: Global) -> Command<'a>
     json.after_help(JSON_COMMANDS)
 }
 
-/// Returns the program's commands. Those below `json` stand in a line of their own.
+/// Returns the program's commands. Those below `json` have a command line of their own.
 fn commands<'a>(alloc: Global) -> Result<Command<'a>, AllocError>
     ensures { IfOk result (λ line. app_of line ≡ view_line) }
 {
     let predict = leaf_command(
         alloc,
         "predict",
-        "Writes what a migration will be, in time and bytes; status 3 where it misses its limit",
+        "Predicts a migration, in time and bytes; status 3 if it misses its limit",
     );
     let json = json_command(alloc);
     let advise = leaf_command(
@@ -142,17 +142,17 @@ fn commands<'a>(alloc: Global) -> Result<Command<'a>, AllocError>
     let show = leaf_command(
         alloc,
         "show",
-        "Writes what `precopy report` tells as tables with bars, for a terminal",
+        "Writes what `precopy report` writes as tables with bars, for a terminal",
     );
     let chart = leaf_command(
         alloc,
         "chart",
-        "Writes what `precopy report` tells as a picture, in SVG",
+        "Writes what `precopy report` writes as a picture, in SVG",
     );
     leaf_command(
         alloc,
         "precopy-view",
-        "Shows what precopy tells of a trace, for people and for programs",
+        "Shows what precopy says about a trace, for people and for programs",
     )
     .version(VERSION)
     .subcommand_required(true)
@@ -305,7 +305,7 @@ fn chart_of(options: &ArgMatches) -> Result<AskedView, ViewWordsError>
     }
 }
 
-/// Returns the scale and the limits of what options ask for, where there are both.
+/// Returns the scale and the limits that options ask for, if there are both.
 pub(crate) fn limited(measure: &Measure) -> Option<(Scale, Limits)>
     ensures some { IfSome result (λ both. (measure.now.scale ≡ Some both.0) × (measure.now.limits ≡ Some both.1)) }
     ensures none { IfNone result ((measure.now.scale ≡ None) ⊎ (measure.now.limits ≡ None)) }
@@ -388,7 +388,7 @@ fn command_document(
     }
 }
 
-/// Returns the document that the words ask for, `json` being the first.
+/// Returns the document that the words ask for, the first being `json`.
 fn document_of(alloc: Global, words: &[String]) -> Result<AskedView, ViewWordsError>
     ensures made { IfOk result (λ asked. Names json_line (map string_bytes words.now)
         (λ name rows. AsksForDocument name rows asked.view asked.scale)) }
@@ -405,7 +405,7 @@ fn document_of(alloc: Global, words: &[String]) -> Result<AskedView, ViewWordsEr
     }
 }
 
-/// Returns the view that the words ask for, the program's name being the first, if `json` is not the second.
+/// Returns the view that the words ask for, if the second is not `json`. The first is the program's name.
 fn shown_of(alloc: Global, words: &[String]) -> Result<AskedView, ViewWordsError>
     ensures made { IfOk result (λ asked. Names view_line (map string_bytes words.now)
         (λ name rows. AsksForView name rows asked.view asked.scale)) }
@@ -422,7 +422,7 @@ fn shown_of(alloc: Global, words: &[String]) -> Result<AskedView, ViewWordsError
     }
 }
 
-/// Returns the words from `json` on, where that stands behind the program's name.
+/// Returns the words from `json` on, if it follows the program's name.
 fn json_words(words: &[String]) -> Option<&[String]>
     ensures some { IfSome result (λ below. json_words (map string_bytes words.now)
         ≡ Some (map string_bytes below.now)) }
@@ -434,7 +434,7 @@ fn json_words(words: &[String]) -> Option<&[String]>
     }
 }
 
-/// Returns the view that the words ask for, the program's name being the first.
+/// Returns the view that the words ask for, the first being the program's name.
 pub fn view_of(alloc: Global, words: &[String]) -> Result<AskedView, ViewWordsError>
     ensures made { IfOk result (λ asked. WordsAsk (map string_bytes words.now) asked) }
     ensures failed { IfErr result (λ e. WordsFail (map string_bytes words.now) e) }

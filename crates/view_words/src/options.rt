@@ -1,8 +1,8 @@
 //! The options of reports for a terminal and of advice in ticks and pages, and what they make.
 
-ghost use Rattle.std.specs.Prelude.{◌++◌, IfErr, IfNone, IfOk, IfSome};
+ghost use Rattle.std.specs.Prelude.{IfErr, IfNone, IfOk, IfSome};
 ghost use Rattle.clap.specs.Words.{found_of, rows_of};
-ghost use Rattle.job_words.specs.Commands.{AddsRules, report_rules};
+ghost use Rattle.job_words.specs.Commands.{AddsRules};
 ghost use Rattle.view_words.specs.Advice.{AsksForGrid, IsGridRefused};
 ghost use Rattle.view_words.specs.Commands.{budget_rules, style_rules};
 ghost use Rattle.view_words.specs.Styles.{AsksForStyle, IsWidthRefused};
@@ -78,7 +78,7 @@ pub(crate) fn with_style<'a>(alloc: Global, command: Command<'a>) -> Result<Comm
     with_units(alloc, command)
 }
 
-/// Returns how a report is shown, where its width is in range.
+/// Returns how a report is shown, if its width is in range.
 pub(crate) fn style_of(options: &ArgMatches) -> Option<Style>
     ensures style { IfSome result (λ style. AsksForStyle (rows_of (found_of options.now)) style) }
     ensures refused { IfNone result (IsWidthRefused (rows_of (found_of options.now))) }

@@ -16,15 +16,15 @@ use std::alloc::{AllocError, Global};
 use trace_views::{AskedStarts, StartsForm};
 use unit_words::{LimitsRefusal, Measure, measure_of, with_units};
 
-/// The first tick that is no start any more, `2^40`.
+/// The first tick that can no longer be a start, `2^40`.
 const START_LIMIT: u64 = 1 << 40;
 
-/// At which ticks a migration begins, and how it is paced.
+/// The ticks at which a migration begins, and its pace.
 const NUMBERS: [Number<'static>; 7] = [
     ("to", "No start comes after this tick [default: the last]"),
     (
         "every",
-        "Ticks from one start to the next [default: some 200th of all]",
+        "Ticks from one start to the next [default: a 200th of the trace]",
     ),
     (
         "inc",
@@ -42,7 +42,7 @@ const NUMBERS: [Number<'static>; 7] = [
     ("workers", "Threads that work side by side [default: 1]"),
 ];
 
-/// Returns the option of the first start. It has the place of `--start`.
+/// Returns the option of the first start. It replaces `--start`.
 fn from<'a>(alloc: Global) -> Arg<'a>
     ensures rule { rule_of result ≡ from_rule }
     ensures local { result.global ≡ false }
@@ -79,7 +79,7 @@ pub(crate) fn with_chart<'a>(alloc: Global, command: Command<'a>) -> Result<Comm
     command.arg(flag(alloc, "chart", "Write a picture, in SVG"))
 }
 
-/// Returns how starts are shown for people: as a picture where the flag for it is there.
+/// Returns how starts are shown for people: as a picture if the flag for it is present.
 pub(crate) fn form_of(options: &ArgMatches) -> StartsForm
     ensures { AsksForForm (rows_of (found_of options.now)) result }
 {
@@ -90,7 +90,7 @@ pub(crate) fn form_of(options: &ArgMatches) -> StartsForm
     }
 }
 
-/// Returns at which ticks the options ask for starts, from this one on, where they are in range.
+/// Returns the ticks at which the options ask for starts, from this one on, if they are in range.
 fn ticks_of(options: &ArgMatches, from: u64) -> Option<Starts>
     ensures made { IfSome result (λ starts. AsksForTicks (rows_of (found_of options.now)) from starts) }
     ensures refused { IfNone result (AreTicksRefused (rows_of (found_of options.now)) from) }
@@ -104,7 +104,7 @@ fn ticks_of(options: &ArgMatches, from: u64) -> Option<Starts>
     Some(Starts { from, to, every })
 }
 
-/// What is told of starts that are out of range.
+/// The message for starts that are out of range.
 const OUT_OF_RANGE: &str =
     "error: --every is at least 1, and --to is not before --from and below 2^40\n";
 

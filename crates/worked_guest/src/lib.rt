@@ -19,7 +19,7 @@ pub static TRACE: [u8; 102] = [
 /// The tick and the page of each write of this guest.
 pub static TOUCHES: [(u64, u32); 5] = [(0, 0), (5, 1), (1200, 1), (2500, 3), (2500, 1)];
 
-/// The trace of such a guest that writes nothing.
+/// The trace of a guest like this that writes nothing.
 pub static NO_WRITES: [u8; 16] = [0x50, 0x43, 0x57, 0x54, 1, 4, 0, 0, 4, 0, 0, 0, 0, 0, 0, 0];
 
 /// The guest's memory after all writes.

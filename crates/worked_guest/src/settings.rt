@@ -5,8 +5,8 @@ ghost use Rattle.worked_guest.specs.Worked.{slow};
 
 use rate_limit::Asked;
 
-/// Returns slow rates, by which the plan of the guest of five writes has three rounds and stops at tick 3667. A test
-/// says only what differs, as in `Asked { rounds: 3, ..asked() }`.
+/// Returns slow rates, at which the plan of the guest of five writes has three rounds and stops at tick 3667. A test
+/// gives only what differs, as in `Asked { rounds: 3, ..asked() }`.
 pub fn asked() -> Asked
     ensures { result ≡ slow }
 {

@@ -12,7 +12,7 @@ count_from : (f : ℕ → Bool) (a n : ℕ) → count_by f (range_with_len a (su
     + count_by f (range_with_len (a + 1) n)
 count_from f a n = sum_by-cons (λ x. cond (f x) 1 0) a (range_with_len (a + 1) n)
 
--- tests that agree count alike
+-- tests that agree count the same
 pub count_agree : (f g : ℕ → Bool) (a n : ℕ) → ((i : ℕ) → a ≤ i → i < a + n → g i ≡ f i)
     → count_by g (range_with_len a n) ≡ count_by f (range_with_len a n)
 count_agree f g a zero same = refl
@@ -21,7 +21,7 @@ count_agree f g a (suc n) same =
     let tail = count_agree f g (a + 1) n (λ i low high. same i (omega arith) (omega arith)) in
     omega (arith, count_from f a n, count_from g a n, head, tail)
 
--- tests that agree but at one number count alike but for that one
+-- tests that agree except at one number count the same except for that one
 pub count_change : (f g : ℕ → Bool) (a n p : ℕ) → a ≤ p → p < a + n → ((i : ℕ) → (i ≡ p → ⊥) → g i ≡ f i)
     → count_by g (range_with_len a n) + one_if (f p) ≡ count_by f (range_with_len a n) + one_if (g p)
 count_change f g a zero p low high same = absurd (omega arith)
@@ -45,7 +45,7 @@ count_none f a (suc n) fails =
     let tail = count_none f (a + 1) n (λ i low. fails i (omega arith)) in
     omega (arith, count_from f a n, head, tail)
 
--- nothing that passes stands behind the first n numbers
+-- nothing that passes comes after the first n numbers
 pub count_extend : (f : ℕ → Bool) (a n m : ℕ) → n ≤ m → ((i : ℕ) → a + n ≤ i → f i ≡ false)
     → count_by f (range_with_len a m) ≡ count_by f (range_with_len a n)
 count_extend f a zero m low fails = count_none f a m (λ i above. fails i (omega arith))
@@ -66,7 +66,7 @@ map_agree {X} f g a (suc n) same =
     let tail = map_agree f g (a + 1) n (λ i low high. same i (omega arith) (omega arith)) in
     λ k. head k ∷ tail k
 
--- nothing that passes is made of the numbers behind the first n
+-- nothing that passes is made of the numbers after the first n
 filter_behind : {X : Type 0} (p : X → Bool) (f : ℕ → X) (n k : ℕ) → ((i : ℕ) → n ≤ i → p (f i) ≡ false)
     → filter p (map f (range_with_len 0 (n + k))) ≡ filter p (map f (range_with_len 0 n))
 filter_behind {X} p f n zero fails =

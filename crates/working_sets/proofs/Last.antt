@@ -1,4 +1,4 @@
--- The last window that a page is in, and what it says of a window that is open.
+-- The last window that a page is in, and what it says of an open window.
 use Rattle.std.proofs.Common.{◌≡◌, ℕ, ◌+◌, ◌-◌, ◌*◌, ◌<◌, ◌≤◌, Bool, true, false, ◌&&◌, ltb, leb, List, [], ◌∷◌, ◌++◌}
 use Rattle.std.proofs.Common.{refl, sym, ap, ◌∙◌, ◌⊎◌, inl, inr, arith}
 use Rattle.std.specs.List.{All}
@@ -10,7 +10,7 @@ use Rattle.migration_model.specs.Touches.{GuestTouch}
 use Rattle.working_sets.proofs.Written.{hits, hits_push_other, hits_push_out, hits_push_in, hits_weaker, hits_none}
 use Rattle.working_sets.proofs.Written.{hits_past}
 
--- the ticks of window j, of the window before it, and of all windows before it
+-- the ticks of window j, of the previous window, and of all earlier windows
 abbrev pub in_window : ℕ → ℕ → ℕ → Bool
 in_window w j tick = leb (j * w) tick && ltb tick ((j + 1) * w)
 
@@ -39,7 +39,7 @@ above_window_before w j tick high = and_right _ _ (le-ltb tick (j * w) high)
 pub above_earlier_window : (w j tick : ℕ) → j * w ≤ tick → in_earlier_window w j tick ≡ false
 above_earlier_window w j tick high = and_right _ _ (le-ltb tick (j * w) high)
 
--- `last` is 1 more than the last window that the page is in, or 0 where it is in none
+-- `last` is 1 more than the last window that the page is in, or 0 if it is in none
 pub record IsLast (w : ℕ) (writes : List GuestTouch) (page last : ℕ) : Type 0 where
   pub none_after : hits (λ tick. leb (last * w) tick) page writes ≡ false
   pub some : (last ≡ 0) ⊎ (hits (in_window w (last - 1)) page writes ≡ true)
@@ -71,7 +71,7 @@ hits_not_yet w j page last writes is low =
     after_last (in_window w j) w page last writes is (λ tick passes. let both =
     in_window_is w j tick passes in omega arith)
 
--- in the window before
+-- in the previous window
 pub hits_before : (w j page last : ℕ) (writes : List GuestTouch) → IsLast w writes page last → last ≡ j → (last ≡ 0 → ⊥)
     → hits (in_window_before w j) page writes ≡ true
 hits_before w j page last writes is same nonzero = elim is.some [
@@ -88,7 +88,7 @@ hits_before w j page last writes is same nonzero = elim is.some [
       some
 ]
 
--- not in the window before
+-- not in the previous window
 pub hits_not_before : (w j page last : ℕ) (writes : List GuestTouch) → IsLast w writes page last → last ≤ j - 1
     → hits (in_window_before w j) page writes ≡ false
 hits_not_before w j page last writes is low =
@@ -120,7 +120,7 @@ hits_not_earlier w j page last writes is none =
     let zero_times : last * w ≡ 0 = ap (λ n. n * w) none ∙ omega arith in
     after_last (in_earlier_window w j) w page last writes is (λ tick passes. omega arith)
 
--- one write more, in window j, to the page
+-- one more write, in window j, to the page
 pub IsLast-push : (w j page last : ℕ) (writes : List GuestTouch) (write : GuestTouch)
     → All (λ x. x.tick < (j + 1) * w) writes
     → in_window w j write.tick ≡ true → write.page ≡ page → IsLast w (writes ++ write ∷ []) page (j + 1)
@@ -138,7 +138,7 @@ IsLast-push w j page last writes write below inside same =
           ∙ hits_push_in (in_window w j) page writes write same inside);
     }
 
--- one write more to another page
+-- one more write to another page
 pub IsLast_other : (w page last : ℕ) (writes : List GuestTouch) (write : GuestTouch) → IsLast w writes page last
     → (write.page ≡ page → ⊥) → IsLast w (writes ++ write ∷ []) page last
 IsLast_other w page last writes write is other =

@@ -29,7 +29,7 @@ use Rattle.working_sets.proofs.Whole.{PassesTo, start_of_pass, one_more_added, e
 
 -- ---- the buffer of rows
 
--- the closed rows stand over the front of a buffer, and so many slots are taken
+-- the closed rows are at the front of a buffer, and `count` slots are taken
 pub record AreClosed (closed : List WindowRow) (old rows : List WindowNumbers) (count : ℕ) : Type 0 where
   pub rows_are : rows ≡ rows_over closed old
   pub count_is : count ≡ length closed
@@ -71,7 +71,7 @@ closed_after closed old rows count row low are = put_either (leb 1 row.writes) c
 abbrev pub state_of : ℕ → OpenWindow → List WindowRow → List PageSeen → Counting
 state_of w at closed marks = record { window = w; end = at.end; rows = closed; row = at.row; marks = map mark_in marks }
 
--- a pass that has come to a touch
+-- a pass that has reached a touch
 pub record LentPasses (pages : ℕ) (touches : List GuestTouch) (s : MigrationSettings) (index w : ℕ) (at : OpenWindow)
     (marks : List PageSeen) (old rows : List WindowNumbers) : Type 0 where
   pub closed : List WindowRow
@@ -112,7 +112,7 @@ filter_few p f n =
       length-range_with_len 0 n,
     )
 
--- the first of some touches in order do not end behind all of them
+-- the first of some touches in order do not end after all of them
 last_of_front : (done left : List GuestTouch) → IsNonDecreasingBy (λ (t : GuestTouch). t.tick) (done ++ left)
     → last_by (λ (t : GuestTouch). t.tick) done ≤ last_by (λ (t : GuestTouch). t.tick) (done ++ left)
 last_of_front done [] order = omega (arith, ap (last_by (λ (t : GuestTouch). t.tick)) (append-nil done))
@@ -129,7 +129,7 @@ last_of_front done (x ∷ left) order =
       ap (last_by (λ (t : GuestTouch). t.tick)) joined,
     )
 
--- so many rows are closed
+-- there are fewer closed rows than windows
 pub closed_few : (pages : ℕ) (touches : List GuestTouch) (s : MigrationSettings) (index w : ℕ) (at : OpenWindow)
     (marks : List PageSeen) (closed : List WindowRow) → AreTouches pages touches
     → PassesTo pages touches s index (state_of w at closed marks) → 1 ≤ w → w ≡ s.window

@@ -37,7 +37,7 @@ Passes_start pages w whole some = record {
   window_is = refl;
 }
 
--- the next write is in the open window, or behind it
+-- the next write is in the open window, or after it
 next_is_late : (pages w : ℕ) (whole left : List GuestTouch) (write : GuestTouch) (s : Counting) → AreTouches pages whole
     → (p : Passes pages w whole (write ∷ left) s) → s.row.number * s.window ≤ write.tick
 next_is_late pages w whole left write s fits p =

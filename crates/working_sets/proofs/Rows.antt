@@ -1,4 +1,4 @@
--- The row of a window, and the rows of all windows, after one write more.
+-- The row of a window, and the rows of all windows, after one more write.
 use Rattle.std.proofs.Common.{◌≡◌, ℕ, ◌+◌, ◌*◌, ◌<◌, ◌≤◌, Bool, true, false, cond, not, ◌&&◌, eqb, List, [], ◌∷◌, ◌++◌}
 use Rattle.std.proofs.Common.{length, refl, sym, ap, inl, inr, arith}
 use Rattle.std.specs.List.{All, count_by, range_with_len, sum_by}
@@ -15,7 +15,7 @@ use Rattle.working_sets.proofs.Last.{in_window, in_window_before, in_earlier_win
 use Rattle.working_sets.proofs.Last.{above_window_before, above_earlier_window, below_window, IsLast, hits_already}
 use Rattle.working_sets.proofs.Last.{hits_not_yet, hits_before, hits_not_before, hits_earlier, hits_not_earlier}
 
--- rows are equal where their fields are
+-- rows are equal if their fields are
 pub same_row : (a b : WindowRow) → a.number ≡ b.number → a.writes ≡ b.writes → a.pages ≡ b.pages → a.again ≡ b.again
     → a.fresh ≡ b.fresh → a ≡ b
 same_row a b number writes pages again fresh =
@@ -99,7 +99,7 @@ counts_at w j page last writes is low = elim (cases_eq last (j + 1)) [
       ]
 ]
 
--- one write more in window j
+-- one more write in window j
 pub row_of-push : (w pages j last : ℕ) (writes : List GuestTouch) (write : GuestTouch) → in_window w j write.tick ≡ true
     → write.page < pages
     → IsLast w writes write.page last → last ≤ j + 1 → row_of (writes ++ write ∷ []) pages w j
@@ -149,7 +149,7 @@ row_of-push w pages j last writes write inside below is low =
     (omega (arith, count_again, one_again, adds.again))
     (omega (arith, count_fresh, one_fresh, adds.fresh))
 
--- one write more behind window j
+-- one more write after window j
 pub row_of_past : (w pages j : ℕ) (writes : List GuestTouch) (write : GuestTouch) → (j + 1) * w ≤ write.tick
     → row_of (writes ++ write ∷ []) pages w j ≡ row_of writes pages w j
 unfolding row_of
@@ -182,7 +182,7 @@ count_by_none test writes fails =
     let bound : sum_by one writes ≤ length writes * 0 = sum_by-le one 0 writes small in
     omega arith
 
--- a window behind all writes
+-- a window after all writes
 pub row_of_behind : (w pages j : ℕ) (writes : List GuestTouch) → All (λ x. x.tick < j * w) writes
     → row_of writes pages w j ≡ blank j
 unfolding row_of

@@ -63,7 +63,7 @@ Shows_start w pages some = record {
 
 -- ---- a window closes
 
--- windows behind all writes have no write, and no page
+-- windows after all writes have no write, and no page
 behind : (w n i : ℕ) (writes : List GuestTouch) → All (λ x. x.tick < (n + 1) * w) writes → n + 1 ≤ i
     → All (λ x. x.tick < i * w) writes
 behind w n i writes below low =
@@ -98,7 +98,7 @@ rows_closed w pages n m writes rows row below low row_is rows_are =
     ∙ sym more
     ∙ sym (filter_extend has_write (row_of writes pages w) (n + 1) m low none)
 
--- the state for a tick behind the open window
+-- the state for a tick after the open window
 late : Counting → ℕ → Counting
 late s tick = record s {
   end = (tick / s.window + 1) * s.window;

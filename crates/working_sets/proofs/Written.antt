@@ -1,5 +1,5 @@
--- Pages that writes hit at ticks that pass a test, and one write more.
-use Rattle.std.proofs.Common.{◌≡◌, ℕ, Bool, true, false, ◌&&◌, ◌||◌, eqb, List, [], ◌∷◌, ◌++◌, refl, ap, ◌∙◌, inl, inr}
+-- Pages that writes hit at ticks that pass a test, and one more write.
+use Rattle.std.proofs.Common.{◌≡◌, ℕ, Bool, true, false, ◌&&◌, ◌||◌, eqb, List, [], ◌∷◌, ◌++◌, ap, ◌∙◌, inl, inr}
 use Rattle.std.specs.List.{All, list_any}
 use Rattle.std.proofs.lemmas.Bool.{and_parts, and_from, and_left, and_right, or_cases, or_left, or_right, both_ways}
 use Rattle.std.proofs.lemmas.Bool.{eq-eqb, ne_eqb, false_from_ne_true}
@@ -44,7 +44,7 @@ pub hits_push_in : (test : ℕ → Bool) (page : ℕ) (writes : List GuestTouch)
 hits_push_in test page writes write same passes =
     hits-push test page writes write ∙ or_right _ _ (and_from _ _ (eq-eqb write.page page same) passes)
 
--- ticks of which a weaker test holds too
+-- ticks for which a weaker test holds too
 pub hits_weaker : (test weaker : ℕ → Bool) (page : ℕ) (writes : List GuestTouch)
     → ((tick : ℕ) → test tick ≡ true → weaker tick ≡ true)
     → hits test page writes ≡ true → hits weaker page writes ≡ true

@@ -1,4 +1,4 @@
--- The state of one pass over writes, and its steps. No contract of a public call speaks of it.
+-- The state of one pass over writes, and its steps. No contract of a public call mentions it.
 use Rattle.std.specs.Prelude.{ℕ, ◌+◌, ◌*◌, ◌/◌, ◌^◌, ◌<◌, ◌≤◌, ◌&&◌, length, ◌==◌, nat_lt, nat_le, not, Bool, cond}
 use Rattle.std.specs.Prelude.{if◌then◌else◌, List, [], ◌∷◌, ◌++◌, slice_index_or, slice_set, replicate}
 use Rattle.std.specs.List.{filter, range_with_len}
@@ -29,7 +29,7 @@ unmarked = record { last = 0; windows = 0 }
 abbrev pub one_if : Bool → ℕ
 one_if b = cond b 1 0
 
--- rows with one more, where it has a write
+-- rows with one more, if it has a write
 abbrev pub with_row : List WindowRow → WindowRow → List WindowRow
 with_row rows row = if nat_le 1 row.writes then rows ++ row ∷ [] else rows
 
@@ -86,7 +86,7 @@ pub record HasRoom (row : WindowRow) : Type 0 where
   pub again : row.again + 1 < 2 ^ 32
   pub fresh : row.fresh + 1 < 2 ^ 32
 
--- what the state has to be for a write at this tick to this page
+-- what the state must be for a write at this tick to this page
 pub record CanAdd (s : Counting) (tick page : ℕ) : Type 0 where
   pub page_low : page < length s.marks
   pub tick_low : tick < 2 ^ 40
@@ -95,7 +95,7 @@ pub record CanAdd (s : Counting) (tick page : ℕ) : Type 0 where
   pub row : HasRoom s.row
   pub mark : (mark_of s page).windows + 1 < 2 ^ 64
 
--- the pages whose marks have at least so many windows, rising
+-- the pages whose marks have at least `hot` windows, in ascending order
 abbrev pub hot_of : List PageMark → ℕ → List ℕ
 hot_of marks hot = filter (λ page. nat_le hot (slice_index_or marks page unmarked).windows)
     (range_with_len 0 (length marks))

@@ -1,4 +1,4 @@
--- Rows of windows in memory that is lent. The contracts of public calls cite the first part alone.
+-- Rows of windows in memory that is lent. The contracts of public calls cite only the first part.
 use Rattle.std.specs.Prelude.{ℕ, ◌+◌, ◌*◌, ◌/◌, ◌^◌, ◌<◌, ◌≤◌, ◌⊎◌, nat_lt, nat_le, if◌then◌else◌, List, ◌++◌}
 use Rattle.std.specs.Prelude.{length, drop, map, slice_set}
 use Rattle.migration_model.specs.Touches.{GuestTouch}
@@ -18,11 +18,11 @@ numbers_of row = record {
   fresh = row.fresh;
 }
 
--- a buffer with these rows over its front, and behind them what was there
+-- a buffer with these rows over its front, and after them what was there
 abbrev pub rows_over : List WindowRow → List WindowNumbers → List WindowNumbers
 rows_over rows old = map numbers_of rows ++ drop (length rows) old
 
--- so many slots are as many as there are writes, or as windows begin up to the last of them
+-- there are at least as many slots as writes, or as windows up to that of the last write
 abbrev pub HasRows : List GuestTouch → ℕ → ℕ → Type 0
 HasRows touches w slots = (length touches ≤ slots) ⊎ (windows_of touches w ≤ slots)
 
@@ -34,7 +34,7 @@ mark_in seen = record { last = seen.last; windows = seen.windows }
 abbrev pub unseen : PageSeen
 unseen = record { last = 0; windows = 0 }
 
--- the slot of the next row, and the buffer, after a row that is put where it has a write
+-- the slot of the next row, and the buffer, after a row that is put only if it has a write
 abbrev pub count_after : ℕ → WindowRow → ℕ
 count_after count row = if nat_le 1 row.writes then count + 1 else count
 
@@ -52,7 +52,7 @@ turned_open w tick it = if nat_lt tick it.end then it else record {
 abbrev pub rows_turned : ℕ → OpenWindow → List WindowNumbers → List WindowNumbers
 rows_turned tick it rows = if nat_lt tick it.end then rows else rows_after rows it.count it.row
 
--- what has to hold for a tick to come
+-- what must hold for a tick to come
 pub record CanTurn (w tick : ℕ) (it : OpenWindow) (slots : ℕ) : Type 0 where
   pub tick_low : tick < 2 ^ 40
   pub window_some : 1 ≤ w

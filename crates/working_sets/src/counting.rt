@@ -33,7 +33,7 @@ impl Mark {
     ghost use Rattle.std.specs.Prelude.{◌≡◌};
     ghost use Rattle.working_sets.specs.Lending.{mark_in};
 
-    /// Returns the mark that is kept so in memory that is lent.
+    /// Returns the mark that is kept this way in memory that is lent.
     pub(crate) fn new(last: u64, windows: u64) -> Mark
         ensures { result ≡ record { last = last; windows = windows } }
     {
@@ -50,7 +50,7 @@ impl Mark {
         }
     }
 
-    /// Returns whether the page is in at least so many windows.
+    /// Returns whether the page is in at least `hot` windows.
     pub(crate) fn is_hot(&self, hot: u64) -> bool
         ensures { result ≡ nat_le hot self.now.windows }
     {
@@ -133,7 +133,7 @@ fn push_row(rows: &mut Vec<Window>, row: Window) -> Result<(), AllocError>
 }
 
 impl Pass {
-    /// Returns a pass before any write, over so many pages and windows of so many ticks.
+    /// Returns a pass before any write, over this many pages and windows of this many ticks.
     pub(crate) fn new(alloc: Global, window: u64, pages: u32) -> Result<Pass, AllocError>
         ensures { IfOk result (λ pass. pass ≡ started window pages) }
     {
@@ -151,7 +151,7 @@ impl Pass {
         })
     }
 
-    /// Closes the open window where this tick is behind it, and opens the window of the tick.
+    /// Closes the open window if this tick is after it, and opens the window of the tick.
     fn turn(&mut self, tick: u64) -> Result<(), AllocError>
         requires tick { tick < 2 ^ 40 }
         requires some { 1 ≤ self.old.window }
@@ -190,7 +190,7 @@ impl Pass {
         Ok(())
     }
 
-    /// Returns the tables of the writes so far, with the pages that are in at least so many windows.
+    /// Returns the tables of the writes so far, with the pages that are in at least `hot` windows.
     pub(crate) fn finish(self, alloc: Global, hot: u64) -> Result<Tables, AllocError>
         requires { length self.marks < 2 ^ 32 }
         ensures { IfOk result (λ tables. tables ≡ finished self hot) }

@@ -6,7 +6,7 @@ ghost use Rattle.working_sets.specs.Counting.{hot_of};
 use crate::counting::Mark;
 use std::alloc::{AllocError, Global};
 
-/// Appends a page where `keep` is set.
+/// Appends a page if `keep` is set.
 fn push_if(pages: &mut Vec<u32>, keep: bool, page: u32) -> Result<(), AllocError>
     ensures { OnOk result (pages.new.items ≡ (if keep then pages.old.items ++ page ∷ [] else pages.old.items)) }
 {
@@ -16,7 +16,7 @@ fn push_if(pages: &mut Vec<u32>, keep: bool, page: u32) -> Result<(), AllocError
     Ok(())
 }
 
-/// Returns the pages that are in at least so many windows, rising.
+/// Returns the pages that are in at least `hot` windows, in ascending order.
 pub(crate) fn hot_pages(alloc: Global, marks: &[Mark], hot: u64) -> Result<Vec<u32>, AllocError>
     requires { length marks.now < 2 ^ 32 }
     ensures { IfOk result (λ pages. pages.items ≡ hot_of marks.now hot) }

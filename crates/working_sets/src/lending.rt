@@ -23,7 +23,7 @@ pub struct WindowNumbers {
     pub writes: u64,
     /// How many pages are written in it.
     pub pages: u64,
-    /// How many of those pages are written in the window before too.
+    /// How many of those pages are written in the previous window too.
     pub again: u64,
     /// How many of those pages are written in no earlier window.
     pub fresh: u64,
@@ -66,7 +66,7 @@ fn put_row(rows: &mut [WindowNumbers], count: usize, row: Window) -> usize
     count + 1
 }
 
-/// Closes the open window where this tick is behind it. Returns the window of the tick.
+/// Closes the open window if this tick is after it. Returns the window of the tick.
 fn turned(window: u64, tick: u64, at: OpenWindow, rows: &mut [WindowNumbers]) -> OpenWindow
     requires { CanTurn window tick at (length rows.old) }
     ensures window { result ≡ turned_open window tick at }
@@ -99,7 +99,7 @@ fn counted(marks: &mut [PageSeen], row: Window, page: u32) -> Window
     row_after(row, seen.last)
 }
 
-/// Returns the tick of the last touch, or 0 where there is none.
+/// Returns the tick of the last touch, or 0 if there is none.
 fn last_tick<T: Timeline>(timeline: &T) -> u64
     ensures { result ≡ last_by (λ touch. touch.tick) (T.touches timeline.now) }
 {
@@ -110,7 +110,7 @@ fn last_tick<T: Timeline>(timeline: &T) -> u64
     timeline.touch(count - 1).tick
 }
 
-/// Returns whether so many slots are enough for the rows of the windows of a trace: as many as it has writes, or as
+/// Returns whether this many slots are enough for the rows of the windows of a trace: as many as it has writes, or as
 /// many as windows begin up to the last write.
 pub fn has_rows<T: Timeline>(timeline: &T, settings: &Settings, slots: usize) -> bool
     ensures { IsTrue result ↔ HasRows (T.touches timeline.now) settings.now.window slots }
@@ -118,9 +118,9 @@ pub fn has_rows<T: Timeline>(timeline: &T, settings: &Settings, slots: usize) ->
     timeline.touch_count() <= slots || last_tick(timeline) / settings.asked().window < slots as u64
 }
 
-/// Writes the rows of the windows of a trace over the front of `rows`, rising. Returns how many there are. It passes
-/// once over the touches, and allocates nothing: the caller lends a slot of `marks` for each page. What is in them does
-/// not matter.
+/// Writes the rows of the windows of a trace over the front of `rows`, in ascending order. Returns how many there are.
+/// It passes once over the touches, and allocates nothing: the caller lends a slot of `marks` for each page. What they
+/// hold does not matter.
 pub fn window_rows<T: Timeline>(
     timeline: &T,
     settings: &Settings,

@@ -11,7 +11,7 @@ pub struct Window {
     pub writes: u32,
     /// How many pages are written in it.
     pub pages: u32,
-    /// How many of those pages are written in the window before too.
+    /// How many of those pages are written in the previous window too.
     pub again: u32,
     /// How many of those pages are written in no earlier window.
     pub fresh: u32,
@@ -42,9 +42,9 @@ impl Model for Window {
 /// The tables of a trace: its writable working sets by windows (after Clark and others 2005, section 4).
 #[derive(Debug, Drop)]
 pub struct Tables {
-    /// The rows of the windows with at least one write, by rising number.
+    /// The rows of the windows with at least one write, in ascending order of number.
     pub windows: Vec<Window>,
-    /// The hot pages, rising.
+    /// The hot pages, in ascending order.
     pub hot: Vec<u32>,
 }
 

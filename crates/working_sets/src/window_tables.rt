@@ -12,7 +12,7 @@ use std::alloc::Global;
 use std::thread::Threads;
 
 /// Returns the rows of the windows of a trace, and its hot pages. It passes once over the touches, whatever the length
-/// of a window. The error is `Memory`, where memory runs out for the marks of the pages, the rows or the hot pages.
+/// of a window. The error is `Memory`, if memory runs out for the marks of the pages, the rows or the hot pages.
 pub fn tables<T: Timeline>(
     alloc: Global,
     timeline: &T,

@@ -36,10 +36,10 @@ fn rest_is_zero(rest: &[u8]) -> bool
     seen == 0
 }
 
-/// Returns whether each byte is 0. That is so of no bytes at all. It allocates nothing.
+/// Returns whether each byte is 0, which is true of no bytes at all. It allocates nothing.
 ///
-/// It tests 64 bytes together, of the first half and of the second in turn, and ends at the first of these blocks that
-/// has another byte. To read memory at two addresses in turn takes less time than at one.
+/// It tests 64 bytes together, from the first half and the second in turn, and ends at the first of these blocks that
+/// has another byte. Reading memory at two addresses in turn takes less time than at one.
 pub fn is_zero(bytes: &[u8]) -> bool
     ensures { IsTrue result ↔ All (λ byte. byte ≡ 0) bytes.now }
 {

@@ -41,7 +41,7 @@ pub struct Settings {
     pub start: u64,
     pub window: u64,
     pub hot: u64,
-    /// The destination begins with the memory before this tick, where there is one.
+    /// The destination begins with the memory before this tick, if there is one.
     pub base: Option<u64>,
     /// Whether pages that were written again are skipped.
     pub skip: bool,
@@ -90,7 +90,7 @@ pub enum Reason {
     Rounds,
 }
 
-/// What a plan comes to: how many rounds, why they end, the tick of the stop, the downtime in ticks, and the pages that
+/// The sums of a plan: how many rounds, why they end, the tick of the stop, the downtime in ticks, and the pages that
 /// are sent in all.
 #[derive(Clone, Copy, Debug, PartialEq, Eq)]
 pub struct Sums {
@@ -101,7 +101,7 @@ pub struct Sums {
     pub total: u64,
 }
 
-/// Returns what the plan of a trace comes to.
+/// Returns the sums of the plan of a trace.
 pub fn plan(trace: &[u8], settings: &Settings) -> Result<Sums, Refused> {
     let mut found = calls::Sums::default();
     checked(unsafe { calls::precopy_plan(trace.as_ptr(), trace.len(), &settings.as_c(), &mut found) })?;
@@ -162,7 +162,7 @@ pub struct Sizes {
     pub writes: u32,
 }
 
-/// The memory of a guest, as frames come to it in any order: of each page the frame with the greatest stamp.
+/// The memory of a guest, as frames come to it in any order: for each page the frame with the greatest stamp.
 pub struct FlatMemory {
     sizes: Sizes,
     memory: Vec<u8>,
@@ -181,7 +181,7 @@ impl FlatMemory {
     }
 
     /// Takes the whole frames at the front of some bytes, and returns how many bytes these have. What is left is the
-    /// beginning of a frame that goes on in the next piece of the stream.
+    /// beginning of a frame that continues in the next piece of the stream.
     pub fn accept(&mut self, piece: &[u8]) -> Result<usize, Refused> {
         let sizes = calls::Sizes {
             shift: self.sizes.shift,

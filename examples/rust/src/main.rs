@@ -1,6 +1,5 @@
-//! Reads a trace from standard input, and prints the report on it, as `precopy report` does; or, by the words
-//! `memory TICK`, the memory before a tick; or, by the words `receive SHIFT PAGES WRITES`, the memory that a stream of
-//! frames leaves.
+//! Reads a trace from standard input, and prints the report on it, as `precopy report` does; or, given `memory TICK`,
+//! the memory before a tick; or, given `receive SHIFT PAGES WRITES`, the memory that a stream of frames leaves.
 
 use precopy::{memory_before, report, FlatMemory, Settings, Sizes};
 use std::error::Error;

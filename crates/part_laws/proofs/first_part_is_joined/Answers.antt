@@ -1,4 +1,4 @@
-use Rattle.std.proofs.Common.{List, ◌∷◌, ap}
+use Rattle.std.proofs.Common.{◌∷◌, ap}
 use Rattle.migration_model.specs.Parts.{GuestPart}
 use Rattle.stream_lanes.specs.Ends.{IsSentOn}
 use Rattle.part_laws.proofs.Received.{joined_to_first}

@@ -1,6 +1,5 @@
 use Rattle.std.proofs.Common.{◌<◌, ◌≡◌, length, ap, ◌∙◌, arith}
 use Rattle.migration_model.specs.Memory.{image_of}
-use Rattle.migration_model.specs.Trace.{IsGuestWrite, IsTrace}
 use Rattle.guest_log.specs.Writes.{shown}
 use Rattle.image_build.proofs.Replays.{Becomes-item, item_fits, write_fits}
 use Rattle.image_build.proofs.replaying.replay.Goals as goal

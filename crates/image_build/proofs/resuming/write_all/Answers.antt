@@ -1,8 +1,6 @@
-use Rattle.std.proofs.Common.{◌≡◌, ◌<◌, ℕ, ◌+◌, ◌*◌, ◌^◌, ◌≤◌, take, fold, get_or, length, ap, ◌∙◌, arith}
-use Rattle.migration_model.specs.Memory.{apply, bytes_put, memory_with}
-use Rattle.migration_model.specs.Trace.{GuestTrace, GuestWrite, IsGuestWrite}
+use Rattle.std.proofs.Common.{◌<◌, ◌+◌, ◌*◌, ◌^◌, length, ap, ◌∙◌, arith}
+use Rattle.migration_model.specs.Memory.{bytes_put, memory_with}
 use Rattle.guest_log.specs.Writes.{shown}
-use Rattle.page_versions.specs.Pages.{write_at}
 use Rattle.image_build.proofs.Resumed.{applied_more, place_fits}
 use Rattle.image_build.proofs.Replays.{write_fits}
 use Rattle.migration_model.proofs.Pages.{length-put}

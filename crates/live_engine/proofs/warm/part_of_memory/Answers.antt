@@ -1,7 +1,6 @@
-use Rattle.std.proofs.Common.{◌≡◌, ◌≤◌, ◌*◌, ◌^◌, List, length, sym, ap, ◌∙◌}
-use Rattle.std.specs.List.{All}
+use Rattle.std.proofs.Common.{◌≡◌, ◌*◌, ◌^◌, length, sym, ap, ◌∙◌}
 use Rattle.migration_model.specs.Final.{shape_of_trace}
-use Rattle.migration_model.specs.Frames.{GuestShape, shape_with}
+use Rattle.migration_model.specs.Frames.{shape_with}
 use Rattle.migration_model.specs.Memory.{image_before, memory_with}
 use Rattle.migration_model.specs.Warm.{part_of_memory, versions_of}
 use Rattle.page_message.specs.Shapes.{shape_of}

@@ -1,4 +1,4 @@
-use Rattle.std.proofs.Common.{◌≡◌, ◌≢◌, ◌∙◌, ◌<◌, inl, inr, ap, sym, get_or, set, arith}
+use Rattle.std.proofs.Common.{◌≡◌, ◌∙◌, inl, inr, ap, sym, get_or, set}
 use Rattle.migration_model.specs.Frames.{PageFrame}
 use Rattle.page_message.specs.Shapes.{shape_of}
 use Rattle.precopy_c.specs.FlatMemory.{flat_part, not_come}

@@ -1,4 +1,4 @@
-use Rattle.std.proofs.Common.{refl, sym, arith}
+use Rattle.std.proofs.Common.{refl, arith}
 use Rattle.precopy_c.proofs.Cases.{RefusesCase-at, case_in_range, in_range_more, made_more}
 use Rattle.precopy_c.proofs.sweeps.checked_cases.Goals as goal
 

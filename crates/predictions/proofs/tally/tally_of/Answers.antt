@@ -1,7 +1,7 @@
-use Rattle.std.proofs.Common.{◌≡◌, ℕ, List, ◌++◌, take, get_or, length, subst, sym, ap, ◌∙◌, arith}
+use Rattle.std.proofs.Common.{◌≡◌, ℕ, List, ◌++◌, get_or, length, subst, sym, ap, ◌∙◌, arith}
 use Rattle.std.proofs.lemmas.List.{take_all}
 use Rattle.std.specs.List.{flat_map}
-use Rattle.migration_model.specs.Rounds.{MigrationPlan, PlannedRound}
+use Rattle.migration_model.specs.Rounds.{PlannedRound}
 use Rattle.predictions.specs.Errors.{pages_sent}
 use Rattle.predictions.specs.Tallies.{IsTally}
 use Rattle.predictions.proofs.Counting.{number_is_total, rounds_more, squares_are_in}

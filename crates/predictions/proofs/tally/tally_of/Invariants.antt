@@ -1,4 +1,4 @@
-use Rattle.std.proofs.Common.{◌≡◌, ◌*◌, ◌≤◌, take}
+use Rattle.std.proofs.Common.{◌*◌, ◌≤◌, take}
 use Rattle.std.specs.List.{flat_map}
 use Rattle.migration_model.specs.Rounds.{PlannedRound}
 use Rattle.predictions.specs.Tallies.{IsTally}

@@ -1,4 +1,4 @@
-use Rattle.std.proofs.Common.{◌≡◌, length, ap, ◌∙◌, append_assoc, arith}
+use Rattle.std.proofs.Common.{◌≡◌, length, ap, append_assoc, arith}
 use Rattle.migration_model.specs.Rounds.{PlannedRound}
 use Rattle.trace_views.proofs.report_document.write_round.Goals as goal
 

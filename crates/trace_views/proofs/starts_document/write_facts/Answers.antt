@@ -3,7 +3,7 @@ use Rattle.std.proofs.lemmas.List.{append-nil}
 use Rattle.std.specs.List.{flat_map}
 use Rattle.std.specs.Prelude.{codes}
 use Rattle.json.specs.Token.{Token, begin_array, begin_object, end_array, end_object, key}
-use Rattle.trace_views.specs.Json.{array_of, member_of, object_of, seconds_member}
+use Rattle.trace_views.specs.Json.{object_of, seconds_member}
 use Rattle.trace_views.specs.StartsJson.{chosen_member, start_object}
 use Rattle.trace_views.proofs.starts_document.write_facts.Goals as goal
 

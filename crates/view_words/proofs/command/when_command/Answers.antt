@@ -1,4 +1,3 @@
-use Rattle.std.proofs.Common.{[], ◌∷◌, ◌++◌, codes}
 use Rattle.std.proofs.lemmas.Result.{IfOk-weaker}
 use Rattle.job_words.proofs.CommandLemmas.{adds_both, leaf_with}
 use Rattle.view_words.proofs.command.when_command.Goals as goal

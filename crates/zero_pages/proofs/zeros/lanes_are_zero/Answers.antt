@@ -7,7 +7,7 @@ use Rattle.std.proofs.lemmas.List.{take_all, length-take-le}
 use Rattle.std.proofs.lemmas.Simd.{bitmask_splat, none_from_empty_mask}
 use Rattle.zero_pages.proofs.zeros.lanes_are_zero.Goals as goal
 
--- the mask is empty where no lane passes
+-- the mask is empty if no lane passes
 mask_of_none : (p : ℕ → Bool) (lanes : List ℕ) → All (λ lane. p lane ≡ false) lanes → mask_l (map p lanes) ≡ 0
 mask_of_none p [] none = refl
 mask_of_none p (lane ∷ lanes) none = rw (

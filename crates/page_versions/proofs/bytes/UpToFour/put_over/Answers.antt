@@ -1,4 +1,4 @@
-use Rattle.std.proofs.Common.{◌+◌, ◌≤◌, ◌∷◌, [], length, sym, arith}
+use Rattle.std.proofs.Common.{◌∷◌, [], sym, arith}
 use Rattle.migration_model.specs.Trace.{GuestWrite}
 use Rattle.guest_log.specs.Writes.{no_write, shown}
 use Rattle.page_versions.specs.Pages.{PutsWithin}
