@@ -294,6 +294,16 @@ def killed_process(_, folder):
     expect(len([1 for tick, _ in written if tick > 1000]) == 100, f"{len(written)} writes")
 
 
+def process_ends_during_a_look(_, folder):
+    with Pages("private") as pages:
+        stand_in = (os.path.join(TOP, "checks", "stand_in.py"), "process_ends")
+        drawn = Drawn(folder, pages.source, ["--by", "writes"], stand_in)
+        drawn.end()
+        pages.expect_as_before()
+    drawn.expect_whole()
+    expect("the process ended" in drawn.faults, drawn.faults)
+
+
 def signals(_, folder):
     for number in (signal.SIGINT, signal.SIGTERM):
         with Pages("huge") as pages:
@@ -504,6 +514,7 @@ NEED_WRITES = {
     killed_recorder,
     killed_recorder_while_opening,
     killed_process,
+    process_ends_during_a_look,
     signals,
     memory_runs_out,
     causes_stood_in,
@@ -524,6 +535,7 @@ CASES = [
     killed_recorder,
     killed_recorder_while_opening,
     killed_process,
+    process_ends_during_a_look,
     signals,
     memory_runs_out,
     causes_stood_in,

@@ -9,6 +9,7 @@ import platform
 import runpy
 import struct
 import sys
+import time
 
 sys.dont_write_bytecode = True
 TOOLS = os.path.join(os.path.dirname(os.path.dirname(os.path.abspath(__file__))), "tools")
@@ -56,7 +57,22 @@ def other_machine():
     platform.machine = lambda: "aarch64"
 
 
-CAUSES = {cause.__name__: cause for cause in (old_kernel, no_userfaultfd, huge_pages, no_permission, other_machine)}
+def process_ends():
+    """Four tenths of a second after the first look, the kernel knows no such process."""
+    began = []
+
+    def ioctl(descriptor, request, argument):
+        if request == pagemap.SCAN:
+            began.append(time.monotonic())
+            if began[-1] > began[0] + 0.4:
+                fails(errno.ESRCH)
+        return IOCTL(descriptor, request, argument)
+
+    pagemap.ioctl = ioctl
+
+
+STOOD_IN = (old_kernel, no_userfaultfd, huge_pages, no_permission, other_machine, process_ends)
+CAUSES = {cause.__name__: cause for cause in STOOD_IN}
 
 
 if __name__ == "__main__":
