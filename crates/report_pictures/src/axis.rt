@@ -1,6 +1,7 @@
 //! The axis of ticks that several panels share.
 
-ghost use Rattle.std.specs.Prelude.{◌≤◌};
+ghost use Rattle.std.specs.Prelude.{◌≡◌, ◌≤◌, ◌-◌};
+ghost use Rattle.report_pictures.specs.Axes.{IsStep, place_of, share_of};
 
 use crate::svg::{Area, begin_text, end_text, push_rect, push_text, push_words};
 use guest_units::Scale;
@@ -27,10 +28,11 @@ pub(crate) struct Axis {
 
 /// Returns a part's share of some room for the whole, rounded down.
 pub(crate) fn share(part: u64, whole: u64, room: u64) -> u64
-    ensures { result ≤ room }
+    ensures share { result ≡ share_of part whole room }
+    ensures bound { result ≤ room }
 {
-    let all = part.saturating_mul(room) / whole.max(1);
-    all.min(room)
+    let all = part as u128 * room as u128 / whole.max(1) as u128;
+    all.min(room as u128) as u64
 }
 
 /// Returns the first tick of a window.
@@ -64,28 +66,30 @@ impl Axis {
 
     /// Returns where a tick is.
     pub(crate) fn place(&self, tick: u64) -> u64
-        ensures { result ≤ 890 }
+        ensures place { result ≡ place_of self.now.first self.now.last tick }
+        ensures bound { result ≤ 890 }
     {
         let passed = tick.saturating_sub(self.first);
         LEFT + share(passed, self.last.saturating_sub(self.first), SPAN)
     }
 
-    /// Returns the ticks between two labels: 1, 2 or 5 times a power of 10.
+    /// Returns the ticks between two labels: the least of 1, 2 and 5 times a power of 10 that leaves few enough labels.
     fn step(&self) -> u64
-        ensures { 1 ≤ result }
+        ensures step { IsStep (self.now.last - self.now.first) result }
+        ensures bound { 1 ≤ result }
     {
         let span = self.last.saturating_sub(self.first);
         let mut unit = 1u64;
-        for _ in 0..18 {
-            for factor in [1, 2, 5] {
-                let step = unit.saturating_mul(factor).max(1);
-                if span / step <= MOST_LABELS {
-                    return step;
-                }
-            }
-            unit = unit.saturating_mul(10);
+        while span / unit / 5 > MOST_LABELS {
+            unit *= 10;
         }
-        u64::MAX
+        if span / unit <= MOST_LABELS {
+            unit
+        } else if span / unit / 2 <= MOST_LABELS {
+            2 * unit
+        } else {
+            5 * unit
+        }
     }
 
     /// Appends the numbers of the axis below a panel that ends at this height, and the axis' title: ticks, or times if

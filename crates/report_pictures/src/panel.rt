@@ -1,6 +1,7 @@
 //! A panel of a picture: a plot with a title above it, and bars in it.
 
-ghost use Rattle.std.specs.Prelude.{◌≤◌};
+ghost use Rattle.std.specs.Prelude.{◌≡◌, ◌≤◌};
+ghost use Rattle.report_pictures.specs.Axes.{share_of};
 
 use crate::axis::{LEFT, SPAN, share};
 use crate::svg::{Area, push_number, push_rect, push_text};
@@ -17,7 +18,8 @@ pub(crate) struct Panel {
 impl Panel {
     /// Returns the height of a number in the panel.
     pub(crate) fn height_of(&self, number: u64) -> u64
-        ensures { result ≤ self.now.height }
+        ensures share { result ≡ share_of number self.now.most self.now.height }
+        ensures bound { result ≤ self.now.height }
     {
         share(number, self.most, self.height)
     }
