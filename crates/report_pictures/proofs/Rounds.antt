@@ -1,7 +1,8 @@
 -- The row of round numbers 1, 2, 5, 10, 20, 50 and so on, up to where a span is reached.
 use Rattle.std.proofs.Common.{◌≡◌, ℕ, ◌*◌, ◌/◌, ◌^◌, ◌<◌, ◌≤◌, arith, refl, ap, ◌∙◌, sym, subst, suc, inl, inr}
 use Rattle.std.specs.Prelude.{◌⊎◌}
-use Rattle.std.proofs.Math.Nat.{div-lt_iff_lt-mul, div-mul-le_self, mul-le-mul_right, one-le-pow, pow-le-pow_right, pow-suc, pow-succ'}
+use Rattle.std.proofs.Math.Nat.{div-lt_iff_lt-mul, div-mul-le_self, mul-le-mul_right}
+use Rattle.std.proofs.Math.Nat.{one-le-pow, pow-le-pow_right, pow-suc, pow-succ'}
 use Rattle.std.proofs.lemmas.Bool.{cases_order}
 use Rattle.report_pictures.specs.Axes.{IsRound, IsStep}
 
