@@ -1,7 +1,8 @@
 -- What the threads of a round give back.
 use Rattle.std.specs.Prelude.{◌≡◌, ℕ, ◌<◌, slice_index_or, Bool, List, [], length}
 use Rattle.migration_model.specs.Trace.{GuestTrace}
-use Rattle.page_versions.specs.Index.{GuestIndex, IsIndexOf}
+use Rattle.packed_writes.specs.declared.trace_pages.TracePages.{TracePages}
+use Rattle.packed_writes.specs.Copies.{ArePagesOf}
 use Rattle.dirty_words.specs.Seats.{TableView, GuestView, guest_table}
 use Rattle.stream_lanes.specs.Ends.{OutView}
 use Rattle.live_tasks.specs.Replays.{HasReplayed}
@@ -12,9 +13,9 @@ use Rattle.live_tasks.specs.declared.copier.Copier.{Copier}
 abbrev pub EachAt : {X : Type 0} → (X → ℕ → Type 0) → List X → Type 0
 EachAt {X} Holds xs = (i : ℕ) → i < length xs → (x : X) × (x ≡ slice_index_or xs i x) × Holds x i
 
--- what the copiers of a round share: an index of the trace, and a table of its pages
-pub record IsRoundOf (trace : GuestTrace) (index : GuestIndex) (table : TableView) : Type 0 where
-  pub is_index : IsIndexOf index trace
+-- what the copiers of a round share: what the trace's pages are made from, and a table of them
+pub record IsRoundOf (trace : GuestTrace) (pages : TracePages) (table : TableView) : Type 0 where
+  pub are_pages : ArePagesOf pages.index pages.packed trace
   pub has_pages : length table.start.places ≡ trace.pages
 
 -- the part of a round that a replayer owes: the writes in these ticks to the pages of the guest with this number

@@ -5,7 +5,7 @@ ghost use Rattle.image_build.specs.Joins.{memory_by};
 ghost use Rattle.live_engine.specs.Runs.{AreNewStates, HaveEnded, IsLiveRun, IsStopped, IsTeam};
 ghost use Rattle.migration_model.specs.Rounds.{IsPlan};
 ghost use Rattle.migration_model.specs.Touches.{touches_of};
-ghost use Rattle.page_versions.specs.Index.{IsIndexOf};
+ghost use Rattle.packed_writes.specs.Copies.{ArePagesOf};
 
 use crate::error::LiveError;
 use crate::live_round::LiveRound;
@@ -19,7 +19,6 @@ use guest_log::WriteLog;
 use image_build::{Image, resume};
 use joined_threads::join_all;
 use live_tasks::{CopierState, Gate};
-use page_versions::PageIndex;
 use rate_limit::Settings;
 use std::alloc::Global;
 use std::collections::VecDeque;
@@ -76,7 +75,7 @@ fn run_all<W: WriteLog + Sync, G: Gate, R: Threads + Wait + Sync>(
 {
     let Migration {
         trace,
-        index,
+        pages,
         gate,
         settings,
         plan,
@@ -87,7 +86,7 @@ fn run_all<W: WriteLog + Sync, G: Gate, R: Threads + Wait + Sync>(
         scope_env(),
         rt,
         move |scope| -> Result<(Progress, Vec<Receiver>), LiveError>
-            requires index { IsIndexOf index.now (W.trace trace.now) }
+            requires pages { ArePagesOf pages.now.index pages.now.packed (W.trace trace.now) }
             requires team { IsTeam team }
             requires plan { IsPlan (W.trace trace.now).pages (touches_of (W.trace trace.now)) settings.now plan.now }
             requires states { AreNewStates (W.trace trace.now) team states.items }
@@ -97,7 +96,7 @@ fn run_all<W: WriteLog + Sync, G: Gate, R: Threads + Wait + Sync>(
         {
             let migration = Migration {
                 trace,
-                index,
+                pages,
                 gate,
                 settings,
                 plan,
@@ -124,13 +123,13 @@ pub fn migrate<W: WriteLog + Sync, G: Gate, R: Threads + Wait + Sync>(
     ensures { IfOk result (λ s. IsStopped (W.trace trace.now) settings.now s.stop (memory_by s.memory) s.versions.items
         s.index s.rounds.items) }
 {
-    let Preparation { plan, index, first } = prepare(rt, alloc, trace, settings)?;
+    let Preparation { plan, pages, first } = prepare(rt, alloc, trace, settings)?;
     let team = Team::of(settings);
     let (states, receivers) = open_lanes(alloc, trace, team)?;
     let signals = Signals::new();
     let migration = Migration {
         trace,
-        index: &index,
+        pages: &pages,
         gate,
         settings,
         plan: &plan,
@@ -145,12 +144,12 @@ pub fn migrate<W: WriteLog + Sync, G: Gate, R: Threads + Wait + Sync>(
     } = progress;
     let arrived = drain_all(alloc, team.streams, states, receivers)?;
     let parts = join_first(alloc, first, arrived)?;
-    let memory = stop_and_copy(rt, alloc, trace, &index, team, &closed, parts)?;
+    let memory = stop_and_copy(rt, alloc, trace, &pages.index, team, &closed, parts)?;
     Ok(StoppedGuest {
         memory,
         stop: plan.stop,
         versions: closed.versions,
-        index,
+        index: pages.index,
         rounds,
     })
 }

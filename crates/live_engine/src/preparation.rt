@@ -1,18 +1,19 @@
-//! What a migration makes before its first round: its plan, the index of pages, and what the destination begins with.
+//! What a migration makes before its first round: its plan, what its pages are made from, and what the destination
+//! begins with.
 
 ghost use Rattle.std.specs.Prelude.{◌≡◌, IfErr, IfOk, Some, option_map};
 ghost use Rattle.migration_model.specs.Memory.{image_before};
 ghost use Rattle.migration_model.specs.Rounds.{IsPlan};
 ghost use Rattle.migration_model.specs.Touches.{touches_of};
 ghost use Rattle.migration_model.specs.Warm.{first_part};
-ghost use Rattle.page_versions.specs.Index.{IsIndexOf};
+ghost use Rattle.packed_writes.specs.Copies.{ArePagesOf};
 
 use crate::error::LiveError;
 use crate::warm::part_of_memory;
 use collector::Part;
 use guest_log::WriteLog;
 use image_build::{Image, ImageError, replay_before};
-use page_versions::PageIndex;
+use packed_writes::TracePages;
 use rate_limit::Settings;
 use round_planner::{Plan, PlanError, plan};
 use std::alloc::Global;
@@ -20,12 +21,12 @@ use std::sync::Wait;
 use std::thread;
 use std::thread::{Promise, PromisedHandle, Scope, Threads, scope_env};
 
-/// What a migration begins with: the plan, the index of pages, and, with a base, the part that has each page as it was
-/// before that tick.
+/// What a migration begins with: the plan, what its pages are made from, and, with a base, the part that has each page
+/// as it was before that tick.
 #[derive(Drop)]
 pub(crate) struct Preparation {
     pub(crate) plan: Plan,
-    pub(crate) index: PageIndex,
+    pub(crate) pages: TracePages,
     pub(crate) first: Option<Part>,
 }
 
@@ -97,26 +98,26 @@ fn start_memory<'s, E, W: WriteLog + Sync>(
     Ok(scope.spawn_with(promise, run)?)
 }
 
-/// Returns the plan and the index of the trace, which are made in parallel.
-fn plan_and_index<'s, E, W: WriteLog + Sync, R: Threads + Sync>(
+/// Returns the plan and what pages are made from, which are made in parallel.
+fn plan_and_pages<'s, E, W: WriteLog + Sync, R: Threads + Sync>(
     rt: &R,
     scope: &'s Scope<'s, E>,
     alloc: Global,
     trace: &'s W,
     settings: &'s Settings,
-) -> Result<(Plan, PageIndex), LiveError>
+) -> Result<(Plan, TracePages), LiveError>
     ensures plan { IfOk result (λ made. IsPlan (W.trace trace.now).pages (touches_of (W.trace trace.now))
         settings.now made.0) }
-    ensures index { IfOk result (λ made. IsIndexOf made.1 (W.trace trace.now)) }
+    ensures pages { IfOk result (λ made. ArePagesOf made.1.index made.1.packed (W.trace trace.now)) }
 {
     let planner = start_planner(scope, alloc, trace, settings)?;
-    let index = PageIndex::build(rt, alloc, trace);
+    let pages = TracePages::of(rt, alloc, trace);
     let plan = planner.join(rt)?;
-    Ok((plan, index?))
+    Ok((plan, pages?))
 }
 
-/// Prepares a warm start: the memory before its base is made in parallel with the plan and the index, and then becomes
-/// a part.
+/// Prepares a warm start: the memory before its base is made in parallel with the plan and with what pages are made
+/// from, and then becomes a part.
 fn prepare_warm<'s, E, W: WriteLog + Sync, R: Threads + Sync>(
     rt: &R,
     scope: &'s Scope<'s, E>,
@@ -124,18 +125,18 @@ fn prepare_warm<'s, E, W: WriteLog + Sync, R: Threads + Sync>(
     trace: &'s W,
     settings: &'s Settings,
     base: u64,
-) -> Result<(Plan, PageIndex, Part), LiveError>
+) -> Result<(Plan, TracePages, Part), LiveError>
     ensures plan { IfOk result (λ made. IsPlan (W.trace trace.now).pages (touches_of (W.trace trace.now))
         settings.now made.0) }
-    ensures index { IfOk result (λ made. IsIndexOf made.1 (W.trace trace.now)) }
+    ensures pages { IfOk result (λ made. ArePagesOf made.1.index made.1.packed (W.trace trace.now)) }
     ensures first { IfOk result (λ made. made.2 ≡ first_part (W.trace trace.now) (Some base)) }
 {
     let memory = start_memory(scope, alloc, trace, base)?;
-    let made = plan_and_index(rt, scope, alloc, trace, settings);
+    let made = plan_and_pages(rt, scope, alloc, trace, settings);
     let image = memory.join(rt);
-    let (plan, index) = made?;
-    let part = part_of_memory(alloc, trace, &index, base, image?)?;
-    Ok((plan, index, part))
+    let (plan, pages) = made?;
+    let part = part_of_memory(alloc, trace, &pages.index, base, image?)?;
+    Ok((plan, pages, part))
 }
 
 /// Prepares a migration. Threads that it starts have ended when it returns. The error is `L2` if one was not started,
@@ -148,7 +149,7 @@ pub(crate) fn prepare<W: WriteLog + Sync, R: Threads + Wait + Sync>(
 ) -> Result<Preparation, LiveError>
     ensures plan { IfOk result (λ p. IsPlan (W.trace trace.now).pages (touches_of (W.trace trace.now))
         settings.now p.plan) }
-    ensures index { IfOk result (λ p. IsIndexOf p.index (W.trace trace.now)) }
+    ensures pages { IfOk result (λ p. ArePagesOf p.pages.index p.pages.packed (W.trace trace.now)) }
     ensures first { IfOk result (λ p. p.first ≡ option_map (λ tick. first_part (W.trace trace.now) (Some tick))
         settings.now.base) }
 {
@@ -158,22 +159,22 @@ pub(crate) fn prepare<W: WriteLog + Sync, R: Threads + Wait + Sync>(
         move |scope| -> Result<Preparation, LiveError>
             ensures plan { IfOk result (λ p. IsPlan (W.trace trace.entry.now).pages
                 (touches_of (W.trace trace.entry.now)) settings.entry.now p.plan) }
-            ensures index { IfOk result (λ p. IsIndexOf p.index (W.trace trace.entry.now)) }
+            ensures pages { IfOk result (λ p. ArePagesOf p.pages.index p.pages.packed (W.trace trace.entry.now)) }
             ensures first { IfOk result (λ p. p.first
                 ≡ option_map (λ tick. first_part (W.trace trace.entry.now) (Some tick)) settings.entry.now.base) }
         {
             match settings.asked().base {
                 None => {
-                    let (plan, index) = plan_and_index(rt, scope, alloc, trace, settings)?;
+                    let (plan, pages) = plan_and_pages(rt, scope, alloc, trace, settings)?;
                     let first = None;
-                    Ok(Preparation { plan, index, first })
+                    Ok(Preparation { plan, pages, first })
                 }
                 Some(base) => {
-                    let (plan, index, part) = prepare_warm(
+                    let (plan, pages, part) = prepare_warm(
                         rt, scope, alloc, trace, settings, base,
                     )?;
                     let first = Some(part);
-                    Ok(Preparation { plan, index, first })
+                    Ok(Preparation { plan, pages, first })
                 }
             }
         },

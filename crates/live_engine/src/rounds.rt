@@ -7,7 +7,8 @@ ghost use Rattle.live_engine.specs.Runs.{AreDone, AreNewStates, IsTeam, IsUnderW
 ghost use Rattle.migration_model.specs.Live.{LiveRounds};
 ghost use Rattle.migration_model.specs.Rounds.{IsPlan, PlannedRound};
 ghost use Rattle.migration_model.specs.Touches.{touches_of};
-ghost use Rattle.page_versions.specs.Index.{IsIndexOf};
+ghost use Rattle.packed_writes.specs.Copies.{ArePagesOf};
+ghost use Rattle.std.proofs.Props.{props};
 
 use crate::error::LiveError;
 use crate::live_round::{LiveRound, list};
@@ -19,7 +20,7 @@ use dirty_core::Opening;
 use dirty_words::{Closed, CopySeat, Opened, RoundTable};
 use guest_log::WriteLog;
 use live_tasks::{Copier, CopierState, Gate, Point, Round, Ticks};
-use page_versions::PageIndex;
+use packed_writes::TracePages;
 use rate_limit::Settings;
 use round_planner::Plan;
 use std::alloc::Global;
@@ -32,13 +33,14 @@ use std::thread::Threads;
 #[derive(Drop)]
 pub(crate) struct Migration<'a, W: WriteLog, G> {
     pub(crate) trace: &'a W,
-    pub(crate) index: &'a PageIndex,
+    pub(crate) pages: &'a TracePages,
     pub(crate) gate: &'a G,
     pub(crate) settings: &'a Settings,
     pub(crate) plan: &'a Plan,
     pub(crate) signals: &'a Signals,
     pub(crate) team: Team,
-    pub(crate) ghost is_index: { IsIndexOf index.now (W.trace trace.now) },
+    pub(crate) ghost are_pages: { ArePagesOf pages.now.index pages.now.packed
+        (W.trace trace.now) } by { Prim.hlevel props },
     pub(crate) ghost is_team: { IsTeam team },
 }
 
@@ -93,8 +95,8 @@ impl<'a, W: WriteLog + Sync, G: Gate> Migration<'a, W, G> {
         ensures joined { IfOk result (λ p. AreJoined (W.trace self.now.trace.now) base self.now.team.copiers start [] []
             p.closed (rows_of p.states.items)) }
     {
-        let versions = versions_before(alloc, self.trace, self.index, start)?;
-        let dirty = pages_lacking(alloc, self.trace, self.index, base, start, &versions)?;
+        let versions = versions_before(alloc, self.trace, &self.pages.index, start)?;
+        let dirty = pages_lacking(alloc, self.trace, &self.pages.index, base, start, &versions)?;
         Ok(Progress {
             closed: Closed { versions, dirty },
             states,
@@ -161,7 +163,7 @@ impl<'a, W: WriteLog + Sync, G: Gate> Migration<'a, W, G> {
         } = RoundTable::open(alloc, opening)?;
         let round = Round {
             trace: self.trace,
-            index: self.index,
+            pages: self.pages,
             table: &table,
             gate: self.gate,
             skip: may_skip(skip, number),

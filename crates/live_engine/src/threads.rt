@@ -149,7 +149,7 @@ fn start_copier<'s, E, W: WriteLog + Sync, G: Gate>(
 {
     let Round {
         trace,
-        index,
+        pages,
         table,
         gate,
         skip,
@@ -164,7 +164,7 @@ fn start_copier<'s, E, W: WriteLog + Sync, G: Gate>(
         outs: Snapshot::of(&state.outs),
     };
     let run = move || -> Result<Copier, SeatError>
-        requires of { IsRoundOf (W.trace trace.now) index.now table.now }
+        requires of { IsRoundOf (W.trace trace.now) pages.now table.now }
         requires table { copy_table seat ≡ table.now }
         requires idle { seat.facts ≡ first_copier table.now.start seat.facts.number }
         requires state { IsCopierState (W.trace trace.now) streams state }
@@ -174,7 +174,7 @@ fn start_copier<'s, E, W: WriteLog + Sync, G: Gate>(
     {
         let round = Round {
             trace,
-            index,
+            pages,
             table,
             gate,
             skip,
@@ -296,7 +296,7 @@ pub(crate) fn run_crew<W: WriteLog + Sync, G: Gate, R: Threads + Wait + Sync>(
 {
     let Round {
         trace,
-        index,
+        pages,
         table,
         gate,
         skip,
@@ -306,7 +306,7 @@ pub(crate) fn run_crew<W: WriteLog + Sync, G: Gate, R: Threads + Wait + Sync>(
         scope_env(),
         rt,
         move |scope| -> Result<(Vec<GuestSeat>, Vec<Copier>), LiveError>
-            requires of { IsRoundOf (W.trace trace.now) index.now table.now }
+            requires of { IsRoundOf (W.trace trace.now) pages.now table.now }
             requires opening { OpensAt (W.trace trace.now) ticks.from table.now.start }
             requires guests { crew.guests.items ≡ first_guests table.now }
             requires copiers { crew.copiers.items ≡ first_copiers table.now }
@@ -320,7 +320,7 @@ pub(crate) fn run_crew<W: WriteLog + Sync, G: Gate, R: Threads + Wait + Sync>(
         {
             let round = Round {
                 trace,
-                index,
+                pages,
                 table,
                 gate,
                 skip,

@@ -6,8 +6,9 @@ ghost use Rattle.dirty_words.specs.Facts.{after_harvest, after_read, first_copie
 ghost use Rattle.dirty_words.specs.Plays.{IsAnswer, MakesFresh};
 ghost use Rattle.dirty_words.specs.Seats.{copy_table};
 ghost use Rattle.live_tasks.specs.CopierStates.{IsCopierState};
+ghost use Rattle.packed_writes.specs.Copies.{ArePagesOf};
+ghost use Rattle.std.proofs.Props.{props};
 ghost use Rattle.live_tasks.specs.RoundLogs.{IsCrowded, SpellsPage};
-ghost use Rattle.page_versions.specs.Index.{IsIndexOf};
 ghost use Rattle.live_tasks.specs.Scans.{HoldsFrom, IsLeast, IsOwn};
 ghost use Rattle.live_tasks.specs.Copies.{AdvancesScan, HasCopied, HasDeferredPage, HasOfferedPage, HasPeeked};
 ghost use Rattle.live_tasks.specs.Copies.{HasRestored, HasSkippedPage, IsReady, KeepsScan};
@@ -17,24 +18,24 @@ use crate::error::SeatError;
 use crate::gate::{Gate, Point};
 use dirty_words::{CopySeat, RoundTable};
 use guest_log::WriteLog;
+use packed_writes::{PageSource, TracePages};
 use page_bitmap::word_count;
 use page_cache::PageCache;
 use page_message::append_frame;
-use page_versions::PageIndex;
 use std::alloc::Global;
 
-/// What all copiers of a round share: a trace with its index, and a table of the trace's pages.
+/// What all copiers of a round share: a trace, what its pages are made from, and a table of them.
 #[derive(Drop)]
 pub struct Round<'a, W: WriteLog, G> {
     pub trace: &'a W,
-    pub index: &'a PageIndex,
+    pub pages: &'a TracePages,
     pub table: &'a RoundTable,
     pub gate: &'a G,
     /// Whether a page that is marked again is skipped.
     pub skip: bool,
     /// How many streams each copier has.
     pub streams: usize,
-    pub ghost is_index: { IsIndexOf index.now (W.trace trace.now) },
+    pub ghost are_pages: { ArePagesOf pages.now.index pages.now.packed (W.trace trace.now) } by { Prim.hlevel props },
     pub ghost has_pages: { length table.now.start.places ≡ (W.trace trace.now).pages },
 }
 
@@ -304,9 +305,11 @@ impl<'a, W: WriteLog, G: Gate> Round<'a, W, G> {
             self.now.table.now seat.facts.number
             self.now.streams state.outs copier.seat copier.state) }
     {
+        let TracePages { index, packed } = self.pages;
+        let source = PageSource::new(self.trace, index, packed.as_ref());
         let mut copier = BusyCopier {
             seat,
-            state: state.open(self.trace, self.index),
+            state: state.open(source),
         };
         let shape = self.trace.shape();
         for word in 0..word_count(shape.pages as usize) {

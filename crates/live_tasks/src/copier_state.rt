@@ -6,14 +6,13 @@ ghost use Rattle.live_tasks.specs.Copies.{HasRoomAt, HasSentFrame, IsFullAt, Kee
 ghost use Rattle.live_tasks.specs.CopierStates.{IsCopierState, cache_capacity, state_with, round_state_with};
 ghost use Rattle.live_tasks.specs.RoundLogs.{IsCrowded, empty_log};
 ghost use Rattle.page_cache.specs.Cache.{AreKept, cache_with, pages_with};
-ghost use Rattle.page_versions.specs.Index.{IsIndexOf};
 ghost use Rattle.stream_split.specs.Deals.{turn_with};
 
 use crate::error::SeatError;
 use crate::round_log::RoundLog;
 use guest_log::WriteLog;
+use packed_writes::PageSource;
 use page_cache::{KeptPages, PageCache};
-use page_versions::PageIndex;
 use std::alloc::Global;
 use std::marker::Model;
 use stream_lanes::LaneOut;
@@ -79,15 +78,10 @@ impl CopierState {
     }
 
     /// Returns the state at the beginning of a round, with an empty log that keeps its buffers.
-    pub(crate) fn open<'a, W: WriteLog>(
-        self,
-        trace: &'a W,
-        index: &'a PageIndex,
-    ) -> RoundState<'a, W>
-        requires of { IsIndexOf index.now (W.trace trace.now) }
-        requires kept { AreKept (W.trace trace.now) self.pages.entries }
+    pub(crate) fn open<'a, W: WriteLog>(self, source: PageSource<'a, W>) -> RoundState<'a, W>
+        requires { AreKept source self.pages.entries }
         ensures { result ≡ round_state_with self.turn
-            (cache_with (W.trace trace.entry.now) self.pages.entries self.pages.capacity)
+            (cache_with source.entry self.pages.entries self.pages.capacity)
             empty_log self.outs }
     {
         let CopierState {
@@ -100,7 +94,7 @@ impl CopierState {
         log.clear();
         RoundState {
             dealer,
-            cache: PageCache::with_pages(trace, index, pages),
+            cache: PageCache::with_pages(source, pages),
             log,
             outs,
         }

@@ -3,6 +3,7 @@
 ghost use Rattle.std.specs.Prelude.{◌≡◌, IfOk};
 
 use crate::fixtures::{FIRST, FOURTH, Page, SECOND, THIRD, ZEROS, guest, page_of};
+use packed_writes::PageSource;
 use page_cache::PageCache;
 use page_versions::PageIndex;
 use std::alloc::Global;
@@ -183,10 +184,10 @@ fn page_brought_on_was_used_last(rt: HostRuntime) -> Result<(), Fail> {
 
 /// Returns what a cache keeps at first, after it was asked for the second page, and in a second cache that gets its
 /// pages.
-fn kept_and_handed_on(
+fn kept_and_handed_on<'a>(
     alloc: Global,
-    trace: &Trace,
-    index: &PageIndex,
+    trace: &'a Trace,
+    index: &'a PageIndex,
 ) -> Result<[[Option<Page>; 4]; 3], Fail> {
     let mut first = new_cache(alloc, trace, index, 1)?;
     let none = kept_in(&first);
@@ -196,7 +197,7 @@ fn kept_and_handed_on(
     if !index.is_of(trace) {
         return Err(Fail::from("the index of the trace"));
     }
-    let second = PageCache::with_pages(trace, index, pages);
+    let second = PageCache::with_pages(PageSource::new(trace, index, None), pages);
     Ok([none, asked, kept_in(&second)])
 }
 

@@ -10,6 +10,8 @@ mod fixtures;
 #[cfg(test)]
 mod image_rows;
 #[cfg(test)]
+mod packed_rows;
+#[cfg(test)]
 mod released_rows;
 #[cfg(test)]
 mod resent_rows;

@@ -12,6 +12,7 @@ use crate::pages::KeptPages;
 use crate::recent::keep_recent;
 use guest_log::WriteLog;
 use lru::LruCache;
+use packed_writes::PageSource;
 use page_versions::PageIndex;
 use std::alloc::Global;
 use std::marker::Model;
@@ -20,18 +21,16 @@ use std::marker::Model;
 /// goes first. It keeps the allocator that it was made with.
 #[derive(Debug, Drop)]
 pub struct PageCache<'a, W: WriteLog> {
-    trace: &'a W,
-    index: &'a PageIndex,
+    source: PageSource<'a, W>,
     kept: LruCache<u32, Kept>,
 }
 
 impl<'a, W: WriteLog> Model for PageCache<'a, W> {
     ghost Value = { GuestCache };
 
-    ghost view = { λ c. cache_with (W.trace c.trace.now) c.kept.entries c.kept.cap };
+    ghost view = { λ c. cache_with c.source c.kept.entries c.kept.cap };
 
-    ghost invariant = { λ c. IsIndexOf c.index.now (W.trace c.trace.now)
-        × AreKept (W.trace c.trace.now) c.kept.entries };
+    ghost invariant = { λ c. AreKept c.source c.kept.entries };
 }
 
 impl<'a, W: WriteLog> PageCache<'a, W> {
@@ -47,17 +46,17 @@ impl<'a, W: WriteLog> PageCache<'a, W> {
         ensures { IfOk result (λ cache. cache ≡ cache_with (W.trace trace.now) [] capacity) }
     {
         let pages = KeptPages::new(alloc, capacity)?;
-        Ok(PageCache::with_pages(trace, index, pages))
+        Ok(PageCache::with_pages(PageSource::new(trace, index, None), pages))
     }
 
-    /// Returns a cache that continues with the pages that another one of the same trace kept.
-    pub fn with_pages(trace: &'a W, index: &'a PageIndex, pages: KeptPages) -> PageCache<'a, W>
-        requires of { IsIndexOf index.now (W.trace trace.now) }
-        requires kept { AreKept (W.trace trace.now) pages.entries }
-        ensures { result ≡ cache_with (W.trace trace.now) pages.entries pages.capacity }
+    /// Returns a cache that makes pages by this source, and continues with the pages that another one of the same trace
+    /// kept.
+    pub fn with_pages(source: PageSource<'a, W>, pages: KeptPages) -> PageCache<'a, W>
+        requires { AreKept source pages.entries }
+        ensures { result ≡ cache_with source.entry pages.entries pages.capacity }
     {
         let KeptPages { kept } = pages;
-        PageCache { trace, index, kept }
+        PageCache { source, kept }
     }
 
     /// Returns what the cache keeps.
@@ -65,11 +64,7 @@ impl<'a, W: WriteLog> PageCache<'a, W> {
         ensures pages { result ≡ pages_with self.entry.entries self.entry.capacity }
         ensures kept { AreKept self.entry.trace self.entry.entries }
     {
-        let PageCache {
-            trace: _,
-            index: _,
-            kept,
-        } = self;
+        let PageCache { source: _, kept } = self;
         KeptPages { kept }
     }
 
@@ -87,7 +82,7 @@ impl<'a, W: WriteLog> PageCache<'a, W> {
         ensures trace { self.new.trace ≡ self.old.trace }
         ensures capacity { self.new.capacity ≡ self.old.capacity }
     {
-        keep_recent(self.trace, self.index, &mut self.kept, page, version)
+        keep_recent(&self.source, &mut self.kept, page, version)
     }
 
     /// Returns the bytes that are kept of a page, at whatever version.

@@ -4,35 +4,33 @@ ghost use Rattle.std.specs.Prelude.{◌≡◌, ◌<◌, ◌≤◌, IsTrue, OnOk,
 ghost use Rattle.std.specs.Map.{lookup};
 ghost use Rattle.migration_model.specs.Trace.{GuestTrace};
 ghost use Rattle.migration_model.specs.Versions.{page_at};
-ghost use Rattle.page_versions.specs.Index.{IsIndexOf};
 ghost use Rattle.page_cache.specs.Cache.{AreKept, page_with};
 
 use crate::error::CacheError;
 use crate::kept::Kept;
 use guest_log::WriteLog;
 use lru::LruCache;
-use page_versions::{PageIndex, PageProgress};
+use packed_writes::PageSource;
+use page_versions::PageProgress;
 
 /// Brings what is kept of a page to a version, in place. Returns whether anything is kept of the page.
 fn bring_kept<W: WriteLog>(
-    trace: &W,
-    index: &PageIndex,
+    source: &PageSource<'_, W>,
     kept: &mut LruCache<u32, Kept>,
     page: u32,
     version: u32,
 ) -> bool
-    requires of { IsIndexOf index.now (W.trace trace.now) }
-    requires kept { AreKept (W.trace trace.now) kept.old.entries }
-    requires version { version ≤ length (W.trace trace.now).writes }
-    ensures kept { AreKept (W.trace trace.now) kept.new.entries }
+    requires kept { AreKept source.now kept.old.entries }
+    requires version { version ≤ length source.now.writes }
+    ensures kept { AreKept source.now kept.new.entries }
     ensures last { IsTrue result → lookup (nat_eq page) kept.new.entries
-        ≡ Some (page_with version (page_at (W.trace trace.now) page version)) }
+        ≡ Some (page_with version (page_at source.now page version)) }
     ensures capacity { kept.new.cap ≡ kept.old.cap }
 {
     let Some(was) = kept.get_mut(&page) else {
         return false;
     };
-    was.bring_to(trace, index, page, version);
+    was.bring_to(source, page, version);
     true
 }
 
@@ -55,26 +53,24 @@ fn room_for_page(kept: &mut LruCache<u32, Kept>) -> Vec<u8>
 /// Keeps a page at a version: it brings what is kept of the page there, or else makes the page from zeros, for which
 /// the least recently used page may go.
 pub(crate) fn keep_recent<W: WriteLog>(
-    trace: &W,
-    index: &PageIndex,
+    source: &PageSource<'_, W>,
     kept: &mut LruCache<u32, Kept>,
     page: u32,
     version: u32,
 ) -> Result<(), CacheError>
-    requires of { IsIndexOf index.now (W.trace trace.now) }
-    requires kept { AreKept (W.trace trace.now) kept.old.entries }
-    requires page { page < (W.trace trace.now).pages }
-    requires version { version ≤ length (W.trace trace.now).writes }
-    ensures kept { AreKept (W.trace trace.now) kept.new.entries }
+    requires kept { AreKept source.now kept.old.entries }
+    requires page { page < source.now.pages }
+    requires version { version ≤ length source.now.writes }
+    ensures kept { AreKept source.now kept.new.entries }
     ensures last { OnOk result (lookup (nat_eq page) kept.new.entries
-        ≡ Some (page_with version (page_at (W.trace trace.now) page version))) }
+        ≡ Some (page_with version (page_at source.now page version))) }
     ensures capacity { kept.new.cap ≡ kept.old.cap }
 {
-    if bring_kept(trace, index, kept, page, version) {
+    if bring_kept(source, kept, page, version) {
         return Ok(());
     }
     let mut bytes = room_for_page(kept);
-    index.bytes_into(trace, page, version, &mut bytes)?;
+    source.bytes_into(page, version, &mut bytes)?;
     // How many of the page's writes are in the bytes is found when the page is brought forward.
     let reached = PageProgress { version, writes: 0 };
     kept.put(page, Kept { reached, bytes })?;

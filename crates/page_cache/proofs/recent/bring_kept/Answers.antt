@@ -4,12 +4,12 @@ use Rattle.page_cache.proofs.recent.bring_kept.Goals as goal
 
 pub bring_to-requires-clause-kept : goal.bring_to-requires-clause-kept
 bring_to-requires-clause-kept g c =
-    kept_found (g.W.WriteLog.trace c.args.trace.now) c.args.kept.now.entries c.args.page c.in-Some.was.now
+    kept_found c.args.source.now c.args.kept.now.entries c.args.page c.in-Some.was.now
     c.requires.kept (sym c.in-Some.ensures.value)
 
 pub returns-clause-kept : goal.returns-clause-kept
 returns-clause-kept g c =
-    kept_brought (g.W.WriteLog.trace c.args.trace.now) c.args.kept.now.entries c.args.page c.args.version
+    kept_brought c.args.source.now c.args.kept.now.entries c.args.page c.args.version
     c.in-Some.was.now c.bring_to.new.self c.requires.kept (sym c.in-Some.ensures.value)
     c.requires.version c.bring_to.ensures
 

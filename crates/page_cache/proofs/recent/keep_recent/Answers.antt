@@ -7,18 +7,18 @@ use Rattle.page_cache.proofs.Entries.{kept_put_at}
 use Rattle.page_cache.proofs.recent.keep_recent.Goals as goal
 
 pub returns-in_err-bytes_into-clause-kept : goal.returns-in_err-bytes_into-clause-kept
-returns-in_err-bytes_into-clause-kept g c = c.room_for_page-bytes.ensures.kept (g.W.WriteLog.trace c.args.trace.now)
+returns-in_err-bytes_into-clause-kept g c = c.room_for_page-bytes.ensures.kept c.args.source.now
     c.bring_kept.ensures.kept
 
 pub returns-in_err-put-clause-kept : goal.returns-in_err-put-clause-kept
 returns-in_err-put-clause-kept g c =
-    let trace = g.W.WriteLog.trace c.args.trace.now in
+    let trace = c.args.source.now in
     subst (λ (cache : LruCache ℕ KeptPage). AreKept trace cache.entries) (sym c.in_err-put.ensures.err)
     (c.room_for_page-bytes.ensures.kept trace c.bring_kept.ensures.kept)
 
 pub returns-clause-kept : goal.returns-clause-kept
 returns-clause-kept g c =
-    let trace = g.W.WriteLog.trace c.args.trace.now in
+    let trace = c.args.source.now in
     rw c.in_ok-put.ensures.entries
     (kept_put_at trace c.room_for_page-bytes.new.kept c.args.page c.args.version
     (page_with c.args.version c.bytes_into.new.room.items)

@@ -24,7 +24,7 @@ loop-word-init g c =
     (ap (λ (d : RoundStateView). d.log) c.open.ensures) outs in
     let lanes = ap (λ (l : List OutView). length l) outs ∙ c.requires.state.lanes_are in
     let turns = ap (λ (d : RoundStateView). d.turn.streams) c.open.ensures ∙ c.requires.state.turns in
-    let trace = ap (λ (d : RoundStateView). d.cache.trace) c.open.ensures in
+    let trace = ap (λ (d : RoundStateView). d.cache.trace) c.open.ensures ∙ c.new-source.ensures in
     record {
       ready = record {
         table_is = c.requires.table;

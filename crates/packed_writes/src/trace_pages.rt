@@ -1,0 +1,43 @@
+//! What the pages of a trace are made from.
+
+ghost use Rattle.std.specs.Prelude.{IfOk};
+ghost use Rattle.packed_writes.specs.Copies.{ArePagesOf};
+
+use crate::packed::{PackedWrites, are_short};
+use guest_log::WriteLog;
+use page_versions::{IndexError, PageIndex};
+use std::alloc::Global;
+use std::thread::Threads;
+
+/// The most writes a page, on average, of a trace that is copied. One that writes few pages more often takes longer to
+/// copy than its pages take to make.
+const MOST_WRITES: u32 = 256;
+
+/// What the pages of a trace are made from: its index, and copies of its writes if these are short and go to many pages.
+#[derive(Debug, Drop)]
+pub struct TracePages {
+    /// Where the trace writes each page.
+    pub index: PageIndex,
+    /// The copies, if there are any.
+    pub packed: Option<PackedWrites>,
+}
+
+impl TracePages {
+    /// Returns what the pages of a trace are made from. The only error is that memory runs out.
+    pub fn of<W: WriteLog + Sync>(
+        rt: &(impl Threads + Sync),
+        alloc: Global,
+        trace: &W,
+    ) -> Result<TracePages, IndexError>
+        ensures { IfOk result (λ pages. ArePagesOf pages.index pages.packed (W.trace trace.now)) }
+    {
+        let index = PageIndex::build(rt, alloc, trace)?;
+        let shape = trace.shape();
+        if shape.writes / MOST_WRITES > shape.pages || !are_short(trace) {
+            let packed = None;
+            return Ok(TracePages { index, packed });
+        }
+        let packed = Some(PackedWrites::of(alloc, trace, &index)?);
+        Ok(TracePages { index, packed })
+    }
+}
