@@ -145,6 +145,47 @@ fn a_cache_makes_packed_pages(rt: HostRuntime) -> Result<(), Fail> {
     Ok(())
 }
 
+/// Returns a trace of 1 page of 16 bytes with 2,050 writes of a byte: write n is at n modulo 16, of n modulo 251.
+fn guest_of_many_writes(alloc: Global) -> Result<Trace, Fail> {
+    let mut writes = Vec::new(alloc);
+    for number in 0..2_050u32 {
+        writes.push(Write {
+            tick: 0,
+            page: 0,
+            offset: (number % 16) as u16,
+            bytes: Vec::from_slice(alloc, &[(number % 251) as u8])?,
+        })?;
+    }
+    Ok(Trace::new(1, 4, 1, writes)?)
+}
+
+#[test]
+fn pages_from_checkpoints(rt: HostRuntime) -> Result<(), Fail> {
+    let alloc = rt.alloc();
+    let trace = guest_of_many_writes(alloc)?;
+    let index = PageIndex::build(&rt, alloc, &trace)?;
+    if !index.is_of(&trace) {
+        return Err(Fail::from("the index of the trace"));
+    }
+    let packed = PackedWrites::of(alloc, &trace, &index)?;
+    let source = PageSource::new(&trace, &index, Some(&packed));
+    let asked = [1_023, 1_024, 1_025, 2_047, 2_048];
+    let found = asked.map(|version| made(alloc, &source, 0, version));
+    let expected: [Page; 5] = [
+        [4, 5, 6, 7, 8, 9, 10, 11, 12, 13, 14, 15, 16, 17, 18, 3],
+        [4, 5, 6, 7, 8, 9, 10, 11, 12, 13, 14, 15, 16, 17, 18, 19],
+        [20, 5, 6, 7, 8, 9, 10, 11, 12, 13, 14, 15, 16, 17, 18, 19],
+        [
+            24, 25, 26, 27, 28, 29, 30, 31, 32, 33, 34, 35, 36, 37, 38, 23,
+        ],
+        [
+            24, 25, 26, 27, 28, 29, 30, 31, 32, 33, 34, 35, 36, 37, 38, 39,
+        ],
+    ];
+    assert!(rt; found == expected.map(Some));
+    Ok(())
+}
+
 /// Returns a trace of 1 page of 256 bytes with two writes of these lengths.
 fn guest_of_two_writes(alloc: Global, lengths: [usize; 2]) -> Result<Trace, Fail> {
     let mut writes = Vec::new(alloc);
