@@ -1,6 +1,6 @@
 //! What was done in one round.
 
-ghost use Rattle.std.specs.Prelude.{◌≡◌, ◌++◌, IfOk, OnOk};
+ghost use Rattle.std.specs.Prelude.{◌≡◌, ◌++◌, IfErr, IfOk, OnOk};
 ghost use Rattle.live_engine.specs.Lists.{lists_of};
 
 use crate::error::LiveError;
@@ -36,6 +36,7 @@ impl LiveRound {
         ensures sent { OnOk result (self.new.sent ≡ self.old.sent ++ state.now.log.sent) }
         ensures skipped { OnOk result (self.new.skipped ≡ self.old.skipped ++ state.now.log.skipped) }
         ensures deferred { OnOk result (self.new.deferred ≡ self.old.deferred ++ state.now.log.deferred) }
+        ensures memory { IfErr result (λ e. e ≡ LiveError.Memory) }
     {
         self.sent.extend_from_slice(&state.log.sent)?;
         self.skipped.extend_from_slice(&state.log.skipped)?;
@@ -51,6 +52,7 @@ pub(crate) fn list(
 ) -> Result<(LiveRound, VecDeque<CopierState>), LiveError>
     ensures lists { IfOk result (λ listed. listed.0 ≡ lists_of states.items) }
     ensures states { IfOk result (λ listed. listed.1.items ≡ states.items) }
+    ensures memory { IfErr result (λ e. e ≡ LiveError.Memory) }
 {
     let mut round = LiveRound {
         sent: Vec::new(alloc),

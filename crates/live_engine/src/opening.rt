@@ -1,6 +1,6 @@
 //! What a migration begins with.
 
-ghost use Rattle.std.specs.Prelude.{◌≡◌, ◌<◌, ◌≤◌, ℕ, IfOk, [], length, map, replicate, slice_index};
+ghost use Rattle.std.specs.Prelude.{◌≡◌, ◌<◌, ◌≤◌, ℕ, IfErr, IfOk, [], length, map, replicate, slice_index};
 ghost use Rattle.std.specs.List.{All};
 ghost use Rattle.migration_model.specs.Versions.{version_before};
 ghost use Rattle.live_tasks.specs.CopierStates.{IsCopierState};
@@ -47,7 +47,8 @@ impl Team {
 
 /// Returns a version of 0 for each page.
 fn no_versions(alloc: Global, pages: usize) -> Result<Vec<u32>, LiveError>
-    ensures { IfOk result (λ v. v.items ≡ replicate pages 0) }
+    ensures versions { IfOk result (λ v. v.items ≡ replicate pages 0) }
+    ensures memory { IfErr result (λ e. e ≡ LiveError.Memory) }
 {
     Ok(Vec::from_elem(alloc, 0, pages)?)
 }
@@ -63,6 +64,7 @@ pub(crate) fn versions_before<W: WriteLog>(
     ensures count { IfOk result (λ v. length v.items ≡ (W.trace trace.now).pages) }
     ensures each { IfOk result (λ v. (page : ℕ) → page < (W.trace trace.now).pages
         → slice_index v.items page ≡ version_before (W.trace trace.now) page tick) }
+    ensures memory { IfErr result (λ e. e ≡ LiveError.Memory) }
 {
     let pages = trace.shape().pages;
     if tick == 0 {
@@ -83,6 +85,7 @@ fn new_states(alloc: Global, rows: Vec<Vec<LaneOut>>) -> Result<VecDeque<CopierS
     ensures rows { IfOk result (λ v. rows_of v.items ≡ map (λ row. row.items) rows.items) }
     ensures each { (trace : GuestTrace) (streams : ℕ) → All (λ row. length row.items ≡ streams) rows.items
         → IfOk result (λ v. All (IsCopierState trace streams) v.items) }
+    ensures memory { IfErr result (λ e. e ≡ LiveError.Memory) }
 {
     let mut states = VecDeque::with_capacity(alloc, rows.len())?;
     for row in rows {
@@ -101,6 +104,7 @@ fn new_receivers(
     ensures lanes { IfOk result (λ v. map lanes_in v.items
         ≡ map (λ column. map (λ end. end.lane) column.items) columns.items) }
     ensures shapes { IfOk result (λ v. All (λ receiver. receiver.part.shape ≡ shape_of shape) v.items) }
+    ensures memory { IfErr result (λ e. e ≡ LiveError.Memory) }
 {
     let mut receivers = Vec::with_capacity(alloc, columns.len())?;
     for column in columns {
@@ -116,7 +120,8 @@ pub(crate) fn open_lanes<W: WriteLog>(
     team: Team,
 ) -> Result<(VecDeque<CopierState>, Vec<Receiver>), LiveError>
     requires { IsTeam team }
-    ensures { IfOk result (λ ends. AreOpened (W.trace trace.now) team ends.0.items ends.1.items) }
+    ensures opened { IfOk result (λ ends. AreOpened (W.trace trace.now) team ends.0.items ends.1.items) }
+    ensures memory { IfErr result (λ e. e ≡ LiveError.Memory) }
 {
     let shape = trace.shape();
     let Lanes { outs, ins } = lanes(alloc, team.copiers, team.streams, team.lane)?;

@@ -98,8 +98,26 @@ fn start_memory<'s, E, W: WriteLog + Sync>(
     Ok(scope.spawn_with(promise, run)?)
 }
 
-/// Returns the plan and what pages are made from, which are made in parallel.
-fn plan_and_pages<'s, E, W: WriteLog + Sync, R: Threads + Sync>(
+/// Waits for the planner, beside which it makes what pages are made from. Returns the plan and that.
+fn plan_and_pages<'s, W: WriteLog + Sync, R: Threads + Sync>(
+    rt: &R,
+    alloc: Global,
+    trace: &'s W,
+    planner: PromisedHandle<Result<Plan, PlanError>, Plans<'s, W>>,
+) -> Result<(Plan, TracePages), LiveError>
+    requires { planner.promise.trace.now ≡ trace.now }
+    ensures plan { IfOk result (λ made. IsPlan (W.trace trace.now).pages (touches_of (W.trace trace.now))
+        planner.promise.settings.now made.0) }
+    ensures pages { IfOk result (λ made. ArePagesOf made.1.index made.1.packed (W.trace trace.now)) }
+    ensures memory { IfErr result (λ e. e ≡ LiveError.Memory) }
+{
+    let pages = TracePages::of(rt, alloc, trace);
+    let plan = planner.join(rt)?;
+    Ok((plan, pages?))
+}
+
+/// Prepares a cold start: the plan and what pages are made from are made in parallel.
+fn prepare_cold<'s, E, W: WriteLog + Sync, R: Threads + Sync>(
     rt: &R,
     scope: &'s Scope<'s, E>,
     alloc: Global,
@@ -111,9 +129,59 @@ fn plan_and_pages<'s, E, W: WriteLog + Sync, R: Threads + Sync>(
     ensures pages { IfOk result (λ made. ArePagesOf made.1.index made.1.packed (W.trace trace.now)) }
 {
     let planner = start_planner(scope, alloc, trace, settings)?;
-    let pages = TracePages::of(rt, alloc, trace);
-    let plan = planner.join(rt)?;
-    Ok((plan, pages?))
+    plan_and_pages(rt, alloc, trace, planner)
+}
+
+/// What a warm start waits for: the memory before its base, and the plan.
+#[derive(Drop)]
+struct WarmThreads<'s, W: WriteLog> {
+    memory: PromisedHandle<Result<Image, ImageError>, Remembers<'s, W>>,
+    planner: PromisedHandle<Result<Plan, PlanError>, Plans<'s, W>>,
+}
+
+/// Starts the threads of a warm start.
+fn start_warm<'s, E, W: WriteLog + Sync>(
+    scope: &'s Scope<'s, E>,
+    alloc: Global,
+    trace: &'s W,
+    settings: &'s Settings,
+    base: u64,
+) -> Result<WarmThreads<'s, W>, LiveError>
+    ensures refused { IfErr result (λ e. e ≡ LiveError.Thread) }
+    ensures memory { IfOk result (λ t. t.memory.promise.trace.now ≡ trace.now) }
+    ensures base { IfOk result (λ t. t.memory.promise.base ≡ base) }
+    ensures planner { IfOk result (λ t. t.planner.promise.trace.now ≡ trace.now) }
+    ensures settings { IfOk result (λ t. t.planner.promise.settings.now ≡ settings.now) }
+{
+    let memory = start_memory(scope, alloc, trace, base)?;
+    let planner = start_planner(scope, alloc, trace, settings)?;
+    Ok(WarmThreads { memory, planner })
+}
+
+/// Waits for the threads of a warm start, beside which it makes what pages are made from. The memory then becomes a
+/// part.
+fn finish_warm<'s, W: WriteLog + Sync, R: Threads + Sync>(
+    rt: &R,
+    alloc: Global,
+    trace: &'s W,
+    base: u64,
+    threads: WarmThreads<'s, W>,
+) -> Result<(Plan, TracePages, Part), LiveError>
+    requires memory { threads.memory.promise.trace.now ≡ trace.now }
+    requires base { threads.memory.promise.base ≡ base }
+    requires planner { threads.planner.promise.trace.now ≡ trace.now }
+    ensures plan { IfOk result (λ made. IsPlan (W.trace trace.now).pages (touches_of (W.trace trace.now))
+        threads.planner.promise.settings.now made.0) }
+    ensures pages { IfOk result (λ made. ArePagesOf made.1.index made.1.packed (W.trace trace.now)) }
+    ensures first { IfOk result (λ made. made.2 ≡ first_part (W.trace trace.now) (Some base)) }
+    ensures memory { IfErr result (λ e. e ≡ LiveError.Memory) }
+{
+    let WarmThreads { memory, planner } = threads;
+    let made = plan_and_pages(rt, alloc, trace, planner);
+    let image = memory.join(rt);
+    let (plan, pages) = made?;
+    let part = part_of_memory(alloc, trace, &pages.index, base, image?)?;
+    Ok((plan, pages, part))
 }
 
 /// Prepares a warm start: the memory before its base is made in parallel with the plan and with what pages are made
@@ -131,12 +199,8 @@ fn prepare_warm<'s, E, W: WriteLog + Sync, R: Threads + Sync>(
     ensures pages { IfOk result (λ made. ArePagesOf made.1.index made.1.packed (W.trace trace.now)) }
     ensures first { IfOk result (λ made. made.2 ≡ first_part (W.trace trace.now) (Some base)) }
 {
-    let memory = start_memory(scope, alloc, trace, base)?;
-    let made = plan_and_pages(rt, scope, alloc, trace, settings);
-    let image = memory.join(rt);
-    let (plan, pages) = made?;
-    let part = part_of_memory(alloc, trace, &pages.index, base, image?)?;
-    Ok((plan, pages, part))
+    let threads = start_warm(scope, alloc, trace, settings, base)?;
+    finish_warm(rt, alloc, trace, base, threads)
 }
 
 /// Prepares a migration. Threads that it starts have ended when it returns. The error is `L2` if one was not started,
@@ -165,7 +229,7 @@ pub(crate) fn prepare<W: WriteLog + Sync, R: Threads + Wait + Sync>(
         {
             match settings.asked().base {
                 None => {
-                    let (plan, pages) = plan_and_pages(rt, scope, alloc, trace, settings)?;
+                    let (plan, pages) = prepare_cold(rt, scope, alloc, trace, settings)?;
                     let first = None;
                     Ok(Preparation { plan, pages, first })
                 }

@@ -144,7 +144,7 @@ fn start_receiver<'s, E, R: Wait + Sync, G: Gate>(
     Ok(scope.spawn_with(promise, run)?)
 }
 
-/// Starts the receivers, in order of their streams.
+/// Starts the receivers, in order of their streams. Without room for its handle a receiver is not started.
 pub(crate) fn start_receivers<'s, E, R: Wait + Sync, G: Gate>(
     rt: &'s R,
     scope: &'s Scope<'s, E>,
@@ -154,12 +154,13 @@ pub(crate) fn start_receivers<'s, E, R: Wait + Sync, G: Gate>(
     handles: &mut Vec<PromisedHandle<Receiver, Receives>>,
 ) -> Result<(), LiveError>
     requires none { length handles.old.items ≡ 0 }
-    ensures { OnOk result (map (λ h. identity_of h.promise.receiver.value) handles.new.items
+    ensures refused { IfErr result (λ e. e ≡ LiveError.Thread) }
+    ensures started { OnOk result (map (λ h. identity_of h.promise.receiver.value) handles.new.items
         ≡ map identity_of receivers.items) }
 {
     for receiver in receivers {
         let stream = handles.len();
-        handles.reserve(1)?;
+        handles.reserve(1).or(Err(LiveError::Thread))?;
         let handle = start_receiver(rt, scope, gate, stream, signals, receiver)?;
         handles.push_reserved(handle);
     }
@@ -168,7 +169,8 @@ pub(crate) fn start_receivers<'s, E, R: Wait + Sync, G: Gate>(
 
 /// Returns the lanes of each copier.
 fn take_lanes(alloc: Global, states: VecDeque<CopierState>) -> Result<Vec<Vec<LaneOut>>, LiveError>
-    ensures { IfOk result (λ rows. map (λ row. row.items) rows.items ≡ rows_of states.items) }
+    ensures rows { IfOk result (λ rows. map (λ row. row.items) rows.items ≡ rows_of states.items) }
+    ensures memory { IfErr result (λ e. e ≡ LiveError.Memory) }
 {
     let mut states = states;
     let mut rows = Vec::with_capacity(alloc, states.len())?;
@@ -198,6 +200,7 @@ fn finish_all(
         → slice_get columns.items stream ≡ Some outs → slice_get receivers.items stream ≡ Some receiver
         → slice_get parts.items stream ≡ Some part → AreFrames receiver.part.shape (IsSentOn outs.items)
         → HasFrames receiver.part.shape (IsSentOn outs.items) part) }
+    ensures memory { IfErr result (λ e. e ≡ LiveError.Memory) }
 {
     let mut columns = columns.into_iter();
     let mut parts = Vec::with_capacity(alloc, receivers.len())?;
@@ -219,9 +222,10 @@ pub(crate) fn drain_all(
 ) -> Result<Vec<Part>, LiveError>
     requires { AreCrossed (length states.items) streams (lanes_of (rows_of states.items))
         (map lanes_in receivers.items) }
-    ensures { (shape : GuestShape) → All (λ receiver. receiver.part.shape ≡ shape) receivers.items
+    ensures arrived { (shape : GuestShape) → All (λ receiver. receiver.part.shape ≡ shape) receivers.items
         → AreFrames shape (IsSentBy (rows_of states.items))
         → IfOk result (λ parts. HaveArrived shape streams (rows_of states.items) parts.items) }
+    ensures memory { IfErr result (λ e. e ≡ LiveError.Memory) }
 {
     let rows = take_lanes(alloc, states)?;
     let columns = by_stream(alloc, streams, rows)?;

@@ -1,6 +1,6 @@
 //! A migration under way, round by round.
 
-ghost use Rattle.std.specs.Prelude.{◌≡◌, ◌&&◌, nat_le, ◌≤◌, ◌++◌, ◌∷◌, ℕ, [], List, Option, IfOk, IfSome, map};
+ghost use Rattle.std.specs.Prelude.{◌≡◌, ◌&&◌, nat_le, ◌≤◌, ◌++◌, ◌∷◌, ℕ, [], List, Option, IfErr, IfOk, IfSome, map};
 ghost use Rattle.live_engine.specs.Joining.{AreJoined, HaveCapacity, lanes_of};
 ghost use Rattle.live_engine.specs.Lists.{rows_of};
 ghost use Rattle.live_engine.specs.Runs.{AreDone, AreNewStates, IsTeam, IsUnderWay};
@@ -66,6 +66,7 @@ fn take_apart(
 ) -> Result<(Vec<CopySeat>, Vec<CopierState>), LiveError>
     ensures seats { IfOk result (λ parts. parts.0.items ≡ map (λ c. c.seat) copiers.items) }
     ensures states { IfOk result (λ parts. parts.1.items ≡ map (λ c. c.state) copiers.items) }
+    ensures memory { IfErr result (λ e. e ≡ LiveError.Memory) }
 {
     let mut seats = Vec::with_capacity(alloc, copiers.len())?;
     let mut states = Vec::with_capacity(alloc, copiers.len())?;
@@ -94,6 +95,7 @@ impl<'a, W: WriteLog + Sync, G: Gate> Migration<'a, W, G> {
             p.closed p.states.items) }
         ensures joined { IfOk result (λ p. AreJoined (W.trace self.now.trace.now) base self.now.team.copiers start [] []
             p.closed (rows_of p.states.items)) }
+        ensures memory { IfErr result (λ e. e ≡ LiveError.Memory) }
     {
         let versions = versions_before(alloc, self.trace, &self.pages.index, start)?;
         let dirty = pages_lacking(alloc, self.trace, &self.pages.index, base, start, &versions)?;

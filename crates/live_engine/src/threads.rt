@@ -107,7 +107,7 @@ fn start_guest<'s, E, W: WriteLog + Sync, G: Gate>(
     Ok(scope.spawn_with(promise, run)?)
 }
 
-/// Starts the replayers, in order.
+/// Starts the replayers, in order. Without room for its handle a replayer is not started.
 fn start_replayers<'s, E, W: WriteLog + Sync, G: Gate>(
     scope: &'s Scope<'s, E>,
     round: &Round<'s, W, G>,
@@ -118,13 +118,14 @@ fn start_replayers<'s, E, W: WriteLog + Sync, G: Gate>(
     requires seats { seats.items ≡ first_guests round.now.table.now }
     requires none { length handles.old.items ≡ 0 }
     requires opening { OpensAt (W.trace round.now.trace.now) ticks.from round.now.table.now.start }
+    ensures refused { IfErr result (λ e. e ≡ LiveError.Thread) }
     ensures count { OnOk result (length handles.new.items ≡ length seats.items) }
     ensures started { OnOk result (EachAt (λ h i. h.promise
         ≡ replay_task (W.trace round.now.trace.now) round.now.table.now
         ticks.from ticks.to i) handles.new.items) }
 {
     for seat in seats {
-        handles.reserve(1)?;
+        handles.reserve(1).or(Err(LiveError::Thread))?;
         let handle = start_guest(scope, round, ticks, seat)?;
         handles.push_reserved(handle);
     }
@@ -185,7 +186,7 @@ fn start_copier<'s, E, W: WriteLog + Sync, G: Gate>(
     Ok(scope.spawn_with(promise, run)?)
 }
 
-/// Starts the copiers, in order, each with its state.
+/// Starts the copiers, in order, each with its state. Without room for its handle a copier is not started.
 fn start_copiers<'s, E, W: WriteLog + Sync, G: Gate>(
     scope: &'s Scope<'s, E>,
     alloc: Global,
@@ -198,6 +199,7 @@ fn start_copiers<'s, E, W: WriteLog + Sync, G: Gate>(
     requires count { length states.items ≡ length seats.items }
     requires states { All (IsCopierState (W.trace round.now.trace.now) round.now.streams) states.items }
     requires none { length handles.old.items ≡ 0 }
+    ensures refused { IfErr result (λ e. e ≡ LiveError.Thread) }
     ensures count { OnOk result (length handles.new.items ≡ length seats.items) }
     ensures started { OnOk result (EachAt (λ h i. h.promise ≡ copy_task (W.trace round.now.trace.now) round.now.skip
         round.now.table.now round.now.streams i (slice_index_or (rows_of states.items) i [])) handles.new.items) }
@@ -207,7 +209,7 @@ fn start_copiers<'s, E, W: WriteLog + Sync, G: Gate>(
         let Some(state) = states.pop_front() else {
             unreachable!()
         };
-        handles.reserve(1)?;
+        handles.reserve(1).or(Err(LiveError::Thread))?;
         let handle = start_copier(scope, alloc, round, seat, state)?;
         handles.push_reserved(handle);
     }
@@ -221,6 +223,7 @@ fn unrefused(
 ) -> Result<Vec<Copier>, LiveError>
     ensures count { IfOk result (λ copiers. length copiers.items ≡ length copied.items) }
     ensures same { IfOk result (λ copiers. map Ok copiers.items ≡ copied.items) }
+    ensures memory { IfErr result (λ e. e ≡ LiveError.Memory) }
 {
     let mut copiers = Vec::with_capacity(alloc, copied.len())?;
     for copier in copied {

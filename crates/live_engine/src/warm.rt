@@ -1,6 +1,6 @@
 //! A warm start: the destination begins with the guest's memory before a base tick.
 
-ghost use Rattle.std.specs.Prelude.{◌≡◌, ◌<◌, ◌&&◌, nat_lt, ℕ, IfOk, IsTrue, Some, length};
+ghost use Rattle.std.specs.Prelude.{◌≡◌, ◌<◌, ◌&&◌, nat_lt, ℕ, IfErr, IfOk, IsTrue, Some, length};
 ghost use Rattle.std.specs.Prelude.{slice_index};
 ghost use Rattle.live_engine.specs.Warm.{is_lacking};
 ghost use Rattle.migration_model.specs.Memory.{image_before};
@@ -33,6 +33,7 @@ fn pages_since<W: WriteLog>(
     ensures words { IfOk result (λ v. length v.items ≡ word_count (W.trace trace.now).pages) }
     ensures pages { IfOk result (λ v. (page : ℕ) → in_words v.items page ≡ (nat_lt page (W.trace trace.now).pages
         && nat_lt (version_before (W.trace trace.now) page base) (slice_index versions.now page))) }
+    ensures memory { IfErr result (λ e. e ≡ LiveError.Memory) }
 {
     let pages = trace.shape().pages;
     let mut marks = Vec::from_elem(alloc, 0u64, word_count(pages as usize))?;
@@ -63,6 +64,7 @@ pub(crate) fn pages_lacking<W: WriteLog>(
     ensures real { IfOk result (λ v. (page : ℕ) → IsTrue (in_words v.items page) → page < (W.trace trace.now).pages) }
     ensures pages { IfOk result (λ v. (page : ℕ) → page < (W.trace trace.now).pages
         → in_words v.items page ≡ is_lacking (W.trace trace.now) base start page) }
+    ensures memory { IfErr result (λ e. e ≡ LiveError.Memory) }
 {
     let pages = trace.shape().pages;
     match base {
@@ -81,7 +83,8 @@ pub(crate) fn part_of_memory<W: WriteLog>(
 ) -> Result<Part, LiveError>
     requires of { IsIndexOf index.now (W.trace trace.now) }
     requires memory { memory ≡ image_before (W.trace trace.now) base }
-    ensures { IfOk result (λ part. part ≡ first_part (W.trace trace.now) (Some base)) }
+    ensures part { IfOk result (λ part. part ≡ first_part (W.trace trace.now) (Some base)) }
+    ensures memory { IfErr result (λ e. e ≡ LiveError.Memory) }
 {
     let shape = trace.shape();
     let stamps = versions_before(alloc, trace, index, base)?;

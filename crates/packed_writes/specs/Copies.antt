@@ -1,7 +1,7 @@
 -- Copies of a trace's writes by page, without ticks and pages, and pages made from them. This project's own, as
 -- versions are.
-use Rattle.std.specs.Prelude.{◌≡◌, ℕ, ◌+◌, ◌<◌, ◌≤◌, ◌*◌, [], Bool, IfSome, List, Option, fold, length, map, nat_le}
-use Rattle.std.specs.Prelude.{slice_index_or}
+use Rattle.std.specs.Prelude.{◌≡◌, ℕ, ◌+◌, ◌<◌, ◌≤◌, ◌*◌, ◌&&◌, [], Bool, IfSome, List, Option, fold, length, map}
+use Rattle.std.specs.Prelude.{nat_le, slice_index_or}
 use Rattle.std.specs.List.{All, between}
 use Rattle.migration_model.specs.Trace.{GuestTrace, GuestWrite, write_with}
 use Rattle.migration_model.specs.Versions.{page_at}
@@ -59,3 +59,7 @@ IsWithin bytes spot = spot.start + spot.length ≤ length bytes
 -- at most 32 bytes a write, on average
 abbrev pub are_short_in : List GuestWrite → Bool
 are_short_in writes = nat_le (fold (λ sum write. sum + length write.bytes) 0 writes) (32 * length writes)
+
+-- short writes, at most 256 a page on average
+abbrev pub are_worth_copies : GuestTrace → Bool
+are_worth_copies trace = nat_le (length trace.writes) (256 * trace.pages) && are_short_in trace.writes

@@ -1,7 +1,7 @@
 //! What the pages of a trace are made from.
 
-ghost use Rattle.std.specs.Prelude.{IfOk};
-ghost use Rattle.packed_writes.specs.Copies.{ArePagesOf};
+ghost use Rattle.std.specs.Prelude.{◌≡◌, IfOk, is_some};
+ghost use Rattle.packed_writes.specs.Copies.{ArePagesOf, are_worth_copies};
 
 use crate::packed::{PackedWrites, are_short};
 use guest_log::WriteLog;
@@ -11,7 +11,7 @@ use std::thread::Threads;
 
 /// The most writes a page, on average, of a trace that is copied. One that writes few pages more often takes longer to
 /// copy than its pages take to make.
-const MOST_WRITES: u32 = 256;
+const MOST_WRITES: u64 = 256;
 
 /// What the pages of a trace are made from: its index, and copies of its writes if these are short and go to many pages.
 #[derive(Debug, Drop)]
@@ -22,6 +22,14 @@ pub struct TracePages {
     pub packed: Option<PackedWrites>,
 }
 
+/// Returns whether the writes of a trace are short and go to many pages.
+fn are_worth_copies<W: WriteLog>(trace: &W) -> bool
+    ensures { result ≡ are_worth_copies (W.trace trace.now) }
+{
+    let shape = trace.shape();
+    shape.writes as u64 <= MOST_WRITES * shape.pages as u64 && are_short(trace)
+}
+
 impl TracePages {
     /// Returns what the pages of a trace are made from. The only error is that memory runs out.
     pub fn of<W: WriteLog + Sync>(
@@ -29,11 +37,11 @@ impl TracePages {
         alloc: Global,
         trace: &W,
     ) -> Result<TracePages, IndexError>
-        ensures { IfOk result (λ pages. ArePagesOf pages.index pages.packed (W.trace trace.now)) }
+        ensures pages { IfOk result (λ pages. ArePagesOf pages.index pages.packed (W.trace trace.now)) }
+        ensures copied { IfOk result (λ pages. is_some pages.packed ≡ are_worth_copies (W.trace trace.now)) }
     {
         let index = PageIndex::build(rt, alloc, trace)?;
-        let shape = trace.shape();
-        if shape.writes / MOST_WRITES > shape.pages || !are_short(trace) {
+        if !are_worth_copies(trace) {
             let packed = None;
             return Ok(TracePages { index, packed });
         }

@@ -1,15 +1,19 @@
 -- What is kept stays right as entries come and go.
-use Rattle.std.proofs.Common.{◌≡◌, ℕ, ◌<◌, ◌≤◌, true, false, cond, List, [], ◌∷◌, length, Some, is_some, nat_eq}
+use Rattle.std.proofs.Common.{◌≡◌, ℕ, zero, suc, ◌-◌, ◌<◌, ◌≤◌, Bool, true, false, cond, List, [], ◌∷◌, length, take}
+use Rattle.std.proofs.Common.{Option, None, Some, is_some, option_map, nat_eq, arith}
 use Rattle.std.proofs.Common.{Contains, refl, sym, ap, ◌∙◌, subst, inl, inr}
 use Rattle.std.specs.Cmp.{nat_eq_equiv}
 use Rattle.std.specs.List.{All}
-use Rattle.std.specs.Map.{lookup, set_value}
+use Rattle.std.specs.Map.{lookup, lookup_entry, remove_entry, set_value}
+use Rattle.std.specs.Option.{option_map_or}
 use Rattle.std.proofs.lemmas.Bool.{eqb-true}
 use Rattle.std.proofs.lemmas.Map.{lookup-set_value}
+use Rattle.std.proofs.lemmas.List.{length-take, take_all}
+use Rattle.std.proofs.lemmas.Option.{same_Some}
 use Rattle.std.proofs.lemmas.List.Elements.{All-cons, All-contains, All-contains_itself, All-head, All-tail, All-weaker}
-use Rattle.lru.specs.LruCache.{LruCache, promoted, put_entries}
+use Rattle.lru.specs.LruCache.{LruCache, lru_cache, promoted, put_entries}
 use Rattle.lru.proofs.CallerLemmas.{Contains-lookup, Contains-promoted, Contains-put_entries, lookup-put_entries}
-use Rattle.lru.proofs.Pairs.{promoted_put}
+use Rattle.lru.proofs.Pairs.{lookup-lookup_entry, promoted_absent, promoted_put}
 use Rattle.migration_model.specs.Trace.{GuestTrace}
 use Rattle.migration_model.specs.Versions.{page_at}
 use Rattle.page_cache.specs.Cache.{AreKept, IsKept, KeptPage, page_with}
@@ -99,3 +103,80 @@ pub kept_put_at : (trace : GuestTrace) (cache : LruCache ℕ KeptPage) (page ver
 kept_put_at trace cache page version kept are low within made =
     let is : IsKept trace page (page_with version (page_at trace page version)) = (low, within, refl) in
     kept_put trace cache page kept are (subst (IsKept trace page) (sym made) is)
+
+-- ---- which entries are there
+
+some_entry : (o : Option (ℕ × KeptPage)) (kept : KeptPage) → option_map (λ e. e.1) o ≡ Some kept → is_some o ≡ true
+some_entry None kept is = absurd (cc is)
+some_entry (Some e) kept is = refl
+
+no_entry : (o : Option (ℕ × KeptPage)) → option_map (λ e. e.1) o ≡ None → o ≡ None
+no_entry None is = refl
+no_entry (Some e) is = absurd (cc is)
+
+-- the entry that is found passes the test
+found_passes : (test : ℕ → Bool) (es : List (ℕ × KeptPage)) (e : ℕ × KeptPage) → lookup_entry test es ≡ Some e
+    → test e.0 ≡ true
+found_passes test [] e is = absurd (cc is)
+found_passes test (x ∷ xs) e is =
+    (elim (test x.0) as (λ b. test x.0 ≡ b → cond b (Some x) (lookup_entry test xs) ≡ Some e → test e.0 ≡ true) [
+      | true ↦ λ passes same. subst (λ (f : ℕ × KeptPage). test f.0 ≡ true) (same_Some x e same) passes
+      | false ↦ λ other same. found_passes test xs e same
+    ]) refl is
+
+-- no page is found in fewer entries
+none_taken : (test : ℕ → Bool) (n : ℕ) (es : List (ℕ × KeptPage)) → lookup test es ≡ None
+    → lookup_entry test (take n es) ≡ None
+none_taken test zero es is = refl
+none_taken test (suc n) [] is = refl
+none_taken test (suc n) (x ∷ xs) is =
+    (elim (test x.0) as (λ b. cond b (Some x.1) (lookup test xs) ≡ None
+    → cond b (Some x) (lookup_entry test (take n xs)) ≡ None) [
+      | true ↦ λ same. absurd (cc same)
+      | false ↦ λ same. none_taken test n xs same
+    ]) is
+
+-- the entry that passes goes to the front, and its value is changed there
+set_first : (test : ℕ → Bool) (es other : List (ℕ × KeptPage)) (kept : KeptPage) (o : Option (ℕ × KeptPage))
+    → is_some o ≡ true → ((e : ℕ × KeptPage) → o ≡ Some e → test e.0 ≡ true)
+    → set_value test (option_map_or (λ e. e ∷ remove_entry test es) o es) kept
+    ≡ option_map_or (λ e. (e.0, kept) ∷ remove_entry test es) o other
+set_first test es other kept None some passes = absurd (cc some)
+set_first test es other kept (Some e) some passes = rw (passes e refl) refl
+
+-- a page that is there goes to the front with its new value
+pub used_entries : (cache : LruCache ℕ KeptPage) (page : ℕ) (was kept : KeptPage)
+    → lookup (nat_eq page) cache.entries ≡ Some was
+    → set_value (nat_eq page) (promoted (nat_eq page) cache.entries) kept ≡ put_entries nat_eq cache page kept
+used_entries cache page was kept found =
+    let entry = lookup_entry (nat_eq page) cache.entries in
+    set_first (nat_eq page) cache.entries ((page, kept) ∷ take (cache.cap - 1) cache.entries) kept entry
+    (some_entry entry was (lookup-lookup_entry (nat_eq page) cache.entries ∙ found))
+    (λ e is. found_passes (nat_eq page) cache.entries e is)
+
+-- a page that is not there changes nothing as it is looked for
+pub absent_entries : (cache : LruCache ℕ KeptPage) (page : ℕ) → lookup (nat_eq page) cache.entries ≡ None
+    → promoted (nat_eq page) cache.entries ≡ cache.entries
+absent_entries cache page none = (promoted_absent nat_eq cache page (ap is_some none)).1
+
+-- of a cache that is not full all stays, and of a full one all but the last
+pub room_there : (entries : List (ℕ × KeptPage)) (cap : ℕ) → length entries < cap → entries ≡ take (cap - 1) entries
+room_there entries cap few = sym (take_all (cap - 1) entries (omega (arith, few)))
+
+pub room_made : (entries : List (ℕ × KeptPage)) (cap : ℕ) → length entries ≤ cap → ¬ (length entries < cap)
+    → take (length entries - 1) entries ≡ take (cap - 1) entries
+room_made entries cap most full = ap (λ n. take n entries) (omega (arith, most, full))
+
+-- a new page in front of what is left after room was made for it
+pub new_entries : (cache : LruCache ℕ KeptPage) (page : ℕ) (kept : KeptPage) → lookup (nat_eq page) cache.entries ≡ None
+    → put_entries nat_eq (lru_cache (take (cache.cap - 1) cache.entries) cache.cap) page kept
+    ≡ put_entries nat_eq cache page kept
+new_entries cache page kept none =
+    let left = take (cache.cap - 1) cache.entries in
+    rw (
+      none_taken (nat_eq page) (cache.cap - 1) cache.entries none,
+      no_entry (lookup_entry (nat_eq page) cache.entries)
+          (lookup-lookup_entry (nat_eq page) cache.entries ∙ none),
+    )
+    (ap (λ es. (page, kept) ∷ es) (take_all (cache.cap - 1) left
+    (omega (arith, length-take (cache.cap - 1) cache.entries))))

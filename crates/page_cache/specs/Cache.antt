@@ -1,5 +1,6 @@
 -- What a cache keeps of a guest's pages. This project's own, as versions are.
-use Rattle.std.specs.Prelude.{◌≡◌, ℕ, ◌<◌, ◌≤◌, List, length}
+use Rattle.std.specs.Prelude.{◌≡◌, ℕ, ◌<◌, ◌≤◌, ◌-◌, List, length, nat_eq, take}
+use Rattle.lru.specs.LruCache.{lru_cache, put_entries}
 use Rattle.std.specs.List.{All}
 use Rattle.migration_model.specs.Trace.{GuestTrace}
 use Rattle.migration_model.specs.Versions.{page_at}
@@ -37,3 +38,12 @@ IsKept trace page kept = (page < trace.pages) × (kept.version ≤ length trace.
 -- each entry has the bytes of its page and version
 abbrev pub AreKept : GuestTrace → List (ℕ × KeptPage) → Type 0
 AreKept trace entries = All (λ entry. IsKept trace entry.0 entry.1) entries
+
+-- What is kept after a page was asked for: that page in front, and all others as they were. If the page is new and the
+-- cache was full, the least recently used one is gone, and no other.
+abbrev pub entries_after : GuestCache → ℕ → KeptPage → List (ℕ × KeptPage)
+entries_after cache page kept = put_entries nat_eq (lru_cache cache.entries cache.capacity) page kept
+
+-- What is kept if memory runs out for a new page: all, but of a full cache the least recently used page is gone.
+abbrev pub entries_without_room : GuestCache → List (ℕ × KeptPage)
+entries_without_room cache = take (cache.capacity - 1) cache.entries

@@ -1,10 +1,11 @@
 //! The cache.
 
-ghost use Rattle.std.specs.Prelude.{◌≡◌, ◌<◌, ◌≤◌, [], IfOk, OnOk, Some, length, nat_eq, option_map};
+ghost use Rattle.std.specs.Prelude.{◌≡◌, ◌<◌, ◌≤◌, [], IfOk, OnErr, OnOk, Some, length, nat_eq, option_map};
 ghost use Rattle.std.specs.Map.{lookup};
 ghost use Rattle.migration_model.specs.Versions.{page_at};
 ghost use Rattle.page_versions.specs.Index.{IsIndexOf};
-ghost use Rattle.page_cache.specs.Cache.{AreKept, GuestCache, cache_with, page_with, pages_with};
+ghost use Rattle.page_cache.specs.Cache.{AreKept, GuestCache, cache_with, entries_after, entries_without_room};
+ghost use Rattle.page_cache.specs.Cache.{page_with, pages_with};
 
 use crate::error::CacheError;
 use crate::kept::Kept;
@@ -69,16 +70,20 @@ impl<'a, W: WriteLog> PageCache<'a, W> {
     }
 
     /// Keeps the page after the first `version` writes of the trace. If it keeps an earlier version of the page, it
-    /// applies only the writes in between to it; else it makes the page from zeros.
+    /// applies only the writes in between to it; else it makes the page from zeros, or from the last checkpoint that
+    /// its source has of the page.
     ///
     /// If it keeps any version of the page, it reuses that page's memory. If it is full, it uses the memory of the
-    /// least recently used page. The only error is that memory runs out.
+    /// least recently used page, which goes; all others stay. The only error is that memory runs out.
     pub fn keep(&mut self, page: u32, version: u32) -> Result<(), CacheError>
         requires page { page < self.old.trace.pages }
         requires version { version ≤ length self.old.trace.writes }
         ensures kept { AreKept self.new.trace self.new.entries }
         ensures last { OnOk result (lookup (nat_eq page) self.new.entries
             ≡ Some (page_with version (page_at self.old.trace page version))) }
+        ensures entries { OnOk result (self.new.entries
+            ≡ entries_after self.old page (page_with version (page_at self.old.trace page version))) }
+        ensures refused { OnErr result (self.new.entries ≡ entries_without_room self.old) }
         ensures trace { self.new.trace ≡ self.old.trace }
         ensures capacity { self.new.capacity ≡ self.old.capacity }
     {
@@ -102,6 +107,8 @@ impl<'a, W: WriteLog> PageCache<'a, W> {
         ensures kept { AreKept self.new.trace self.new.entries }
         ensures last { OnOk result (lookup (nat_eq page) self.new.entries
             ≡ Some (page_with version (page_at self.old.trace page version))) }
+        ensures entries { OnOk result (self.new.entries
+            ≡ entries_after self.old page (page_with version (page_at self.old.trace page version))) }
         ensures trace { self.new.trace ≡ self.old.trace }
         ensures capacity { self.new.capacity ≡ self.old.capacity }
     {

@@ -1,6 +1,7 @@
 //! The most recently used pages.
 
-ghost use Rattle.std.specs.Prelude.{◌≡◌, ◌<◌, ◌≤◌, IsTrue, OnOk, Some, length, nat_eq};
+ghost use Rattle.std.specs.Prelude.{◌≡◌, ◌<◌, ◌≤◌, ◌-◌, IsTrue, None, OnErr, OnOk, Some, false, length, nat_eq, take};
+ghost use Rattle.lru.specs.LruCache.{put_entries};
 ghost use Rattle.std.specs.Map.{lookup};
 ghost use Rattle.migration_model.specs.Trace.{GuestTrace};
 ghost use Rattle.migration_model.specs.Versions.{page_at};
@@ -25,6 +26,9 @@ fn bring_kept<W: WriteLog>(
     ensures kept { AreKept source.now kept.new.entries }
     ensures last { IsTrue result → lookup (nat_eq page) kept.new.entries
         ≡ Some (page_with version (page_at source.now page version)) }
+    ensures entries { IsTrue result → kept.new.entries
+        ≡ put_entries nat_eq kept.old page (page_with version (page_at source.now page version)) }
+    ensures none { result ≡ false → (kept.new ≡ kept.old) × (lookup (nat_eq page) kept.old.entries ≡ None) }
     ensures capacity { kept.new.cap ≡ kept.old.cap }
 {
     let Some(was) = kept.get_mut(&page) else {
@@ -38,6 +42,7 @@ fn bring_kept<W: WriteLog>(
 /// buffer is reused.
 fn room_for_page(kept: &mut LruCache<u32, Kept>) -> Vec<u8>
     ensures kept { (trace : GuestTrace) → AreKept trace kept.old.entries → AreKept trace kept.new.entries }
+    ensures entries { kept.new.entries ≡ take (kept.old.cap - 1) kept.old.entries }
     ensures capacity { kept.new.cap ≡ kept.old.cap }
 {
     let alloc = *kept.allocator();
@@ -50,8 +55,8 @@ fn room_for_page(kept: &mut LruCache<u32, Kept>) -> Vec<u8>
     }
 }
 
-/// Keeps a page at a version: it brings what is kept of the page there, or else makes the page from zeros, for which
-/// the least recently used page may go.
+/// Keeps a page at a version: it brings what is kept of the page there, or else makes the page anew, for which the
+/// least recently used page goes if the cache is full.
 pub(crate) fn keep_recent<W: WriteLog>(
     source: &PageSource<'_, W>,
     kept: &mut LruCache<u32, Kept>,
@@ -64,6 +69,9 @@ pub(crate) fn keep_recent<W: WriteLog>(
     ensures kept { AreKept source.now kept.new.entries }
     ensures last { OnOk result (lookup (nat_eq page) kept.new.entries
         ≡ Some (page_with version (page_at source.now page version))) }
+    ensures entries { OnOk result (kept.new.entries
+        ≡ put_entries nat_eq kept.old page (page_with version (page_at source.now page version))) }
+    ensures refused { OnErr result (kept.new.entries ≡ take (kept.old.cap - 1) kept.old.entries) }
     ensures capacity { kept.new.cap ≡ kept.old.cap }
 {
     if bring_kept(source, kept, page, version) {

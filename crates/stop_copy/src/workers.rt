@@ -78,7 +78,7 @@ fn start_piece<'s, E, W: WriteLog + Sync>(
     Ok(scope.spawn_with(promise, run)?)
 }
 
-/// Starts a thread for each piece of `size` pages.
+/// Starts a thread for each piece of `size` pages. Without room for its handle a thread is not started.
 fn start_pieces<'s, E, W: WriteLog + Sync>(
     scope: &'s Scope<'s, E>,
     alloc: Global,
@@ -90,6 +90,7 @@ fn start_pieces<'s, E, W: WriteLog + Sync>(
     requires pages { All (λ page. page < (W.trace current.now.trace.now).pages) pages.now }
     requires size { 1 ≤ size }
     requires none { handles.old.items ≡ [] }
+    ensures refused { IfErr result (λ e. e ≡ CopyError.Thread) }
     ensures pieces { OnOk result (flat_map (λ h. h.promise.pages.now) handles.new.items ≡ pages.now) }
     ensures same { OnOk result (All (λ h. (W.trace h.promise.trace.now ≡ W.trace current.now.trace.now)
         × (h.promise.versions.now ≡ current.now.versions.now)) handles.new.items) }
@@ -97,7 +98,7 @@ fn start_pieces<'s, E, W: WriteLog + Sync>(
     let mut rest = pages;
     while !rest.is_empty() {
         let (piece, behind) = rest.split_at(rest.len().min(size));
-        handles.reserve(1)?;
+        handles.reserve(1).or(Err(CopyError::Thread))?;
         let handle = start_piece(scope, alloc, current, piece)?;
         handles.push_reserved(handle);
         rest = behind;

@@ -16,7 +16,7 @@ drain_all-requires g c =
     let p = c.in_ok-progress.progress in
     still_crossed trace c.args.settings.now c.in_ok-plan.field-0.plan c.of-team.result c.in_ok-states.states.items
     p.states.items c.in_ok-states.receivers.items c.in_ok-progress.receivers.items
-    p.closed p.rounds.items c.in_ok-states.ensures c.in_ok-progress.ensures
+    p.closed p.rounds.items c.in_ok-states.ensures.opened c.in_ok-progress.ensures
 
 pub join_first-requires-clause-some : goal.join_first-requires-clause-some
 join_first-requires-clause-some g c =
@@ -26,8 +26,8 @@ join_first-requires-clause-some g c =
     c.in_ok-arrived.arrived.items =
     all_came trace c.args.settings.now c.in_ok-plan.field-0.plan c.of-team.result c.in_ok-states.states.items
     p.states.items c.in_ok-states.receivers.items c.in_ok-progress.receivers.items
-    p.closed p.rounds.items c.in_ok-arrived.arrived.items c.in_ok-states.ensures c.in_ok-progress.ensures
-    (c.in_ok-arrived.ensures (shape_of_trace trace)) in
+    p.closed p.rounds.items c.in_ok-arrived.arrived.items c.in_ok-states.ensures.opened c.in_ok-progress.ensures
+    (c.in_ok-arrived.ensures.arrived (shape_of_trace trace)) in
     omega (arith, came.count, c.of-team.ensures.is_team.streams.0)
 
 pub join_first-requires-clause-shapes : goal.join_first-requires-clause-shapes
@@ -38,8 +38,8 @@ join_first-requires-clause-shapes g c =
     c.in_ok-arrived.arrived.items =
     all_came trace c.args.settings.now c.in_ok-plan.field-0.plan c.of-team.result c.in_ok-states.states.items
     p.states.items c.in_ok-states.receivers.items c.in_ok-progress.receivers.items
-    p.closed p.rounds.items c.in_ok-arrived.arrived.items c.in_ok-states.ensures c.in_ok-progress.ensures
-    (c.in_ok-arrived.ensures (shape_of_trace trace)) in
+    p.closed p.rounds.items c.in_ok-arrived.arrived.items c.in_ok-states.ensures.opened c.in_ok-progress.ensures
+    (c.in_ok-arrived.ensures.arrived (shape_of_trace trace)) in
     subst (λ (o : Option GuestPart). IfSome o (λ one. All (λ part. one.shape ≡ part.shape)
     c.in_ok-arrived.arrived.items)) (sym c.in_ok-plan.ensures.first)
     (shapes_begun trace c.args.settings.now.base c.in_ok-arrived.arrived.items came.not_beyond.shapes)
@@ -52,14 +52,14 @@ stop_and_copy-requires-clause-arrived g c κs within =
     c.in_ok-arrived.arrived.items =
     all_came trace c.args.settings.now c.in_ok-plan.field-0.plan c.of-team.result c.in_ok-states.states.items
     p.states.items c.in_ok-states.receivers.items c.in_ok-progress.receivers.items
-    p.closed p.rounds.items c.in_ok-arrived.arrived.items c.in_ok-states.ensures c.in_ok-progress.ensures
-    (c.in_ok-arrived.ensures (shape_of_trace trace)) in
+    p.closed p.rounds.items c.in_ok-arrived.arrived.items c.in_ok-states.ensures.opened c.in_ok-progress.ensures
+    (c.in_ok-arrived.ensures.arrived (shape_of_trace trace)) in
     subst (λ (parts : List GuestPart). AllArrived trace c.of-team.result.streams p.closed parts)
     (sym c.in_ok-parts.ensures)
     (subst (λ (o : Option GuestPart). AllArrived trace c.of-team.result.streams p.closed
     (parts_with o c.in_ok-arrived.arrived.items)) (sym c.in_ok-plan.ensures.first)
     (all_begun trace c.args.settings.now.base c.of-team.result.streams p.closed c.in_ok-arrived.arrived.items
-    c.in_ok-states.ensures.is_trace c.of-team.ensures.is_team.streams.0 came))
+    c.in_ok-states.ensures.opened.is_trace c.of-team.ensures.is_team.streams.0 came))
 
 pub returns : goal.returns
 returns g c =
@@ -68,7 +68,7 @@ returns g c =
     let done = c.in_ok-progress.ensures.done in
     let law = keeps_settings trace c.args.settings.now c.in_ok-plan.field-0.plan c.of-team.result
     c.in_ok-states.states.items p.states.items c.in_ok-states.receivers.items p.closed p.rounds.items
-    c.of-team.ensures c.in_ok-states.ensures done in
+    c.of-team.ensures c.in_ok-states.ensures.opened done in
     record {
       plan = c.in_ok-plan.field-0.plan;
       is_plan = c.in_ok-plan.ensures.plan;

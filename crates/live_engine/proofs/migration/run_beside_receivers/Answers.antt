@@ -29,7 +29,7 @@ returns g c =
             c.args.migration.now.settings.now c.args.migration.now.plan.now c.args.migration.now.team
             c.args.states.items
             p.closed p.rounds.items p.states.items)) (sym w.done-is ∙ c.in_ok-progress.was) w.run_rounds-done.ensures;
-        same = kept ∙ w.in-Ok.ensures;
+        same = kept ∙ w.in-Ok.ensures.started;
       }
       | in-Err w ↦ absurd (subst (λ r. OnOk r ⊥) (sym w.done-is ∙ c.in_ok-progress.was) tt)
     ]

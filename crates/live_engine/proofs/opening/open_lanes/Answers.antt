@@ -19,8 +19,8 @@ new_receivers-requires g c =
     nothing_taken c.args.team.copiers c.args.team.streams c.args.team.lane c.in_ok-outs.field-0.outs.items
     c.in_ok-outs.field-0.ins.items c.in_ok-outs.ensures
 
-pub returns : goal.returns
-returns g c =
+pub returns-clause-opened : goal.returns-clause-opened
+returns-clause-opened g c =
     let trace = g.W.WriteLog.trace c.args.trace.now in
     let team = c.args.team in
     let outs = c.in_ok-outs.field-0.outs.items in

@@ -14,4 +14,4 @@ returns-then-tick-eq0-clause-each g c =
     let within : page < pages = omega (arith, low, c.shape-pages.ensures.pages) in
     ap (λ (xs : List ℕ). slice_index xs page) none ∙ get_or-replicate pages page 0 0 within
     ∙ sym (version_at_first trace page) ∙ ap (version_before trace page) (sym c.if-tick-eq0.true))
-    c.no_versions.ensures
+    c.no_versions.ensures.versions

@@ -12,7 +12,7 @@ pub by_stream-requires : goal.by_stream-requires
 by_stream-requires c =
     row_size (length c.args.states.items) c.args.streams c.in_ok-rows.rows.items c.args.receivers.items
     (subst (λ (rows : List (List OutView)). AreCrossed (length c.args.states.items) c.args.streams (lanes_of rows)
-    (map lanes_in c.args.receivers.items)) (sym c.in_ok-rows.ensures) c.requires)
+    (map lanes_in c.args.receivers.items)) (sym c.in_ok-rows.ensures.rows) c.requires)
 
 pub finish_all-requires-clause-count : goal.finish_all-requires-clause-count
 finish_all-requires-clause-count c =
@@ -25,16 +25,16 @@ finish_all-requires-clause-ends c =
     ends_of (length c.args.states.items) c.args.streams c.in_ok-rows.rows.items c.in_ok-columns.columns.items
     c.args.receivers.items c.in_ok-columns.ensures
     (subst (λ (rows : List (List OutView)). AreCrossed (length c.args.states.items) c.args.streams (lanes_of rows)
-    (map lanes_in c.args.receivers.items)) (sym c.in_ok-rows.ensures) c.requires)
+    (map lanes_in c.args.receivers.items)) (sym c.in_ok-rows.ensures.rows) c.requires)
 
-pub returns : goal.returns
-returns c = λ shape shapes frames.
+pub returns-clause-arrived : goal.returns-clause-arrived
+returns-clause-arrived c = λ shape shapes frames.
     subst (λ (rows : List (List OutView)). HaveArrived shape c.args.streams rows c.in_ok-parts.parts.items)
-    c.in_ok-rows.ensures
+    c.in_ok-rows.ensures.rows
     (arrived (length c.args.states.items) c.args.streams c.in_ok-rows.rows.items c.in_ok-columns.columns.items
     c.args.receivers.items c.in_ok-columns.ensures
     (subst (λ (rows : List (List OutView)). AreCrossed (length c.args.states.items) c.args.streams (lanes_of rows)
-    (map lanes_in c.args.receivers.items)) (sym c.in_ok-rows.ensures) c.requires)
+    (map lanes_in c.args.receivers.items)) (sym c.in_ok-rows.ensures.rows) c.requires)
     shape c.in_ok-parts.parts.items shapes
-    (subst (λ (rows : List (List OutView)). AreFrames shape (IsSentBy rows)) (sym c.in_ok-rows.ensures) frames)
+    (subst (λ (rows : List (List OutView)). AreFrames shape (IsSentBy rows)) (sym c.in_ok-rows.ensures.rows) frames)
     c.in_ok-parts.ensures.count c.in_ok-parts.ensures.each)

@@ -23,8 +23,8 @@ of_image-requires-clause-within g c =
     (versions_low trace c.args.base c.in_ok-stamps.stamps.items c.in_ok-stamps.ensures.count
     c.in_ok-stamps.ensures.each)
 
-pub returns : goal.returns
-returns g c =
+pub returns-clause-part : goal.returns-clause-part
+returns-clause-part g c =
     let trace = g.W.WriteLog.trace c.args.trace.now in
     let shape = c.shape-shape.ensures in
     let size = size_before trace c.args.base c.args.memory c.requires.memory in
