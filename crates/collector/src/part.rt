@@ -136,8 +136,8 @@ impl Part {
     }
 
     /// Takes a frame that is borrowed from a stream. It copies the bytes of a page over those that the part has. Memory
-    /// can run out only if the part has none, or zeros.
-    fn accept_view(&mut self, view: &FrameView<'_>) -> Result<(), PartError>
+    /// can run out only if the part has none, or zeros; the part is then as before.
+    pub fn accept_view(&mut self, view: &FrameView<'_>) -> Result<(), PartError>
         requires { IsFrame self.old.shape view.now }
         ensures kept { OnOk result (self.new ≡ with_frame self.old view.now) }
         ensures unchanged { OnErr result (self.new ≡ self.old) }

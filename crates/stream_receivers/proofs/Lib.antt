@@ -5,4 +5,4 @@ pub mod Texts
 pub mod Holding
 pub mod Stood
 pub mod Ends
-pub mod Owned
+pub mod Viewed

@@ -3,7 +3,6 @@
 
 mod error;
 mod first_part;
-mod owning;
 mod receiver;
 mod taking;
 

@@ -1,4 +1,4 @@
-//! Frames that come to a part, each in a buffer of its own.
+//! Frames that come to a part, each in a buffer that then goes back.
 
 ghost use Rattle.std.specs.Prelude.{◌≡◌, ◌∷◌, IfErr, IfSome, OnOk, Some, []};
 ghost use Rattle.migration_model.specs.Frames.{PageFrame, SpellsFrame};
@@ -8,61 +8,36 @@ ghost use Rattle.stream_receivers.specs.Receivers.{AreEnds};
 ghost use Rattle.stream_receivers.specs.Texts.{TakesText};
 
 use crate::error::ReceiverError;
-use crate::owning::own_frame;
 use collector::Part;
-use page_message::{Body, Frame};
+use page_message::view_frame;
 use stream_lanes::{LaneIn, LaneOut, Rest, drain};
 
-/// Returns the bytes of a frame, if there is one and not all its bytes are 0.
-fn bytes_of(frame: Option<Frame>) -> Option<Vec<u8>> {
-    match frame?.body {
-        Body::Zero => None,
-        Body::Data(bytes) => Some(bytes),
-    }
-}
-
-/// Takes one encoded frame into a part. The page's bytes keep the frame's buffer. Returns the buffer of the frame that
-/// it replaces, if any.
-fn exchange(part: &mut Part, text: Vec<u8>) -> Result<Option<Vec<u8>>, ReceiverError>
+/// Takes one encoded frame into a part, which copies the page's bytes.
+fn accept_text(part: &mut Part, text: &[u8]) -> Result<(), ReceiverError>
     ensures shape { part.new.shape ≡ part.old.shape }
-    ensures taken { OnOk result (TakesText part.old part.new text.items) }
-    ensures only { (frame : PageFrame) → SpellsFrame part.old.shape text.items frame
+    ensures taken { OnOk result (TakesText part.old part.new text.now) }
+    ensures only { (frame : PageFrame) → SpellsFrame part.old.shape text.now frame
         → IfErr result (λ e. e ≡ ReceiverError.Memory) }
 {
-    let frame = own_frame(&part.shape(), text)?;
-    match part.exchange(frame) {
-        Ok(gone) => Ok(bytes_of(gone)),
-        Err(_) => Err(ReceiverError::Memory),
+    let Ok((view, size)) = view_frame(&part.shape(), text) else {
+        return Err(ReceiverError::Frame);
+    };
+    if size != text.len() {
+        return Err(ReceiverError::Frame);
     }
+    part.accept_view(&view).or(Err(ReceiverError::Memory))
 }
 
-/// Takes one encoded frame, unless something was refused before, and keeps the first refusal. Returns the buffer of the
-/// frame that it replaces, if any.
-pub(crate) fn accept(
-    part: &mut Part,
-    refusal: &mut Option<ReceiverError>,
-    text: Vec<u8>,
-) -> Option<Vec<u8>>
-    ensures { Accepts part.old part.new refusal.old refusal.new (text.items ∷ []) }
+/// Takes one encoded frame, unless something was refused before, and keeps the first refusal.
+pub(crate) fn accept(part: &mut Part, refusal: &mut Option<ReceiverError>, text: &[u8])
+    ensures { Accepts part.old part.new refusal.old refusal.new (text.now ∷ []) }
 {
     if refusal.is_some() {
-        return None;
+        return;
     }
-    match exchange(part, text) {
-        Ok(gone) => gone,
-        Err(error) => {
-            *refusal = Some(error);
-            None
-        }
-    }
-}
-
-/// Gives a buffer back to the worker of a lane, if there is one.
-pub(crate) fn give_back(end: &mut LaneIn, text: Option<Vec<u8>>)
-    ensures { end.new ≡ end.old }
-{
-    if let Some(text) = text {
-        end.give_back(text);
+    match accept_text(part, text) {
+        Ok(()) => {}
+        Err(error) => *refusal = Some(error),
     }
 }
 
@@ -77,7 +52,7 @@ pub(crate) fn accept_rest(
     let mut refusal = refusal;
     let mut rest = rest;
     while let Some(text) = rest.take() {
-        drop(accept(part, &mut refusal, text));
+        accept(part, &mut refusal, &text);
     }
     refusal
 }
