@@ -9,7 +9,6 @@ use Rattle.std.proofs.lemmas.List.{length-map}
 use Rattle.std.proofs.lemmas.List.FromFn.{length-map-range_with_len, get_or-map-range_with_len}
 use Rattle.std.proofs.lemmas.Option.{slice_get_within, get_or_from_slice_get, slice_get-get_or}
 use Rattle.live_engine.specs.Seated.{EachAt}
-use Rattle.stream_lanes.proofs.Grown.{within}
 
 pub pick : {X : Type 0} (xs : List X) (i : ℕ) → i < length xs → (x : X) × (x ≡ get_or xs i x)
 pick [] i low = absurd (omega (arith, low))

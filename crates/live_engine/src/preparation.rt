@@ -107,7 +107,7 @@ fn plan_and_pages<'s, W: WriteLog + Sync, R: Threads + Sync>(
 ) -> Result<(Plan, TracePages), LiveError>
     requires { planner.promise.trace.now ≡ trace.now }
     ensures plan { IfOk result (λ made. IsPlan (W.trace trace.now).pages (touches_of (W.trace trace.now))
-        planner.promise.settings.now made.0) }
+        planner.entry.promise.settings.now made.0) }
     ensures pages { IfOk result (λ made. ArePagesOf made.1.index made.1.packed (W.trace trace.now)) }
     ensures memory { IfErr result (λ e. e ≡ LiveError.Memory) }
 {
@@ -171,7 +171,7 @@ fn finish_warm<'s, W: WriteLog + Sync, R: Threads + Sync>(
     requires base { threads.memory.promise.base ≡ base }
     requires planner { threads.planner.promise.trace.now ≡ trace.now }
     ensures plan { IfOk result (λ made. IsPlan (W.trace trace.now).pages (touches_of (W.trace trace.now))
-        threads.planner.promise.settings.now made.0) }
+        threads.entry.planner.promise.settings.now made.0) }
     ensures pages { IfOk result (λ made. ArePagesOf made.1.index made.1.packed (W.trace trace.now)) }
     ensures first { IfOk result (λ made. made.2 ≡ first_part (W.trace trace.now) (Some base)) }
     ensures memory { IfErr result (λ e. e ≡ LiveError.Memory) }

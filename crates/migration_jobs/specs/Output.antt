@@ -76,10 +76,18 @@ IsRefusalOf job errors.Write = ⊤
 IsRefusalOf job (errors.Live e) = IsLiveJob job
 IsRefusalOf job errors.Thread = ⊥
 
--- A job's errors before anything is written: no write has failed, and only a live run has the errors of live runs.
+-- a job that performs none
+abbrev pub IsOtherJob : Job → Type 0
+IsOtherJob (jobs.Live settings show) = ⊥
+IsOtherJob jobs.Image = ⊤
+IsOtherJob (jobs.Report settings) = ⊤
+IsOtherJob (jobs.Sweep cases workers) = ⊤
+
+-- A job's errors before anything is written: no write has failed, and what a live run wants is told by its own error,
+-- which no other job has.
 abbrev pub RefusesOutput : Job → RunError → Type 0
 RefusesOutput job (errors.Trace e) = ⊤
-RefusesOutput job errors.Memory = ⊤
+RefusesOutput job errors.Memory = IsOtherJob job
 RefusesOutput job errors.Write = ⊥
 RefusesOutput job (errors.Live e) = IsLiveJob job
 RefusesOutput job errors.Thread = ⊥

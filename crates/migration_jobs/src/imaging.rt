@@ -6,7 +6,7 @@ ghost use Rattle.trace_codec.specs.declared.error.TraceError.TheVariants.{ReadFa
 ghost use Rattle.trace_codec.specs.Source.{IsOutside};
 ghost use Rattle.trace_readers.specs.Visits.{IsHeaderOf};
 ghost use Rattle.migration_jobs.specs.Bytes.{bytes_in};
-ghost use Rattle.migration_jobs.specs.Output.{IsImageOf, RefusesOutput, RefusesRun};
+ghost use Rattle.migration_jobs.specs.Output.{IsImageOf, IsOtherJob, RefusesOutput, RefusesRun};
 
 use crate::error::RunError;
 use crate::output::Output;
@@ -79,7 +79,7 @@ fn whole_image<S: Source>(
         → IsImageOf old v.items) }
     ensures refused { IfErr result (λ e. (old : Option (List ℕ)) → Consumes old (S.remaining source.old) incoming
         → RefusesRun old e) }
-    ensures own { IfErr result (λ e. (job : Job) → RefusesOutput job e) }
+    ensures own { IfErr result (λ e. (job : Job) → IsOtherJob job → RefusesOutput job e) }
     ensures read_failed { (result ≡ Err (RunError.Trace ReadFault)) ↔ (S.has_failed source.new ≡ true) }
 {
     let Ok(mut memory) = WrittenMemory::blank(alloc, header.shape) else {
@@ -103,7 +103,7 @@ fn paged_image<R: Threads + Sync, S: Source>(
         → IsImageOf old m.bytes) }
     ensures refused { IfErr result (λ e. (old : Option (List ℕ)) → Consumes old (S.remaining source.old) incoming
         → RefusesRun old e) }
-    ensures own { IfErr result (λ e. (job : Job) → RefusesOutput job e) }
+    ensures own { IfErr result (λ e. (job : Job) → IsOtherJob job → RefusesOutput job e) }
     ensures read_failed { (result ≡ Err (RunError.Trace ReadFault)) ↔ (S.has_failed source.new ≡ true) }
 {
     match incoming.hold(alloc, source) {
@@ -121,7 +121,7 @@ pub(crate) fn image_output<R: Threads + Sync, S: Source>(
     requires { S.has_failed source.old ≡ false }
     ensures made { IfOk result (λ output. IsImageOf (S.remaining source.old) (bytes_in output)) }
     ensures refused { IfErr result (RefusesRun (S.remaining source.old)) }
-    ensures own { IfErr result (λ e. (job : Job) → RefusesOutput job e) }
+    ensures own { IfErr result (λ e. (job : Job) → IsOtherJob job → RefusesOutput job e) }
     ensures read_failed { (result ≡ Err (RunError.Trace ReadFault)) ↔ (S.has_failed source.new ≡ true) }
 {
     let (incoming, header) = match opened(alloc, source) {

@@ -9,7 +9,8 @@ ghost use Rattle.migration_model.specs.Windows.{working_sets_of};
 ghost use Rattle.trace_codec.specs.declared.error.TraceError.TheVariants.{ReadFault};
 ghost use Rattle.trace_codec.specs.Source.{SourceSpells};
 ghost use Rattle.migration_jobs.specs.Sink.{AppendsPart};
-ghost use Rattle.migration_jobs.specs.Output.{IsOutput, IsOutsideRun, IsRefusalOf, RefusesOutput, RefusesRun};
+ghost use Rattle.migration_jobs.specs.Output.{IsOtherJob, IsOutput, IsOutsideRun, IsRefusalOf, RefusesOutput};
+ghost use Rattle.migration_jobs.specs.Output.{RefusesRun};
 ghost use Rattle.sweep_report.specs.Reports.{IsReport, IsSweep};
 ghost use Rattle.migration_jobs.specs.Bytes.{bytes_in};
 
@@ -103,7 +104,7 @@ fn report_output<R: Threads + Sync, S: Source>(
     ensures made { IfOk result (λ v. (trace : GuestTrace) × IsTrace trace × SourceSpells (S.remaining source.old) trace
         × IsReport trace settings.now v.items) }
     ensures refused { IfErr result (RefusesRun (S.remaining source.old)) }
-    ensures own { IfErr result (λ e. (job : Job) → RefusesOutput job e) }
+    ensures own { IfErr result (λ e. (job : Job) → IsOtherJob job → RefusesOutput job e) }
     ensures read_failed { (result ≡ Err (RunError.Trace ReadFault)) ↔ (S.has_failed source.new ≡ true) }
 {
     match TouchLog::read(alloc, source) {
@@ -140,7 +141,7 @@ fn sweep_output<R: Threads + Sync, S: Source>(
     ensures made { IfOk result (λ v. (trace : GuestTrace) × IsTrace trace × SourceSpells (S.remaining source.old) trace
         × IsSweep trace cases.now v.items) }
     ensures refused { IfErr result (RefusesRun (S.remaining source.old)) }
-    ensures own { IfErr result (λ e. (job : Job) → RefusesOutput job e) }
+    ensures own { IfErr result (λ e. (job : Job) → IsOtherJob job → RefusesOutput job e) }
     ensures read_failed { (result ≡ Err (RunError.Trace ReadFault)) ↔ (S.has_failed source.new ≡ true) }
 {
     match TouchLog::read(alloc, source) {
@@ -176,9 +177,10 @@ fn read_output<R: Threads + Wait + Sync, S: Source, G: Gate>(
     }
 }
 
-/// Runs one job: reads a trace to the end of the source, makes the whole output, and then writes it and flushes. It
-/// writes nothing while anything but a write can still fail. So each error but `Write` leaves nothing written, and
-/// `Write` leaves a prefix of the output. Only the threads of a live run call the gate.
+/// Runs one job: reads a trace to the end of the source, makes its output, writes it and flushes. Texts are made whole
+/// before they are written; memory is written in pieces, which are made one after the other in memory that was taken
+/// before. So nothing is written while anything but a write can still fail: each error but `Write` leaves nothing
+/// written, and `Write` leaves a prefix of the output. Only the threads of a live run call the gate.
 pub fn run<R: Threads + Wait + Sync, S: Source, K: Sink, G: Gate>(
     rt: &R,
     alloc: Global,

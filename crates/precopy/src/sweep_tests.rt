@@ -25,10 +25,16 @@ case 1 min 2 max 4 inc 1 threshold 1 limit 8 skip 0 rounds 1 stop few at 5000 do
 best 0
 ";
 
+/// A warm start: two pages were written between the base and the first round.
+static WARM: &str =
+    "case 0 min 2 max 4 inc 1 threshold 1 limit 8 skip 0 rounds 1 stop few at 4000 down 0 total 2
+best 0
+";
+
 #[test]
 fn sweeps_cases(rt: HostRuntime) -> Result<(), Fail> {
     let alloc = rt.alloc();
-    let sweeps: [(&[&str], &str); 3] = [
+    let sweeps: [(&[&str], &str); 4] = [
         (&["02,4,1,1,8,0", "2,2,1,1,8,0", "2,4,1,3,8,000"], THREE),
         (&["2,4,1,1,8,0", "2,4,1,1,8,0"], TWICE),
         (
@@ -40,6 +46,10 @@ fn sweeps_cases(rt: HostRuntime) -> Result<(), Fail> {
                 "3000",
             ],
             TWICE_LATER,
+        ),
+        (
+            &["2,4,1,1,8,0", "--start", "3000", "--base=2000"],
+            WARM,
         ),
     ];
     for (words, expected) in sweeps {

@@ -1,8 +1,8 @@
 use Rattle.std.proofs.Common.{sym, subst}
 use Rattle.std.specs.Prelude.{IfOk}
-use Rattle.std.proofs.lemmas.Result.{IfOk-weaker, err_from_is_err_and}
+use Rattle.std.proofs.lemmas.Result.{IfErr-weaker, IfOk-weaker, err_from_is_err_and}
 use Rattle.migration_jobs.specs.Bytes.{bytes_in}
-use Rattle.migration_jobs.specs.Output.{IsLiveJob, IsOutput, RefusesOutput}
+use Rattle.migration_jobs.specs.Output.{IsLiveJob, IsOtherJob, IsOutput, RefusesOutput}
 use Rattle.migration_jobs.proofs.Runs.{made_run}
 use Rattle.migration_jobs.proofs.running.read_output.Goals as goal
 
@@ -32,10 +32,16 @@ returns-in_ok-sweep_output-in-Sweep-clause-made g c =
     (made_run _ c.in_ok-sweep_output-in-Sweep.field-0.items known
     (rw c.deref.ensures.value at c.in_ok-sweep_output-in-Sweep.ensures.made))
 
+pub returns-in-Image-clause-own : goal.returns-in-Image-clause-own
+returns-in-Image-clause-own g c =
+    IfErr-weaker c.image_output.result _ _
+    (λ e own. own c.args.job.now (subst IsOtherJob (sym c.in-Image.is) tt)) c.image_output.ensures.own
+
 pub returns-in_err-report_output-in-Report-clause-own : goal.returns-in_err-report_output-in-Report-clause-own
 returns-in_err-report_output-in-Report-clause-own g c =
     let p = err_from_is_err_and c.from_residual.result c.from_residual.ensures.1 in
-    rw p.1 (subst (RefusesOutput c.args.job.now) (sym p.2) (c.in_err-report_output-in-Report.ensures.own _))
+    rw p.1 (subst (RefusesOutput c.args.job.now) (sym p.2)
+    (c.in_err-report_output-in-Report.ensures.own _ (subst IsOtherJob (sym c.in-Report.is) tt)))
 
 pub returns-in_err-memory-in-Live-clause-own : goal.returns-in_err-memory-in-Live-clause-own
 returns-in_err-memory-in-Live-clause-own g c =
@@ -48,4 +54,5 @@ pub returns-in_err-sweep_output-in-Sweep-clause-own : goal.returns-in_err-sweep_
 returns-in_err-sweep_output-in-Sweep-clause-own g c =
     let p = err_from_is_err_and c.from_residual-in_err-sweep_output-in-Sweep.result
     c.from_residual-in_err-sweep_output-in-Sweep.ensures.1 in
-    rw p.1 (subst (RefusesOutput c.args.job.now) (sym p.2) (c.in_err-sweep_output-in-Sweep.ensures.own _))
+    rw p.1 (subst (RefusesOutput c.args.job.now) (sym p.2)
+    (c.in_err-sweep_output-in-Sweep.ensures.own _ (subst IsOtherJob (sym c.in-Sweep.is) tt)))
