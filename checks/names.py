@@ -1,8 +1,9 @@
-"""What docs/PROOF.md and the table of README.md name in backquotes, and whether it is there.
+"""What docs/PROOF.md, the table of README.md and docs/ARCHITECTURE.md name in backquotes, and whether it is there.
 
 `call`: `clause`, .. and `relation`: `fact`, .. name clauses of a public call and facts of a relation. A clause of a
 call is one that it ensures, or a fact of a relation that it ensures. Every other word is a crate, a public call, a
-definition, a clause, a fact, a type, a refusal, a path from the top or from crates/, or part of a wrong body's name."""
+definition, a clause, a fact, a type, a refusal, a path from the top or from crates/, or part of a wrong body's name.
+docs/ARCHITECTURE.md has each crate once; its recipes also name functions and constants within crates."""
 
 import functools
 import os
@@ -15,6 +16,8 @@ PAIR = re.compile(r"`([\w:]+)`: (`\w+`(?:(?:,| and) `\w+`(?!:))*)")
 CODE = re.compile(r"`([^`]+)`")
 # Refusals, ranges of ticks, and what a program begins with.
 OTHER = re.compile(r"[CEFLS]\d{1,2}|\[.*\)|main")
+# A name of the sources: with an underscore, or in capitals.
+IDENTIFIER = re.compile(r"[a-z]\w*_\w*[a-z]|[A-Z]\w+(?:::\w+)?")
 EDITS = ("must-fail", "more-edits", "test-edits")
 
 
@@ -50,10 +53,14 @@ def wrong_bodies():
 
 
 @functools.lru_cache(maxsize=None)
+def all_sources():
+    paths = [path for crate in contracts.crates() for path in contracts.sources(crate, "src", ".rt")]
+    return "\n".join(map(contracts.read, paths))
+
+
+@functools.lru_cache(maxsize=None)
 def types_and_crates():
-    sources = [path for crate in contracts.crates() for path in contracts.sources(crate, "src", ".rt")]
-    text = "\n".join(map(contracts.read, sources))
-    types = set(re.findall(r"^pub (?:struct|enum|trait) (\w+)", text, re.M))
+    types = set(re.findall(r"^pub (?:struct|enum|trait) (\w+)", all_sources(), re.M))
     return types | set(re.findall(r"\w+", contracts.read(os.path.join(TOP, "crates.txt"))))
 
 
@@ -62,6 +69,10 @@ def is_known(word):
         return True
     paths = [os.path.join(TOP, *parts, word) for parts in ((), ("crates",), ("docs",))]
     return any(map(os.path.exists, paths)) or OTHER.fullmatch(word) or any(word in name for name in wrong_bodies())
+
+
+def is_within(word):
+    return re.search(rf"\b(?:fn|const) {word.rpartition('::')[2]}\b", all_sources())
 
 
 def pairs_in(page, text):
@@ -82,3 +93,17 @@ def named():
         yield bool(is_known(word)), f"docs/PROOF.md names {word}, which is not there"
     for code in CODE.findall(table):
         yield bool(is_known(code)), f"README.md names {code}, which is not there"
+
+
+def in_architecture():
+    """Yields the same of the page on the crates: its list of them, and the names in its recipes."""
+    sections = dict(part.split("\n", 1) for part in read("docs/ARCHITECTURE.md").split("\n## ")[1:])
+    heads = re.findall(r"^- (`[^:]*`):", sections["The crates"], re.M)
+    listed = [name for head in heads for name in CODE.findall(head)]
+    for crate in contracts.crates():
+        yield listed.count(crate) == 1, f"docs/ARCHITECTURE.md has {crate} {listed.count(crate)} times"
+    for name in sorted(set(listed) - set(contracts.crates())):
+        yield False, f"docs/ARCHITECTURE.md has {name}, which is no crate"
+    for code in CODE.findall(" ".join(sections["What to change for ..."].split())):
+        if IDENTIFIER.fullmatch(code):
+            yield bool(is_known(code) or is_within(code)), f"docs/ARCHITECTURE.md names {code}, which is not there"
