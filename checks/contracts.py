@@ -141,7 +141,8 @@ def definitions_in(crate, path):
             continue
         seen.add(name)
         body = text[one.start() : following.start() if following else len(text)]
-        facts = [(fact, "") for fact in re.findall(r"^  pub ([\w-]+) :", body, re.M)] if one[2] == "record" else []
+        names = re.findall(r"^ {2,}pub ([\w-]+) :", body, re.M) if one[2] == "record" else []
+        facts = [(fact, "") for fact in names]
         yield Entry(crate, os.path.basename(path), name, facts, body, comment_above(text, one.start(), "--"))
 
 
