@@ -1,4 +1,4 @@
-"""The words for a refused trace: docs/FORMATS.md has them, and programs, the library, the page and pages say the same."""
+"""The words for a refused trace: docs/FORMATS.md has them, and programs, library, page and documents say the same."""
 
 import re
 
