@@ -1,7 +1,7 @@
 """The calls that checks/refused-calls makes, and what the program crates/refused_calls must print for each.
 
 The bytes of a page at a version, what is left in a part and the end of a core are worked out by hand from the rules in
-docs/FORMATS.md and docs/DEFINITIONS.md, and not by the program."""
+docs/FORMATS.md and docs/GLOSSARY.md, and not by the program."""
 
 import re
 

@@ -43,23 +43,23 @@ enum precopy_status {
     PRECOPY_OK = 0,
 
     /* A trace is refused. */
-    PRECOPY_SHORT_HEADER = 1,       /* E1: fewer than 16 bytes */
-    PRECOPY_BAD_MAGIC = 2,          /* E2: bytes 0 to 3 are not PCWT */
-    PRECOPY_BAD_VERSION = 3,        /* E3: the version is not 1 or 2 */
-    PRECOPY_BAD_SHIFT = 4,          /* E4: the page shift is not 4 to 12; so too in struct precopy_sizes */
+    PRECOPY_SHORT_HEADER = 1,       /* E1: it has fewer than the 16 bytes of a header */
+    PRECOPY_BAD_MAGIC = 2,          /* E2: it does not begin with PCWT */
+    PRECOPY_BAD_VERSION = 3,        /* E3: its version is not 1 or 2 */
+    PRECOPY_BAD_SHIFT = 4,          /* E4: its pages do not have 16 to 4,096 bytes; so too in struct precopy_sizes */
     PRECOPY_BAD_RESERVED = 5,       /* E5: byte 6 or 7 is not 0 */
-    PRECOPY_BAD_PAGES = 6,          /* E6: pages are not 1 to 65,536; so too in struct precopy_sizes */
-    PRECOPY_TOO_MANY_WRITES = 7,    /* E7: writes are more than 1,048,576; so too in struct precopy_sizes */
-    PRECOPY_SHORT_RECORD = 8,       /* E8: a record is cut off */
-    PRECOPY_TICK_ORDER = 9,         /* E9: a tick is below that of the previous record */
-    PRECOPY_TICK_TOO_LARGE = 10,    /* E10: a tick is 2^40 or more */
-    PRECOPY_PAGE_OUT_OF_RANGE = 11, /* E11: a page is not below the number of pages */
-    PRECOPY_EMPTY_WRITE = 12,       /* E12: a length is 0, and the record releases no page */
-    PRECOPY_OUT_OF_PAGE = 13,       /* E13: a write ends after its page */
+    PRECOPY_BAD_PAGES = 6,          /* E6: it does not have 1 to 65,536 pages; so too in struct precopy_sizes */
+    PRECOPY_TOO_MANY_WRITES = 7,    /* E7: it has more than 1,048,576 writes; so too in struct precopy_sizes */
+    PRECOPY_SHORT_RECORD = 8,       /* E8: it ends within this record */
+    PRECOPY_TICK_ORDER = 9,         /* E9: the tick is below that of the previous record */
+    PRECOPY_TICK_TOO_LARGE = 10,    /* E10: the tick is 2^40 or more */
+    PRECOPY_PAGE_OUT_OF_RANGE = 11, /* E11: the guest does not have the page */
+    PRECOPY_EMPTY_WRITE = 12,       /* E12: the write has no bytes, and is no release */
+    PRECOPY_OUT_OF_PAGE = 13,       /* E13: the write goes beyond its page */
     PRECOPY_TRAILING_BYTES = 14,    /* E14: bytes follow the last record */
-    PRECOPY_TOO_LONG = 15,          /* E15: more than 2^28 bytes */
+    PRECOPY_TOO_LONG = 15,          /* E15: it has more than 2^28 bytes */
 
-    PRECOPY_NO_MEMORY = 16, /* E16: malloc returned null */
+    PRECOPY_NO_MEMORY = 16, /* E16: memory ran out; malloc returned null */
 
     /* Settings are refused. */
     PRECOPY_BAD_MIN = 21,       /* S1: min is not 1 to 1,000,000 */

@@ -23,7 +23,7 @@ import version  # noqa: E402
 
 PROGRAMS = {"precopy": "precopy", "precopy-view": "precopy_view"}
 # Scripts of tools/ that serve those who change precopy. All others there are tools for users, and are installed.
-OF_BUILDERS = {"build", "join-page", "library", "measured", "page-module", "start"}
+OF_BUILDERS = {"build", "index", "join-page", "library", "measured", "page-module", "start"}
 SCRIPTS = {entry.name for entry in os.scandir(f"{TOP}/tools") if entry.is_file() and "." not in entry.name}
 TOOLS = tuple(sorted(SCRIPTS - OF_BUILDERS))
 

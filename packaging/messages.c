@@ -14,35 +14,35 @@ const char *precopy_strerror(uint32_t status) {
     case PRECOPY_OK:
         return "done";
     case PRECOPY_SHORT_HEADER:
-        return "trace E1: fewer than 16 bytes";
+        return "trace E1: it has fewer than the 16 bytes of a header";
     case PRECOPY_BAD_MAGIC:
-        return "trace E2: bytes 0 to 3 are not PCWT";
+        return "trace E2: it does not begin with PCWT";
     case PRECOPY_BAD_VERSION:
-        return "trace E3: the version is not 1 or 2";
+        return "trace E3: its version is not 1 or 2";
     case PRECOPY_BAD_SHIFT:
-        return "trace E4: the page shift is not 4 to 12";
+        return "trace E4: its pages do not have 16 to 4,096 bytes";
     case PRECOPY_BAD_RESERVED:
         return "trace E5: byte 6 or 7 is not 0";
     case PRECOPY_BAD_PAGES:
-        return "trace E6: pages are not 1 to 65,536";
+        return "trace E6: it does not have 1 to 65,536 pages";
     case PRECOPY_TOO_MANY_WRITES:
-        return "trace E7: writes are more than 1,048,576";
+        return "trace E7: it has more than 1,048,576 writes";
     case PRECOPY_SHORT_RECORD:
-        return "trace E8: a record is cut off";
+        return "trace E8: it ends within this record";
     case PRECOPY_TICK_ORDER:
-        return "trace E9: a tick is below that of the previous record";
+        return "trace E9: the tick is below that of the previous record";
     case PRECOPY_TICK_TOO_LARGE:
-        return "trace E10: a tick is 2^40 or more";
+        return "trace E10: the tick is 2^40 or more";
     case PRECOPY_PAGE_OUT_OF_RANGE:
-        return "trace E11: a page is not below the number of pages";
+        return "trace E11: the guest does not have the page";
     case PRECOPY_EMPTY_WRITE:
-        return "trace E12: a length is 0, and the record releases no page";
+        return "trace E12: the write has no bytes, and is no release";
     case PRECOPY_OUT_OF_PAGE:
-        return "trace E13: a write ends after its page";
+        return "trace E13: the write goes beyond its page";
     case PRECOPY_TRAILING_BYTES:
         return "trace E14: bytes follow the last record";
     case PRECOPY_TOO_LONG:
-        return "trace E15: more than 2^28 bytes";
+        return "trace E15: it has more than 2^28 bytes";
     case PRECOPY_NO_MEMORY:
         return "memory ran out";
     case PRECOPY_BAD_MIN:

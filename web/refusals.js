@@ -1,23 +1,24 @@
 // The names of refusals, and what they mean in a sentence.
 
+/** What is wrong with a trace, in the words of docs/FORMATS.md. */
 const TRACE_REFUSALS = {
-  1: "The file has fewer than the 16 bytes of a header.",
-  2: "The file does not begin with PCWT, so it is not a trace.",
-  3: "The version in byte 4 is not 1 or 2.",
-  4: "The page shift in byte 5 is not 4 to 12.",
-  5: "Bytes 6 and 7 are not 0.",
-  6: "The number of pages is not 1 to 65,536.",
-  7: "The number of writes is more than 1,048,576.",
-  8: "The file ends inside this record.",
-  9: "The tick is below that of the previous record.",
-  10: "The tick is 2^40 or more.",
-  11: "The page is not below the number of pages.",
-  12: "The length is 0, and the record releases no page.",
-  13: "The write ends after the end of its page.",
-  14: "Bytes follow the last record.",
-  15: "The file has more than 268,435,456 bytes, the most of a trace.",
-  16: "The browser has no memory for this trace.",
-  17: "The file could not be read.",
+  1: "it has fewer than the 16 bytes of a header",
+  2: "it does not begin with PCWT",
+  3: "its version is not 1 or 2",
+  4: "its pages do not have 16 to 4,096 bytes",
+  5: "byte 6 or 7 is not 0",
+  6: "it does not have 1 to 65,536 pages",
+  7: "it has more than 1,048,576 writes",
+  8: "it ends within this record",
+  9: "the tick is below that of the previous record",
+  10: "the tick is 2^40 or more",
+  11: "the guest does not have the page",
+  12: "the write has no bytes, and is no release",
+  13: "the write goes beyond its page",
+  14: "bytes follow the last record",
+  15: "it has more than 2^28 bytes",
+  16: "memory ran out",
+  17: "it could not be read",
 };
 
 const SETTINGS_REFUSALS = {
@@ -40,7 +41,8 @@ export function refusalWords(refusal) {
   const { number, record } = refusal;
   if (TRACE_REFUSALS[number]) {
     const where = record === null ? "" : ` record ${record}`;
-    return { name: `E${number}${where}`, sentence: TRACE_REFUSALS[number] };
+    const [first, ...rest] = TRACE_REFUSALS[number];
+    return { name: `E${number}${where}`, sentence: `${first.toUpperCase()}${rest.join("")}.` };
   }
   const setting = number - BEFORE_SETTINGS;
   if (SETTINGS_REFUSALS[setting]) {
