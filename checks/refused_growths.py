@@ -63,6 +63,16 @@ def is_for_saver(job, run, whole):
     return not first.callers[0].startswith("rattle_") and run.counts["threads"] == whole.counts["threads"] - 1
 
 
+# What starts the threads of a live run, each after it made room for the thread's handle.
+STARTING = re.compile(r"(live_engine|stop_copy)::\w+::start_\w+\b.*")
+
+
+def is_for_start(run):
+    """Whether what was refused is room to start a thread, which is asked of the C library in place, or for its handle."""
+    callers = run.refused.callers if run.refused else []
+    return bool(callers) and (not callers[0].startswith("rattle_") or any(map(STARTING.fullmatch, callers)))
+
+
 AGAIN, SAVED = "asked again", "done by the caller"
 
 
