@@ -5,12 +5,14 @@ import re
 import shutil
 import subprocess
 import sys
+import time
 
 from tally import has
 
 TOP = os.path.dirname(os.path.dirname(os.path.abspath(__file__)))
 sys.path[:0] = [os.path.join(TOP, "packaging"), os.path.join(TOP, "tools")]
 import contents  # noqa: E402
+import launcher  # noqa: E402
 import options  # noqa: E402
 import version  # noqa: E402
 
@@ -66,6 +68,22 @@ def run_from_there(tally, prefix):
         tally.add(good, f"precopy-{name} --help tells {told[:300]!r}")
 
 
+def find_large_pages(tally, prefix):
+    """An installed program that waits for its trace has become the program proper, with the setting of tools/start."""
+    for name, word in (("precopy", "image"), ("precopy-view", "show")):
+        path, end = os.path.join(prefix, "bin", name), time.monotonic() + SECONDS
+        started = subprocess.Popen([path, word], stdin=subprocess.PIPE, stdout=subprocess.DEVNULL, env={})
+        proper, runs = os.path.realpath(os.path.join(prefix, "lib", "precopy", name)), ""
+        while runs != proper and time.monotonic() < end and started.poll() is None:
+            runs = os.readlink(f"/proc/{started.pid}/exe")
+        with open(f"/proc/{started.pid}/environ", "rb") as file:
+            found = file.read().decode()
+        started.kill()
+        started.communicate()
+        good = runs == proper and found == f"GLIBC_TUNABLES={launcher.large_pages()}\0"
+        tally.add(good, f"the installed {name} runs {runs} with {found!r}")
+
+
 def read_manuals(tally, folder, prefix):
     pages = files_below(os.path.join(prefix, "share", "man"))
     names = {os.path.basename(page) for page in pages}
@@ -86,6 +104,7 @@ def check(tally, folder):
         return
     first = files_below(destination)
     run_from_there(tally, os.path.join(destination, "usr"))
+    find_large_pages(tally, os.path.join(destination, "usr"))
     tally.add(files_below(destination) == first, "the installed programs leave files where they are installed")
     read_manuals(tally, folder, os.path.join(destination, "usr"))
     ran = make("install", f"DESTDIR={destination}", "PREFIX=/usr")

@@ -14,6 +14,7 @@ from dataclasses import dataclass
 from typing import Iterator, NamedTuple, Optional
 
 import completions
+import launcher
 import manuals
 import options
 
@@ -119,7 +120,9 @@ def stripped(path):
 
 def commands(places, python) -> Iterator[Entry]:
     for name in PROGRAMS:
-        yield Entry(os.path.join(places.bin, name), stripped(program_file(name)), 0o755)
+        program = os.path.join(places.lib, name)
+        yield Entry(program, stripped(program_file(name)), 0o755)
+        yield Entry(os.path.join(places.bin, name), launcher.launcher(os.path.relpath(program, places.bin)), 0o755)
     for name in TOOLS:
         yield Entry(os.path.join(places.lib, name), with_python(read(f"tools/{name}"), python), 0o755)
         link = os.path.relpath(os.path.join(places.lib, name), places.bin)
