@@ -182,7 +182,11 @@ def check_tools(tally):
 
 
 def check_version(tally):
-    """The newest entry of the changes has the version and the date of the tools."""
+    """The newest entry of the changes has the version and the date of the tools, and the modules have that version."""
+    for path in ("bindings/python/pyproject.toml",):
+        with open(os.path.join(TOP, path), encoding="utf-8") as file:
+            told = re.search(r'^version = "(.*)"$', file.read(), re.M)
+        tally.add(told and told[1] == version.VERSION, f"{path} begins with {told}")
     with open(os.path.join(TOP, "CHANGELOG.md"), encoding="utf-8") as file:
         newest = re.search(r"^## (\S+), (\S+)$", file.read(), re.M)
     tally.add(newest and newest.groups() == (version.VERSION, version.DATE), f"CHANGELOG.md begins with {newest}")

@@ -1,4 +1,5 @@
-"""Trials of the launchers, which are installed as precopy and precopy-view, over a stand-in that tells how it starts."""
+"""Trials of the launchers, which are installed as precopy and precopy-view, over a stand-in that tells how it starts.
+"""
 
 import contextlib
 import os
@@ -17,8 +18,9 @@ import launcher  # noqa: E402
 
 SECONDS = 60
 STARTS, MOST_MILLISECONDS = 200, 0.5
-PIECES = [*launcher.large_pages().split(":"), "glibc.malloc.hugetlb=0", "glibc.malloc.top_pad=1", "glibc.malloc.hugetlb"]
-PIECES += ["mine", "a=b", "x=glibc.malloc.hugetlb=1", "glibc.malloc.hugetlb2=1", "", "=", "glibc.malloc.mmap_threshold="]
+# Parts of settings.
+PIECES = [*launcher.large_pages().split(":"), "glibc.malloc.hugetlb=0", "glibc.malloc.top_pad=1"]
+PIECES += ["mine", "a=b", "x=glibc.malloc.hugetlb=1", "glibc.malloc.hugetlb", "glibc.malloc.hugetlb2=1", "", "="]
 
 
 def joined(mine):

@@ -1,6 +1,6 @@
 /*
- * An installed precopy or precopy-view: asks the C library for large pages, as tools/start does, and becomes the program
- * proper, which stands in another folder below the prefix.
+ * An installed precopy or precopy-view: asks the C library for large pages, as tools/start does, and becomes the
+ * program proper, which stands in another folder below the prefix.
  *
  * packaging/launcher.py gives PROGRAM, the way there from the folder of this program, and LARGE_PAGES, the parts of
  * GLIBC_TUNABLES to add. A part that the user has set stays, and so does an empty variable. Arguments, open files,
