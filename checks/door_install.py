@@ -183,7 +183,7 @@ def check_tools(tally):
 
 def check_version(tally):
     """The newest entry of the changes has the version and the date of the tools, and the modules have that version."""
-    for path in ("bindings/python/pyproject.toml",):
+    for path in ("bindings/python/pyproject.toml", "bindings/rust/Cargo.toml"):
         with open(os.path.join(TOP, path), encoding="utf-8") as file:
             told = re.search(r'^version = "(.*)"$', file.read(), re.M)
         tally.add(told and told[1] == version.VERSION, f"{path} begins with {told}")
