@@ -6,6 +6,7 @@ Both hold the same object, in which only the functions of include/precopy.h have
 import os
 import shutil
 import subprocess
+import sys
 import tempfile
 
 import compilers
@@ -18,6 +19,7 @@ NAME = "libprecopy.so.1"
 RUNTIME, DEVELOPMENT = "libprecopy1", "libprecopy-dev"
 # What it is made of besides the archive.
 PARTS = ("include/precopy.h", "packaging/messages.c", "packaging/library.map", "tools/version.py")
+CRATE = "bindings/rust"
 CONFIG = """\
 prefix={prefix}
 libdir={lib}
@@ -73,11 +75,12 @@ def is_current():
 
 
 def make(_asked):
-    """Builds the library if it is not built or something has changed."""
+    """Builds the library if it is not built or something has changed, and then says where it is."""
     if subprocess.run([os.path.join(contents.TOP, "tools", "build"), "--if-needed", "precopy_c"]).returncode:
         raise contents.NotBuilt("the library could not be built")
     if not is_current():
-        build()
+        for path in build():
+            print(f"precopy: {os.path.relpath(path, contents.TOP)} is built", file=sys.stderr, flush=True)
 
 
 def pack(room, whole, versions):
@@ -101,9 +104,10 @@ def config(prefix, lib, include):
     return CONFIG.format(prefix=prefix, lib=lib, include=include, version=contents.version.VERSION)
 
 
-def entries(lib, include, told):
+def entries(places, told):
     """Yields what an installation has of the library, of which `make lib` made both forms, with this text for
-    pkg-config."""
+    pkg-config, and of the crate for Rust, as source."""
+    lib = places.library
     for name, package in (("libprecopy.a", DEVELOPMENT), (NAME, RUNTIME)):
         path = os.path.join(FOLDER, name)
         if not os.path.isfile(path):
@@ -111,5 +115,8 @@ def entries(lib, include, told):
         yield contents.Entry(os.path.join(lib, name), contents.read(path), package=package)
     header = contents.read("include/precopy.h")
     yield contents.Entry(os.path.join(lib, "libprecopy.so"), link=NAME, package=DEVELOPMENT)
-    yield contents.Entry(os.path.join(include, "precopy.h"), header, package=DEVELOPMENT)
+    yield contents.Entry(os.path.join(places.include, "precopy.h"), header, package=DEVELOPMENT)
     yield contents.Entry(os.path.join(lib, "pkgconfig", "precopy.pc"), told.encode(), package=DEVELOPMENT)
+    for path in contents.sources_below(CRATE):
+        place = os.path.join(places.share, "rust", os.path.relpath(path, CRATE))
+        yield contents.Entry(place, contents.read(path), package=DEVELOPMENT)
