@@ -11,6 +11,7 @@ import shutil
 import subprocess
 import sys
 import tempfile
+import time
 import tracemalloc
 
 import library_traces as traces
@@ -218,15 +219,18 @@ def check_refusals(tally):
 
 def check_flat(tally):
     """Frames that stand in the memory that takes them, and threads that share one memory."""
-    frame = precopy.encode_frame(SIZES, 0, 7, bytes(range(1, 17)))
-    for start in range(48 - len(frame) + 1):
-        flat, wanted = precopy.FlatMemory(SIZES), precopy.FlatMemory(SIZES)
+    chosen, frame = random.Random(63), precopy.encode_frame(SIZES, 0, 7, bytes(range(1, 17)))
+    for number in range(100):
+        sizes = precopy.Sizes(4, 6, 20)
+        frames = [(chosen.randrange(6), chosen.randrange(21), chosen.randbytes(16)) for _ in range(3)]
+        stream, start = b"".join(traces.frame_text(*it) for it in frames), chosen.randrange(96 - 75)
+        flat, wanted = precopy.FlatMemory(sizes), precopy.FlatMemory(sizes)
         for each in (flat, wanted):
-            each.memory[start : start + len(frame)] = frame
-        wanted.accept(frame)
-        flat.accept(memoryview(flat.memory)[start : start + len(frame)])
-        tally.add(flat.memory == wanted.memory and flat.stamp(0) == 7, f"a frame at byte {start} of its own memory")
-    chosen = random.Random(63)
+            each.memory[start : start + len(stream)] = stream
+        good = wanted.accept(stream) == flat.accept(memoryview(flat.memory)[start : start + len(stream)])
+        good = good and traces.state(flat) == traces.state(wanted)
+        tally.add(good, f"frames that stand in the memory that takes them, {number}")
+    check_turns(tally)
     for number in range(10):
         sizes, frames = traces.frames(chosen)
         frames *= 40
@@ -238,6 +242,29 @@ def check_flat(tally):
     flat = precopy.FlatMemory(SIZES)
     del flat.memory[5:]
     tally.add(outcome(flat.accept, frame) == "Refused", "memory that was cut")
+
+
+def check_turns(tally):
+    """Calls of several threads over one memory take turns: no two are in the library at once."""
+    inside, most, call = [], [], precopy._LIBRARY.precopy_accept
+
+    def watched(*words):
+        inside.append(1)
+        most.append(len(inside))
+        time.sleep(0.001)
+        answer = call(*words)
+        inside.pop()
+        return answer
+
+    flat = precopy.FlatMemory(SIZES)
+    frames = [precopy.encode_frame(SIZES, number % 3, number % 20, PAGE) for number in range(100)]
+    precopy._LIBRARY.precopy_accept = watched
+    try:
+        with concurrent.futures.ThreadPoolExecutor(8) as threads:
+            list(threads.map(flat.accept, frames))
+    finally:
+        precopy._LIBRARY.precopy_accept = call
+    tally.add(len(most) == 100 and max(most) == 1, f"{max(most)} calls over one memory at once")
 
 
 # ---- pip.
