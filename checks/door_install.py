@@ -76,11 +76,12 @@ def find_large_pages(tally, prefix):
         proper, runs = os.path.realpath(os.path.join(prefix, "lib", "precopy", name)), ""
         while runs != proper and time.monotonic() < end and started.poll() is None:
             runs = os.readlink(f"/proc/{started.pid}/exe")
+        # As the C library reads the variable, it may end each of its parts by a 0 in this memory.
         with open(f"/proc/{started.pid}/environ", "rb") as file:
-            found = file.read().decode()
+            found = file.read().decode().rstrip("\0").replace("\0", ":")
         started.kill()
         started.communicate()
-        good = runs == proper and found == f"GLIBC_TUNABLES={launcher.large_pages()}\0"
+        good = runs == proper and found == f"GLIBC_TUNABLES={launcher.large_pages()}"
         tally.add(good, f"the installed {name} runs {runs} with {found!r}")
 
 
