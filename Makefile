@@ -5,18 +5,20 @@
 #     make page                       builds the planner as one page, out/precopy.html, and its WebAssembly module
 #     make install PREFIX=/usr        installs below PREFIX: programs, tools, manuals, completions, documents, examples,
 #                                     the library with its header, and precopy.pc for pkg-config
-#     make uninstall PREFIX=/usr      removes the same files
+#     make install-lib PREFIX=/usr    installs the library alone: archive, shared library, header, precopy.pc, and the
+#                                     crate for Rust in share/precopy/rust
+#     make uninstall PREFIX=/usr      removes what make install put there; make uninstall-lib, what make install-lib did
 #     make deb                        makes packages for Debian in out/: the programs, the library, its header
 #     make dist                       makes a tarball for other systems in out/, and its checksum
 #
-# DESTDIR stands in front of each path of an installation. BINDIR, LIBDIR, MANDIR, DOCDIR, BASHDIR, ZSHDIR, LIBRARYDIR
-# and INCLUDEDIR name single folders, and MAINTAINER who answers for a package.
+# DESTDIR stands in front of each path of an installation. BINDIR, LIBDIR, MANDIR, DOCDIR, BASHDIR, ZSHDIR, LIBRARYDIR,
+# INCLUDEDIR and SHAREDIR name single folders, and MAINTAINER who answers for a package.
 
 PREFIX ?= /usr/local
 PACK = packaging/make
 WHERE = --prefix "$(PREFIX)" --destdir "$(DESTDIR)" --bindir "$(BINDIR)" --libdir "$(LIBDIR)" --mandir "$(MANDIR)" \
 	--docdir "$(DOCDIR)" --bashdir "$(BASHDIR)" --zshdir "$(ZSHDIR)" --librarydir "$(LIBRARYDIR)" \
-	--includedir "$(INCLUDEDIR)"
+	--includedir "$(INCLUDEDIR)" --sharedir "$(SHAREDIR)"
 
 all:
 	./precopy --help > /dev/null
@@ -32,10 +34,13 @@ page:
 install: all lib
 	$(PACK) install $(WHERE)
 
-uninstall:
-	$(PACK) uninstall $(WHERE)
+install-lib: lib
+	$(PACK) install-lib $(WHERE)
+
+uninstall uninstall-lib:
+	$(PACK) $@ $(WHERE)
 
 deb dist: all lib
 	$(PACK) $@ $(if $(MAINTAINER),--maintainer "$(MAINTAINER)")
 
-.PHONY: all lib page install uninstall deb dist
+.PHONY: all lib page install install-lib uninstall uninstall-lib deb dist

@@ -11,6 +11,8 @@ import subprocess
 import sys
 import time
 
+import door_launchers
+
 TOP = os.path.dirname(os.path.dirname(os.path.abspath(__file__)))
 SECONDS = 400
 NOBODY = 65534
@@ -139,7 +141,8 @@ def copies_of_sources(tree):
 def build_at_first(tally, tree):
     ran = tree.run()
     tally.add(ran.status == 0 and ran.output == "number 7\n", f"the first run: {ran}")
-    tally.add("1 of 1 libraries" in ran.faults, f"the first run tells how far it is: {ran}")
+    for told in ("1 of 1 libraries", "building precopy, the last part", "precopy is built, "):
+        tally.add(told in ran.faults, f"the first run does not tell {told!r}: {ran}")
     left = [name for _, _, names in os.walk(tree.cache) for name in names]
     tally.add(not left, f"a build leaves {left[:3]} outside the tree")
     begun = time.monotonic()
@@ -172,8 +175,9 @@ def call_the_other_name(tally, tree):
     ran = tree.run("./precopy-view", "a b", "c")
     good = ran.status == 7 and ran.output.startswith("view 2 a b glibc.malloc.hugetlb=1")
     tally.add(good, f"./precopy-view: {ran}")
-    ran = tree.run("./precopy-view", "a", GLIBC_TUNABLES="mine")
-    tally.add(ran.output == "view 1 a mine\n", f"./precopy-view with a variable of one's own: {ran}")
+    for mine, wanted in door_launchers.joined_settings():
+        ran = tree.run("./precopy-view", "a", GLIBC_TUNABLES=mine)
+        tally.add(ran.output == f"view 1 a {wanted}\n", f"./precopy-view with a variable of one's own: {ran}")
     shutil.rmtree(f"{tree.top}/crates/precopy_view")
 
 

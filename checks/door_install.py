@@ -5,12 +5,14 @@ import re
 import shutil
 import subprocess
 import sys
+import time
 
 from tally import has
 
 TOP = os.path.dirname(os.path.dirname(os.path.abspath(__file__)))
 sys.path[:0] = [os.path.join(TOP, "packaging"), os.path.join(TOP, "tools")]
 import contents  # noqa: E402
+import launcher  # noqa: E402
 import options  # noqa: E402
 import version  # noqa: E402
 
@@ -66,6 +68,23 @@ def run_from_there(tally, prefix):
         tally.add(good, f"precopy-{name} --help tells {told[:300]!r}")
 
 
+def find_large_pages(tally, prefix):
+    """An installed program that waits for its trace has become the program proper, with the setting of tools/start."""
+    for name, word in (("precopy", "image"), ("precopy-view", "show")):
+        path, end = os.path.join(prefix, "bin", name), time.monotonic() + SECONDS
+        started = subprocess.Popen([path, word], stdin=subprocess.PIPE, stdout=subprocess.DEVNULL, env={})
+        proper, runs = os.path.realpath(os.path.join(prefix, "lib", "precopy", name)), ""
+        while runs != proper and time.monotonic() < end and started.poll() is None:
+            runs = os.readlink(f"/proc/{started.pid}/exe")
+        # As the C library reads the variable, it may end each of its parts by a 0 in this memory.
+        with open(f"/proc/{started.pid}/environ", "rb") as file:
+            found = file.read().decode().rstrip("\0").replace("\0", ":")
+        started.kill()
+        started.communicate()
+        good = runs == proper and found == f"GLIBC_TUNABLES={launcher.large_pages()}"
+        tally.add(good, f"the installed {name} runs {runs} with {found!r}")
+
+
 def read_manuals(tally, folder, prefix):
     pages = files_below(os.path.join(prefix, "share", "man"))
     names = {os.path.basename(page) for page in pages}
@@ -86,6 +105,7 @@ def check(tally, folder):
         return
     first = files_below(destination)
     run_from_there(tally, os.path.join(destination, "usr"))
+    find_large_pages(tally, os.path.join(destination, "usr"))
     tally.add(files_below(destination) == first, "the installed programs leave files where they are installed")
     read_manuals(tally, folder, os.path.join(destination, "usr"))
     ran = make("install", f"DESTDIR={destination}", "PREFIX=/usr")
@@ -163,7 +183,11 @@ def check_tools(tally):
 
 
 def check_version(tally):
-    """The newest entry of the changes has the version and the date of the tools."""
+    """The newest entry of the changes has the version and the date of the tools, and the modules have that version."""
+    for path in ("bindings/python/pyproject.toml", "bindings/rust/Cargo.toml"):
+        with open(os.path.join(TOP, path), encoding="utf-8") as file:
+            told = re.search(r'^version = "(.*)"$', file.read(), re.M)
+        tally.add(told and told[1] == version.VERSION, f"{path} begins with {told}")
     with open(os.path.join(TOP, "CHANGELOG.md"), encoding="utf-8") as file:
         newest = re.search(r"^## (\S+), (\S+)$", file.read(), re.M)
     tally.add(newest and newest.groups() == (version.VERSION, version.DATE), f"CHANGELOG.md begins with {newest}")

@@ -67,8 +67,10 @@ def try_tarball(tally, folder):
     tally.add(len(owners) == 1, f"the tarball has files of several owners or times: {owners}")
     (top,) = (os.path.join(tree, name) for name in os.listdir(tree))
     line = "bin/precopy image < share/doc/precopy/examples/gzip.pcwt | wc -c; bin/precopy-record --version"
+    line += "; bin/precopy-view --version"
     ran = run("sh", "-c", line, cwd=top, env={"PATH": os.environ["PATH"]})
-    wanted = f"102400\nprecopy-record (precopy) {contents.version.VERSION}\n"
+    wanted = "".join(f"precopy-{name} (precopy) {contents.version.VERSION}\n" for name in ("record", "view"))
+    wanted = f"102400\n{wanted}"
     tally.add(ran.stdout == wanted, f"the programs of the tarball, where it was unpacked: {ran.stdout}")
 
 
@@ -133,6 +135,11 @@ def try_loaded(tally, tree):
     line = "import ctypes; it = ctypes.CDLL('libprecopy.so.1').precopy_version; it.restype = ctypes.c_char_p"
     ran = in_tree(tree, f'python3 -c "{line}; print(it().decode())"')
     tally.add(ran.stdout == f"{contents.version.VERSION}\n", f"in a fresh tree: the library loaded: {ran.stdout}")
+    line = "import precopy; trace = open('/usr/share/doc/precopy/examples/gzip.pcwt', 'rb').read()"
+    line += "; print(precopy.plan(trace, precopy.Settings()).total, precopy.__file__)"
+    ran = in_tree(tree, f'cd / && python3 -c "{line}"')
+    wanted = "47 /usr/lib/python3/dist-packages/precopy/__init__.py\n"
+    tally.add(ran.stdout == wanted, f"in a fresh tree: the Python module: {ran.stdout}")
 
 
 def try_fresh_tree(tally, tree, files):

@@ -37,7 +37,8 @@ def build(folder):
     """Writes the tarball and its checksum into a folder, and returns their paths."""
     version, machine = contents.version.VERSION, platform.machine()
     told = library.config("${pcfiledir}/../..", "${prefix}/lib", "${prefix}/include")
-    entries = [*contents.contents(contents.places_below("")), *library.entries("lib", "include", told)]
+    places = contents.places_below("")
+    entries = [*contents.contents(places), *library.entries(places, told)]
     libc = debian.needed_by_programs(entries).partition("(>= ")[2].partition(")")[0]
     text = INSTALL.format(version=version, machine=machine, libc=libc, python=debian.LEAST_PYTHON)
     entries.append(contents.Entry("INSTALL", text.encode()))

@@ -14,6 +14,7 @@ from dataclasses import dataclass
 from typing import Iterator, NamedTuple, Optional
 
 import completions
+import launcher
 import manuals
 import options
 
@@ -24,6 +25,8 @@ import version  # noqa: E402
 PROGRAMS = {"precopy": "precopy", "precopy-view": "precopy_view"}
 # Scripts of tools/ that serve those who change precopy. All others there are tools for users, and are installed.
 OF_BUILDERS = {"build", "index", "join-page", "library", "measured", "page-module", "start"}
+# What a build or a run leaves among sources.
+NOT_SOURCES = {"target", "build", "__pycache__", "Cargo.lock"}
 SCRIPTS = {entry.name for entry in os.scandir(f"{TOP}/tools") if entry.is_file() and "." not in entry.name}
 TOOLS = tuple(sorted(SCRIPTS - OF_BUILDERS))
 
@@ -39,6 +42,7 @@ class Places(NamedTuple):
     zsh: str
     library: str
     include: str
+    share: str
 
 
 def places_below(prefix) -> Places:
@@ -52,6 +56,7 @@ def places_below(prefix) -> Places:
         os.path.join(share, "zsh", "site-functions"),
         os.path.join(prefix, "lib"),
         os.path.join(prefix, "include"),
+        os.path.join(share, "precopy"),
     )
 
 
@@ -119,7 +124,9 @@ def stripped(path):
 
 def commands(places, python) -> Iterator[Entry]:
     for name in PROGRAMS:
-        yield Entry(os.path.join(places.bin, name), stripped(program_file(name)), 0o755)
+        program = os.path.join(places.lib, name)
+        yield Entry(program, stripped(program_file(name)), 0o755)
+        yield Entry(os.path.join(places.bin, name), launcher.launcher(os.path.relpath(program, places.bin)), 0o755)
     for name in TOOLS:
         yield Entry(os.path.join(places.lib, name), with_python(read(f"tools/{name}"), python), 0o755)
         link = os.path.relpath(os.path.join(places.lib, name), places.bin)
@@ -148,11 +155,18 @@ def documents(places) -> Iterator[Entry]:
     """The documents and the examples, in folders as in the sources, so that the names in them lead to them."""
     for path in ("README.md", "CHANGELOG.md", "CONTRIBUTING.md", "LICENSE"):
         yield Entry(os.path.join(places.doc, path), read(path))
-    for folder in ("docs", "docs/pictures", "examples", "examples/c", "examples/guests", "bindings/python"):
-        for name in sorted(os.listdir(os.path.join(TOP, folder))):
-            path = os.path.join(folder, name)
-            if os.path.isfile(os.path.join(TOP, path)):
-                yield Entry(os.path.join(places.doc, path), read(path))
+    for folder in ("docs", "examples", "bindings"):
+        for path in sources_below(folder):
+            yield Entry(os.path.join(places.doc, path), read(path))
+
+
+def sources_below(folder) -> Iterator[str]:
+    """The files below a folder of the sources, by their paths from the top, without what a build left there."""
+    for at, folders, names in os.walk(os.path.join(TOP, folder)):
+        folders[:] = sorted(set(folders) - NOT_SOURCES)
+        for name in sorted(set(names) - NOT_SOURCES):
+            if not name.startswith("."):
+                yield os.path.relpath(os.path.join(at, name), TOP)
 
 
 def contents(places, python="/usr/bin/env python3") -> Iterator[Entry]:

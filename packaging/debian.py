@@ -15,6 +15,7 @@ from typing import Callable, Dict, List
 
 import contents
 import library
+import python_module
 
 PLACES = contents.places_below("usr")._replace(zsh="usr/share/zsh/vendor-completions")
 PYTHON = "/usr/bin/python3"
@@ -33,6 +34,7 @@ class Package:
     text: str
     # Further files for dpkg itself, by their names.
     parts: Dict[str, str] = field(default_factory=dict)
+    has_code: bool = True
 
 
 def needed_by_code(entries):
@@ -51,6 +53,11 @@ def needed_by_programs(entries):
 def needed_by_builders(_):
     """What those need who link programs with the library: the same version of it."""
     return f"{library.RUNTIME} (= {contents.version.VERSION})"
+
+
+def needed_by_python(_):
+    """What the Python module needs: the same version of the library, and Python."""
+    return f"{library.RUNTIME} (= {contents.version.VERSION}), python3 (>= {LEAST_PYTHON})"
 
 
 OF_THE_LIBRARY = """\
@@ -96,10 +103,22 @@ PACKAGES = [
         depends=needed_by_builders,
         suggests="pkg-config, precopy",
         summary="plans and memory of recorded guests, for building",
-        text=f"{OF_THE_LIBRARY} This package has the header, the archive, and the file for pkg-config.\n"
-        " The documents are in the package precopy.\n",
+        text=f"{OF_THE_LIBRARY} This package has the header, the archive, and the file for pkg-config,\n"
+        " and a crate for Rust as source. The documents are in the package precopy.\n",
+    ),
+    Package(
+        name=python_module.PACKAGE,
+        section="python",
+        depends=needed_by_python,
+        suggests="precopy",
+        summary="plans and memory of recorded guests, for Python",
+        text=f"{OF_THE_LIBRARY} This package has the module for Python.\n",
+        parts={"postinst": python_module.COMPILE, "prerm": python_module.CLEAN},
+        has_code=False,
     ),
 ]
+# Files that dpkg runs.
+SCRIPTS = ("postinst", "prerm")
 
 
 def moment(date):
@@ -169,7 +188,7 @@ def control(package, entries, maintainer):
     return f"""\
 Package: {package.name}
 Version: {contents.version.VERSION}
-Architecture: {architecture()}
+Architecture: {architecture() if package.has_code else "all"}
 Maintainer: {maintainer}
 Installed-Size: {size}
 Depends: {package.depends(entries)}
@@ -204,7 +223,8 @@ def build(package, entries, maintainer, folder):
         put(tree, entries)
         put(f"{tree}/DEBIAN", [contents.Entry("control", control(package, entries, maintainer).encode())])
         put(f"{tree}/DEBIAN", [contents.Entry("md5sums", sums.encode())])
-        put(f"{tree}/DEBIAN", [contents.Entry(name, text.encode()) for name, text in package.parts.items()])
+        for name, text in package.parts.items():
+            put(f"{tree}/DEBIAN", [contents.Entry(name, text.encode(), 0o755 if name in SCRIPTS else 0o644)])
         os.umask(old)
         command = ["dpkg-deb", "--root-owner-group", "-Zgzip", "-z9", "--build", tree, folder]
         environment = {**os.environ, "SOURCE_DATE_EPOCH": str(moment(contents.version.DATE))}
@@ -217,8 +237,8 @@ def build(package, entries, maintainer, folder):
 def build_all(folder, maintainer):
     if not shutil.which("dpkg-deb"):
         raise OSError(0, "it is not on the path, and makes the package", "dpkg-deb")
-    folders = f"usr/lib/{multiarch()}", "usr/include"
-    told = library.config("/usr", *(f"/{place}" for place in folders))
-    all_of_it = [*contents.contents(PLACES, PYTHON), *library.entries(*folders, told)]
+    places = PLACES._replace(library=f"usr/lib/{multiarch()}")
+    told = library.config("/usr", f"/{places.library}", f"/{places.include}")
+    all_of_it = [*contents.contents(places, PYTHON), *library.entries(places, told), *python_module.entries()]
     for package in PACKAGES:
         yield build(package, [entry for entry in all_of_it if entry.package == package.name], maintainer, folder)

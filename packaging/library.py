@@ -6,8 +6,10 @@ Both hold the same object, in which only the functions of include/precopy.h have
 import os
 import shutil
 import subprocess
+import sys
 import tempfile
 
+import compilers
 import contents
 
 ARCHIVE = os.path.join(contents.TOP, "crates", "precopy_c", "out", "libprecopy_c.a")
@@ -17,6 +19,7 @@ NAME = "libprecopy.so.1"
 RUNTIME, DEVELOPMENT = "libprecopy1", "libprecopy-dev"
 # What it is made of besides the archive.
 PARTS = ("include/precopy.h", "packaging/messages.c", "packaging/library.map", "tools/version.py")
+CRATE = "bindings/rust"
 CONFIG = """\
 prefix={prefix}
 libdir={lib}
@@ -30,32 +33,19 @@ Cflags: -I${{includedir}}
 """
 
 
-class Lacks(Exception):
-    """Something that the library is made with is not there, or fails; the text says what."""
-
-
 def tool(name):
-    path = shutil.which(os.environ.get("CC", "cc") if name == "cc" else name)
-    if not path:
-        raise Lacks(f"{name} is not on the path, and makes the library")
-    return path
+    return compilers.tool(name, "the library")
 
 
 def heap():
     """Returns the toolchain's archive that calls malloc, realloc and free for proved code."""
     command = shutil.which("rt")
     if not command:
-        raise Lacks("the Rattle toolchain is not here: its command rt is not on the path")
+        raise compilers.Lacks("the Rattle toolchain is not here: its command rt is not on the path")
     path = os.path.join(os.path.dirname(os.path.dirname(os.path.realpath(command))), "c", "liblibc_c.a")
     if not os.path.isfile(path):
-        raise Lacks(f"the Rattle toolchain here has no {path}")
+        raise compilers.Lacks(f"the Rattle toolchain here has no {path}")
     return path
-
-
-def run(*words):
-    status = subprocess.run(words, check=False, stdin=subprocess.DEVNULL).returncode
-    if status:
-        raise Lacks(f"{words[0]} ended with status {status}")
 
 
 def build():
@@ -68,10 +58,10 @@ def build():
         words, whole = os.path.join(room, "messages.o"), os.path.join(room, "precopy.o")
         options = ["-std=c99", "-O2", "-fPIC", "-Wall", "-Wextra", "-pedantic", "-I", include]
         version = f'-DPRECOPY_VERSION="{contents.version.VERSION}"'
-        run(tool("cc"), *options, version, "-c", os.path.join(here, "messages.c"), "-o", words)
-        run(tool("ld"), "-r", "-o", whole, "--whole-archive", ARCHIVE, heap(), "--no-whole-archive", words)
-        run(tool("objcopy"), "--wildcard", "--keep-global-symbol=precopy_*", whole)
-        run(tool("strip"), "--strip-unneeded", "--enable-deterministic-archives", whole)
+        compilers.run(tool("cc"), *options, version, "-c", os.path.join(here, "messages.c"), "-o", words)
+        compilers.run(tool("ld"), "-r", "-o", whole, "--whole-archive", ARCHIVE, heap(), "--no-whole-archive", words)
+        compilers.run(tool("objcopy"), "--wildcard", "--keep-global-symbol=precopy_*", whole)
+        compilers.run(tool("strip"), "--strip-unneeded", "--enable-deterministic-archives", whole)
         return pack(room, whole, os.path.join(here, "library.map"))
 
 
@@ -85,19 +75,20 @@ def is_current():
 
 
 def make(_asked):
-    """Builds the library if it is not built or something has changed."""
+    """Builds the library if it is not built or something has changed, and then says where it is."""
     if subprocess.run([os.path.join(contents.TOP, "tools", "build"), "--if-needed", "precopy_c"]).returncode:
         raise contents.NotBuilt("the library could not be built")
     if not is_current():
-        build()
+        for path in build():
+            print(f"precopy: {os.path.relpath(path, contents.TOP)} is built", file=sys.stderr, flush=True)
 
 
 def pack(room, whole, versions):
     """Puts an object into an archive and into a shared library, and each in its place once it is whole."""
     archive, shared = os.path.join(room, "libprecopy.a"), os.path.join(room, NAME)
-    run(tool("ar"), "rcsD", archive, whole)
+    compilers.run(tool("ar"), "rcsD", archive, whole)
     link = [f"-Wl,-soname,{NAME}", f"-Wl,--version-script={versions}", "-Wl,-z,text", "-Wl,-z,defs", "-Wl,-z,now"]
-    run(tool("cc"), "-shared", *link, "-Wl,--build-id=none", "-Wl,-s", "-o", shared, whole)
+    compilers.run(tool("cc"), "-shared", *link, "-Wl,--build-id=none", "-Wl,-s", "-o", shared, whole)
     made = [os.path.join(FOLDER, os.path.basename(path)) for path in (archive, shared)]
     for path, place in zip((archive, shared), made):
         shutil.copy(path, f"{place}.part")
@@ -113,9 +104,10 @@ def config(prefix, lib, include):
     return CONFIG.format(prefix=prefix, lib=lib, include=include, version=contents.version.VERSION)
 
 
-def entries(lib, include, told):
+def entries(places, told):
     """Yields what an installation has of the library, of which `make lib` made both forms, with this text for
-    pkg-config."""
+    pkg-config, and of the crate for Rust, as source."""
+    lib = places.library
     for name, package in (("libprecopy.a", DEVELOPMENT), (NAME, RUNTIME)):
         path = os.path.join(FOLDER, name)
         if not os.path.isfile(path):
@@ -123,5 +115,8 @@ def entries(lib, include, told):
         yield contents.Entry(os.path.join(lib, name), contents.read(path), package=package)
     header = contents.read("include/precopy.h")
     yield contents.Entry(os.path.join(lib, "libprecopy.so"), link=NAME, package=DEVELOPMENT)
-    yield contents.Entry(os.path.join(include, "precopy.h"), header, package=DEVELOPMENT)
+    yield contents.Entry(os.path.join(places.include, "precopy.h"), header, package=DEVELOPMENT)
     yield contents.Entry(os.path.join(lib, "pkgconfig", "precopy.pc"), told.encode(), package=DEVELOPMENT)
+    for path in contents.sources_below(CRATE):
+        place = os.path.join(places.share, "rust", os.path.relpath(path, CRATE))
+        yield contents.Entry(place, contents.read(path), package=DEVELOPMENT)

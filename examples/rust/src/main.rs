@@ -4,31 +4,31 @@
 use precopy::{memory_before, report, FlatMemory, Settings, Sizes};
 use std::error::Error;
 use std::io::{Read, Write};
+use std::str::FromStr;
 
-fn number(words: &[String], at: usize) -> Result<u64, Box<dyn Error>> {
+fn number<T: FromStr>(words: &[String], at: usize) -> Result<T, Box<dyn Error>>
+where
+    T::Err: Error + 'static,
+{
     Ok(words.get(at).ok_or("a number is missing")?.parse()?)
 }
 
 /// Takes a stream piece by piece.
 fn received(words: &[String], stream: &[u8]) -> Result<Vec<u8>, Box<dyn Error>> {
-    let sizes = Sizes {
-        shift: number(words, 1)? as u32,
-        pages: number(words, 2)? as u32,
-        writes: number(words, 3)? as u32,
-    };
-    let mut memory = FlatMemory::new(sizes);
+    let sizes = Sizes::new(number(words, 1)?, number(words, 2)?, number(words, 3)?)?;
+    let mut memory = FlatMemory::new(sizes)?;
     let mut rest: Vec<u8> = Vec::new();
     for piece in stream.chunks(1021) {
         rest.extend_from_slice(piece);
-        let taken = memory.accept(&rest)?;
-        rest.drain(..taken);
+        let taken = memory.accept_front(&rest)?;
+        rest.drain(..taken.bytes);
     }
     if !rest.is_empty() {
         return Err("the stream ends within a frame".into());
     }
-    match memory.whole() {
-        Ok(bytes) => Ok(bytes.to_vec()),
-        Err(page) => Err(format!("page {page} did not come").into()),
+    match memory.missing() {
+        Some(page) => Err(format!("page {page} did not come").into()),
+        None => Ok(memory.into_parts().0),
     }
 }
 

@@ -1,0 +1,358 @@
+"""Plans of pre-copy live migrations, memory of recorded guests, and frames of pages: the library libprecopy.so.1.
+
+    import precopy
+
+    with open("examples/gzip.pcwt", "rb") as file:
+        trace = file.read()
+    print(precopy.plan(trace, precopy.Settings(min=500, max=4000, threshold=10)))
+
+A trace is the bytes of a recording of a guest's writes, with ticks as its unit of time. Rates are in pages per 1,000
+ticks. include/precopy.h says what each call does. A call that refuses raises a `Refused`, of the kind named.
+
+Bytes may be any object that has them in one piece, such as bytes, bytearray, memoryview or mmap, and are not copied. No
+other thread may change them during a call. A number that is negative or too large for its call is an `OverflowError`,
+unless a `Refused` names it, and one that is no integer a `TypeError`.
+
+The library is found through the variable PRECOPY_LIBRARY, in the folder of this package, beside the sources where
+`make lib` puts it, or where the system looks for libraries.
+"""
+
+from __future__ import annotations
+
+import ctypes
+import enum
+import mmap
+import threading
+from dataclasses import dataclass, fields
+from typing import Any, List, Optional, Sequence, Tuple, Union
+
+from . import _calls
+from ._calls import LIBRARY as _LIBRARY
+from ._calls import lent as _lent
+from ._calls import number as _number
+
+__all__ = [
+    "BufferRefused", "FlatMemory", "Frame", "FrameRefused", "NoMemory", "Reason", "Refused", "Round", "Settings",
+    "SettingsRefused", "Sizes", "Sums", "Taken", "TraceRefused", "check_settings", "check_trace", "decode_frame",
+    "encode_frame", "is_zero", "memory", "memory_before", "plan", "report", "rounds", "sweep", "version",
+]  # fmt: skip
+
+Bytes = Union[bytes, bytearray, memoryview, mmap.mmap]
+
+
+class Refused(Exception):
+    """A call refused. `status` is the number of enum precopy_status, and the text says what it means."""
+
+    def __init__(self, status: int, text: str = "") -> None:
+        super().__init__(text or _LIBRARY.precopy_strerror(status).decode())
+        self.status = status
+
+    def __reduce__(self) -> Tuple[Any, ...]:
+        return type(self), (self.status,), self.__dict__
+
+
+class TraceRefused(Refused):
+    """The bytes are not a trace, or no guest has these sizes. `record` is the record that is named, if one is."""
+
+    def __init__(self, status: int, record: Optional[int] = None) -> None:
+        text = _LIBRARY.precopy_strerror(status).decode()
+        super().__init__(status, text if record is None else f"{text}, record {record}")
+        self.record = record
+
+    def __reduce__(self) -> Tuple[Any, ...]:
+        return type(self), (self.status, self.record)
+
+
+class SettingsRefused(Refused):
+    """A setting is out of its range."""
+
+
+class FrameRefused(Refused):
+    """Bytes begin with no frame, or no frame has such a page or stamp. `taken` says what of a stream was taken before
+    them."""
+
+    taken: Optional[Taken] = None
+
+
+class BufferRefused(Refused):
+    """The number of bytes is not that of a page, or not that of the memory."""
+
+
+class NoMemory(Refused, MemoryError):
+    """Memory ran out."""
+
+
+_KINDS = [(range(1, 16), TraceRefused), (range(16, 17), NoMemory), (range(21, 31), SettingsRefused)]
+_KINDS += [(range(41, 46), FrameRefused), (range(61, 66), BufferRefused)]
+
+
+def _check(status: int) -> None:
+    if status:
+        raise next((kind for numbers, kind in _KINDS if status in numbers), Refused)(status)
+
+
+def _call_over(call: Any, trace: Bytes, *words: Any) -> None:
+    """Makes a call whose first words are a trace. A refusal of the trace has the record that is named."""
+    with _lent(trace) as (start, length):
+        status = call(start, length, *words)
+        if status in _KINDS[0][0]:
+            _check_trace(start, length)
+        _check(status)
+
+
+def _check_trace(start: int, length: int) -> Sizes:
+    sizes, record = _calls.Sizes(), ctypes.c_uint32(0xFFFFFFFF)
+    status = _LIBRARY.precopy_check_trace(start, length, sizes, record)
+    if status:
+        raise TraceRefused(status, record.value if record.value != 0xFFFFFFFF else None)
+    return Sizes(sizes.shift, sizes.pages, sizes.writes)
+
+
+class Reason(enum.IntEnum):
+    """Why pre-copying ends."""
+
+    FEW = 0
+    FAST = 1
+    ROUNDS = 2
+
+
+@dataclass(frozen=True)
+class Sizes:
+    """The sizes of a trace: pages of 2**shift bytes, how many pages, and how many writes. Sizes that no trace has are a
+    `TraceRefused`."""
+
+    shift: int
+    pages: int
+    writes: int
+
+    def __post_init__(self) -> None:
+        sizes, nothing, taken = self._as_c(), ctypes.create_string_buffer(1), _calls.Taken()
+        # The sizes are tested first, and no memory of a guest has no bytes.
+        status = _LIBRARY.precopy_accept(sizes, nothing, 0, nothing, 0, (_calls.Page * 1)(), 0, taken)
+        if status != _calls.MEMORY_LENGTH:
+            _check(status)
+
+    @property
+    def page_length(self) -> int:
+        return 1 << self.shift
+
+    def _as_c(self) -> _calls.Sizes:
+        return _calls.Sizes(*(_number(it.name, getattr(self, it.name), 32) for it in fields(self)))
+
+
+@dataclass(frozen=True)
+class Settings:
+    """The settings of a plan, with the values that the program precopy uses if no option is given. With a base the
+    destination begins with the memory before that tick."""
+
+    min: int = 1000
+    max: int = 5000
+    increment: int = 500
+    threshold: int = 64
+    rounds: int = 30
+    start: int = 0
+    window: int = 1000
+    hot: int = 2
+    base: Optional[int] = None
+    skip: bool = False
+
+    def __post_init__(self) -> None:
+        self._as_c()
+
+    def _as_c(self) -> _calls.Settings:
+        asked = {it.name: getattr(self, it.name) for it in fields(self)}
+        asked["base"] = 0 if self.base is None else self.base
+        skip = _number("skip", asked.pop("skip"), 1)
+        numbers = (_number(name, value, 64) for name, value in asked.items())
+        return _calls.Settings(*numbers, self.base is not None, skip)
+
+
+@dataclass(frozen=True)
+class Sums:
+    """The sums of a plan: rounds, why they end, the tick of the stop, the downtime in ticks, pages sent in all."""
+
+    rounds: int
+    reason: Reason
+    stop: int
+    down: int
+    total: int
+
+
+@dataclass(frozen=True)
+class Round:
+    """A round of a plan, from the tick `start` to before `end`: how many pages it has, sends and leaves dirty."""
+
+    start: int
+    end: int
+    rate: int
+    pages: int
+    sent: int
+    dirtied: int
+
+
+@dataclass(frozen=True)
+class Frame:
+    """A page at a stamp. `size` is how many bytes its frame has."""
+
+    page: int
+    stamp: int
+    size: int
+    content: bytes
+
+
+@dataclass(frozen=True)
+class Taken:
+    """How much of a stream was taken: how many frames, and how many bytes they have in total."""
+
+    frames: int
+    bytes: int
+
+
+def version() -> str:
+    """Returns the version of the library."""
+    return str(_LIBRARY.precopy_version().decode())
+
+
+def check_trace(trace: Bytes) -> Sizes:
+    """Returns the sizes of a trace, or raises `TraceRefused`."""
+    with _lent(trace) as (start, length):
+        return _check_trace(start, length)
+
+
+def check_settings(settings: Settings) -> None:
+    """Raises `SettingsRefused` if a setting is out of its range."""
+    _check(_LIBRARY.precopy_check_settings(settings._as_c()))
+
+
+def _sums(found: _calls.Sums) -> Sums:
+    return Sums(found.rounds, Reason(found.reason), found.stop, found.down, found.total)
+
+
+def plan(trace: Bytes, settings: Settings) -> Sums:
+    """Returns the sums of the plan of a trace."""
+    found = _calls.Sums()
+    _call_over(_LIBRARY.precopy_plan, trace, settings._as_c(), found)
+    return _sums(found)
+
+
+def rounds(trace: Bytes, settings: Settings) -> List[Round]:
+    """Returns the rounds of the plan of a trace, in order."""
+    found, count = (_calls.Round * _calls.MOST_ROUNDS)(), ctypes.c_size_t()
+    _call_over(_LIBRARY.precopy_rounds, trace, settings._as_c(), found, _calls.MOST_ROUNDS, count)
+    return [Round(*(getattr(it, name) for name, _ in _calls.Round._fields_)) for it in found[: count.value]]
+
+
+def _longest_report(trace_length: int) -> int:
+    """At least as many bytes as a report has: a line for each window with a write and for each hot page, some for the
+    rounds, and three more. A write has at least 16 bytes in a trace. Such lines have at most 72, 11 and 128 bytes."""
+    writes = min(1 << 20, max(0, trace_length - 16) // 16)
+    return 72 * writes + 11 * min(writes, 1 << 16) + 128 * (_calls.MOST_ROUNDS + 3)
+
+
+def report(trace: Bytes, settings: Settings) -> str:
+    """Returns the report on a trace, as `precopy report` writes it."""
+    needed = ctypes.c_size_t()
+    with _lent(trace) as (_, length):
+        # Of this memory the system gives only what the report fills.
+        try:
+            room = mmap.mmap(-1, _longest_report(length), mmap.MAP_PRIVATE | mmap.MAP_ANONYMOUS)
+        except OSError as fault:
+            raise NoMemory(_calls.NO_MEMORY) from fault
+    with room:
+        with _lent(room, _calls.WRITABLE) as (text, text_length):
+            _call_over(_LIBRARY.precopy_report, trace, settings._as_c(), text, text_length, needed)
+        return room[: needed.value].decode("ascii")
+
+
+def sweep(trace: Bytes, cases: Sequence[Settings]) -> Tuple[List[Sums], int]:
+    """Returns the sums of the plan of each case, and the number of the best case."""
+    asked, best = (_calls.Settings * len(cases))(*(case._as_c() for case in cases)), ctypes.c_size_t()
+    found = (_calls.Sums * len(cases))()
+    _call_over(_LIBRARY.precopy_sweep, trace, asked, len(cases), found, len(cases), best)
+    return [_sums(it) for it in found], best.value
+
+
+def _memory(call: Any, trace: Bytes, *words: Any) -> bytearray:
+    """Returns the memory that a call writes, into a buffer of the length that the sizes ask for."""
+    sizes, needed = check_trace(trace), ctypes.c_size_t()
+    room = bytearray(sizes.pages << sizes.shift)
+    with _lent(room, _calls.WRITABLE) as (start, length):
+        _call_over(call, trace, *words, start, length, needed)
+    return room
+
+
+def memory(trace: Bytes) -> bytearray:
+    """Returns the memory after all writes of a trace."""
+    return _memory(_LIBRARY.precopy_memory, trace)
+
+
+def memory_before(trace: Bytes, tick: int) -> bytearray:
+    """Returns the memory before a tick: what a migration that stops the guest there must leave."""
+    return _memory(_LIBRARY.precopy_memory_before, trace, _number("tick", tick, 64))
+
+
+def encode_frame(sizes: Sizes, page: int, stamp: int, content: Bytes) -> bytes:
+    """Returns the frame of a page at a stamp, with these bytes of the page."""
+    room, needed = ctypes.create_string_buffer(9 + sizes.page_length), ctypes.c_size_t()
+    where = _number("page", page, 32), _number("stamp", stamp, 32)
+    with _lent(content) as (start, length):
+        _check(_LIBRARY.precopy_encode_frame(sizes._as_c(), *where, start, length, room, len(room), needed))
+    return ctypes.string_at(room, needed.value)
+
+
+def decode_frame(sizes: Sizes, data: Bytes) -> Frame:
+    """Returns the frame at the front of some bytes."""
+    head, room = _calls.Frame(), ctypes.create_string_buffer(sizes.page_length)
+    with _lent(data) as (start, length):
+        _check(_LIBRARY.precopy_decode_frame(sizes._as_c(), start, length, head, room, len(room)))
+    return Frame(head.page, head.stamp, head.size, room.raw)
+
+
+def is_zero(data: Bytes) -> bool:
+    """Returns whether each byte is 0."""
+    with _lent(data) as (start, length):
+        return bool(_LIBRARY.precopy_is_zero(start, length))
+
+
+class FlatMemory:
+    """The memory of a guest, as frames come to it in any order: for each page the frame with the greatest stamp.
+    Several threads may call at once, and wait for each other."""
+
+    def __init__(self, sizes: Sizes) -> None:
+        self.sizes = sizes
+        #: the bytes of all pages, one page after the other
+        self.memory = bytearray(sizes.pages << sizes.shift)
+        self._pages = (_calls.Page * sizes.pages)()
+        self._only_call = threading.Lock()
+
+    def accept(self, stream: Bytes) -> Taken:
+        """Takes a stream of frames. `FrameRefused` says in `taken` what came before the bytes that are no frame."""
+        taken, sizes = _calls.Taken(), self.sizes._as_c()
+        with self._only_call, _lent(stream) as (start, length), _lent(self.memory, _calls.WRITABLE) as (room, size):
+            if start < room + size and room < start + length:
+                # A stream that is a part of this memory would change as it is taken.
+                copy = ctypes.create_string_buffer(ctypes.string_at(start, length), length + 1)
+                start = ctypes.addressof(copy)
+            words = (start, length, room, size, self._pages, len(self._pages), taken)
+            status = _LIBRARY.precopy_accept(sizes, *words)
+        so_far = Taken(taken.frames, taken.bytes)
+        try:
+            _check(status)
+        except FrameRefused as refused:
+            refused.taken = so_far
+            raise
+        return so_far
+
+    def stamp(self, page: int) -> Optional[int]:
+        """Returns the stamp of a page, or None if it did not come."""
+        if _number("page", page, 32) >= len(self._pages):
+            raise FrameRefused(_calls.FRAME_PAGE)
+        state = self._pages[page]
+        return state.stamp if state.came else None
+
+    def missing(self) -> Optional[int]:
+        """Returns the first page that did not come, or None if all did."""
+        page = ctypes.c_size_t()
+        with self._only_call:
+            status = _LIBRARY.precopy_missing(self._pages, len(self._pages), page)
+        return page.value if status == _calls.PAGE_MISSING else None

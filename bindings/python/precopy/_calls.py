@@ -1,0 +1,134 @@
+"""The functions of include/precopy.h for ctypes: structures, the library itself, and bytes lent to a call."""
+
+from __future__ import annotations
+
+import contextlib
+import ctypes
+import operator
+import os
+from typing import Any, Iterator, Tuple
+
+ABI = "libprecopy.so.1"
+NO_MEMORY, FRAME_PAGE, MEMORY_LENGTH, PAGE_MISSING = 16, 42, 63, 65
+MOST_ROUNDS = 64
+WRITABLE = 1  # CPython's PyBUF_WRITABLE
+
+
+class Sizes(ctypes.Structure):
+    _fields_ = [("shift", ctypes.c_uint32), ("pages", ctypes.c_uint32), ("writes", ctypes.c_uint32)]
+
+
+class Settings(ctypes.Structure):
+    _fields_ = [
+        *((name, ctypes.c_uint64) for name in "min max increment threshold rounds start window hot base".split()),
+        ("has_base", ctypes.c_uint32),
+        ("skip", ctypes.c_uint32),
+    ]
+
+
+class Sums(ctypes.Structure):
+    _fields_ = [(name, ctypes.c_uint64) for name in "rounds reason stop down total".split()]
+
+
+class Round(ctypes.Structure):
+    _fields_ = [(name, ctypes.c_uint64) for name in "start end rate pages sent dirtied".split()]
+
+
+class Frame(ctypes.Structure):
+    _fields_ = [("page", ctypes.c_uint32), ("stamp", ctypes.c_uint32), ("size", ctypes.c_size_t)]
+
+
+class Page(ctypes.Structure):
+    _fields_ = [("came", ctypes.c_uint32), ("stamp", ctypes.c_uint32)]
+
+
+class Taken(ctypes.Structure):
+    _fields_ = [("frames", ctypes.c_size_t), ("bytes", ctypes.c_size_t)]
+
+
+_BYTES, _LENGTH, _NUMBER = ctypes.c_void_p, ctypes.c_size_t, ctypes.c_uint32
+_COUNT = ctypes.POINTER(ctypes.c_size_t)
+_pointer = ctypes.POINTER
+
+_CALLS = {
+    "check_trace": [_BYTES, _LENGTH, _pointer(Sizes), _pointer(_NUMBER)],
+    "check_settings": [_pointer(Settings)],
+    "plan": [_BYTES, _LENGTH, _pointer(Settings), _pointer(Sums)],
+    "rounds": [_BYTES, _LENGTH, _pointer(Settings), _pointer(Round), _LENGTH, _COUNT],
+    "report": [_BYTES, _LENGTH, _pointer(Settings), _BYTES, _LENGTH, _COUNT],
+    "sweep": [_BYTES, _LENGTH, _pointer(Settings), _LENGTH, _pointer(Sums), _LENGTH, _COUNT],
+    "memory": [_BYTES, _LENGTH, _BYTES, _LENGTH, _COUNT],
+    "memory_before": [_BYTES, _LENGTH, ctypes.c_uint64, _BYTES, _LENGTH, _COUNT],
+    "encode_frame": [_pointer(Sizes), _NUMBER, _NUMBER, _BYTES, _LENGTH, _BYTES, _LENGTH, _COUNT],
+    "decode_frame": [_pointer(Sizes), _BYTES, _LENGTH, _pointer(Frame), _BYTES, _LENGTH],
+    "accept": [_pointer(Sizes), _BYTES, _LENGTH, _BYTES, _LENGTH, _pointer(Page), _LENGTH, _pointer(Taken)],
+    "missing": [_pointer(Page), _LENGTH, _COUNT],
+    "is_zero": [_BYTES, _LENGTH],
+}
+
+
+def _place() -> str:
+    """Returns the path of the library, or its name alone if the system is to find it."""
+    here = os.path.dirname(os.path.abspath(__file__))
+    sources = os.path.dirname(os.path.dirname(os.path.dirname(here)))
+    known = [os.path.join(here, ABI), os.path.join(sources, "out", "library", ABI)]
+    asked = os.environ.get("PRECOPY_LIBRARY")
+    return asked if asked else next((path for path in known if os.path.exists(path)), ABI)
+
+
+def _load() -> ctypes.CDLL:
+    loaded = ctypes.CDLL(_place())
+    for name, arguments in _CALLS.items():
+        call = getattr(loaded, f"precopy_{name}")
+        call.argtypes, call.restype = arguments, ctypes.c_uint32
+    loaded.precopy_is_zero.restype = ctypes.c_bool
+    loaded.precopy_strerror.argtypes, loaded.precopy_strerror.restype = [_NUMBER], ctypes.c_char_p
+    loaded.precopy_version.argtypes, loaded.precopy_version.restype = [], ctypes.c_char_p
+    return loaded
+
+
+LIBRARY = _load()
+
+
+def number(name: str, value: int, bits: int) -> int:
+    """Returns a number, or raises `OverflowError` if it has not so many bits, and `TypeError` if it is no integer."""
+    found = operator.index(value)
+    if not 0 <= found < 1 << bits:
+        raise OverflowError(f"{name} is not from 0 to 2**{bits} - 1")
+    return found
+
+
+class _View(ctypes.Structure):
+    """CPython's Py_buffer."""
+
+    _fields_ = [
+        ("start", ctypes.c_void_p),
+        ("owner", ctypes.c_void_p),
+        ("length", ctypes.c_ssize_t),
+        ("item", ctypes.c_ssize_t),
+        ("is_read_only", ctypes.c_int),
+        ("dimensions", ctypes.c_int),
+        ("format", ctypes.c_void_p),
+        ("shape", ctypes.c_void_p),
+        ("strides", ctypes.c_void_p),
+        ("suboffsets", ctypes.c_void_p),
+        ("internal", ctypes.c_void_p),
+    ]
+
+
+_lend, _give_back = ctypes.pythonapi.PyObject_GetBuffer, ctypes.pythonapi.PyBuffer_Release
+_lend.argtypes, _lend.restype = [ctypes.py_object, _pointer(_View), ctypes.c_int], ctypes.c_int
+_give_back.argtypes, _give_back.restype = [_pointer(_View)], None
+_NO_BYTES = ctypes.create_string_buffer(1)
+
+
+@contextlib.contextmanager
+def lent(data: Any, flags: int = 0) -> Iterator[Tuple[int, int]]:
+    """Gives the address and the length of the bytes of an object, which neither moves nor shrinks meanwhile. What is
+    not bytes in one piece is a `TypeError` or a `BufferError`."""
+    view = _View()
+    _lend(data, view, flags)
+    try:
+        yield view.start or ctypes.addressof(_NO_BYTES), view.length
+    finally:
+        _give_back(view)

@@ -1,0 +1,76 @@
+//! Prints what the library says of the trace on standard input:
+//!
+//!     cargo run --example answers -- MIN MAX INCREMENT THRESHOLD ROUNDS START WINDOW HOT BASE SKIP < trace
+//!
+//! The numbers are those of the settings. A base of `-` is none, and SKIP is 0 or 1.
+
+use precopy::{Refused, Settings};
+use std::error::Error;
+use std::io::Read;
+
+fn settings(words: &[String]) -> Result<Settings, Box<dyn Error>> {
+    let number =
+        |at: usize| -> Result<u64, Box<dyn Error>> { Ok(words.get(at).ok_or("a number is missing")?.parse()?) };
+    Ok(Settings {
+        min: number(0)?,
+        max: number(1)?,
+        increment: number(2)?,
+        threshold: number(3)?,
+        rounds: number(4)?,
+        start: number(5)?,
+        window: number(6)?,
+        hot: number(7)?,
+        base: if words.get(8).map(String::as_str) == Some("-") {
+            None
+        } else {
+            Some(number(8)?)
+        },
+        skip: number(9)? != 0,
+    })
+}
+
+fn hex(bytes: &[u8]) -> String {
+    bytes.iter().map(|byte| format!("{byte:02x}")).collect()
+}
+
+fn print_plan(trace: &[u8], settings: &Settings) -> Result<(), Refused> {
+    let sizes = precopy::check_trace(trace)?;
+    println!("sizes {} {} {}", sizes.shift(), sizes.pages(), sizes.writes());
+    let sums = precopy::plan(trace, settings)?;
+    println!(
+        "sums {} {:?} {} {} {}",
+        sums.rounds, sums.reason, sums.stop, sums.down, sums.total
+    );
+    for it in precopy::rounds(trace, settings)? {
+        println!(
+            "round {} {} {} {} {} {}",
+            it.from, it.to, it.rate, it.pages, it.sent, it.dirtied
+        );
+    }
+    print!("{}", precopy::report(trace, settings)?);
+    let skipping = Settings {
+        skip: !settings.skip,
+        ..*settings
+    };
+    let sweep = precopy::sweep(trace, &[*settings, skipping])?;
+    for it in &sweep.sums {
+        println!(
+            "case {} {:?} {} {} {}",
+            it.rounds, it.reason, it.stop, it.down, it.total
+        );
+    }
+    println!("best {}", sweep.best);
+    println!("memory {}", hex(&precopy::memory(trace)?));
+    println!("before {}", hex(&precopy::memory_before(trace, sums.stop)?));
+    Ok(())
+}
+
+fn main() -> Result<(), Box<dyn Error>> {
+    let words: Vec<String> = std::env::args().skip(1).collect();
+    let (settings, mut trace) = (settings(&words)?, Vec::new());
+    std::io::stdin().read_to_end(&mut trace)?;
+    if let Err(refused) = print_plan(&trace, &settings) {
+        println!("refused {} {refused}", refused.status());
+    }
+    Ok(())
+}

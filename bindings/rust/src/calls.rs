@@ -1,0 +1,124 @@
+//! The functions and structs of include/precopy.h, as they are in C.
+
+use crate::{Page, Round, Taken};
+use std::os::raw::c_char;
+
+#[repr(C)]
+#[derive(Clone, Copy, Default)]
+pub struct Sizes {
+    pub shift: u32,
+    pub pages: u32,
+    pub writes: u32,
+}
+
+#[repr(C)]
+#[derive(Clone, Copy)]
+pub struct Settings {
+    pub min: u64,
+    pub max: u64,
+    pub increment: u64,
+    pub threshold: u64,
+    pub rounds: u64,
+    pub start: u64,
+    pub window: u64,
+    pub hot: u64,
+    pub base: u64,
+    pub has_base: u32,
+    pub skip: u32,
+}
+
+#[repr(C)]
+#[derive(Clone, Copy, Default)]
+pub struct Sums {
+    pub rounds: u64,
+    pub reason: u64,
+    pub stop: u64,
+    pub down: u64,
+    pub total: u64,
+}
+
+#[repr(C)]
+#[derive(Clone, Copy, Default)]
+pub struct Frame {
+    pub page: u32,
+    pub stamp: u32,
+    pub size: usize,
+}
+
+extern "C" {
+    pub fn precopy_strerror(status: u32) -> *const c_char;
+    pub fn precopy_version() -> *const c_char;
+    pub fn precopy_check_trace(trace: *const u8, trace_length: usize, sizes: *mut Sizes, record: *mut u32) -> u32;
+    pub fn precopy_check_settings(settings: *const Settings) -> u32;
+    pub fn precopy_plan(trace: *const u8, trace_length: usize, settings: *const Settings, sums: *mut Sums) -> u32;
+    pub fn precopy_rounds(
+        trace: *const u8,
+        trace_length: usize,
+        settings: *const Settings,
+        rounds: *mut Round,
+        rounds_length: usize,
+        count: *mut usize,
+    ) -> u32;
+    pub fn precopy_report(
+        trace: *const u8,
+        trace_length: usize,
+        settings: *const Settings,
+        text: *mut u8,
+        text_length: usize,
+        needed: *mut usize,
+    ) -> u32;
+    pub fn precopy_sweep(
+        trace: *const u8,
+        trace_length: usize,
+        cases: *const Settings,
+        cases_length: usize,
+        sums: *mut Sums,
+        sums_length: usize,
+        best: *mut usize,
+    ) -> u32;
+    pub fn precopy_memory(
+        trace: *const u8,
+        trace_length: usize,
+        memory: *mut u8,
+        memory_length: usize,
+        needed: *mut usize,
+    ) -> u32;
+    pub fn precopy_memory_before(
+        trace: *const u8,
+        trace_length: usize,
+        tick: u64,
+        memory: *mut u8,
+        memory_length: usize,
+        needed: *mut usize,
+    ) -> u32;
+    pub fn precopy_encode_frame(
+        sizes: *const Sizes,
+        page: u32,
+        stamp: u32,
+        bytes: *const u8,
+        bytes_length: usize,
+        frame: *mut u8,
+        frame_length: usize,
+        needed: *mut usize,
+    ) -> u32;
+    pub fn precopy_decode_frame(
+        sizes: *const Sizes,
+        bytes: *const u8,
+        bytes_length: usize,
+        frame: *mut Frame,
+        content: *mut u8,
+        content_length: usize,
+    ) -> u32;
+    pub fn precopy_accept(
+        sizes: *const Sizes,
+        stream: *const u8,
+        stream_length: usize,
+        memory: *mut u8,
+        memory_length: usize,
+        pages: *mut Page,
+        pages_length: usize,
+        taken: *mut Taken,
+    ) -> u32;
+    pub fn precopy_missing(pages: *const Page, pages_length: usize, page: *mut usize) -> u32;
+    pub fn precopy_is_zero(bytes: *const u8, bytes_length: usize) -> bool;
+}

@@ -1,0 +1,130 @@
+//! Why calls refuse.
+
+use crate::{calls, Taken};
+use std::ffi::CStr;
+use std::fmt;
+
+/// The numbers of `enum precopy_status` in `include/precopy.h`, which says what each means.
+pub mod status {
+    #![allow(missing_docs)]
+
+    pub const OK: u32 = 0;
+    pub const SHORT_HEADER: u32 = 1;
+    pub const BAD_MAGIC: u32 = 2;
+    pub const BAD_VERSION: u32 = 3;
+    pub const BAD_SHIFT: u32 = 4;
+    pub const BAD_RESERVED: u32 = 5;
+    pub const BAD_PAGES: u32 = 6;
+    pub const TOO_MANY_WRITES: u32 = 7;
+    pub const SHORT_RECORD: u32 = 8;
+    pub const TICK_ORDER: u32 = 9;
+    pub const TICK_TOO_LARGE: u32 = 10;
+    pub const PAGE_OUT_OF_RANGE: u32 = 11;
+    pub const EMPTY_WRITE: u32 = 12;
+    pub const OUT_OF_PAGE: u32 = 13;
+    pub const TRAILING_BYTES: u32 = 14;
+    pub const TOO_LONG: u32 = 15;
+    pub const NO_MEMORY: u32 = 16;
+    pub const BAD_MIN: u32 = 21;
+    pub const BAD_MAX: u32 = 22;
+    pub const BAD_INCREMENT: u32 = 23;
+    pub const BAD_THRESHOLD: u32 = 24;
+    pub const BAD_ROUNDS: u32 = 25;
+    pub const BAD_WINDOW: u32 = 26;
+    pub const BAD_HOT: u32 = 27;
+    pub const BAD_START: u32 = 28;
+    pub const BAD_BASE: u32 = 30;
+    pub const FRAME_SHORT: u32 = 41;
+    pub const FRAME_PAGE: u32 = 42;
+    pub const FRAME_STAMP: u32 = 43;
+    pub const FRAME_KIND: u32 = 44;
+    pub const FRAME_ZEROS: u32 = 45;
+    pub const SHORT_BUFFER: u32 = 61;
+    pub const PAGE_LENGTH: u32 = 62;
+    pub const MEMORY_LENGTH: u32 = 63;
+    pub const PAGE_COUNT: u32 = 64;
+    pub const PAGE_MISSING: u32 = 65;
+}
+
+/// A call refused, with its status: a number of the module [`status`]. Its text says what the status means.
+#[derive(Clone, Copy, Debug, PartialEq, Eq)]
+#[non_exhaustive]
+pub enum Refused {
+    /// The bytes are not a trace, or no trace has such sizes. `record` is the record that is named, if one is.
+    #[allow(missing_docs)]
+    Trace { status: u32, record: Option<u32> },
+    /// A setting is out of its range.
+    #[allow(missing_docs)]
+    Settings { status: u32 },
+    /// Bytes begin with no frame, or no frame has such a page or stamp. `taken` is what of a stream was taken before.
+    #[allow(missing_docs)]
+    Frame { status: u32, taken: Taken },
+    /// A slice has fewer elements than `needed`, and nothing was written into it.
+    #[allow(missing_docs)]
+    ShortBuffer { needed: usize },
+    /// The length of a slice is not that of a page, of the memory, or of the table of pages.
+    #[allow(missing_docs)]
+    Length { status: u32 },
+    /// Memory ran out.
+    NoMemory,
+}
+
+impl Refused {
+    /// The refusal of a status that is not 0. What the call said besides is added by its caller.
+    pub(crate) fn of(status: u32) -> Refused {
+        match status {
+            status::SHORT_HEADER..=status::TOO_LONG => Refused::Trace { status, record: None },
+            status::NO_MEMORY => Refused::NoMemory,
+            status::BAD_MIN..=status::BAD_BASE => Refused::Settings { status },
+            status::FRAME_SHORT..=status::FRAME_ZEROS => {
+                let taken = Taken::default();
+                Refused::Frame { status, taken }
+            }
+            status => Refused::Length { status },
+        }
+    }
+
+    /// Returns the number of `enum precopy_status`.
+    pub fn status(&self) -> u32 {
+        match *self {
+            Refused::Trace { status, .. }
+            | Refused::Settings { status }
+            | Refused::Frame { status, .. }
+            | Refused::Length { status } => status,
+            Refused::ShortBuffer { .. } => status::SHORT_BUFFER,
+            Refused::NoMemory => status::NO_MEMORY,
+        }
+    }
+}
+
+impl fmt::Display for Refused {
+    fn fmt(&self, f: &mut fmt::Formatter<'_>) -> fmt::Result {
+        // SAFETY: the text is never null, ends with a 0, and stays.
+        let text = unsafe { CStr::from_ptr(calls::precopy_strerror(self.status())) };
+        f.write_str(&text.to_string_lossy())?;
+        match self {
+            Refused::Trace {
+                record: Some(record), ..
+            } => write!(f, ", record {record}"),
+            _ => Ok(()),
+        }
+    }
+}
+
+impl std::error::Error for Refused {}
+
+/// Returns an error for a status that is not 0.
+pub(crate) fn checked(status: u32) -> Result<(), Refused> {
+    match status {
+        status::OK => Ok(()),
+        status => Err(Refused::of(status)),
+    }
+}
+
+/// Like [`checked`], of a call that says how long its buffer must be.
+pub(crate) fn checked_buffer(status: u32, needed: usize) -> Result<usize, Refused> {
+    match status {
+        status::SHORT_BUFFER => Err(Refused::ShortBuffer { needed }),
+        status => checked(status).map(|()| needed),
+    }
+}

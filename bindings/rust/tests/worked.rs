@@ -1,0 +1,212 @@
+//! Worked examples of each call, whose values were worked out by hand; those of checks/library_rows.c.
+
+use precopy::{status, Reason, Refused, Settings, Sizes, Sums, Taken};
+
+/// Pages of 16 bytes, 4 pages, 5 writes: of pages 0 and 1 at ticks 0 and 5, of page 1 at tick 1200, of pages 3 and 1 at
+/// tick 2500.
+#[rustfmt::skip]
+const TRACE: [u8; 102] = [
+    0x50, 0x43, 0x57, 0x54, 1, 4, 0, 0, 4, 0, 0, 0, 5, 0, 0, 0,
+    0, 0, 0, 0, 0, 0, 0, 0, 0, 0, 0, 0, 0, 0, 1, 0, 1,
+    5, 0, 0, 0, 0, 0, 0, 0, 1, 0, 0, 0, 15, 0, 1, 0, 2,
+    0xb0, 4, 0, 0, 0, 0, 0, 0, 1, 0, 0, 0, 0, 0, 1, 0, 3,
+    0xc4, 9, 0, 0, 0, 0, 0, 0, 3, 0, 0, 0, 2, 0, 2, 0, 4, 5,
+    0xc4, 9, 0, 0, 0, 0, 0, 0, 1, 0, 0, 0, 0, 0, 1, 0, 0,
+];
+const REPORT: &str = "trace pages 4 size 16 writes 5
+window 0 writes 2 pages 2 again 0 fresh 2
+window 1 writes 1 pages 1 again 1 fresh 0
+window 2 writes 2 pages 2 again 1 fresh 1
+hot 2 pages 1
+page 1
+round 0 from 0 to 2000 rate 2 pages 4 sent 4 dirtied 2
+round 1 from 2000 to 3000 rate 2 pages 2 sent 2 dirtied 2
+round 2 from 3000 to 3667 rate 3 pages 2 sent 2 dirtied 0
+stop few at 3667 pages 0 down 0 total 8
+";
+
+fn slow() -> Settings {
+    Settings {
+        min: 2,
+        max: 4,
+        increment: 1,
+        threshold: 1,
+        rounds: 8,
+        ..Settings::default()
+    }
+}
+
+fn sums(rounds: u64, reason: Reason, stop: u64, down: u64, total: u64) -> Sums {
+    Sums {
+        rounds,
+        reason,
+        stop,
+        down,
+        total,
+    }
+}
+
+#[test]
+fn plans() {
+    assert_eq!(precopy::plan(&TRACE, &slow()), Ok(sums(3, Reason::Few, 3667, 0, 8)));
+    let rounds = precopy::rounds(&TRACE, &slow()).unwrap();
+    let first: Vec<_> = rounds.iter().map(|it| (it.from, it.to, it.rate)).collect();
+    assert_eq!(first, [(0, 2000, 2), (2000, 3000, 2), (3000, 3667, 3)]);
+    let rest: Vec<_> = rounds.iter().map(|it| (it.pages, it.sent, it.dirtied)).collect();
+    assert_eq!(rest, [(4, 4, 2), (2, 2, 2), (2, 2, 0)]);
+    let mut two = [precopy::Round::default(); 2];
+    let refused = precopy::rounds_into(&TRACE, &slow(), &mut two);
+    assert_eq!(refused, Err(Refused::ShortBuffer { needed: 3 }));
+    assert_eq!(two, [precopy::Round::default(); 2]);
+    let warm = Settings {
+        start: 1201,
+        base: Some(6),
+        ..slow()
+    };
+    let rounds = precopy::rounds(&TRACE, &warm).unwrap();
+    assert_eq!((rounds.len(), rounds[0].pages, rounds[0].to), (1, 1, 1701));
+}
+
+#[test]
+fn reports() {
+    assert_eq!(precopy::report(&TRACE, &slow()).as_deref(), Ok(REPORT));
+    let mut text = [7; 400];
+    let short = precopy::report_into(&TRACE, &slow(), &mut text[..REPORT.len() - 1]);
+    assert_eq!(short, Err(Refused::ShortBuffer { needed: REPORT.len() }));
+    assert_eq!(text, [7; 400]);
+    assert_eq!(precopy::report_into(&TRACE, &slow(), &mut text), Ok(REPORT.len()));
+    assert_eq!(&text[..REPORT.len()], REPORT.as_bytes());
+    assert!(REPORT.len() <= precopy::longest_report(TRACE.len()));
+}
+
+#[test]
+fn sweeps() {
+    let few = Settings { threshold: 3, ..slow() };
+    let fast = Settings { max: 2, ..slow() };
+    let found = precopy::sweep(&TRACE, &[few, fast, slow()]).unwrap();
+    assert_eq!(found.best, 2);
+    assert_eq!(found.sums[0], sums(1, Reason::Few, 2000, 500, 6));
+    assert_eq!(found.sums[1], sums(2, Reason::Fast, 3000, 1000, 8));
+    let bad = Settings { max: 1, ..slow() };
+    let refused = Err(Refused::Settings {
+        status: status::BAD_MAX,
+    });
+    assert_eq!(precopy::sweep(&TRACE, &[few, bad]).map(|_| ()), refused);
+    assert_eq!((bad.check(), slow().check()), (refused, Ok(())));
+    assert_eq!(precopy::sweep(&TRACE, &[]).unwrap().sums, []);
+}
+
+#[test]
+fn memories() {
+    let mut wanted = [0; 64];
+    (wanted[0], wanted[16], wanted[31]) = (1, 3, 2);
+    assert_eq!(precopy::memory_before(&TRACE, 2500).as_deref(), Ok(&wanted[..]));
+    (wanted[16], wanted[50], wanted[51]) = (0, 4, 5);
+    assert_eq!(precopy::memory_before(&TRACE, 2501).as_deref(), Ok(&wanted[..]));
+    assert_eq!(precopy::memory(&TRACE).as_deref(), Ok(&wanted[..]));
+    assert_eq!(precopy::memory_before(&TRACE, u64::MAX).as_deref(), Ok(&wanted[..]));
+    let mut memory = [9; 66];
+    let short = precopy::memory_into(&TRACE, &mut memory[..63]);
+    assert_eq!((short, memory), (Err(Refused::ShortBuffer { needed: 64 }), [9; 66]));
+    assert_eq!(precopy::memory_before_into(&TRACE, 2501, &mut memory), Ok(64));
+    assert_eq!((&memory[..64], &memory[64..]), (&wanted[..], &[9, 9][..]));
+}
+
+#[test]
+fn traces() {
+    let sizes = precopy::check_trace(&TRACE).unwrap();
+    assert_eq!((sizes.shift(), sizes.pages(), sizes.writes()), (4, 4, 5));
+    assert_eq!((sizes.page_length(), sizes.memory_length()), (16, 64));
+    let cut = Refused::Trace {
+        status: status::SHORT_RECORD,
+        record: Some(4),
+    };
+    for refused in [
+        precopy::check_trace(&TRACE[..101]).map(|_| ()),
+        precopy::plan(&TRACE[..101], &slow()).map(|_| ()),
+        precopy::rounds(&TRACE[..101], &slow()).map(|_| ()),
+        precopy::report(&TRACE[..101], &slow()).map(|_| ()),
+        precopy::sweep(&TRACE[..101], &[slow()]).map(|_| ()),
+        precopy::memory(&TRACE[..101]).map(|_| ()),
+        precopy::memory_into(&TRACE[..101], &mut [0; 64]).map(|_| ()),
+        precopy::memory_before(&TRACE[..101], 9).map(|_| ()),
+    ] {
+        assert_eq!(refused, Err(cut));
+    }
+    assert_eq!(cut.to_string(), "trace E8: a record is cut off, record 4");
+    let short = Refused::Trace {
+        status: status::SHORT_HEADER,
+        record: None,
+    };
+    assert_eq!(precopy::plan(&[], &slow()), Err(short));
+}
+
+#[test]
+fn frames() {
+    let sizes = Sizes::new(4, 2, 5).unwrap();
+    let (mut page, zeros) = ([0; 16], [0; 16]);
+    page[15] = 2;
+    let text = precopy::encode_frame(&sizes, 1, 5, &page).unwrap();
+    assert_eq!(text, [&[1, 0, 0, 0, 5, 0, 0, 0, 1][..], &page[..]].concat());
+    let last = precopy::encode_frame(&sizes, 1, 3, &zeros).unwrap();
+    assert_eq!(last, [1, 0, 0, 0, 3, 0, 0, 0, 0]);
+    let taken = Taken::default();
+    for (page_number, stamp, status) in [(2, 5, status::FRAME_PAGE), (1, 6, status::FRAME_STAMP)] {
+        let refused = precopy::encode_frame(&sizes, page_number, stamp, &page);
+        assert_eq!(refused, Err(Refused::Frame { status, taken }));
+    }
+    let length = Refused::Length {
+        status: status::PAGE_LENGTH,
+    };
+    assert_eq!(precopy::encode_frame(&sizes, 1, 5, &page[..15]), Err(length));
+    let short = precopy::encode_frame_into(&sizes, 1, 5, &page, &mut [0; 24]);
+    assert_eq!(short, Err(Refused::ShortBuffer { needed: 25 }));
+    let (frame, content) = precopy::decode_frame(&sizes, &text).unwrap();
+    assert_eq!(
+        (frame.page, frame.stamp, frame.size, &content[..]),
+        (1, 5, 25, &page[..])
+    );
+    let short = precopy::decode_frame_into(&sizes, &text, &mut [0; 15]);
+    assert_eq!(short, Err(Refused::ShortBuffer { needed: 16 }));
+    assert!(precopy::is_zero(&zeros) && precopy::is_zero(&[]) && !precopy::is_zero(&page));
+}
+
+#[test]
+fn flat_memory() {
+    let sizes = Sizes::new(4, 2, 5).unwrap();
+    let page = [3; 16];
+    let newer = precopy::encode_frame(&sizes, 1, 5, &page).unwrap();
+    let stream = [&newer[..], &precopy::encode_frame(&sizes, 1, 3, &[0; 16]).unwrap()].concat();
+    let mut flat = precopy::FlatMemory::new(sizes).unwrap();
+    assert_eq!(flat.accept(&stream), Ok(Taken { frames: 2, bytes: 34 }));
+    assert_eq!((&flat.bytes()[16..], flat.missing()), (&page[..], Some(0)));
+    assert_eq!((flat.pages()[0].stamp(), flat.pages()[1].stamp()), (None, Some(5)));
+    let taken = Taken { frames: 1, bytes: 25 };
+    let cut = Refused::Frame {
+        status: status::FRAME_SHORT,
+        taken,
+    };
+    assert_eq!(
+        (flat.accept(&stream[..33]), flat.accept_front(&stream[..33])),
+        (Err(cut), Ok(taken))
+    );
+    flat.accept(&precopy::encode_frame(&sizes, 0, 0, &[0; 16]).unwrap())
+        .unwrap();
+    assert_eq!(flat.missing(), None);
+    let (mut memory, mut pages) = flat.into_parts();
+    let length = Refused::Length {
+        status: status::MEMORY_LENGTH,
+    };
+    assert_eq!(
+        precopy::accept(&sizes, &stream, &mut memory[..31], &mut pages),
+        Err(length)
+    );
+    let count = Refused::Length {
+        status: status::PAGE_COUNT,
+    };
+    assert_eq!(
+        precopy::accept(&sizes, &stream, &mut memory, &mut pages[..1]),
+        Err(count)
+    );
+    assert_eq!((precopy::missing(&pages), precopy::missing(&[])), (None, None));
+}
