@@ -119,8 +119,11 @@ def calls_in(crate, path):
             continue
         clauses, end = contract_from(text, found.start())
         name = f"{owner[2]}::{found['name']}" if owner else found["name"]
-        contract, comment = text[found.start() : end], comment_above(text, found.start(), "///")
-        yield Entry(crate, os.path.basename(path), name, clauses, contract, comment)
+        comment = comment_above(text, found.start(), "///")
+        if owner and owner[3] and not comment:
+            # A trait of one call may say it all itself.
+            comment = comment_above(text, text.rindex("\n", 0, owner[0]) + 1, "///")
+        yield Entry(crate, os.path.basename(path), name, clauses, text[found.start() : end], comment)
 
 
 @functools.lru_cache(maxsize=None)
