@@ -191,9 +191,9 @@ uint32_t precopy_report(const uint8_t *trace, size_t trace_length, const struct 
  * number of the best case: the first with the least downtime, and of these the first with the fewest pages sent. With
  * no cases it is 0.
  *
- * If there are fewer sums than cases, it returns PRECOPY_SHORT_BUFFER; it needs as many sums as cases. It refuses the
- * first case that is out of range; precopy_check_settings finds which that is. It takes 20 bytes for each write, and
- * memory for each case.
+ * If there are fewer sums than cases, it returns PRECOPY_SHORT_BUFFER; it needs as many sums as cases. That is tested
+ * first, then the cases, and then the trace. It refuses the first case that is out of range; precopy_check_settings
+ * finds which that is. It takes 20 bytes for each write, and memory for each case.
  */
 uint32_t precopy_sweep(const uint8_t *trace, size_t trace_length, const struct precopy_settings *cases,
                        size_t cases_length, struct precopy_sums *sums, size_t sums_length, size_t *best);
@@ -229,7 +229,8 @@ struct precopy_frame {
  * Encodes the frame of a page at a stamp, with these bytes of the page. *needed is how many bytes the frame has: 9
  * for a page of zeros, or 9 and those of the page.
  *
- * If the buffer is shorter, it returns PRECOPY_SHORT_BUFFER and writes only *needed. It takes memory for one frame.
+ * The sizes are tested first, then the page, the stamp, and the number of bytes. If the buffer is shorter than the
+ * frame, it returns PRECOPY_SHORT_BUFFER and writes only *needed. It takes memory for one frame.
  */
 uint32_t precopy_encode_frame(const struct precopy_sizes *sizes, uint32_t page, uint32_t stamp, const uint8_t *bytes,
                               size_t bytes_length, uint8_t *frame, size_t frame_length, size_t *needed);
@@ -238,8 +239,8 @@ uint32_t precopy_encode_frame(const struct precopy_sizes *sizes, uint32_t page, 
  * Decodes the frame at the front of some bytes: writes what it has into *frame, and the bytes of its page to
  * `content`.
  *
- * Bytes after the frame are left: the next frame begins at bytes + frame->size. If `content` is shorter than a page, it
- * returns PRECOPY_SHORT_BUFFER. It takes no memory.
+ * Bytes after the frame are left: the next frame begins at bytes + frame->size. The sizes are tested first, and then
+ * the frame. If `content` is then shorter than a page, it returns PRECOPY_SHORT_BUFFER. It takes no memory.
  */
 uint32_t precopy_decode_frame(const struct precopy_sizes *sizes, const uint8_t *bytes, size_t bytes_length,
                               struct precopy_frame *frame, uint8_t *content, size_t content_length);
@@ -266,7 +267,8 @@ struct precopy_taken {
  * there are; stream + taken->bytes is where the refused one begins. So if a stream comes in pieces, keep what
  * PRECOPY_FRAME_SHORT leaves, and append the next piece to it.
  *
- * Any other status leaves memory, pages and *taken as they were. It takes no memory.
+ * Any other status leaves memory, pages and *taken as they were. The sizes are tested first, then the length of memory,
+ * and then the number of pages. It takes no memory.
  */
 uint32_t precopy_accept(const struct precopy_sizes *sizes, const uint8_t *stream, size_t stream_length, uint8_t *memory,
                         size_t memory_length, struct precopy_page *pages, size_t pages_length,

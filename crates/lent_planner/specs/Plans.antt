@@ -2,7 +2,7 @@
 use Rattle.std.specs.Prelude.{◌≡◌, ◌≤◌, ℕ, List, length, Some}
 use Rattle.migration_model.specs.Trace.{GuestTrace, Spells}
 use Rattle.migration_model.specs.Touches.{touches_of}
-use Rattle.migration_model.specs.Rates.{MigrationSettings, StopReason, few_remain, too_fast, rounds_done}
+use Rattle.migration_model.specs.Rates.{AreSettings, MigrationSettings, StopReason, few_remain, too_fast, rounds_done}
 use Rattle.migration_model.specs.Sweeps.{PlanOutcome}
 use Rattle.page_bitmap.specs.Listing.{word_count}
 use Rattle.rate_limit.specs.Refusals.{refusal_of}
@@ -55,9 +55,9 @@ pub record IsSummedOf (bytes : List ℕ) (settings : MigrationSettings)
   pub is_planned : IsPlannedOf bytes settings outcome old new
   pub sums_are : sums ≡ sums_of outcome
 
--- no plan is made: the settings are refused, or the bytes, or what is lent is too short
+-- no plan is made: the settings are refused, or else the bytes, or else what is lent is too short
 abbrev pub RefusesPlan : List ℕ → MigrationSettings → PlanRoom → Refusal → Type 0
 RefusesPlan bytes settings room (refusals.Settings e) = refusal_of settings ≡ Some e
-RefusesPlan bytes settings room (refusals.Trace e) = Refuses bytes e
+RefusesPlan bytes settings room (refusals.Trace e) = AreSettings settings × Refuses bytes e
 RefusesPlan bytes settings room refusals.ShortBuffer =
-    (trace : GuestTrace) × Spells bytes trace × (HasRoom trace settings room → ⊥)
+    AreSettings settings × (trace : GuestTrace) × Spells bytes trace × (HasRoom trace settings room → ⊥)

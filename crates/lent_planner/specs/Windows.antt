@@ -2,7 +2,7 @@
 use Rattle.std.specs.Prelude.{◌≡◌, ◌≤◌, ℕ, List, length, Some}
 use Rattle.migration_model.specs.Trace.{GuestTrace, Spells}
 use Rattle.migration_model.specs.Touches.{touches_of}
-use Rattle.migration_model.specs.Rates.{MigrationSettings}
+use Rattle.migration_model.specs.Rates.{AreSettings, MigrationSettings}
 use Rattle.migration_model.specs.Windows.{rows_of}
 use Rattle.rate_limit.specs.Refusals.{refusal_of}
 use Rattle.trace_codec.specs.Refusals.{Refuses}
@@ -35,9 +35,9 @@ pub record AreWindowsOf (bytes : List ℕ) (settings : MigrationSettings)
   pub spells : Spells bytes trace
   pub are_put : ArePut trace settings count old new
 
--- no rows are written: the settings are refused, or the bytes, or what is lent is too short
+-- no rows are written: the settings are refused, or else the bytes, or else what is lent is too short
 abbrev pub RefusesWindows : List ℕ → MigrationSettings → WindowRoom → Refusal → Type 0
 RefusesWindows bytes settings room (refusals.Settings e) = refusal_of settings ≡ Some e
-RefusesWindows bytes settings room (refusals.Trace e) = Refuses bytes e
+RefusesWindows bytes settings room (refusals.Trace e) = AreSettings settings × Refuses bytes e
 RefusesWindows bytes settings room refusals.ShortBuffer =
-    (trace : GuestTrace) × Spells bytes trace × (HasRoom trace settings room → ⊥)
+    AreSettings settings × (trace : GuestTrace) × Spells bytes trace × (HasRoom trace settings room → ⊥)

@@ -123,7 +123,8 @@ fn planned(
     ensures only { (t : GuestTrace) → Spells bytes.now t → AreSettings (settings_in settings.now)
         → HasRoom t (settings_in settings.now) (room_of (length touches.old) (length marks.old) (length list.old)
         (length rounds.old)) → IsOk result }
-    ensures unchanged { OnErr result (rounds.new ≡ rounds.old) }
+    ensures unchanged { OnErr result ((rounds.new ≡ rounds.old) × (touches.new ≡ touches.old)
+        × (marks.new ≡ marks.old) × (list.new ≡ list.old)) }
 {
     let settings = settings.checked()?;
     let trace = TraceView::parse(bytes)?;
@@ -158,7 +159,8 @@ pub extern "C" fn lent_plan(
     ensures only { (t : GuestTrace) → Spells trace.now t → AreSettings (settings_in settings.now)
         → HasRoom t (settings_in settings.now) (room_of (length touches.old) (length marks.old) (length list.old)
         (length rounds.old)) → result ≡ 0 }
-    ensures unchanged { result ≢ 0 → (sums.new ≡ sums.old) × (rounds.new ≡ rounds.old) }
+    ensures unchanged { result ≢ 0 → (sums.new ≡ sums.old) × (rounds.new ≡ rounds.old) × (touches.new ≡ touches.old)
+        × (marks.new ≡ marks.old) × (list.new ≡ list.old) }
 {
     match planned(trace, settings, touches, marks, list, rounds) {
         Ok(outcome) => {

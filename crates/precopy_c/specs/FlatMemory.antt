@@ -4,7 +4,7 @@ use Rattle.std.specs.Prelude.{◌≡◌, ◌≢◌, ℕ, ◌*◌, ◌^◌, ◌==
 use Rattle.std.specs.Prelude.{None}
 use Rattle.std.specs.Prelude.{slice_index_or}
 use Rattle.std.specs.List.{range_with_len}
-use Rattle.migration_model.specs.Frames.{GuestShape}
+use Rattle.migration_model.specs.Frames.{GuestShape, IsGuestShape}
 use Rattle.migration_model.specs.Memory.{memory_with, page_of}
 use Rattle.migration_model.specs.Parts.{GuestPart, PageCopy, part_with}
 use Rattle.collector.specs.Streams.{TakesFrames}
@@ -13,7 +13,7 @@ use Rattle.precopy_c.specs.declared.flat_memory.StreamTaken.{StreamTaken}
 use Rattle.precopy_c.specs.declared.sizes.GuestSizes.{GuestSizes}
 use Rattle.precopy_c.specs.declared.answers.Refusal.{Refusal}
 use Rattle.precopy_c.specs.declared.answers.Refusal.TheVariants as refusals
-use Rattle.precopy_c.specs.Settings.{shape_refusal}
+use Rattle.precopy_c.specs.Settings.{shape_in, shape_refusal}
 
 -- the state of a page that did not come
 abbrev pub not_come : PageState
@@ -50,11 +50,13 @@ pub record TakesFlat (shape : GuestShape) (old new : List ℕ) (old_states new_s
   pub rest_is : rest ≡ drop taken.bytes bytes
   pub others : KeepsOthers shape old new new_states
 
--- no frame is taken: the sizes are refused, or there are not as many bytes or states as they say
+-- no frame is taken: the sizes are refused, or else there are not as many bytes as they say, or else not as many states
 abbrev pub RefusesFlat : GuestSizes → ℕ → ℕ → Refusal → Type 0
 RefusesFlat sizes bytes states (refusals.Trace e) = shape_refusal sizes ≡ Some e
-RefusesFlat sizes bytes states refusals.MemoryLength = bytes ≢ sizes.pages * 2 ^ sizes.shift
-RefusesFlat sizes bytes states refusals.PageCount = states ≢ sizes.pages
+RefusesFlat sizes bytes states refusals.MemoryLength = IsGuestShape (shape_in sizes)
+    × (bytes ≢ sizes.pages * 2 ^ sizes.shift)
+RefusesFlat sizes bytes states refusals.PageCount = IsGuestShape (shape_in sizes)
+    × (bytes ≡ sizes.pages * 2 ^ sizes.shift) × (states ≢ sizes.pages)
 RefusesFlat sizes bytes states (refusals.Frame e) = ⊥
 RefusesFlat sizes bytes states refusals.ShortBuffer = ⊥
 RefusesFlat sizes bytes states refusals.PageLength = ⊥

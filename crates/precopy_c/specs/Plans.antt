@@ -1,8 +1,8 @@
 -- What C sees of plans and reports, and why there is none.
-use Rattle.std.specs.Prelude.{◌≡◌, ℕ, List, length, Some, ⊤}
+use Rattle.std.specs.Prelude.{◌≡◌, ℕ, List, length, Some}
 use Rattle.migration_model.specs.Trace.{GuestTrace, Spells}
 use Rattle.migration_model.specs.Touches.{touches_of}
-use Rattle.migration_model.specs.Rates.{MigrationSettings, StopReason, few_remain, too_fast, rounds_done}
+use Rattle.migration_model.specs.Rates.{AreSettings, MigrationSettings, StopReason, few_remain, too_fast, rounds_done}
 use Rattle.migration_model.specs.Rounds.{IsPlan, MigrationPlan, PlannedRound}
 use Rattle.migration_model.specs.Sweeps.{PlanOutcome}
 use Rattle.rate_limit.specs.Refusals.{refusal_of}
@@ -52,11 +52,11 @@ pub record IsReportOf (bytes : List ℕ) (settings : MigrationSettings) (text : 
   pub spells : Spells bytes trace
   pub is_report : IsReport trace settings text
 
--- no plan or report is made: the settings are refused, or the bytes, or memory ran out
+-- no plan or report is made: the settings are refused, or else the bytes, or memory ran out
 abbrev pub RefusesPlan : List ℕ → MigrationSettings → Refusal → Type 0
 RefusesPlan bytes settings (refusals.Settings e) = refusal_of settings ≡ Some e
-RefusesPlan bytes settings (refusals.Trace e) = RefusesUnlessMemory bytes e
-RefusesPlan bytes settings refusals.Memory = ⊤
+RefusesPlan bytes settings (refusals.Trace e) = AreSettings settings × RefusesUnlessMemory bytes e
+RefusesPlan bytes settings refusals.Memory = AreSettings settings × (trace : GuestTrace) × Spells bytes trace
 RefusesPlan bytes settings (refusals.Frame e) = ⊥
 RefusesPlan bytes settings refusals.ShortBuffer = ⊥
 RefusesPlan bytes settings refusals.PageLength = ⊥

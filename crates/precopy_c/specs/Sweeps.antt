@@ -32,10 +32,10 @@ pub record RefusesCase (cases : List MigrationSettings) (e : SettingsError) : Ty
   pub in_range : All AreSettings before
   pub refused : refusal_of case ≡ Some e
 
--- no lines are made: a case is refused, or the bytes, or memory ran out
+-- no lines are made: a case is refused, or else the bytes, or memory ran out
 abbrev pub RefusesSweep : List ℕ → List MigrationSettings → Refusal → Type 0
 RefusesSweep bytes cases (refusals.Settings e) = RefusesCase cases e
-RefusesSweep bytes cases (refusals.Trace e) = RefusesUnlessMemory bytes e
+RefusesSweep bytes cases (refusals.Trace e) = All AreSettings cases × RefusesUnlessMemory bytes e
 RefusesSweep bytes cases refusals.Memory = ⊤
 RefusesSweep bytes cases (refusals.Frame e) = ⊥
 RefusesSweep bytes cases refusals.ShortBuffer = ⊥

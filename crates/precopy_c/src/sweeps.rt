@@ -22,6 +22,7 @@ use trace_readers::TouchLog;
 /// Returns the settings of all cases, or the refusal of the first that is out of range.
 fn checked_cases(alloc: Global, cases: &[PlanSettings]) -> Result<Vec<Settings>, Refusal>
     ensures made { IfOk result (λ checked. checked.items ≡ map settings_in cases.now) }
+    ensures in_range { IfOk result (λ checked. All AreSettings checked.items) }
     ensures refused { (bytes : List ℕ) → IfErr result (RefusesSweep bytes (map settings_in cases.now)) }
     ensures only { All AreSettings (map settings_in cases.now) → IfErr result (λ e. e ≡ Refusal.Memory) }
 {
@@ -95,7 +96,8 @@ pub extern "C" fn precopy_sweep(
 ) -> u32
     ensures made { result ≡ 0 → (lines : List SweepLine) × IsSweepOf trace.now (map settings_in cases.now) lines
         × (found.new ≡ over (map line_sums lines) found.old) × (chosen.new ≡ best_of lines) }
-    ensures short { result ≡ 61 → length found.old < length cases.now }
+    ensures short { length found.old < length cases.now → result ≡ 61 }
+    ensures long { result ≡ 61 → length found.old < length cases.now }
     ensures refused { result ≢ 0 → result ≢ 61
         → IsNumberOf result (RefusesSweep trace.now (map settings_in cases.now)) }
     ensures only { (t : GuestTrace) → Spells trace.now t → All AreSettings (map settings_in cases.now)
