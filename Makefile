@@ -4,7 +4,7 @@
 #     make lib                        builds the library for C in out/library, in the same way
 #     make page                       builds the planner as one page, out/precopy.html, and its WebAssembly module
 #     make install PREFIX=/usr        installs below PREFIX: programs, tools, manuals, completions, documents, examples,
-#                                     the library with its header, and precopy.pc for pkg-config
+#                                     the page, the library with its header, and precopy.pc for pkg-config
 #     make uninstall PREFIX=/usr      removes the same files
 #     make deb                        makes packages for Debian in out/: the programs, the library, its header
 #     make dist                       makes a tarball for other systems in out/, and its checksum
@@ -26,16 +26,16 @@ lib:
 	$(PACK) lib
 
 page:
-	tools/page-module out/lent_planner.wasm
+	tools/page-module --if-needed out/lent_planner.wasm
 	tools/join-page out/lent_planner.wasm out/precopy.html
 
-install: all lib
+install: all lib page
 	$(PACK) install $(WHERE)
 
 uninstall:
 	$(PACK) uninstall $(WHERE)
 
-deb dist: all lib
+deb dist: all lib page
 	$(PACK) $@ $(if $(MAINTAINER),--maintainer "$(MAINTAINER)")
 
 .PHONY: all lib page install uninstall deb dist
