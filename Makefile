@@ -4,7 +4,7 @@
 #     make lib                        builds the library for C in out/library, in the same way
 #     make page                       builds the planner as one page, out/precopy.html, and its WebAssembly module
 #     make install PREFIX=/usr        installs below PREFIX: programs, tools, manuals, completions, documents, examples,
-#                                     the library with its header, and precopy.pc for pkg-config
+#                                     the page, the library with its header, and precopy.pc for pkg-config
 #     make install-lib PREFIX=/usr    installs the library alone: archive, shared library, header, precopy.pc, and the
 #                                     crate for Rust in share/precopy/rust
 #     make uninstall PREFIX=/usr      removes what make install put there; make uninstall-lib, what make install-lib did
@@ -28,10 +28,10 @@ lib:
 	$(PACK) lib
 
 page:
-	tools/page-module out/lent_planner.wasm
+	tools/page-module --if-needed out/lent_planner.wasm
 	tools/join-page out/lent_planner.wasm out/precopy.html
 
-install: all lib
+install: all lib page
 	$(PACK) install $(WHERE)
 
 install-lib: lib
@@ -40,7 +40,7 @@ install-lib: lib
 uninstall uninstall-lib:
 	$(PACK) $@ $(WHERE)
 
-deb dist: all lib
+deb dist: all lib page
 	$(PACK) $@ $(if $(MAINTAINER),--maintainer "$(MAINTAINER)")
 
 .PHONY: all lib page install install-lib uninstall uninstall-lib deb dist

@@ -101,14 +101,19 @@ class Browser:
             time.sleep(0.02)
         raise BrowserError(f"after {seconds} s there is no {expression}")
 
-    def open(self, path):
-        self.call("Page.navigate", url=f"file://{path}")
+    def begin_with(self, script):
+        """Runs a script in each page before its own."""
+        self.call("Page.addScriptToEvaluateOnNewDocument", source=script)
 
-    def choose(self, selector, path):
-        """Chooses a file as a user does."""
+    def open_page(self, url):
+        self.call("Page.navigate", url="about:blank")
+        self.call("Page.navigate", url=url)
+
+    def choose(self, selector, paths):
+        """Chooses files as a user does."""
         root = self.call("DOM.getDocument")["root"]["nodeId"]
         node = self.call("DOM.querySelector", nodeId=root, selector=selector)["nodeId"]
-        self.call("DOM.setFileInputFiles", nodeId=node, files=[path])
+        self.call("DOM.setFileInputFiles", nodeId=node, files=list(paths))
 
     def press(self, key, code):
         for kind in ("rawKeyDown", "keyUp"):

@@ -3,18 +3,19 @@
 The facts are worked out from the lines of `precopy report` and `precopy sweep`, by the rules of docs/COMMANDS.md.
 """
 
+import collections
 import os
 import random
 import struct
 
-from limit_cases import RATES, TIMES, Known, seconds, size_text
-from view_texts import TOP, Failure, report_facts, sweep_facts, told
+import page_shapes
+from limit_cases import RATES, TIMES, Known, error_of, seconds
+from view_texts import TOP, Failure, ran, report_facts, sweep_facts, told
 
 TRACES = ["a.pcwt", "gzip.pcwt", "released.pcwt", "guests/mid.light.pcwt", "guests/sqlite.light.pcwt"]
 MOST_BYTES = 1 << 28
 ROWS_SHOWN = 1000
-ENDINGS = {"few": "It converges.", "fast": "It does not converge: the guest writes faster than the link sends.",
-           "rounds": "It does not converge: all rounds that are allowed are done."}
+SHAPES, SETTINGS = 15, 20
 
 
 def example(name):
@@ -82,11 +83,12 @@ class Asked:
     """What the controls of the page say, and the settings that they make."""
 
     def __init__(self, draw, known):
-        self.known = known
+        self.known, self.page, self.sampled = known, known.size, known.pages
         self.tick = draw.choice([1, 10, 100, 1_000, 1_000, 20_000])
-        self.one_in = draw.choice([1, 1, draw.randrange(1, 5_000)])
+        self.guest = draw.choice([known.pages, known.pages, draw.randrange(known.pages, 5_000 * known.pages)])
         self.link = self._link(draw)
-        self.first, self.increase = draw.choice([100, draw.randrange(101)]), draw.choice([10, draw.randrange(101)])
+        self.first = draw.choice([100, draw.randrange(101), draw.randrange(100_001) / 1_000])
+        self.increase = draw.choice([10, draw.randrange(101)])
         self.downtime, self.reserve = self._times(draw)
         self.start = draw.randrange(known.last + 2)
         self.base = draw.choice([None, None, draw.randrange(self.start + 1), self.start + draw.choice([0, 0, 1])])
@@ -94,50 +96,49 @@ class Asked:
         self.window = draw.choice([max(1, known.last // draw.randrange(1, 500)), draw.randrange(3_000), 1 << 40])
 
     def _link(self, draw):
-        """A share of the link that is some rate of the trace, nearly."""
+        """A link that is some rate of the trace, nearly, in bytes a second; and its word."""
         rate = 10 ** draw.uniform(-0.3, 6.1)
-        size = rate * 1_000 * self.known.size * self.one_in / self.tick
-        units = [unit for unit in RATES if size / RATES[unit] < 10**15]
-        unit = draw.choice(units)
-        return max(1, round(size / RATES[unit])), unit
+        size = min(rate * 1_000 * self.page * self.guest / self.sampled / self.tick, 1 << 52)
+        unit = draw.choice([unit for unit in RATES if size / RATES[unit] < 10**12])
+        count = max(1, round(size / RATES[unit]))
+        return count * RATES[unit], f"{count}{unit}"
 
     def _times(self, draw):
-        most = max(1, self.rate(self.link[0] * RATES[self.link[1]]))
+        most = max(1, self.rate(self.link[0]))
         ticks = int(66_000 * 1_000 / most * 10 ** draw.uniform(-5, 0.01))
-        downtime = (max(0, ticks * self.tick), "us")
-        if downtime[0] > 5_000_000:
-            downtime = (downtime[0] // 1_000_000, "s")
-        return downtime, draw.choice([(0, "ms"), (0, "ms"), (draw.randrange(1 + downtime[0]), downtime[1]),
-                                      (draw.randrange(50), "ms")])
+        downtime = max(0, ticks * self.tick)
+        if downtime > 5_000_000:
+            downtime -= downtime % 1_000_000
+        return downtime, draw.choice([0, 0, draw.randrange(1 + downtime), draw.randrange(50_000)])
 
     def rate(self, size):
-        return size * self.tick // (1_000 * self.known.size * self.one_in)
+        return size * self.tick * self.sampled // (1_000 * self.page * self.guest)
 
     def fragment(self):
+        sample = "all" if self.guest == self.sampled else f"{self.sampled}/{self.guest}"
         return "&".join([
-            "link=%d%s" % self.link, f"first={self.first}", f"increase={self.increase}",
-            "downtime=%d%s" % self.downtime, "reserve=%d%s" % self.reserve, f"start={self.start}",
-            f"rounds={self.rounds}", f"skip={self.skip}",
-            f"base={'none' if self.base is None else self.base}", f"tick={self.tick}us", f"oneIn={self.one_in}",
+            f"link={self.link[1]}", f"first={self.first}", f"increase={self.increase}", f"downtime={self.downtime}us",
+            f"reserve={self.reserve}us", f"start={self.start}", f"rounds={self.rounds}", f"skip={self.skip}",
+            f"base={'none' if self.base is None else self.base}", f"tick={self.tick}us", f"sample={sample}",
             f"window={self.window}"])
 
     def limits(self):
         """The link and the first round in bytes a second, the downtime and the reserve in microseconds."""
-        link = self.link[0] * RATES[self.link[1]]
-        share = link * self.first // 100
+        link = self.link[0]
+        share = link * round(self.first * 1_000) // 100_000
         first = link if self.first == 100 else share - share % 125
-        return link, first, *(count * TIMES[unit] for count, unit in (self.downtime, self.reserve))
+        return link, first, self.downtime, self.reserve
 
     def refusal(self):
-        """The name by which the page refuses these settings, or None."""
+        """The control at which the page refuses these settings, or None."""
         link, first, downtime, reserve = self.limits()
         most, least = self.rate(link), self.rate(first)
         tests = [
-            ("--sampled", self.known.pages * self.one_in > 1 << 32), ("--link", not 1 <= most <= 1_000_000),
-            ("--first", not 1 <= least <= most), ("--reserve", reserve > downtime),
-            ("--downtime", (downtime - reserve) // self.tick * most // 1_000 + 1 > 65_536),
-            ("S5", not 1 <= self.rounds <= 64), ("S6", not 1 <= self.window <= 1 << 40),
-            ("S10", self.base is not None and self.base > self.start)]
+            ("sample", self.guest > 1 << 32), ("link", not 1 <= most <= 1_000_000), ("first", least < 1),
+            ("reserve", reserve > downtime),
+            ("downtime", (downtime - reserve) // self.tick * most // 1_000 + 1 > 65_536),
+            ("rounds", not 1 <= self.rounds <= 64), ("window", not 1 <= self.window <= 1 << 40),
+            ("base", self.base is not None and self.base > self.start)]
         return next((name for name, is_refused in tests if is_refused), None)
 
     def settings(self):
@@ -159,7 +160,35 @@ class Asked:
         return ",".join(map(str, [*self.settings(), self.rounds, self.skip]))
 
     def bytes(self, pages):
-        return pages * self.known.size * self.one_in
+        return pages * self.page * self.guest // self.sampled
+
+
+# ---- What the page says of a plan.
+
+
+def spaced(text):
+    """A number with commas between thousands, in a text of a number with a point and a unit."""
+    whole, point, rest = text.partition(".")
+    return f"{int(whole):,}{point}{rest}"
+
+
+def time_text(micros):
+    """A time as the page writes it."""
+    if 0 < micros < 1_000:
+        return f"{micros} \u00b5s"
+    if micros < 1_000_000:
+        rest = f"{micros % 1_000:03}".rstrip("0")
+        return f"{micros // 1_000}{'.' * bool(rest)}{rest} ms"
+    return spaced(seconds(micros))
+
+
+def size_text(size):
+    """A size as the page writes it."""
+    if size < 1 << 10:
+        return f"{size} bytes"
+    unit, name = next((1 << power, name) for power, name in ((30, "GiB"), (20, "MiB"), (10, "KiB")) if size >> power)
+    hundredths = size * 100 // unit
+    return f"{hundredths // 100:,}.{hundredths % 100:02} {name}"
 
 
 def plural(count, noun):
@@ -179,27 +208,66 @@ def commands(asked):
     return {"live": live, "qemu": qemu, "libvirt": libvirt}
 
 
+def first_writes(known, low, high):
+    """The first tick in [low, high) of each page that is written then."""
+    found = {}
+    for tick, page in known.writes:
+        if low <= tick < high:
+            found.setdefault(page, tick)
+    return found
+
+
+def times_sent(asked, report):
+    """How often each page is sent, by the definition of rounds that skip."""
+    known, times = asked.known, collections.Counter()
+    pages = range(known.pages) if asked.base is None else sorted(first_writes(known, asked.base, asked.start))
+    for number, some in enumerate(report["rounds"]):
+        again, below = first_writes(known, some["from"], some["to"]), 0
+        for page in pages:
+            turn = some["from"] + 1_000 * below // some["rate"]
+            if not (asked.skip and number and again.get(page, turn) < turn):
+                times[page] += 1
+                below += 1
+        pages = sorted(again)
+    return times + collections.Counter(pages), len(pages)
+
+
+def errors(asked, report):
+    """The words of the standard errors of downtime and bytes, each with what parts it from other words."""
+    if not 2 <= asked.sampled < asked.guest:
+        return "", ""
+    times, left = times_sent(asked, report)
+    sent = error_of(asked, sum(times.values()), sum(count * count for count in times.values()))
+    down = error_of(asked, left, left)
+    time = -(-down * asked.sampled * asked.tick * 1_000 // (asked.guest * asked.settings()[1]))
+    return f"\u00b1 {time_text(time)}; ", f"\u00b1 {size_text(sent * asked.page)}; "
+
+
+def reason(asked, report):
+    threshold, of_sample = asked.settings()[3], " of the sample" * (asked.guest > asked.sampled)
+    few = "no page was left" if threshold == 1 else f"fewer than {threshold:,} pages{of_sample} were left"
+    return {"few": few, "fast": "the guest writes faster than the link sends",
+            "rounds": f"all {plural(asked.rounds, 'round')} that are allowed are done"}[report["stop"]["why"]]
+
+
 def comparison(asked, report):
     """The rows of the comparison, as the page writes them."""
     stop = report["stop"]
     _, _, limit, reserve = asked.limits()
     down = stop["down"] * asked.tick + reserve
     time = (stop["at"] - asked.start) * asked.tick + down
-    kept = "kept" if down <= limit else "not kept"
+    of_sample = " of the sample" * (asked.guest > asked.sampled)
+    guest = f"{plural(stop['total'] * asked.guest // asked.sampled, 'page')} of the guest; " if of_sample else ""
+    error_down, error_sent = errors(asked, report)
+    pages = f"{plural(stop['total'], 'page')}{of_sample}"
     return {
-        "downtime": [spaced(seconds(down)), f"{kept}; {plural(stop['down'], 'tick')} for pages"],
-        "time": [spaced(seconds(time)), f"{plural(stop['at'] - asked.start, 'tick')} of pre-copy"],
-        "sent": [spaced(size_text(asked.bytes(stop["total"]))), plural(stop["total"], "page")],
-        "rounds": [f"{len(report['rounds']):,}", f"ends with \u201c{stop['why']}\u201d"],
-        "left": [plural(stop["pages"], "page"), f"threshold {asked.settings()[3]:,}"],
-        "stop": [spaced(seconds(stop["at"] * asked.tick)), f"tick {stop['at']}"],
+        "downtime": [time_text(down), f"{error_down}{'kept' if down <= limit else 'not kept'}"],
+        "time": [time_text(time), ""],
+        "sent": [size_text(asked.bytes(stop["total"])), f"{error_sent}{guest}{pages}"],
+        "rounds": [f"{len(report['rounds']):,}", reason(asked, report)],
+        "left": [plural(stop["pages"], "page") + of_sample, f"fewer than {asked.settings()[3]:,} end pre-copy"],
+        "stop": [time_text(stop["at"] * asked.tick), ""],
     }
-
-
-def spaced(text):
-    """A number with commas between thousands, in a text of a number with a point and a unit."""
-    whole, point, rest = text.partition(".")
-    return f"{int(whole):,}{point}{rest}"
 
 
 def warnings(asked, report):
@@ -211,11 +279,11 @@ def check_facts(precopy, asked, found):
     """Tests what the page shows for settings against what precopy writes."""
     name = asked.refusal()
     if name:
-        if not found["refusal"] or name not in found["refusal"].replace(":", "").split() or found["rounds_shown"]:
-            raise Failure(f"{found['refusal']!r} in place of {name}")
+        if found["refused"] != name or not found["fault"] or not found["stale"]:
+            raise Failure(f"{found['refused']!r}, {found['fault']!r} in place of {name}")
         return
-    if found["refusal"]:
-        raise Failure(f"refused: {found['refusal']}")
+    if found["refused"]:
+        raise Failure(f"refused: {found['refused']}, {found['fault']}")
     report = report_facts(told(precopy, ["report", *asked.words()], asked.known.path))
     line = sweep_facts(told(precopy, ["sweep", *asked.place(), asked.case()], asked.known.path))["cases"][0]
     stop = report["stop"]
@@ -230,13 +298,25 @@ def check_facts(precopy, asked, found):
     for key, value in wanted.items():
         if found[key] != value:
             raise Failure(f"{key}: {found[key]} in place of {value}")
-    if not found["verdict"].startswith(ENDINGS[stop["why"]], found["verdict"].index("It ")):
-        raise Failure(f"{found['verdict']!r} for {stop['why']}")
+    converges = f"It {'converges' if stop['why'] == 'few' else 'does not converge'}: {reason(asked, report)}."
+    if converges not in found["verdict"] or found["stale"]:
+        raise Failure(f"{found['verdict']!r} in place of {converges!r}")
 
 
-def tries():
-    """Random settings over the traces, trace by trace."""
+def check_predicted(view, asked, found):
+    """Runs the words that the page gives for `precopy-view predict`: they ask for the same migration."""
+    words = found["predict"].removesuffix(" < TRACE").split()[1:]
+    status, text, faults = ran(view, words, asked.known.path)
+    lines = text.splitlines()
+    live = next((line for line in lines if line.startswith("precopy live ")), None)
+    if status not in (0, 3) or live is None or f"{live} < TRACE" != found["commands"]["live"]:
+        raise Failure(f"{words}: status {status}, {faults!r}, {live!r} in place of {found['commands']['live']!r}")
+
+
+def tries(folder):
+    """Random settings over the examples and over traces of other shapes, trace by trace."""
     draw = random.Random(2005)
-    for name in TRACES:
-        known = Known(example(name))
-        yield known, [Asked(draw, known) for _ in range(40)]
+    paths = [example(name) for name in TRACES] + page_shapes.written(folder, SHAPES, 67)
+    for path in paths:
+        known = Known(path)
+        yield known, [Asked(draw, known) for _ in range(SETTINGS)]

@@ -1,15 +1,20 @@
 """What checks/page tests of the page besides its numbers: looks, the keyboard, the address, and that it is silent."""
 
+import base64
+import collections
+import hashlib
 import http.server
 import os
+import re
 import threading
 
+import page_shapes
 from page_cases import example
 from view_texts import Failure
 
 WIDTHS = [360, 800, 1400, 1920]
-LEAST_CONTRAST = 4.5
-HEIGHT = 900
+LEAST_CONTRAST, LEAST_MARK_CONTRAST = 4.5, 3
+HEIGHT, SHAPES = 900, 24
 
 # Each text of the page with a contrast below a bound: the ratio of WCAG 2, section 1.4.3.
 CONTRAST = """
@@ -66,6 +71,38 @@ OVERLAPS = """
 """
 
 
+# Marks of pictures with a contrast below a bound to what they lie on: the paper, a halo of its colour, or another mark.
+MARKS = """
+(() => {
+  const pairs = ["sent", "skipped", "dirtied", "rate", "link", "stop", "down", "again", "earlier", "fresh", "span.top",
+    "known", "late", "limit", "best", "worst", "halo"].map((name) => [name, null]);
+  pairs.push(["dirtied", "sent"], ["again", "earlier"], ["earlier", "fresh"], ["link", "rate"]);
+  const canvas = new OffscreenCanvas(1, 1).getContext("2d", { willReadFrequently: true });
+  const light = (words) => {
+    canvas.fillStyle = words;
+    canvas.fillRect(0, 0, 1, 1);
+    const part = (value) => (value / 255 <= 0.04045 ? value / 255 / 12.92 : ((value / 255 + 0.055) / 1.055) ** 2.4);
+    const [r, g, b] = canvas.getImageData(0, 0, 1, 1).data;
+    return 0.2126 * part(r) + 0.7152 * part(g) + 0.0722 * part(b);
+  };
+  const paper = light(getComputedStyle(document.getElementById("rounds")).backgroundColor);
+  const inkOf = (name) => {
+    const mark = document.querySelector(`svg .${name}`);
+    const style = mark && getComputedStyle(mark);
+    return style && light(style.fill === "none" ? style.stroke : style.fill);
+  };
+  return pairs.flatMap(([name, below]) => {
+    const [ink, ground] = [inkOf(name), below ? inkOf(below) : paper];
+    if (ink === null || ground === null) { return [`${name} on ${below}: not seen`]; }
+    const [high, low] = [ink, ground].sort((one, other) => other - one);
+    const ratio = (high + 0.05) / (low + 0.05);
+    const isRight = name === "halo" ? ratio < 1.01 : ratio >= BOUND;
+    return isRight ? [] : [`${name} on ${below ?? "paper"}: ${ratio.toFixed(2)}`];
+  });
+})()
+"""
+
+
 def require(holds, words):
     if not holds:
         raise Failure(words)
@@ -73,46 +110,103 @@ def require(holds, words):
 
 def open_example(page, more=""):
     page.open(f"#trace=sqlite{more}")
-    page.browser.wait("document.querySelectorAll('#rounds-table-this tbody tr').length > 0")
+    page.wait_for_plan()
 
 
 def fill(page):
-    """Shows all that the page has: a kept plan beside another, the curves, the tables."""
+    """Shows all that the page has: kept plans beside another, the curves, the tables."""
     browser = page.browser
-    open_example(page, "&link=64MiB&first=50&oneIn=32&window=500&start=1000")
-    browser.value("document.getElementById('keep').click(); document.getElementById('control-skip').click();"
-                  "document.getElementById('windows-details').open = true")
-    browser.value("document.getElementById('ask').click()")
+    open_example(page, "&link=64MiB&first=50&window=500&start=1000&rounds=12")
+    page.after("document.getElementById('keep').click(); document.getElementById('control-skip').click()")
+    page.after("document.getElementById('keep').click(); document.getElementById('control-rounds').value = '2';"
+               "document.getElementById('control-rounds').dispatchEvent(new Event('input'))")
+    browser.value("document.getElementById('windows-details').open = true;"
+                  "document.getElementById('ask').click()")
     browser.wait("document.querySelector('#starts-plot svg') !== null")
 
 
 def check_widths(page, folder):
-    """Nothing is wider than the page, nor over another text; each text can be read on its ground."""
+    """Nothing is wider than the page, nor over another text; each text can be read on its ground, each mark seen."""
     browser = page.browser
     for is_dark in (False, True):
         for width in WIDTHS:
             browser.dress(width, HEIGHT, is_dark)
             browser.value("new Promise((resume) => setTimeout(resume, 300))")
-            wide = browser.value("document.documentElement.scrollWidth")
-            require(wide <= width, f"{wide} pixels in a width of {width}")
-            poor = browser.value(CONTRAST.replace("BOUND", str(LEAST_CONTRAST)))
-            require(not poor, f"contrast at {width}, dark {is_dark}: {poor}")
-            over = browser.value(OVERLAPS)
-            require(not over, f"texts at {width}: {over}")
+            name = f"page-{width}-{'dark' if is_dark else 'light'}"
+            check_look(page, name)
             if folder:
                 os.makedirs(folder, exist_ok=True)
-                browser.picture(os.path.join(folder, f"page-{width}-{'dark' if is_dark else 'light'}.png"))
+                browser.picture(os.path.join(folder, f"{name}.png"))
+        marks = browser.value(MARKS.replace("BOUND", str(LEAST_MARK_CONTRAST)))
+        require(not marks, f"marks, dark {is_dark}: {marks}")
+    browser.dress(1400, HEIGHT)
+
+
+def check_look(page, name):
+    browser = page.browser
+    width = browser.value("innerWidth")
+    wide = browser.value("document.documentElement.scrollWidth")
+    require(wide <= width, f"{wide} pixels in a width of {width}, {name}")
+    poor = browser.value(CONTRAST.replace("BOUND", str(LEAST_CONTRAST)))
+    require(not poor, f"contrast, {name}: {poor}")
+    over = browser.value(OVERLAPS)
+    require(not over, f"texts, {name}: {over}")
+
+
+def check_shapes(page, folder):
+    """The same for pictures of traces of other shapes, with and without a plan, with starts, and taken nearer."""
+    browser = page.browser
+    for number, text in enumerate(page_shapes.shapes(SHAPES, 7)):
+        width, is_dark = WIDTHS[number % len(WIDTHS)], number % 2 == 1
+        browser.dress(width, HEIGHT, is_dark)
+        page.drop((f"shape-{number}.pcwt", text))
+        browser.value("document.getElementById('ask').click()")
+        browser.wait("!document.getElementById('starts-answer').hidden")
+        if number % 3 == 0:
+            browser.value("document.getElementById('zoom-plan').click()")
+        if number % 4 == 0:
+            page.after("document.getElementById('control-rounds').value = '99';"
+                       "document.getElementById('control-rounds').dispatchEvent(new Event('input'))")
+        browser.value("new Promise((resume) => setTimeout(resume, 100))")
+        check_look(page, f"shape {number} at {width}")
+        if folder:
+            os.makedirs(folder, exist_ok=True)
+            browser.picture(os.path.join(folder, f"shape-{number}-{width}.png"))
     browser.dress(1400, HEIGHT)
 
 
 def check_names(page):
-    """Each control has a name for a screen reader, and each picture that can be looked at a value."""
-    roles = {"button", "slider", "spinbutton", "combobox", "checkbox", "progressbar", "DisclosureTriangle"}
+    """Each control has a name of its own for a screen reader, each picture that can be looked at a value, and whatever
+    describes an element is there. A link leads past the settings."""
+    roles = {"button", "slider", "textbox", "combobox", "checkbox", "progressbar", "DisclosureTriangle", "link"}
     page.browser.call("Accessibility.enable")
     nodes = page.browser.call("Accessibility.getFullAXTree")["nodes"]
     found = [node for node in nodes if node.get("role", {}).get("value") in roles and not node["ignored"]]
     nameless = [node["role"]["value"] for node in found if not node.get("name", {}).get("value")]
     require(len(found) > 40 and not nameless, f"{len(found)} controls; without a name: {nameless}")
+    names = collections.Counter((node["role"]["value"], node["name"]["value"]) for node in found)
+    twice = [name for name, count in names.items() if count > 1]
+    require(not twice, f"names of two controls: {twice}")
+    dangling = page.browser.value("""
+      [...document.querySelectorAll("[aria-describedby], [aria-labelledby], label[for]")].flatMap((element) =>
+        ["aria-describedby", "aria-labelledby", "for"].flatMap((name) => (element.getAttribute(name) ?? "").split(" ")))
+        .filter((id) => id && !document.getElementById(id))""")
+    require(not dangling, f"there is no {dangling}")
+    page.browser.value("document.body.focus(); document.getElementById('past-settings').focus()")
+    page.browser.press("Enter", 13)
+    page.browser.wait("document.activeElement.id === 'outcome'", 5)
+
+
+def check_print(page):
+    """On paper the page is one: settings, prediction and pictures."""
+    browser = page.browser
+    open_example(page)
+    browser.value("document.getElementById('ask').click()")
+    browser.wait("document.querySelector('#starts-plot svg') !== null")
+    pages = browser.call("Page.printToPDF", printBackground=True, preferCSSPageSize=False, paperWidth=8.27,
+                         paperHeight=11.69)["data"]
+    count = len(re.findall(rb"/Type\s*/Page\b", base64.b64decode(pages)))
+    require(count == 1, f"{count} pages of paper")
 
 
 def check_keyboard(page):
@@ -139,40 +233,41 @@ def check_keyboard(page):
     require(words.startswith("Window 74, 37.000 s"), words)
     browser.press("Enter", 13)
     browser.wait("document.getElementById('control-start').value === '37000'", 5)
+    browser.press("Home", 36)
+    browser.press(" ", 32)
+    browser.wait("document.getElementById('control-start').value === '0'", 5)
+    browser.press("+", 187)
+    browser.wait("!document.getElementById('zoom-out').disabled", 5)
     lost = browser.value("[...document.querySelectorAll('input, select, button, summary, .plot')]"
                          ".filter((element) => element.tabIndex < 0).map((element) => element.id)")
     require(not lost, f"not reached by the keyboard: {lost}")
 
 
 def check_address(page):
-    """The address holds the settings and the kept plan, and nothing of the trace."""
+    """The address holds the settings, the kept plans and a fingerprint of the trace, and nothing of the trace."""
     browser = page.browser
-    open_example(page, "&link=64MiB&first=50&oneIn=32&rounds=7&start=1234&skip=1&base=1000")
-    browser.value("document.getElementById('keep').click(); document.getElementById('control-skip').click()")
+    open_example(page, "&link=64MiB&first=50&rounds=7&start=1234&skip=1&base=1000")
+    page.after("document.getElementById('keep').click(); document.getElementById('control-skip').click()")
     browser.wait("location.hash.includes('kept=') && location.hash.includes('skip=0')", 5)
     address = browser.value("location.hash")
     wanted = browser.value("document.getElementById('results').innerText + textOf('comparison')")
     page.open(address)
-    browser.wait("document.querySelectorAll('#rounds-table-kept tbody tr').length > 0", 20)
+    browser.wait("document.querySelectorAll('#rounds-table-kept-1 tbody tr').length > 0", 20)
     found = browser.value("document.getElementById('results').innerText + textOf('comparison')")
     require(found == wanted, f"another page by its address {address}")
-    page.load(example("guests/mid.light.pcwt"))
+    path = example("guests/mid.light.pcwt")
+    page.load(path)
     browser.wait("!location.hash.includes('trace=')", 5)
-    require("mid" not in browser.value("location.hash"), browser.value("location.hash"))
-
-
-def check_drop(page):
-    """A trace that is dropped is read."""
-    page.open("#link=10Gbit")
-    page.browser.value("""(() => {
-      const holder = new DataTransfer();
-      const bytes = new Uint8Array(33);
-      bytes.set([80, 67, 87, 84, 1, 4, 0, 0, 65, 0, 0, 0, 1, 0, 0, 0]);
-      bytes.set([10, 0, 0, 0, 0, 0, 0, 0, 64, 0, 0, 0, 0, 0, 1, 0, 7], 16);
-      holder.items.add(new File([bytes], "dropped.pcwt"));
-      document.body.dispatchEvent(new DragEvent("drop", { dataTransfer: holder, bubbles: true, cancelable: true }));
-    })()""")
-    page.browser.wait("textOf('trace-state').startsWith('dropped.pcwt: 65 pages of 16 bytes')", 5)
+    address = browser.value("location.hash")
+    with open(path, "rb") as file:
+        print_of = hashlib.sha256(file.read()).hexdigest()[:12]
+    require("mid" not in address and f"of={print_of}" in address, address)
+    page.open(address)
+    page.load(path)
+    require(browser.value("document.getElementById('trace-other').hidden"), "the address is said to be another's")
+    page.open(address)
+    page.load(example("gzip.pcwt"))
+    require(print_of in browser.value("textOf('trace-other')"), "another trace than that of the address is not named")
 
 
 def check_old_browser(page):
@@ -197,8 +292,9 @@ def check_looks(tally, page, tried, folder):
     if tried(tally, "all parts of the page", fill, page):
         tried(tally, "widths and colours", check_widths, page, folder)
         tried(tally, "names", check_names, page)
+        tried(tally, "traces of other shapes", check_shapes, page, folder)
         tried(tally, "stillness", check_stillness, page)
-    for words, check in (("keyboard", check_keyboard), ("address", check_address), ("drop", check_drop),
+    for words, check in (("keyboard", check_keyboard), ("address", check_address), ("print", check_print),
                          ("old browser", check_old_browser)):
         tried(tally, words, check, page)
 
@@ -277,7 +373,7 @@ def check_silence(tally, page):
         url = f"http://127.0.0.1:{server.server_address[1]}"
         heard = heard_of(page, url)
         tally.add(not heard, f"sent from the page: {heard}")
-        browser.open(without_policy(page.path))
+        browser.open_page(f"file://{without_policy(page.path)}")
         browser.wait("document.readyState === 'complete'")
         heard = heard_of(page, url)
         tally.add(len(heard) >= 5, f"without the page's policy only {heard} were sent, so the trial says little")

@@ -169,7 +169,20 @@ def sources_below(folder) -> Iterator[str]:
                 yield os.path.relpath(os.path.join(at, name), TOP)
 
 
+def page(places) -> Iterator[Entry]:
+    """The page that plans in a browser, joined from its module."""
+    module = os.path.join(TOP, "out", "lent_planner.wasm")
+    if not os.path.isfile(module):
+        raise NotBuilt("the page is not built: make page builds it")
+    with tempfile.TemporaryDirectory() as folder:
+        made = os.path.join(folder, "precopy.html")
+        subprocess.run([os.path.join(TOP, "tools", "join-page"), module, made], check=True)
+        with open(made, "rb") as file:
+            yield Entry(os.path.join(places.doc, "precopy.html"), file.read())
+
+
 def contents(places, python="/usr/bin/env python3") -> Iterator[Entry]:
     yield from commands(places, python)
+    yield from page(places)
     yield from pages(places)
     yield from documents(places)

@@ -1,55 +1,25 @@
 // The controls: for each setting a number with its unit, and a slider. All of them read and change one settings object.
+// What is refused is said at its control, with a button for the nearest value that plans.
 
-import { html } from "./elements.js";
-import { amountAt, countAt, inUnit, placeOf, PLACES, quantityNear, quantityWords } from "./quantities.js";
-import { amountOf, RATE_UNITS, TIME_UNITS } from "./units.js";
+import { GROUPS } from "./control-list.js";
+import { byId, html } from "./elements.js";
+import { counted } from "./numbers.js";
+import {
+  amountAt, countAt, placeOf, PLACES, quantityNear, quantityOf, quantityWords, sayable, shownCount, unitName,
+} from "./quantities.js";
+import { ControlRefusal } from "./units.js";
 
-const RATE = { units: RATE_UNITS, low: 125_000, high: 12_500_000_000 };
+/** Digits of the weight of a page that its field shows. */
+const WEIGHT_DIGITS = 7;
 
-/** The controls in their groups. `low` and `high` are the ends of the slider; a number may go beyond them. */
-const GROUPS = [
-  {
-    title: "Link",
-    controls: [
-      { name: "link", isDerived: true, label: "Share of the link", ...RATE },
-      { name: "first", isDerived: true, label: "First round", unit: "% of the link", low: 1, high: 100, most: 100 },
-      { name: "increase", isDerived: true, label: "Increment", unit: "% of the rest", low: 0, high: 100, most: 100 },
-    ],
-  },
-  {
-    title: "Stop of the guest",
-    controls: [
-      { name: "downtime", isDerived: true, label: "Downtime limit", units: TIME_UNITS, low: 1_000, high: 10_000_000 },
-      { name: "reserve", isDerived: true, label: "Reserve for devices and switching", units: TIME_UNITS, low: 1_000,
-        high: 1_000_000, hasZero: true },
-    ],
-  },
-  {
-    title: "Migration",
-    controls: [
-      { name: "start", isDerived: true, label: "Start", unit: "tick", low: 0, high: 0 },
-      { name: "rounds", label: "Most rounds", unit: "rounds", low: 1, high: 64 },
-      { name: "skip", label: "Skip pages that are written again before they are sent", isSwitch: true },
-      { name: "warm", label: "Warm start: the destination has a copy", isSwitch: true },
-      { name: "base", isDerived: true, label: "Copy taken before", unit: "tick", low: 0, high: 0 },
-    ],
-  },
-  {
-    title: "Trace",
-    controls: [
-      { name: "tick", label: "Length of a tick", units: TIME_UNITS, low: 1, high: 1_000_000 },
-      { name: "oneIn", label: "Sampled: one page in", unit: "pages", low: 1, high: 4096,
-        isLog: true },
-      { name: "window", isDerived: true, label: "Window", unit: "ticks", low: 1, high: 1000, isLog: true },
-    ],
-  },
-];
+/** A number that a field says, whole or a decimal, or null. */
+function numberIn(field, isWhole) {
+  const isNumber = (isWhole ? /^\d{1,15}$/ : /^\d{1,10}(\.\d{1,9})?$/).test(field.value);
+  return isNumber ? Number(field.value) : null;
+}
 
-const UNIT_NAMES = { us: "\u00b5s" };
-
-/** A whole number that a field says, no greater than `most`, or null. */
-function wholeNumber(field, most = Infinity) {
-  return /^\d{1,15}$/.test(field.value) && Number(field.value) <= most ? Number(field.value) : null;
+function weightOf(sample) {
+  return sample === null ? 1 : Number((sample.whole / sample.part).toPrecision(WEIGHT_DIGITS));
 }
 
 /** The controls of the page. `change` is called with the settings after each change. */
@@ -57,6 +27,9 @@ export class Controls {
   constructor(form, change) {
     this.change = change;
     this.settings = null;
+    this.sizes = null;
+    this.begin = 0;
+    this.unread = null;
     this.parts = {};
     for (const { title, controls } of GROUPS) {
       form.append(html("fieldset", {}, html("legend", {}, title), ...controls.map((control) => this.built(control))));
@@ -73,72 +46,131 @@ export class Controls {
       part.field.addEventListener("change", () => this.flip(control.name, part.field.checked));
       return html("div", { class: "control switch" }, part.field, html("label", { for: id }, control.label));
     }
-    part.field = html("input", { type: "number", id, min: "0", step: "1", inputmode: "numeric" });
+    part.field = html("input", {
+      type: "text", id, inputmode: "decimal", autocomplete: "off", spellcheck: "false",
+      "aria-describedby": `${id}-derived ${id}-fault`,
+    });
     part.slider = html("input", { type: "range", "aria-label": `${control.label}, slider`, min: "0" });
-    part.derived = control.isDerived ? html("p", { class: "derived", id: `${id}-derived` }) : "";
-    part.field.setAttribute("aria-describedby", `${id}-derived`);
+    part.derived = html("p", { class: "derived", id: `${id}-derived` });
+    part.fault = html("div", { class: "fault", id: `${id}-fault` });
     part.field.addEventListener("input", () => this.typed(part));
+    part.field.addEventListener("change", () => this.unread || this.show(this.settings));
+    part.field.addEventListener("keydown", (event) => this.stepped(part, event));
     part.slider.addEventListener("input", () => this.slid(part));
     part.unit = control.units ? this.unitChoice(part) : html("span", { class: "unit" }, control.unit);
     const fields = html("div", { class: "fields" }, part.field, part.unit);
-    part.whole = html("div", { class: "control" },
-      html("div", { class: "head" }, html("label", { for: id }, control.label), fields), part.slider, part.derived);
+    part.whole = html("div", { class: "control", "data-control": control.name },
+      html("div", { class: "head" }, html("label", { for: id }, control.label), fields), part.slider, part.derived,
+      part.fault);
     return part.whole;
   }
 
   unitChoice(part) {
-    const { units, label } = part.control;
+    const { name, units, label } = part.control;
     const choice = html("select", { "aria-label": `${label}, unit` }, ...Object.keys(units).map((unit) =>
-      html("option", { value: unit }, (UNIT_NAMES[unit] ?? unit) + (units === RATE_UNITS ? "/s" : ""))));
-    choice.addEventListener("change", () => {
-      this.set(part.control.name, inUnit(this.settings[part.control.name], choice.value, units));
-    });
+      html("option", { value: unit }, unitName(unit, units))));
+    choice.addEventListener("change", () => this.set(name, { ...this.settings[name], unit: choice.value }));
     return choice;
   }
 
+  /** What a field says, as a value of the settings, or null. */
+  valueIn({ control, field }) {
+    const { name, units, isPercent, isSample } = control;
+    if (units) {
+      const found = quantityOf(field.value, this.settings[name].unit, units);
+      return found && sayable(found, units);
+    }
+    const number = numberIn(field, !isPercent && !isSample);
+    if (number === null || (isPercent && (number > 100 || !/^\d+(\.\d{1,3})?$/.test(field.value)))) {
+      return null;
+    }
+    return isSample ? this.sampleFor(number) : number;
+  }
+
+  /** The sample in which a page stands for so many of the guest's. */
+  sampleFor(weight) {
+    const part = Math.max(this.settings.sample?.part ?? 0, this.sizes?.pages ?? 1);
+    return { part, whole: Math.round(part * weight) };
+  }
+
   typed(part) {
-    const count = wholeNumber(part.field, part.control.most);
-    part.field.setAttribute("aria-invalid", String(count === null));
-    if (count !== null) {
-      const { name, units } = part.control;
-      this.set(name, units ? { ...this.settings[name], count } : count, part.field);
+    const { name, isPercent } = part.control;
+    const value = this.valueIn(part);
+    if (value === null) {
+      const said = part.field.value.trim() === "" ? "There is no number." : `\u201c${part.field.value}\u201d is not a `
+        + `${isPercent ? "number from 0 to 100" : "number"} that can be taken.`;
+      this.unread = new ControlRefusal(name, said);
+      this.change(this.settings, []);
+    } else {
+      this.unread = null;
+      this.set(name, value, part.field);
+    }
+  }
+
+  /** Arrow keys step a number, as they do in the browser's own fields. */
+  stepped(part, event) {
+    const step = { ArrowUp: 1, ArrowDown: -1 }[event.key];
+    const number = numberIn(part.field, false);
+    if (step && number !== null) {
+      event.preventDefault();
+      part.field.value = String(Number(Math.max(0, number + step).toFixed(9)));
+      this.typed(part);
     }
   }
 
   slid(part) {
-    const { name, units, low, high, isLog, hasZero } = part.control;
+    const { name, units, low, high, isLog, isSample, hasZero } = part.control;
     const place = Number(part.slider.value);
+    this.unread = null;
     if (units) {
-      const isZero = hasZero && place === 0;
       const { unit } = this.settings[name];
-      this.set(name, isZero ? { count: 0, unit } : quantityNear(amountAt(place, low, high), unit, units), part.slider);
+      const isZero = hasZero && place === 0;
+      this.set(name, isZero ? { amount: 0, unit } : quantityNear(amountAt(place, low, high), unit, units), part.slider);
+    } else if (isSample) {
+      this.set(name, this.sampleFor(countAt(place, low, high)), part.slider);
     } else {
       this.set(name, isLog ? countAt(place, low, high) : place, part.slider);
     }
   }
 
-  /** Changes a setting; the copy of a warm start is never from after the start. */
+  /** Changes a setting. The copy of a warm start stays as long before the start as it was, if it would be after it. */
   set(name, value, source = null) {
     const settings = { ...this.settings, [name]: value };
-    if (settings.base !== null && settings.base > settings.start && name === "start") {
-      settings.base = settings.start;
+    const { base, start } = this.settings;
+    if (name === "start" && base !== null && base > value) {
+      settings.base = Math.max(0, value - Math.max(0, start - base));
     }
+    this.take(settings, [name], source);
+  }
+
+  take(settings, names, source = null) {
+    this.unread = null;
     this.show(settings, source);
-    this.change(settings);
+    this.change(settings, names);
   }
 
   flip(name, isOn) {
     if (name === "warm") {
-      this.set("base", isOn ? this.settings.start : null);
+      this.take({ ...this.settings, ...(isOn ? this.warmPlace() : { base: null }) }, ["base"]);
     } else {
       this.set(name, isOn);
     }
   }
 
-  /** Sets the ends of the sliders whose range depends on the trace. */
-  fit(last) {
-    this.parts.start.control.high = Math.max(1, last);
-    this.parts.window.control.high = Math.max(2, last + 1);
+  /** A copy half-way to the start; a start at the very begin moves to a quarter of the trace, after its copy. */
+  warmPlace() {
+    const { start } = this.settings;
+    const last = this.sizes?.last ?? start;
+    return start > this.begin ? { start, base: this.begin + Math.floor((start - this.begin) / 2) }
+      : { start: this.begin + Math.ceil((last - this.begin) / 4), base: this.begin };
+  }
+
+  /** Learns the trace: its sizes, and the tick at which its recording begins. */
+  fit(sizes, begin) {
+    this.sizes = sizes;
+    this.begin = Math.min(begin, sizes.last);
+    this.parts.start.control.high = Math.max(1, sizes.last);
+    this.parts.window.control.high = Math.max(2, sizes.last + 1);
     this.show(this.settings);
   }
 
@@ -150,6 +182,7 @@ export class Controls {
     this.settings = settings;
     this.parts.base.control.high = Math.max(1, settings.start);
     this.parts.skip.field.checked = settings.skip;
+    this.parts.ticks.field.checked = settings.ticks;
     this.parts.warm.field.checked = settings.base !== null;
     this.parts.base.whole.hidden = settings.base === null;
     for (const part of Object.values(this.parts)) {
@@ -160,22 +193,21 @@ export class Controls {
   }
 
   showPart(part, value, source) {
-    const { units, low, high, isLog } = part.control;
+    const { units, low, high, isLog, isSample, unit } = part.control;
+    const number = isSample ? weightOf(value || null) : value;
     if (part.field !== source) {
-      part.field.value = units ? value.count : value;
-      part.field.setAttribute("aria-invalid", "false");
+      part.field.value = units ? shownCount(value, units) : String(number);
     }
     if (units) {
       part.unit.value = value.unit;
     }
-    const amount = units ? Number(amountOf(value, units)) : value;
+    const amount = units ? value.amount : number;
     part.slider.max = units || isLog ? PLACES : high;
     part.slider.min = units || isLog ? 0 : low;
     if (part.slider !== source) {
       part.slider.value = units || isLog ? placeOf(amount, low, high) : amount;
     }
-    part.slider.setAttribute("aria-valuetext", units ? quantityWords(value, units)
-      : `${value} ${part.control.unit}`);
+    part.slider.setAttribute("aria-valuetext", units ? quantityWords(value, units) : `${counted(number)} ${unit}`);
   }
 
   /** Says below controls what they come to. */
@@ -185,5 +217,47 @@ export class Controls {
         part.derived.textContent = words[name] ?? "";
       }
     }
+  }
+
+  /** Says at a control why it is refused, with a button that takes other settings; without a refusal says nothing. */
+  refuse(refusal, nearest) {
+    for (const [name, part] of Object.entries(this.parts)) {
+      const isRefused = refusal?.control === name;
+      if (part.fault) {
+        part.field.setAttribute("aria-invalid", String(isRefused));
+        part.fault.replaceChildren(...(isRefused ? this.faultParts(part, refusal, nearest) : []));
+      }
+    }
+  }
+
+  faultParts(part, refusal, nearest) {
+    const said = html("p", {}, refusal.message);
+    if (!nearest) {
+      return [said];
+    }
+    const { name, label } = part.control;
+    const words = this.wordsOf(part, nearest[name]);
+    const button = html("button", { type: "button", "aria-label": `${label}: take ${words}` }, `Take ${words}`);
+    button.addEventListener("click", () => {
+      this.take(nearest, [name]);
+      part.field.focus();
+    });
+    return [said, button];
+  }
+
+  /** A value of a control in words. */
+  wordsOf({ control }, value) {
+    const { units, unit, isSample } = control;
+    if (units) {
+      return quantityWords(value, units);
+    }
+    return unit === "tick" ? `tick ${counted(value)}` : `${counted(isSample ? weightOf(value) : value)} ${unit}`;
+  }
+
+  /** Leads to the control that is refused. */
+  focus(name) {
+    const { field } = this.parts[name];
+    byId(field.id).focus();
+    field.scrollIntoView({ block: "center" });
   }
 }

@@ -1,16 +1,25 @@
-// Numbers as text. Times and sizes have the form that `precopy-view predict` gives them, rounded down.
+// Numbers as text. Times and sizes are rounded down, as `precopy-view predict` does.
 
 const MIB = 1n << 20n;
 const GIB = 1n << 30n;
 
-/** A whole number, with commas between thousands. */
+/** A number, with commas between thousands. */
 export function counted(number) {
-  return String(number).replace(/\B(?=(\d{3})+$)/g, ",");
+  const [whole, ...rest] = String(number).split(".");
+  return [whole.replace(/\B(?=(\d{3})+$)/g, ","), ...rest].join(".");
 }
 
 /** A number and a noun, which takes an s unless the number is 1. */
 export function countOf(number, noun) {
-  return `${counted(number)} ${noun}${number === 1 ? "" : "s"}`;
+  return `${counted(number)} ${noun}${number == 1 ? "" : "s"}`;
+}
+
+/** A quotient of whole numbers as a decimal, with at most `digits` after the point, rounded down, without zeros. */
+export function decimalText(number, divisor, digits) {
+  const whole = number / divisor;
+  const scaled = ((number % divisor) * 10n ** BigInt(digits)) / divisor;
+  const rest = String(scaled).padStart(digits, "0").replace(/0+$/, "");
+  return rest && digits > 0 ? `${whole}.${rest}` : String(whole);
 }
 
 /** A time, given in microseconds: seconds with three digits after the point. */
@@ -19,9 +28,20 @@ export function secondsText(micros) {
   return `${counted(millis / 1_000n)}.${String(millis % 1_000n).padStart(3, "0")} s`;
 }
 
-/** A size: in GiB if it has one, else in MiB, with two digits after the point. */
+/** A time, given in microseconds: below a millisecond in microseconds, below a second in milliseconds, else seconds. */
+export function timeText(micros) {
+  if (micros > 0n && micros < 1_000n) {
+    return `${micros} \u00b5s`;
+  }
+  return micros < 1_000_000n ? `${decimalText(micros, 1_000n, 3)} ms` : secondsText(micros);
+}
+
+/** A size: in GiB if it has one, else in MiB, with two digits after the point; below a MiB in KiB or bytes. */
 export function bytesText(bytes) {
-  const [unit, name] = bytes < GIB ? [MIB, "MiB"] : [GIB, "GiB"];
+  if (bytes < 1_024n) {
+    return `${bytes} bytes`;
+  }
+  const [unit, name] = bytes < MIB ? [1_024n, "KiB"] : bytes < GIB ? [MIB, "MiB"] : [GIB, "GiB"];
   const hundredths = (bytes * 100n) / unit;
   return `${counted(hundredths / 100n)}.${String(hundredths % 100n).padStart(2, "0")} ${name}`;
 }

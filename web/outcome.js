@@ -1,101 +1,175 @@
-// A plan's outcome: the verdict, the plan beside the one that is kept, its rounds as a table, and what was refused.
+// A plan's outcome: the verdict, the plan beside those that are kept, its rounds as a table, and what was refused.
 
+import { LABELS } from "./control-list.js";
 import { html } from "./elements.js";
-import { bytesText, counted, countOf, secondsText, signed } from "./numbers.js";
-import { endingOf, warningsOf } from "./predictions.js";
-import { LimitRefusal, microsOf } from "./units.js";
+import { bytesText, counted, countOf, signed, timeText } from "./numbers.js";
+import { endingOf, isGood, reasonWords, warningsOf } from "./predictions.js";
+import { ControlRefusal, guestPagesOf, microsOf } from "./units.js";
 import { refusalWords } from "./refusals.js";
 
-/** The rows of the comparison: of a prediction, a number, its text, and more words. */
+/** Pages of the trace in words: those of a sample are told from the guest's. */
+function pagesText(scale, pages) {
+  return `${countOf(pages, "page")}${scale.isSample ? " of the sample" : ""}`;
+}
+
+function sentText({ scale, plan }) {
+  const pages = pagesText(scale, plan.total);
+  return scale.isSample ? `${countOf(guestPagesOf(scale, plan.total), "page")} of the guest; ${pages}` : pages;
+}
+
+function tickWords({ state }, words) {
+  return state.ticks ? words : "";
+}
+
+/** The words of parts that say something. */
+function joined(...parts) {
+  return parts.filter(Boolean).join("; ");
+}
+
+/**
+ * The rows of the comparison: of a prediction, a number, its text, and more words. Of `isPrice` less is better.
+ */
 const ROWS = [
-  { name: "downtime", title: "Downtime", number: ({ cost }) => cost.downtime, text: secondsText,
-    more: ({ cost, plan }) => `${cost.isKept ? "kept" : "not kept"}; ${countOf(plan.down, "tick")} for pages` },
-  { name: "time", title: "Total time", number: ({ cost }) => cost.time, text: secondsText,
-    more: ({ plan, settings }) => `${countOf(plan.stop - settings.start, "tick")} of pre-copy` },
-  { name: "sent", title: "Sent", number: ({ cost }) => cost.bytes, text: bytesText,
-    more: ({ plan }) => countOf(plan.total, "page") },
-  { name: "rounds", title: "Rounds", number: ({ plan }) => plan.rounds.length, text: counted,
-    more: ({ plan }) => `ends with \u201c${plan.reason}\u201d` },
-  { name: "left", title: "Left at the stop", number: ({ plan }) => plan.left, text: (pages) => countOf(pages, "page"),
-    more: ({ settings }) => `threshold ${counted(settings.threshold)}` },
-  { name: "stop", title: "Stop at", number: ({ plan, scale }) => microsOf(scale, plan.stop), text: secondsText,
-    more: ({ plan }) => `tick ${plan.stop}` },
+  { name: "downtime", title: "Downtime", isPrice: true, number: ({ cost }) => cost.downtime, text: timeText,
+    more: (some) => joined(some.errors && `\u00b1 ${timeText(some.errors.downtime)}`,
+      some.cost.isKept ? "kept" : "not kept", tickWords(some, `${countOf(some.plan.down, "tick")} for pages`)) },
+  { name: "time", title: "Total time", isPrice: true, number: ({ cost }) => cost.time, text: timeText,
+    more: (some) => tickWords(some, `${countOf(some.plan.stop - some.settings.start, "tick")} of pre-copy`) },
+  { name: "sent", title: "Sent", isPrice: true, number: ({ cost }) => cost.bytes, text: bytesText,
+    more: (some) => joined(some.errors && `\u00b1 ${bytesText(some.errors.bytes)}`, sentText(some)) },
+  { name: "rounds", title: "Rounds", number: ({ plan }) => plan.rounds.length, text: counted, more: reasonWords },
+  { name: "left", title: "Left at the stop", isPrice: true, number: ({ plan }) => plan.left,
+    text: (pages, { scale }) => pagesText(scale, pages),
+    more: ({ settings }) => `fewer than ${counted(settings.threshold)} end pre-copy` },
+  { name: "stop", title: "Stop at", number: ({ plan, scale }) => microsOf(scale, plan.stop), text: timeText,
+    more: (some) => tickWords(some, `tick ${some.plan.stop}`) },
 ];
 
 /** The verdict on a prediction, in a line. */
 export function verdictOf(prediction) {
-  const { cost, limits, plan } = prediction;
-  const kept = cost.isKept ? "is kept" : "is not kept";
-  return `${endingOf(plan)} The guest stands still for ${secondsText(cost.downtime)}; the limit of `
-    + `${secondsText(limits.downtime)} ${kept}.`;
+  const { cost, limits } = prediction;
+  return `${endingOf(prediction)} The guest stands still for ${timeText(cost.downtime)}; the limit of `
+    + `${timeText(limits.downtime)} ${cost.isKept ? "is kept" : "is not kept"}.`;
+}
+
+/** The word for a prediction, and whether it is good, bad or neither. */
+function verdictMark(prediction) {
+  const { cost, plan } = prediction;
+  if (plan.total === 0) {
+    return ["mark", "Nothing to send"];
+  }
+  if (isGood(prediction)) {
+    return ["mark good", "Keeps the limit"];
+  }
+  return ["mark bad", !cost.isKept ? "Misses the limit" : cost.isLate ? "Ends after the trace"
+    : "Kept, but not bounded"];
 }
 
 /** The verdict, and what speaks against it, as elements. */
 export function verdictParts(prediction) {
-  const isGood = prediction.cost.isKept && prediction.plan.reason === "few";
-  const mark = html("span", { class: isGood ? "mark good" : "mark bad" }, isGood ? "Keeps the limit"
-    : prediction.cost.isKept ? "Kept, but not bounded" : "Misses the limit");
-  const warnings = warningsOf(prediction).map((words) => html("li", {}, words));
+  const [className, words] = verdictMark(prediction);
+  const warnings = warningsOf(prediction).map((sentence) => html("li", {}, sentence));
   return [
-    html("p", { class: "verdict" }, mark, " ", verdictOf(prediction)),
+    html("p", { class: "verdict" }, html("span", { class: className }, words), " ", verdictOf(prediction)),
     ...(warnings.length > 0 ? [html("ul", { class: "warnings" }, ...warnings)] : []),
   ];
 }
 
-function cellOf(row, prediction) {
-  return html("td", { "data-name": row.name }, html("b", {}, row.text(row.number(prediction))),
-    html("small", {}, row.more(prediction)));
+function cellOf(row, prediction, ...more) {
+  return html("td", { "data-name": row.name }, html("b", {}, row.text(row.number(prediction), prediction)), " ",
+    html("small", {}, row.more(prediction)), ...more);
 }
 
-/** The table of a plan, and beside it the plan that is kept, if there is one, and the difference. */
+/** How this plan differs from a kept one, and whether that is better or worse. */
+function differenceOf(row, prediction, kept) {
+  const difference = row.number(prediction) - row.number(kept);
+  const words = signed(difference, (amount) => row.text(amount, prediction));
+  const [className, mark] = difference == 0 || !row.isPrice ? ["difference", ""]
+    : difference < 0 ? ["difference better", " \u25bc better"] : ["difference worse", " \u25b2 worse"];
+  return html("span", { class: className }, `this: ${words}${mark}`);
+}
+
+function keptCell(row, prediction, { found }) {
+  return found.value ? cellOf(row, found.value, differenceOf(row, prediction, found.value)) : html("td", {}, "\u2013");
+}
+
+/** The head of a kept plan's column, with what can be done with it. */
+function keptHead(place) {
+  const name = `Kept plan ${place + 1}`;
+  const button = (kind, label, words) =>
+    html("button", { type: "button", class: "small", [kind]: place, "aria-label": `${name}: ${label}` }, words);
+  return html("th", { scope: "col" }, name, " ", button("data-exchanges", "exchange with this", "Exchange"), " ",
+    button("data-drops", "drop", "Drop"));
+}
+
+/** The table of a plan, and beside it the plans that are kept, with the differences. */
 export function comparisonOf(prediction, kept) {
-  const columns = ["", "This plan", ...(kept ? ["Kept plan", "Difference"] : [])];
-  const head = html("tr", {}, ...columns.map((words) => words ? html("th", { scope: "col" }, words) : html("td")));
-  const rows = ROWS.map((row) => {
-    const cells = [html("th", { scope: "row" }, row.title), cellOf(row, prediction)];
-    if (kept) {
-      const difference = row.number(prediction) - row.number(kept);
-      cells.push(cellOf(row, kept), html("td", { class: "difference" }, signed(difference, row.text)));
-    }
-    return html("tr", {}, ...cells);
-  });
+  const head = html("tr", {}, html("td"), html("th", { scope: "col" }, "This plan"),
+    ...kept.map((_, place) => keptHead(place)));
+  const rows = ROWS.map((row) => html("tr", {}, html("th", { scope: "row" }, row.title), cellOf(row, prediction),
+    ...kept.map((some) => keptCell(row, prediction, some))));
   const caption = html("caption", { class: "hidden" }, "What the plan comes to");
-  return html("table", { class: kept ? "comparison two" : "comparison" }, caption,
+  return html("table", { class: kept.length > 0 ? "comparison two" : "comparison" }, caption,
     html("thead", {}, head), html("tbody", {}, ...rows));
 }
 
-const ROUND_COLUMNS = ["round", "from", "to", "rate", "pages", "sent", "dirtied"];
-
-/** The rounds of a plan as a table, in ticks and pages. */
-export function roundsTable({ plan }) {
-  const head = ROUND_COLUMNS.map((name) => html("th", { scope: "col" }, name));
-  const rows = plan.rounds.map((round, place) => html("tr", {}, html("th", { scope: "row" }, String(place)),
-    ...ROUND_COLUMNS.slice(1).map((name) => html("td", {}, counted(round[name])))));
-  const caption = html("caption", { class: "hidden" }, "Rounds; rates in pages per 1,000 ticks");
-  return html("table", { class: "numbers" }, caption,
-    html("thead", {}, html("tr", {}, ...head)), html("tbody", {}, ...rows));
+/** The plans as columns and rows of numbers, for a file. */
+export function comparisonRows(predictions) {
+  const rows = predictions.map(({ cost, plan, settings, scale }) => [cost.downtime, cost.time, cost.bytes,
+    plan.rounds.length, plan.left, microsOf(scale, plan.stop), microsOf(scale, settings.start), plan.reason,
+    Number(cost.isKept), Number(!cost.isLate)]);
+  return [["downtime_us", "time_us", "sent_bytes", "rounds", "left_pages", "stop_us", "start_us", "reason", "kept",
+    "within_trace"], rows];
 }
 
-const WINDOW_COLUMNS = ["window", "writes", "pages", "again", "fresh"];
+/** A table of numbers, row by row; the first column heads its row. */
+function numbersTable(caption, columns, rows) {
+  const cells = rows.map(([first, ...others]) => html("tr", {}, html("th", { scope: "row" }, counted(first)),
+    ...others.map((number) => html("td", {}, counted(number)))));
+  return html("table", { class: "numbers" }, html("caption", {}, caption),
+    html("thead", {}, html("tr", {}, ...columns.map((name) => html("th", { scope: "col" }, name)))),
+    html("tbody", {}, ...cells));
+}
+
+export const ROUND_COLUMNS = ["round", "from", "to", "rate", "pages", "sent", "dirtied"];
+
+/** The rounds of a plan as rows of numbers. */
+export function roundRows({ plan }) {
+  return plan.rounds.map((round, place) => [place, ...ROUND_COLUMNS.slice(1).map((name) => round[name])]);
+}
+
+/** The rounds of a plan as a table, in ticks and pages. */
+export function roundsTable(prediction) {
+  const pages = prediction.scale.isSample ? "pages of the sample" : "pages";
+  return numbersTable(`In ticks and ${pages}; rates in ${pages} per 1,000 ticks`, ROUND_COLUMNS,
+    roundRows(prediction));
+}
+
+export const WINDOW_COLUMNS = ["window", "writes", "pages", "again", "fresh"];
 
 /** The most windows that a table has. */
 const MOST_ROWS = 1000;
 
-/** The windows of a trace as a table. */
-export function windowsTable(windows) {
-  const shown = Math.min(windows.count, MOST_ROWS);
-  const more = windows.count > shown ? `, the first ${counted(shown)} of ${counted(windows.count)}` : "";
-  const head = WINDOW_COLUMNS.map((name) => html("th", { scope: "col" }, name));
-  const rows = Array.from({ length: shown }, (_, row) => html("tr", {},
-    html("th", { scope: "row" }, counted(windows.number[row])),
-    ...WINDOW_COLUMNS.slice(1).map((name) => html("td", {}, counted(windows[name][row])))));
-  return html("table", { class: "numbers" }, html("caption", {}, `Windows with a write${more}`),
-    html("thead", {}, html("tr", {}, ...head)), html("tbody", {}, ...rows));
+/** The first windows of a trace, at most so many, as rows of numbers. */
+export function windowRows(windows, most = windows.count) {
+  return Array.from({ length: Math.min(windows.count, most) }, (_, row) =>
+    [windows.number[row], ...WINDOW_COLUMNS.slice(1).map((name) => windows[name][row])]);
 }
 
-/** What was refused, as an element: the name and a sentence. Throws on what is no refusal. */
+/** The windows of a trace as a table. */
+export function windowsTable(windows) {
+  const more = windows.count > MOST_ROWS ? `, the first ${counted(MOST_ROWS)} of ${counted(windows.count)}` : "";
+  return numbersTable(`Windows with a write${more}`, WINDOW_COLUMNS, windowRows(windows, MOST_ROWS));
+}
+
+/** What was refused, in words: a name, and a sentence. */
+export function refusedWords(error) {
+  return error instanceof ControlRefusal ? { name: LABELS[error.control], sentence: error.message }
+    : refusalWords(error);
+}
+
+/** What was refused, as an element. */
 export function refusalPart(error, what) {
-  const { name, sentence } = error instanceof LimitRefusal
-    ? { name: error.option, sentence: error.message } : refusalWords(error);
+  const { name, sentence } = refusedWords(error);
   return html("p", { class: "refusal" }, html("strong", {}, `${what} ${name}`), ` ${sentence}`);
 }

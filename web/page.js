@@ -1,18 +1,22 @@
-// The page: it holds the state and the trace, plans again after each change, and has the sections drawn.
+// The page: it holds the state, has each change planned by the worker, and has the sections drawn.
 
 import { Controls } from "./controls.js";
 import { byId, oncePerFrame } from "./elements.js";
-import { counted, countOf, bytesText, rateText, secondsText } from "./numbers.js";
-import { refusalPart } from "./outcome.js";
+import { fittedSettings } from "./fitting.js";
+import { nearestSettings } from "./nearest.js";
+import { countOf, counted, rateText, bytesText, timeText } from "./numbers.js";
+import { WorkerEnded } from "./planner-client.js";
+import { LimitsView } from "./limits-view.js";
 import { PlanView } from "./plan-view.js";
+import { serve } from "./planner-worker.js";
 import { watchWidths } from "./plot.js";
-import { hasWideMemory, Planner, Refusal } from "./planner.js";
+import { hasWideMemory, Refusal } from "./planner.js";
 import { commandsOf, predictionOf } from "./predictions.js";
-import { serve } from "./starts-worker.js";
+import { firstStartOf } from "./starts.js";
 import { StartsView } from "./starts-view.js";
-import { fitted, fragmentOf, plainSettings, presetOf, stateIn } from "./state.js";
-import { embeddedBytes, exampleSource, piecesOf } from "./trace-source.js";
-import { amountOf, bytesOf, LimitRefusal, limitsOf, microsOf, TIME_UNITS } from "./units.js";
+import { fragmentOf, MOST_KEPT, presetOf, stateIn } from "./state.js";
+import { TraceDesk } from "./trace-desk.js";
+import { amountOf, ControlRefusal, limitsOf, microsOf } from "./units.js";
 import { WindowsView } from "./windows-view.js";
 
 /** How long the page waits for a change to be the last one until it announces it, in milliseconds. */
@@ -21,12 +25,12 @@ const SETTLED = 400;
 /** The example that is shown if the address asks for nothing. */
 const FIRST_EXAMPLE = "sqlite";
 
-/** Runs something, and returns its value, or the refusal that it throws. */
-function foundBy(act) {
+/** Runs something, and has its value, or the refusal that it throws. */
+async function foundBy(act) {
   try {
-    return { value: act() };
+    return { value: await act() };
   } catch (error) {
-    if (error instanceof Refusal || error instanceof LimitRefusal) {
+    if (error instanceof Refusal || error instanceof ControlRefusal || error instanceof WorkerEnded) {
       return { refusal: error };
     }
     throw error;
@@ -37,36 +41,38 @@ class Page {
   constructor() {
     this.state = stateIn(location.hash);
     this.isGiven = location.hash.length > 1;
-    this.loading = 0;
-    this.planner = null;
-    this.keptPlan = null;
-    this.drawSoon = oncePerFrame(() => this.draw());
-    this.controls = new Controls(byId("controls"), (settings) => this.change(settings));
-    const start = (tick) => this.controls.set("start", Math.min(tick, this.planner.sizes.last));
-    this.windows = new WindowsView(start);
-    this.plans = new PlanView();
-    this.starts = new StartsView(start);
-    this.starts.drawn = this.drawSoon;
+    this.chosen = new Set();
+    this.keptFound = new Map();
+    this.found = null;
+    this.isPlanning = false;
+    this.planSoon = oncePerFrame(() => this.plan());
+    this.controls = new Controls(byId("controls"), (settings, names) => this.change(settings, names));
+    this.desk = new TraceDesk((trace, wish) => this.take(trace, wish));
+    this.windows = new WindowsView((tick) => this.startAt(tick), () => this.draw());
+    this.plans = new PlanView((name) => this.controls.focus(name), () => this.fitAnew(), this.planSoon);
+    this.starts = new StartsView((tick) => this.startAt(tick), () => this.draw());
+    this.limits = new LimitsView((name, value) => this.controls.set(name, value));
     this.controls.show(this.state.settings);
   }
 
   listen() {
     byId("file").addEventListener("change", ({ target }) => {
-      this.takeFiles([...target.files]);
+      const files = [...target.files];
       target.value = "";
+      this.takeFiles(files);
     });
     for (const button of document.querySelectorAll("[data-example]")) {
-      button.addEventListener("click", () => this.takeExample(button.dataset.example));
+      button.addEventListener("click", () => this.desk.takeExample(button.dataset.example, {}));
     }
     for (const button of document.querySelectorAll("[data-copies]")) {
       button.addEventListener("click", () => this.copy(button));
     }
-    byId("keep").addEventListener("click", () => this.keep(structuredClone(this.state.settings)));
-    byId("drop").addEventListener("click", () => this.keep(null));
-    byId("exchange").addEventListener("click", () => this.exchange());
+    byId("keep").addEventListener("click", () => this.keep());
+    byId("undo-start").addEventListener("click", () => this.undoStart());
+    byId("comparison").addEventListener("click", ({ target }) => this.pressed(target));
     this.listenToDrops();
-    addEventListener("hashchange", () => this.follow());
-    watchWidths([...document.querySelectorAll(".plot")], this.drawSoon);
+    addEventListener("popstate", () => this.follow());
+    watchWidths([byId("windows-plot"), byId("starts-plot")], this.planSoon);
   }
 
   listenToDrops() {
@@ -78,209 +84,284 @@ class Page {
     addEventListener("dragleave", over(false));
     addEventListener("drop", (event) => {
       over(false)(event);
-      this.takeFiles(event.dataTransfer.files);
+      this.takeFiles([...event.dataTransfer.files]);
     });
   }
 
+  takeFiles(files) {
+    return this.desk.takeFiles(files, { isGiven: this.isGiven && this.desk.trace === null });
+  }
+
   async open() {
-    this.module = embeddedBytes("planner-module").then((bytes) => WebAssembly.compile(bytes));
     this.listen();
     const example = this.state.example ?? (this.isGiven ? null : FIRST_EXAMPLE);
     if (example) {
-      await this.takeExample(example, this.isGiven);
+      await this.desk.takeExample(example, { isGiven: this.isGiven });
     } else {
       byId("trace-state").textContent = "This address has settings. Choose the trace that they are for, or an example.";
     }
   }
 
-  takeFiles(files) {
-    if (files.length > 0) {
-      const [file] = files;
-      return this.load({ name: file.name, blob: file }, null, this.isGiven && this.planner === null);
-    }
-    return undefined;
-  }
-
-  async takeExample(example, isGiven = false) {
-    const source = await exampleSource(example);
-    if (!isGiven) {
-      this.state.settings = presetOf(example);
-    }
-    return this.load(source, example, true);
-  }
-
   /**
-   * Loads a trace, if no other is asked for meanwhile. Settings that were given with an address stay as they are; those
-   * of an example are not for another trace.
+   * Takes a trace that is open now. Settings that came with an address stay as they are; an example has its own; else
+   * they are fitted to the trace and its record.
    */
-  async load(source, example, isGiven) {
-    this.loading += 1;
-    const { loading } = this;
-    this.forget(`Reading ${source.name} \u2026`);
-    try {
-      const planner = await Planner.open(await this.module, source.blob.size, piecesOf(source.blob));
-      if (loading !== this.loading) {
-        return;
-      }
-      if (!isGiven) {
-        const settings = this.state.example ? plainSettings() : this.state.settings;
-        this.state.settings = fitted(settings, planner.sizes.last);
-      }
-      this.state = { ...this.state, example };
-      this.take(source, planner);
-    } catch (error) {
-      if (!(error instanceof Refusal)) {
-        throw error;
-      }
-      if (loading === this.loading) {
-        byId("trace-state").replaceChildren(refusalPart(error, `${source.name} is refused:`));
-      }
+  take(trace, { isGiven = false, isRecordOnly = false }) {
+    const { example } = trace.source;
+    if (!isGiven) {
+      const settings = example ? presetOf(example) : this.state.settings;
+      this.state.settings = example ? settings : fittedSettings(settings, this.chosen, trace.sizes, trace.record);
     }
-  }
-
-  /** Forgets the trace. */
-  forget(words) {
-    this.planner = null;
-    this.keptPlan = null;
-    document.body.classList.remove("loaded");
-    byId("trace-state").textContent = words;
-  }
-
-  take(source, planner) {
-    this.planner = planner;
-    this.source = source;
-    this.starts.take(source, planner);
+    const kept = isGiven || isRecordOnly ? this.state.kept : [];
+    const wanted = isGiven ? this.state.print : null;
+    this.state = { ...this.state, kept, example, print: wanted ?? trace.print };
+    this.keptFound.clear();
+    this.starts.take(trace);
+    this.plans.forget();
+    this.windows.forget();
     document.body.classList.add("loaded");
+    byId("moved").hidden = true;
+    this.controls.unread = null;
     this.controls.show(this.state.settings);
-    this.controls.fit(planner.sizes.last);
-    this.drawSoon();
+    this.controls.fit(trace.sizes, trace.record?.start ?? 0);
+    this.planSoon();
     this.settle();
   }
 
-  /** Takes settings that the user has changed. */
-  change(settings) {
-    this.state = { ...this.state, settings };
-    this.drawSoon();
+  /** Takes settings that the user has changed, with the names of those that were chosen. */
+  change(settings, names) {
+    names.forEach((name) => this.chosen.add(name));
+    byId("moved").hidden = true;
+    this.state = { ...this.state, settings, print: this.desk.trace?.print ?? this.state.print };
+    this.changed();
+  }
+
+  changed() {
+    this.planSoon();
     clearTimeout(this.settling);
     this.settling = setTimeout(() => this.settle(), SETTLED);
   }
 
-  keep(settings) {
-    this.state = { ...this.state, kept: settings };
-    this.keptPlan = null;
-    this.drawSoon();
-    this.settle();
+  /** Starts the migration at a tick, as a picture or an answer says, with a way back. */
+  startAt(tick) {
+    const start = Math.min(tick, this.desk.trace.sizes.last);
+    const before = this.state.settings;
+    if (start === before.start) {
+      return;
+    }
+    this.startBefore = before;
+    this.controls.set("start", start);
+    const at = (ticks) => timeText(microsOf({ tick: amountOf(before.tick) }, ticks));
+    byId("moved-words").textContent = `The start is moved from ${at(before.start)} to ${at(start)}.`;
+    byId("moved").hidden = false;
   }
 
-  exchange() {
+  undoStart() {
+    const { start, base } = this.startBefore;
+    byId("moved").hidden = true;
+    this.controls.take({ ...this.state.settings, start, base }, []);
+  }
+
+  fitAnew() {
+    const { sizes, record } = this.desk.trace;
+    this.chosen.clear();
+    this.controls.take(fittedSettings(this.state.settings, this.chosen, sizes, record), []);
+  }
+
+  keep() {
     const { settings, kept } = this.state;
-    this.state = { ...this.state, settings: { ...kept, window: settings.window }, kept: settings };
-    this.keptPlan = null;
-    this.controls.show(this.state.settings);
-    this.drawSoon();
-    this.settle();
+    this.keepOnly([...kept, structuredClone(settings)].slice(-MOST_KEPT));
   }
 
-  /** Follows an address that was changed by hand. */
+  keepOnly(kept) {
+    this.state = { ...this.state, kept };
+    this.changed();
+  }
+
+  /** A button of the comparison: it takes a kept plan's settings, or drops the plan. */
+  pressed({ dataset }) {
+    const { kept, settings } = this.state;
+    if (dataset.drops !== undefined) {
+      this.keepOnly(kept.filter((_, place) => place !== Number(dataset.drops)));
+    } else if (dataset.exchanges !== undefined) {
+      const place = Number(dataset.exchanges);
+      const other = { ...kept[place], window: settings.window, ticks: settings.ticks };
+      this.state = { ...this.state, kept: kept.with(place, structuredClone(settings)) };
+      this.controls.take(other, []);
+    }
+  }
+
+  /** Follows an address: the user went back or forward, or changed it. */
   follow() {
-    const before = this.state.example;
+    const before = this.desk.trace?.source.example;
     this.state = stateIn(location.hash);
     this.isGiven = true;
-    this.keptPlan = null;
-    if (this.state.example && (this.state.example !== before || !this.planner)) {
-      this.takeExample(this.state.example, true);
+    this.keptFound.clear();
+    byId("moved").hidden = true;
+    const { example, print } = this.state;
+    if (example && example !== before) {
+      this.desk.takeExample(example, { isGiven: true });
       return;
     }
+    if (!example && print && print !== this.desk.trace?.print && this.desk.sources.has(print)) {
+      this.desk.reopen(print, { isGiven: true });
+      return;
+    }
+    this.controls.unread = null;
     this.controls.show(this.state.settings);
-    this.drawSoon();
-    this.settle();
+    this.planSoon();
+    this.tellAddress();
   }
 
-  /** The kept plan over this trace. */
-  kept() {
+  /** The kept plans over this trace. */
+  async kept(trace) {
     const { kept, settings } = this.state;
-    if (kept && !this.keptPlan) {
-      const found = foundBy(() => predictionOf(this.planner, { ...kept, window: settings.window }));
-      this.keptPlan = { settings: kept, found };
+    const plans = [];
+    for (const some of kept) {
+      const key = JSON.stringify(some);
+      if (!this.keptFound.has(key)) {
+        const window = trace.sizes.last + 1;
+        this.keptFound.set(key, await foundBy(() => predictionOf(trace, { ...some, window })));
+      }
+      plans.push({ settings: { ...some, window: settings.window }, found: this.keptFound.get(key) });
     }
-    return this.keptPlan;
+    return plans;
   }
 
-  /** Plans and draws. */
-  draw() {
-    if (!this.planner) {
+  predicted(trace) {
+    if (this.controls.unread) {
+      throw this.controls.unread;
+    }
+    return predictionOf(trace, this.state.settings);
+  }
+
+  /** Plans and draws; if something changes meanwhile, once more. */
+  async plan() {
+    this.isAgain = true;
+    if (this.isPlanning) {
       return;
     }
+    this.isPlanning = true;
+    try {
+      while (this.isAgain && this.desk.trace) {
+        this.isAgain = false;
+        await this.planOnce(this.desk.trace);
+      }
+    } finally {
+      this.isPlanning = false;
+    }
+  }
+
+  async planOnce(trace) {
     const begun = performance.now();
     const { settings } = this.state;
-    const found = foundBy(() => predictionOf(this.planner, settings));
+    const found = await foundBy(async () => this.predicted(trace));
     const planned = performance.now();
-    this.tellTrace(settings);
-    this.windows.draw(this.planner, settings, found.value);
-    this.plans.draw(settings, found, this.kept());
-    this.starts.follow(found.value);
-    this.starts.draw(this.windows.axis);
-    this.drawCommands(found.value);
-    this.controls.derive(this.derived(found.value));
-    this.found = found;
-    performance.clearMeasures();
+    const kept = await this.kept(trace);
+    await foundBy(() => this.windows.count(trace, settings));
+    if (trace !== this.desk.trace) {
+      return;
+    }
+    this.shown = { trace, settings, found, kept };
+    this.draw();
+    performance.clearMeasures("plan");
+    performance.clearMeasures("replan");
     performance.measure("plan", { start: begun, end: planned });
     performance.measure("replan", { start: begun, end: performance.now() });
   }
 
-  tellTrace(settings) {
-    const { pages, pageBytes, writes, last } = this.planner.sizes;
-    const tick = amountOf(settings.tick, TIME_UNITS);
-    const size = bytesOf({ page: BigInt(pageBytes), oneIn: BigInt(Math.max(1, settings.oneIn)) }, pages);
-    const ofGuest = settings.oneIn > 1 ? `, one in ${counted(settings.oneIn)} of the guest's: ` : ": ";
-    const words = `${this.source.name}: ${countOf(pages, "page")} of ${counted(pageBytes)} bytes`
-      + `${ofGuest}${bytesText(size)}; ${countOf(writes, "write")} in ${secondsText(microsOf({ tick }, last))}`;
-    if (byId("trace-state").textContent !== words) {
-      byId("trace-state").textContent = words;
+  /** Draws what was planned last. */
+  draw() {
+    if (!this.shown) {
+      return;
     }
+    const { trace, settings, found, kept } = this.shown;
+    const nearest = found.refusal instanceof ControlRefusal ? this.nearest(found.refusal, settings, trace) : null;
+    this.desk.tell(settings, this.otherTrace());
+    this.windows.draw(settings, found.value);
+    this.plans.draw(settings, found, kept);
+    byId("keep").disabled = !found.value;
+    byId("keep").textContent = kept.length < MOST_KEPT ? "Keep this plan to compare"
+      : "Keep this plan in place of the first";
+    this.limits.follow(trace, settings, found.value);
+    this.starts.follow(found.value, this.controls.begin);
+    this.starts.draw(this.windows.axis);
+    this.drawCommands(found.value, trace);
+    this.controls.derive(this.derived(settings, found.value, trace));
+    this.controls.refuse(found.refusal, nearest);
+    this.found = found;
   }
 
-  drawCommands(prediction) {
-    byId("commands").hidden = !prediction;
+  nearest(refusal, settings, { sizes }) {
+    return refusal === this.controls.unread ? settings : nearestSettings(settings, refusal, sizes);
+  }
+
+  drawCommands(prediction, { sizes }) {
+    byId("commands").classList.toggle("stale", !prediction);
+    document.querySelectorAll("[data-copies]:not([data-copies=address])").forEach((button) => {
+      button.disabled = !prediction;
+    });
     if (!prediction) {
       return;
     }
-    const commands = commandsOf(this.state.settings, this.planner.sizes, prediction);
+    const first = firstStartOf(sizes, prediction.settings.base, this.controls.begin);
+    const commands = commandsOf(prediction.state, sizes, prediction, first);
     for (const [name, words] of Object.entries(commands)) {
       byId(`command-${name}`).textContent = words;
     }
+    byId("warm-note").hidden = prediction.settings.base === null;
   }
 
   /** What the controls come to, by their names. */
-  derived(prediction) {
-    const { settings } = this.state;
-    const tick = amountOf(settings.tick, TIME_UNITS);
-    const at = (ticks) => secondsText(microsOf({ tick }, ticks));
+  derived(settings, prediction, { sizes }) {
+    const at = (ticks) => timeText(microsOf({ tick: amountOf(settings.tick) }, ticks));
     const words = { start: at(settings.start), base: at(settings.base ?? 0), window: at(settings.window) };
+    if (settings.base !== null && settings.base < settings.start) {
+      words.base += `, ${at(settings.start - settings.base)} before the start`;
+    }
     if (prediction) {
       const { min, max, increment, threshold } = prediction.settings;
+      const { scale } = prediction;
       const limits = limitsOf(settings);
-      words.link = `${rateText(limits.link)}: ${counted(max)} pages per 1,000 ticks`;
-      words.first = `${rateText(limits.first)}: ${counted(min)} pages per 1,000 ticks`;
-      words.increase = `${counted(increment)} pages per 1,000 ticks`;
-      words.reserve = `${secondsText(limits.downtime - limits.reserve)} for pages`;
-      words.downtime = `stops at fewer than ${countOf(threshold, "page")}`;
+      const pages = scale.isSample ? "pages of the sample" : "pages";
+      words.link = `${rateText(limits.link)}: ${counted(max)} ${pages} per 1,000 ticks`;
+      words.first = `${rateText(limits.first)}: ${counted(min)} ${pages} per 1,000 ticks`;
+      words.increase = `${counted(increment)} ${pages} per 1,000 ticks`;
+      words.reserve = `${timeText(limits.downtime - limits.reserve)} for pages`;
+      words.downtime = `stops at fewer than ${counted(threshold)} ${pages}`;
+      words.sample = scale.isSample ? `${counted(scale.sampled)} of ${counted(scale.guest)} pages, `
+        + bytesText(scale.guest * scale.page) : `itself: the trace has all ${countOf(sizes.pages, "page")}`;
     }
     return words;
   }
 
-  /** Tells the last of several changes: in the address, and to a screen reader. */
+  /** What is said if the address is of another trace than the open one. */
+  otherTrace() {
+    const { print, example } = this.state;
+    return print && !example && print !== this.desk.trace.print
+      ? `This address has the settings of another trace (${print}); the open one is ${this.desk.trace.print}.` : "";
+  }
+
+  /** Tells the last of several changes: as an address to go back to, and to a screen reader. */
   settle() {
-    const fragment = fragmentOf(this.state);
-    try {
-      history.replaceState(null, "", `#${fragment}`);
-    } catch {
-      location.replace(`#${fragment}`);
+    clearTimeout(this.settling);
+    const fragment = `#${fragmentOf(this.state)}`;
+    if (location.hash !== fragment) {
+      if (this.isSettled) {
+        history.pushState(null, "", fragment);
+      } else {
+        history.replaceState(null, "", fragment);
+      }
     }
-    byId("address").textContent = `#${fragment}`;
+    this.isSettled = true;
+    this.tellAddress();
     if (this.found) {
       this.plans.tell(this.found);
     }
+  }
+
+  tellAddress() {
+    byId("address").textContent = `#${fragmentOf(this.state)}`;
   }
 
   async copy(button) {

@@ -1,12 +1,22 @@
-// The sections of the plan: the verdict, the comparison with the plan that is kept, and the rounds of both.
+// The sections of the plan: the verdict, the comparison with the plans that are kept, and the rounds of all. If
+// settings make no plan, the last one stays, grey.
 
 import { byId, html } from "./elements.js";
-import { bytesText, secondsText } from "./numbers.js";
-import { comparisonOf, refusalPart, roundsTable, verdictOf, verdictParts } from "./outcome.js";
-import { Inspector, widthOf } from "./plot.js";
+import { bytesText, timeText } from "./numbers.js";
+import {
+  comparisonOf, comparisonRows, refusalPart, refusedWords, ROUND_COLUMNS, roundRows, roundsTable, verdictOf,
+  verdictParts,
+} from "./outcome.js";
+import { saveButtons } from "./exports.js";
+import { Inspector } from "./inspector.js";
+import { watchWidths, widthOf } from "./plot.js";
 import { quantityWords } from "./quantities.js";
 import { reachOf, roundsLook, roundsPicture } from "./rounds-chart.js";
-import { RATE_UNITS, TIME_UNITS } from "./units.js";
+import { amountOf, ControlRefusal, microsOf, RATE_UNITS, TIME_UNITS } from "./units.js";
+
+function timeOf(ticks, { tick }) {
+  return timeText(microsOf({ tick: amountOf(tick) }, ticks));
+}
 
 /** The words for each part of the settings, by which a kept plan is told from the other. */
 const WORDS = {
@@ -15,85 +25,146 @@ const WORDS = {
   increase: (value) => `increment ${value} %`,
   downtime: (value) => `downtime limit ${quantityWords(value, TIME_UNITS)}`,
   reserve: (value) => `${quantityWords(value, TIME_UNITS)} for devices`,
-  start: (value) => `start at tick ${value}`,
+  start: (value, settings) => `start at ${timeOf(value, settings)}`,
   rounds: (value) => `at most ${value} rounds`,
   skip: (value) => (value ? "skips pages" : "skips no pages"),
-  base: (value) => (value === null ? "cold start" : `copy before tick ${value}`),
+  base: (value, settings) => (value === null ? "cold start" : `copy before ${timeOf(value, settings)}`),
   tick: (value) => `tick ${quantityWords(value, TIME_UNITS)}`,
-  oneIn: (value) => `one page in ${value}`,
+  sample: (value) => (value === null ? "all pages" : `sample of ${value.part} in ${value.whole}`),
 };
 
-/** In what the settings of the kept plan differ, in words. */
-function differencesOf(settings, kept) {
+/** In what the settings of a kept plan differ, in words. */
+function differencesOf(settings, kept, place) {
   const differing = Object.keys(WORDS).filter((name) => JSON.stringify(settings[name]) !== JSON.stringify(kept[name]));
-  return differing.length === 0 ? "The kept plan has the same settings."
-    : `The kept plan: ${differing.map((name) => WORDS[name](kept[name])).join(", ")}.`;
+  return differing.length === 0 ? `Kept plan ${place + 1} has the same settings.`
+    : `Kept plan ${place + 1}: ${differing.map((name) => WORDS[name](kept[name], kept)).join(", ")}.`;
+}
+
+/** A figure with the rounds of a plan. */
+class RoundsFigure {
+  constructor(name, title) {
+    this.title = html("figcaption", {}, title);
+    this.plot = html("div", { class: "plot", id: `rounds-plot-${name}` });
+    this.readout = html("p", { class: "readout", "data-hint": "Point at a round, or step with the arrow keys." });
+    this.table = html("div", { class: "scrolls", id: `rounds-table-${name}` });
+    this.details = html("details", { open: true }, html("summary", {}, `Table of rounds${title && `, ${title}`}`),
+      this.table);
+    const saves = saveButtons(`rounds-${name}`, `the rounds${title && `, ${title}`}`, {
+      picture: () => this.plot.querySelector("svg"),
+      table: () => this.prediction && [ROUND_COLUMNS, roundRows(this.prediction)],
+    });
+    this.prediction = null;
+    this.whole = html("figure", { id: `plan-${name}` }, this.title, this.plot, this.readout,
+      html("div", { class: "actions" }, saves), this.details);
+    this.inspector = new Inspector(this.plot, this.readout, `Rounds${title && `, ${title}`}`);
+  }
+
+  draw(prediction, reach) {
+    this.prediction = prediction;
+    const { axis, picture } = roundsPicture(widthOf(this.plot), prediction, reach);
+    this.plot.replaceChildren(picture);
+    this.inspector.hold(roundsLook(axis, prediction));
+    this.table.replaceChildren(roundsTable(prediction));
+  }
 }
 
 export class PlanView {
-  constructor() {
-    this.inspectors = {};
-    for (const name of ["this", "kept"]) {
-      const readout = byId(`rounds-readout-${name}`);
-      this.inspectors[name] = new Inspector(byId(`rounds-plot-${name}`), readout, "Rounds");
-    }
+  /** `lead` leads to a control by its name, and `fit` fits all settings to the trace. */
+  constructor(lead, fit, changed) {
+    this.figures = [new RoundsFigure("this", "")];
+    this.lead = lead;
+    this.fit = fit;
+    this.changed = changed;
+    this.last = null;
+    byId("plans").append(this.figures[0].whole);
+    byId("find-limits").after(saveButtons("prediction", "the prediction", {
+      table: () => this.last && comparisonRows([this.last, ...this.others]),
+    }));
+    this.others = [];
+    watchWidths([this.figures[0].plot], changed);
   }
 
-  /** Shows a prediction, or why there is none; and beside it the kept plan, or why it cannot be planned. */
+  /** Forgets the last plan, which was of another trace. */
+  forget() {
+    this.last = null;
+  }
+
+  /** Shows a prediction beside the kept ones, or why there is none, with the last one grey. */
   draw(settings, found, kept) {
-    byId("outcome").classList.toggle("refused", found.refusal !== undefined);
-    byId("rounds").hidden = found.refusal !== undefined;
-    byId("plan-kept").hidden = !kept;
-    byId("drop").hidden = !kept;
-    byId("exchange").hidden = !kept;
-    byId("keep").textContent = kept ? "Keep this plan instead" : "Keep this plan to compare";
-    if (found.refusal) {
-      byId("verdict").replaceChildren(refusalPart(found.refusal, "Settings refused:"));
-      byId("comparison").replaceChildren();
-      byId("summary").textContent = "Settings refused";
-      return;
+    this.last = found.value ?? this.last;
+    for (const id of ["comparison", "rounds"]) {
+      byId(id).classList.toggle("stale", !found.value);
+      byId(id).hidden = this.last === null;
     }
-    const other = kept?.found.value;
-    byId("verdict").replaceChildren(...verdictParts(found.value));
-    byId("comparison").replaceChildren(comparisonOf(found.value, other), ...this.keptWords(settings, kept));
-    byId("summary").textContent = this.summaryOf(found.value);
-    this.drawRounds(found.value, other);
+    byId("stale-note").hidden = found.value !== undefined || this.last === null;
+    if (found.value) {
+      byId("verdict").replaceChildren(...verdictParts(found.value));
+    } else {
+      byId("verdict").replaceChildren(...this.refusedParts(found.refusal));
+    }
+    byId("summary").textContent = found.value ? this.summaryOf(found.value) : "No plan with these settings";
+    if (this.last) {
+      const words = kept.map((some, place) => this.keptWords(settings, some, place));
+      byId("comparison").replaceChildren(comparisonOf(this.last, kept), ...words);
+      this.drawRounds(this.last, kept);
+    }
   }
 
-  keptWords(settings, kept) {
-    if (!kept) {
-      return [];
+  /** Why there is no plan, with ways out. */
+  refusedParts(refusal) {
+    const fit = html("button", { type: "button", id: "fit" }, "Fit all settings to the trace");
+    fit.addEventListener("click", this.fit);
+    if (!(refusal instanceof ControlRefusal)) {
+      return [refusalPart(refusal, "No plan:"), html("div", { class: "actions" }, fit)];
     }
-    if (kept.found.refusal) {
-      return [refusalPart(kept.found.refusal, "The kept plan is refused:")];
-    }
-    return [html("p", { class: "derived" }, differencesOf(settings, kept.settings))];
+    const { name, sentence } = refusedWords(refusal);
+    const lead = html("button", { type: "button", id: "lead" }, `Go to \u201c${name}\u201d`);
+    lead.addEventListener("click", () => this.lead(refusal.control));
+    const said = html("p", { class: "refusal", "data-control": refusal.control },
+      html("strong", {}, `No plan. ${name}:`), ` ${sentence}`);
+    return [said, html("div", { class: "actions" }, lead, fit)];
+  }
+
+  keptWords(settings, { found, settings: own }, place) {
+    return found.refusal ? refusalPart(found.refusal, `Kept plan ${place + 1} is refused:`)
+      : html("p", { class: "derived" }, differencesOf(settings, own, place));
   }
 
   summaryOf({ cost }) {
-    const downtime = `Downtime ${secondsText(cost.downtime)}, ${cost.isKept ? "kept" : "not kept"}`;
-    return [downtime, secondsText(cost.time), bytesText(cost.bytes)].join(" \u00b7 ");
+    const downtime = `Downtime ${timeText(cost.downtime)}, ${cost.isKept ? "kept" : "not kept"}`;
+    return [downtime, timeText(cost.time), bytesText(cost.bytes)].join(" \u00b7 ");
   }
 
   /** The verdict for a screen reader, once the user has stopped changing. */
   tell(found) {
-    byId("told").textContent = found.value ? verdictOf(found.value) : "";
+    const refused = found.refusal && refusedWords(found.refusal);
+    byId("told").textContent = found.value ? verdictOf(found.value) : `No plan. ${refused.name}: ${refused.sentence}`;
   }
 
-  drawRounds(prediction, other) {
-    const reach = reachOf(other ? [prediction, other] : [prediction]);
-    this.drawOne("this", prediction, reach, other ? "This plan" : "");
-    if (other) {
-      this.drawOne("kept", other, reach, "Kept plan");
+  drawRounds(prediction, kept) {
+    const others = kept.map(({ found }) => found.value ?? null);
+    this.others = others.filter(Boolean);
+    const reach = reachOf([prediction, ...others.filter(Boolean)]);
+    this.figureAt(0).title.textContent = others.some(Boolean) ? "This plan" : "";
+    this.figureAt(0).draw(prediction, reach);
+    others.forEach((other, place) => {
+      const figure = this.figureAt(place + 1);
+      figure.whole.hidden = other === null;
+      if (other) {
+        figure.draw(other, reach);
+      }
+    });
+    this.figures.slice(others.length + 1).forEach((figure) => { figure.whole.hidden = true; });
+  }
+
+  figureAt(place) {
+    if (!this.figures[place]) {
+      const figure = new RoundsFigure(`kept-${place}`, `Kept plan ${place}`);
+      byId("plans").append(figure.whole);
+      watchWidths([figure.plot], this.changed);
+      this.figures[place] = figure;
     }
-  }
-
-  drawOne(name, prediction, reach, title) {
-    const plot = byId(`rounds-plot-${name}`);
-    byId(`rounds-title-${name}`).textContent = title;
-    const { axis, picture } = roundsPicture(widthOf(plot), prediction, reach);
-    plot.replaceChildren(picture);
-    this.inspectors[name].take(roundsLook(axis, prediction));
-    byId(`rounds-table-${name}`).replaceChildren(roundsTable(prediction));
+    this.figures[place].whole.hidden = false;
+    return this.figures[place];
   }
 }

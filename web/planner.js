@@ -6,7 +6,7 @@ const MOST_TRACE_BYTES = 2 ** 28;
 
 /** The most writes and pages of a trace, and the most rounds of a plan. */
 const MOST_PAGES = 65_536;
-const MOST_ROUNDS = 64;
+export const MOST_ROUNDS = 64;
 
 /** Bytes of the structs and rows that the module reads and writes. */
 const SIZES_SIZE = 24;
@@ -143,6 +143,11 @@ export class Planner {
     this.places.touches = alignedUp(this.places.trace + this.length);
     this.places.rows = this.places.touches + this.sizes.writes * TOUCH_SIZE;
     this.reserve(this.places.rows);
+  }
+
+  /** The bytes of the trace, as they lie in the module's memory. */
+  traceBytes() {
+    return new Uint8Array(this.calls.memory.buffer, this.places.trace, this.length);
   }
 
   view() {

@@ -8,8 +8,9 @@ import { counted } from "./numbers.js";
 const LEFT = 64;
 const RIGHT = 12;
 
-/** The least pixels between two labels of an axis. */
-const LABEL_ROOM = 84;
+/** The least pixels between two labels of an axis, and the width of one of their letters. */
+const LABEL_ROOM = 104;
+const DIGIT_WIDTH = 7;
 
 /** An axis of ticks over a picture of some width: it has the ticks [first, last). */
 export function axisOf(width, first, last) {
@@ -64,11 +65,18 @@ function timeLabel(micros, step) {
 export function axisLabels(axis, tick, bottom) {
   const step = stepFor((axis.last - axis.first) * tick, Math.max(1, axis.room / LABEL_ROOM));
   const marks = [];
+  let taken = 0;
   for (let at = Math.ceil((axis.first * tick) / step) * step; at <= axis.last * tick; at += step) {
     const x = axis.place(at / tick);
-    const anchor = x > axis.width - RIGHT - 20 ? "end" : "middle";
-    marks.push(area("line", x, bottom + 1, 1, 5), label(anchor, anchor === "end" ? x + RIGHT - 2 : x, bottom + 19,
-      timeLabel(at, step)));
+    const words = timeLabel(at, step);
+    const width = words.length * DIGIT_WIDTH;
+    const isAtEnd = x + width / 2 > axis.width;
+    const left = isAtEnd ? axis.width - width : x - width / 2;
+    marks.push(area("line", x, bottom + 1, 1, 5));
+    if (left >= taken) {
+      marks.push(label(isAtEnd ? "end" : "middle", isAtEnd ? axis.width - 2 : x, bottom + 19, words));
+      taken = left + width;
+    }
   }
   return marks;
 }
@@ -107,78 +115,3 @@ export function pictureOf(width, height, parts) {
   return svg("svg", attributes, ...parts);
 }
 
-/**
- * Lets the user look at the items of a picture, one at a time. `look` has `count` items, `find`s an item by its place
- * in pixels, has `words` of an item and its `span` in pixels, and may have `choose`, which Enter and a click call; a
- * click gives its place too.
- */
-export class Inspector {
-  constructor(plot, readout, name) {
-    this.plot = plot;
-    this.readout = readout;
-    this.at = null;
-    this.look = null;
-    const values = { "aria-valuemin": "0", "aria-valuenow": "0", "aria-valuetext": "none" };
-    const attributes = { tabindex: "0", role: "slider", "aria-label": name, ...values };
-    Object.entries(attributes).forEach(([key, value]) => plot.setAttribute(key, value));
-    plot.addEventListener("pointermove", (event) => this.point(event));
-    plot.addEventListener("pointerleave", () => this.show(null));
-    plot.addEventListener("click", (event) => this.choose(event));
-    plot.addEventListener("keydown", (event) => this.press(event));
-  }
-
-  /** Takes the items of a picture that has just been drawn. */
-  take(look) {
-    this.look = look;
-    this.plot.setAttribute("aria-valuemax", String(Math.max(0, look.count - 1)));
-    this.show(this.at !== null && this.at < look.count ? this.at : null);
-  }
-
-  placeOf(event) {
-    return event.clientX - this.plot.getBoundingClientRect().left;
-  }
-
-  point(event) {
-    if (this.look && this.look.count > 0) {
-      this.show(this.look.find(this.placeOf(event)));
-    }
-  }
-
-  choose(event) {
-    if (this.look?.choose && this.look.count > 0) {
-      const place = this.placeOf(event);
-      this.look.choose(this.look.find(place), place);
-    }
-  }
-
-  press(event) {
-    const last = (this.look?.count ?? 0) - 1;
-    const at = this.at ?? -1;
-    const big = Math.max(1, Math.round(last / 10));
-    const steps = {
-      ArrowRight: at + 1, ArrowUp: at + 1, ArrowLeft: at - 1, ArrowDown: at - 1, PageUp: at + big, PageDown: at - big,
-      Home: 0, End: last,
-    };
-    if (last >= 0 && event.key in steps) {
-      event.preventDefault();
-      this.show(Math.min(Math.max(steps[event.key], 0), last));
-    } else if (event.key === "Enter" && this.at !== null && this.look.choose) {
-      this.look.choose(this.at);
-    }
-  }
-
-  /** Marks an item, and announces it. */
-  show(at) {
-    this.at = at;
-    this.plot.querySelector(".looked")?.remove();
-    const words = at === null ? "" : this.look.words(at);
-    this.readout.textContent = words || this.readout.dataset.hint;
-    if (at !== null) {
-      const [left, right] = this.look.span(at);
-      const picture = this.plot.querySelector("svg");
-      picture.prepend(area("looked", left, 0, Math.max(2, right - left), Number(picture.getAttribute("height"))));
-      this.plot.setAttribute("aria-valuenow", String(at));
-      this.plot.setAttribute("aria-valuetext", words);
-    }
-  }
-}

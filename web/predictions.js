@@ -1,10 +1,15 @@
-// What a plan costs in time and bytes, what speaks against the prediction, and the words that set the same limits
-// elsewhere. The rules are those of `precopy-view predict`.
+// What a plan costs in time and bytes, how far chance moves that, what speaks against the prediction, and the words
+// that set the same limits elsewhere. The rules are those of `precopy-view predict`.
 
-import { bytesOf, limitsOf, microsOf, RATE_UNITS, scaleOf, settingsOf } from "./units.js";
+import { bytesOf, limitsOf, microsOf, RATE_UNITS, scaleOf, settingsOf, TIME_UNITS } from "./units.js";
+import { countOf } from "./numbers.js";
+import { commandWord } from "./quantities.js";
 
 /** If fewer pages than these are left, chance moves the downtime by more than a tenth. */
 const MANY_PAGES = 100;
+
+/** The most pages of a sample whose standard errors are told. */
+const MOST_SAMPLED = 65_536n;
 
 /** The unit in which libvirt takes a rate. */
 const LIBVIRT_UNIT = RATE_UNITS.MiB;
@@ -21,77 +26,129 @@ export function costOf(scale, limits, start, plan, last) {
   };
 }
 
-/** Plans a migration by the state of the controls, and says what it costs. Throws a refusal. */
-export function predictionOf(planner, state) {
-  const { pageBytes, pages, last } = planner.sizes;
-  const scale = scaleOf(state, pageBytes, pages);
-  const limits = limitsOf(state);
-  const settings = settingsOf(state, scale, limits);
-  const plan = planner.plan(settings);
-  return { scale, limits, settings, plan, cost: costOf(scale, limits, settings.start, plan, last) };
+/** The least whole number whose square is a fraction or more. */
+function rootAbove(number, divisor) {
+  let [low, high] = [0n, 1n << 64n];
+  while (low < high) {
+    const middle = (low + high) >> 1n;
+    if (middle * middle * divisor >= number) {
+      high = middle;
+    } else {
+      low = middle + 1n;
+    }
+  }
+  return low;
 }
 
-/** How a plan ends, in a sentence. */
-export function endingOf(plan) {
+/** A standard error in pages of the guest, from the sums of a number of each sampled page and of its square. */
+function errorOf({ sampled, guest }, sum, squares) {
+  const spread = guest * (guest - sampled) * (sampled * BigInt(squares) - BigInt(sum) ** 2n);
+  return rootAbove(spread, sampled * sampled * (sampled - 1n));
+}
+
+/** The standard errors of bytes and downtime that are due to the draw of a sample, or null. */
+function errorsOf(scale, settings, plan) {
+  const isTold = scale.sampled >= 2n && scale.isSample && scale.sampled <= MOST_SAMPLED;
+  if (!isTold || plan.squares === null) {
+    return null;
+  }
+  const left = errorOf(scale, plan.left, plan.left);
+  const rate = scale.guest * BigInt(settings.max);
   return {
-    few: "It converges.",
-    fast: "It does not converge: the guest writes faster than the link sends.",
-    rounds: "It does not converge: all rounds that are allowed are done.",
+    bytes: errorOf(scale, plan.total, plan.squares) * scale.page,
+    downtime: (left * scale.sampled * scale.tick * 1_000n + rate - 1n) / rate,
+  };
+}
+
+/** Plans a migration by the state of the controls, and says what it costs. Throws a refusal. */
+export async function predictionOf(guest, state) {
+  const { sizes } = guest;
+  const scale = scaleOf(state, sizes);
+  const limits = limitsOf(state);
+  const settings = settingsOf(state, scale, limits);
+  const plan = await guest.plan(settings, scale.isSample);
+  const cost = costOf(scale, limits, settings.start, plan, sizes.last);
+  return { state, scale, limits, settings, plan, cost, errors: errorsOf(scale, settings, plan) };
+}
+
+/** Whether a prediction keeps its limit and ends because few pages are left, over more than nothing. */
+export function isGood({ cost, plan }) {
+  return cost.isKept && plan.reason === "few" && !cost.isLate;
+}
+
+/** Why pre-copy ends, in words. */
+export function reasonWords({ plan, settings, scale }) {
+  const pages = scale.isSample ? "pages of the sample" : "pages";
+  return {
+    few: settings.threshold === 1 ? "no page was left" : `fewer than ${settings.threshold.toLocaleString("en-US")} `
+      + `${pages} were left`,
+    fast: "the guest writes faster than the link sends",
+    rounds: `all ${countOf(settings.rounds, "round")} that are allowed are done`,
   }[plan.reason];
 }
 
+/** How a plan ends, in a sentence. */
+export function endingOf(prediction) {
+  return `It ${prediction.plan.reason === "few" ? "converges" : "does not converge"}: ${reasonWords(prediction)}.`;
+}
+
 /** What speaks against a prediction, a sentence each. */
-export function warningsOf({ plan, cost }) {
+export function warningsOf({ plan, cost, settings }) {
   const warnings = [];
   if (cost.isLate) {
     warnings.push("The stop is after the end of the trace, where no writes are known: record longer.");
   }
-  if (plan.left < MANY_PAGES) {
+  if (plan.total === 0 && settings.base !== null) {
+    warnings.push("No page is written between the copy and the start, so nothing is sent: take an earlier copy.");
+  } else if (plan.left < MANY_PAGES) {
     warnings.push("Fewer than 100 pages decided the stop: chance moves it.");
   }
   if (plan.reason === "fast") {
-    warnings.push("The plan ends with \u201cfast\u201d, so nothing bounds the downtime: give more of the link.");
+    warnings.push("Pre-copy gave up, so nothing bounds the downtime: give more of the link.");
   }
   if (plan.reason === "rounds") {
-    warnings.push("The plan ends with \u201crounds\u201d, so nothing bounds the downtime: allow more rounds.");
+    warnings.push("Rounds ran out, so nothing bounds the downtime: allow more rounds.");
   }
   return warnings;
 }
 
+function baseWords({ base }) {
+  return base === null ? "" : ` --base ${base}`;
+}
+
 function optionsOf(settings) {
-  const base = settings.base === null ? "" : ` --base ${settings.base}`;
-  return `--rounds ${settings.rounds} --start ${settings.start}${base}${settings.skip ? " --skip" : ""}`;
+  return `--rounds ${settings.rounds} --start ${settings.start}${baseWords(settings)}${settings.skip ? " --skip" : ""}`;
 }
 
-function quantityWord({ count, unit }) {
-  return `${count}${unit}`;
-}
-
-/** The words of `precopy-view predict` for the state of the controls. */
-function predictWords(state, sizes, { limits, settings }) {
-  const words = ["precopy-view predict", `--link ${quantityWord(state.link)}`];
+/** The limits of a state as options of `precopy-view`. */
+function limitWords(state, sizes, { limits, settings, scale }) {
+  const words = [`--link ${commandWord(state.link, RATE_UNITS)}`];
   if (state.first !== 100) {
     words.push(`--first ${limits.first / RATE_UNITS.Kbit}Kbit`);
   }
-  words.push(`--inc ${settings.increment}`, `--downtime ${quantityWord(state.downtime)}`);
-  words.push(`--reserve ${quantityWord(state.reserve)}`, `--tick ${quantityWord(state.tick)}`);
+  words.push(`--inc ${settings.increment}`, `--downtime ${commandWord(state.downtime, TIME_UNITS)}`);
+  words.push(`--reserve ${commandWord(state.reserve, TIME_UNITS)}`, `--tick ${commandWord(state.tick, TIME_UNITS)}`);
   if (sizes.pageBytes !== 4096) {
     words.push(`--page ${sizes.pageBytes}`);
   }
-  if (state.oneIn > 1) {
-    words.push(`--sampled ${sizes.pages}/${sizes.pages * state.oneIn}`);
+  if (scale.isSample) {
+    words.push(`--sampled ${scale.sampled}/${scale.guest}`);
   }
-  return [...words, optionsOf(settings), "< TRACE"].join(" ");
+  return words.join(" ");
 }
 
 /** The words that ask for this migration, and that give QEMU and libvirt the same limits. */
-export function commandsOf(state, sizes, prediction) {
+export function commandsOf(state, sizes, prediction, firstStart) {
   const { limits, settings } = prediction;
   const millis = (limits.downtime - limits.reserve) / 1_000n;
   const mib = limits.link / LIBVIRT_UNIT > 1n ? limits.link / LIBVIRT_UNIT : 1n;
   const rates = `--min ${settings.min} --max ${settings.max} --inc ${settings.increment}`;
+  const said = limitWords(state, sizes, prediction);
+  const skip = settings.skip ? " --skip" : "";
+  const more = `--rounds ${settings.rounds} --from ${firstStart}${baseWords(settings)}${skip}`;
   return {
-    predict: predictWords(state, sizes, prediction),
+    predict: `precopy-view predict ${said} ${optionsOf(settings)} < TRACE`,
+    when: `precopy-view when ${said} ${more} < TRACE`,
     live: `precopy live ${rates} --threshold ${settings.threshold} ${optionsOf(settings)} < TRACE`,
     qemu: `migrate_set_parameter max-bandwidth ${limits.link}B\nmigrate_set_parameter downtime-limit ${millis}`,
     libvirt: `virsh migrate-setspeed DOMAIN ${mib}\nvirsh migrate-setmaxdowntime DOMAIN ${millis}`,

@@ -1,8 +1,9 @@
 // The picture of a plan: the pages of each round and its rate, the stop and the downtime, by the time since the start.
 
 import { area, label } from "./elements.js";
-import { counted, countOf, secondsText } from "./numbers.js";
+import { counted, countOf, timeText } from "./numbers.js";
 import { axisOf, axisLabels, barOf, frameOf, panelOf, pictureOf } from "./plot.js";
+import { reasonWords } from "./predictions.js";
 import { microsOf } from "./units.js";
 
 const PAGES_TOP = 26;
@@ -21,14 +22,20 @@ export function reachOf(predictions) {
   return reach;
 }
 
+/** The pages that are dirtied, as a mark over the bar of the round, with a halo that parts it from what it lies on. */
+function dirtiedParts(pages, round, left, width) {
+  const y = pages.level(round.dirtied);
+  return [area("halo", left, y - 3, Math.max(2, width), 6), area("dirtied", left, y - 1.5, Math.max(2, width), 3)];
+}
+
 function roundParts(axis, pages, rates, round, start) {
   const [left, right] = barOf(axis, round.from - start, round.to - start);
   const width = right - left;
   const skipped = round.pages - round.sent;
   return [
     area("sent", left, pages.level(round.sent), width, pages.rise(round.sent)),
-    area("skipped", left, pages.level(round.pages), width, pages.rise(skipped)),
-    area("dirtied", left, pages.level(round.dirtied) - 1, Math.max(2, width), 2),
+    area("skipped", left, pages.level(round.pages), width, Math.max(0, pages.rise(skipped) - 1)),
+    ...dirtiedParts(pages, round, left, width),
     area("rate", left, rates.level(round.rate), width, rates.rise(round.rate)),
   ];
 }
@@ -48,7 +55,7 @@ export function roundsPicture(width, { plan, settings, scale }, reach) {
   const rates = panelOf(RATES_TOP, RATES_HEIGHT, reach.rate);
   const stop = plan.stop - settings.start;
   const parts = [
-    ...frameOf(axis, pages, "Pages of a round"),
+    ...frameOf(axis, pages, scale.isSample ? "Sample pages of a round" : "Pages of a round"),
     ...frameOf(axis, rates, "Rate, in pages per 1,000 ticks"),
     ...plan.rounds.flatMap((round) => roundParts(axis, pages, rates, round, settings.start)),
     area("link", axis.place(0), rates.level(settings.max) - 0.5, axis.room, 1),
@@ -60,11 +67,12 @@ export function roundsPicture(width, { plan, settings, scale }, reach) {
 }
 
 /** What a round has, in words; the item after the last round is the stop. */
-function wordsOf({ plan, settings, scale }, at) {
-  const since = (tick) => secondsText(microsOf(scale, tick - settings.start));
+function wordsOf(prediction, at) {
+  const { plan, settings, scale } = prediction;
+  const since = (tick) => timeText(microsOf(scale, tick - settings.start));
   if (at === plan.rounds.length) {
-    return `Stop (${plan.reason}) at ${since(plan.stop)}: ${countOf(plan.left, "page")} left, `
-      + `sent in ${secondsText(microsOf(scale, plan.down))}`;
+    return `Stop at ${since(plan.stop)}, since ${reasonWords(prediction)}: ${countOf(plan.left, "page")} left, `
+      + `sent in ${timeText(microsOf(scale, plan.down))}`;
   }
   const round = plan.rounds[at];
   return `Round ${at}, ${since(round.from)} to ${since(round.to)}, at ${counted(round.rate)} pages per 1,000 ticks: `

@@ -1,46 +1,118 @@
-// The picture of when to move: downtime, time and bytes by the start of the migration, on the axis of the windows.
+// The picture of when to move: downtime, time and bytes by the start of the migration, on the axis of the windows. Of
+// starts whose migration ends after the trace nothing is drawn but where they lie.
 
 import { area, label, svg } from "./elements.js";
-import { bytesText, counted, secondsText } from "./numbers.js";
+import { bytesText, counted, timeText } from "./numbers.js";
 import { axisLabels, frameOf, panelOf, pictureOf } from "./plot.js";
 import { microsOf } from "./units.js";
 
 const CURVE_TOP = 26;
 const CURVE_HEIGHT = 84;
 const CURVE_STEP = 126;
+const LATE_HEIGHT = 6;
 
-/** The curves: what each shows of a start, as a number. */
+/** A start with this many times the cost of all others is drawn cut off, so that the others can be seen. */
+const FAR_ABOVE = 4;
+const ROOM_ABOVE = 1.25;
+
+/** The unit of times up to a greatest one, in microseconds: that in which the page's words say it. */
+function timeUnit(most) {
+  return most < 1e3 ? [1, "\u00b5s"] : most < 1e6 ? [1e3, "ms"] : [1e6, "s"];
+}
+
+function sizeUnit(most) {
+  return most < 2 ** 10 ? [1, "bytes"] : most < 2 ** 20 ? [2 ** 10, "KiB"] : most < 2 ** 30 ? [2 ** 20, "MiB"]
+    : [2 ** 30, "GiB"];
+}
+
+/** The curves: what each shows of a start, as a number, and the unit of a greatest one. */
 const CURVES = [
-  { title: "Downtime by start, in ms", number: ({ cost }) => Number(cost.downtime) / 1e3 },
-  { title: "Total time by start, in ms", number: ({ cost }) => Number(cost.time) / 1e3 },
-  { title: "Sent by start, in MiB", number: ({ cost }) => Number(cost.bytes) / 2 ** 20 },
+  { name: "Downtime", number: ({ cost }) => Number(cost.downtime), unit: timeUnit, hasLimit: true },
+  { name: "Total time", number: ({ cost }) => Number(cost.time), unit: timeUnit },
+  { name: "Sent", number: ({ cost }) => Number(cost.bytes), unit: sizeUnit },
 ];
 
 function shortNumber(number) {
   return counted(number < 10 ? Number(number.toPrecision(2)) : Math.round(number));
 }
 
-/** The points of starts whose migration ends within the trace, or of the others. */
-function lineOf(axis, panel, costs, number, isLate) {
-  const points = costs
-    .filter(({ cost }) => cost.isLate === isLate)
-    .map((at) => `${axis.place(at.start).toFixed(1)},${panel.level(number(at)).toFixed(1)}`);
-  return svg("polyline", { class: isLate ? "late" : "known", points: points.join(" ") });
+/** How far a panel reaches: to the greatest number, or past the next if the greatest is an outlier. */
+function levelFor(numbers, limit) {
+  const sorted = [...numbers].sort((one, other) => other - one);
+  const [most, next] = [sorted[0] ?? 0, Math.max(sorted[1] ?? 0, limit)];
+  return sorted.length > 2 && next > 0 && most > FAR_ABOVE * next ? next * ROOM_ABOVE : Math.max(most, limit);
 }
 
-function markOf(axis, panel, className, chosen) {
-  return chosen ? [area(className, axis.place(chosen.start) - 1, panel.top, 2, panel.height)] : [];
+/** The starts within the axis whose migration ends within the trace, in stretches without a gap. */
+function stretchesOf(axis, costs) {
+  const stretches = [[]];
+  for (const at of costs) {
+    if (at.cost.isLate) {
+      stretches.push([]);
+    } else if (at.start >= axis.first && at.start <= axis.last) {
+      stretches.at(-1).push(at);
+    }
+  }
+  return stretches.filter((stretch) => stretch.length > 0);
 }
 
-function curveParts(axis, { title, number }, place, asked) {
-  const limit = place === 0 ? Number(asked.limits.downtime) / 1e3 : 0;
-  const most = asked.costs.reduce((greatest, at) => Math.max(greatest, number(at)), limit);
-  const panel = panelOf(CURVE_TOP + place * CURVE_STEP, CURVE_HEIGHT, most);
+function lineOf(axis, panel, stretch, number) {
+  const points = stretch.map((at) => `${axis.place(at.start).toFixed(1)},${panel.level(number(at)).toFixed(1)}`);
+  if (stretch.length > 1) {
+    return svg("polyline", { class: "known", points: points.join(" ") });
+  }
+  const [only] = stretch;
+  return area("knownkey", axis.place(only.start) - 1.5, panel.level(number(only)) - 1.5, 3, 3);
+}
+
+/** Where starts lie whose migration ends after the trace, as one area from the first of each row of them. */
+function latePart(axis, panel, costs) {
+  const late = costs.filter(({ cost, start }) => cost.isLate && start >= axis.first && start <= axis.last);
+  if (late.length === 0) {
+    return [];
+  }
+  const every = costs.length > 1 ? costs[1].start - costs[0].start : 1;
+  const parts = [];
+  let from = late[0].start;
+  late.forEach(({ start }, place) => {
+    const next = late[place + 1]?.start;
+    if (next !== start + every) {
+      const [left, right] = [axis.place(from), axis.place(Math.min(start + every, axis.last))];
+      parts.push(area("late", left, panel.bottom - LATE_HEIGHT, Math.max(1, right - left), LATE_HEIGHT));
+      from = next;
+    }
+  });
+  return parts;
+}
+
+function startMark(axis, panel, className, chosen) {
+  const isSeen = chosen && chosen.start >= axis.first && chosen.start <= axis.last;
+  return isSeen ? [area("halo", axis.place(chosen.start) - 2, panel.top, 4, panel.height),
+    area(className, axis.place(chosen.start) - 1, panel.top, 2, panel.height)] : [];
+}
+
+/** The number of a start that is cut off, beside its top. */
+function cutStart(axis, panel, known, number, text) {
+  return known.filter((at) => number(at) > panel.most).slice(0, 1).map((at) => {
+    const x = axis.place(at.start);
+    const isRight = x < axis.width - 140;
+    return label(isRight ? "cut" : "cut end", isRight ? x + 6 : x - 6, panel.top + 12, `\u2191 ${text(number(at))}`);
+  });
+}
+
+function curveParts(axis, { name, number, unit, hasLimit }, place, asked) {
+  const limit = hasLimit ? Number(asked.limits.downtime) : 0;
+  const known = stretchesOf(axis, asked.costs);
+  const panel = panelOf(CURVE_TOP + place * CURVE_STEP, CURVE_HEIGHT, levelFor(known.flat().map(number), limit));
+  const [size, unitName] = unit(panel.most);
+  const text = (amount) => shortNumber(amount / size);
   return [
-    ...frameOf(axis, panel, title, shortNumber),
-    lineOf(axis, panel, asked.costs, number, true), lineOf(axis, panel, asked.costs, number, false),
-    ...(place === 0 ? [area("limit", axis.place(axis.first), panel.level(limit) - 0.5, axis.room, 1)] : []),
-    ...markOf(axis, panel, "best", asked.chosen.best), ...markOf(axis, panel, "worst", asked.chosen.worst),
+    ...latePart(axis, panel, asked.costs),
+    ...frameOf(axis, panel, `${name} by start, in ${unitName}`, text),
+    ...(hasLimit ? [area("limit", axis.place(axis.first), panel.level(limit) - 1, axis.room, 2)] : []),
+    ...known.map((stretch) => lineOf(axis, panel, stretch, number)),
+    ...startMark(axis, panel, "worst", asked.chosen.worst), ...startMark(axis, panel, "best", asked.chosen.best),
+    ...cutStart(axis, panel, known.flat(), number, text),
   ];
 }
 
@@ -54,23 +126,23 @@ export function startsPicture(axis, asked) {
 }
 
 /** What a migration from a start costs, in words. */
-export function startWords(asked, at) {
-  const { start, cost } = at;
+export function startWords(asked, { start, cost }, hasTicks) {
   const mark = cost.isLate ? "ends after the trace" : cost.isKept ? "kept" : "not kept";
-  return `${secondsText(microsOf(asked.scale, start))}, tick ${start}: time ${secondsText(cost.time)}, `
-    + `sent ${bytesText(cost.bytes)}, downtime ${secondsText(cost.downtime)}, ${mark}`;
+  return `${timeText(microsOf(asked.scale, start))}${hasTicks ? `, tick ${start}` : ""}: time ${timeText(cost.time)}, `
+    + `sent ${bytesText(cost.bytes)}, downtime ${timeText(cost.downtime)}, ${mark}`;
 }
 
 /** How the starts of a picture are looked at. */
 export function startsLook(axis, asked, choose) {
-  const { costs } = asked;
+  const costs = asked.costs.filter(({ start }) => start >= axis.first && start <= axis.last);
   const every = costs.length > 1 ? costs[1].start - costs[0].start : 1;
   const nearest = (place) => Math.round((axis.tickAt(place) - costs[0].start) / every);
   return {
     count: costs.length,
     find: (place) => Math.min(Math.max(nearest(place), 0), costs.length - 1),
-    words: (at) => `Start at ${startWords(asked, costs[at])}`,
+    words: (at) => `Start at ${startWords(asked, costs[at], asked.hasTicks)}`,
     span: (at) => [axis.place(costs[at].start) - 1, axis.place(costs[at].start) + 1],
     choose: (at) => choose(costs[at].start),
+    offer: (at) => `Start at ${timeText(microsOf(asked.scale, costs[at].start))}`,
   };
 }

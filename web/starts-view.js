@@ -1,115 +1,150 @@
 // The section on when to move: it asks the worker what the migration costs from many starts, and draws the answer.
 
 import { byId, html } from "./elements.js";
-import { chosenStarts, startCosts, startTicks } from "./starts.js";
+import { bytesText, counted, signed, timeText } from "./numbers.js";
+import { chosenStarts, firstStartOf, startCosts, startRows, startTicks } from "./starts.js";
 import { startsLook, startsPicture, startWords } from "./starts-chart.js";
-import { startWorker } from "./starts-worker.js";
-import { Inspector } from "./plot.js";
+import { saveButtons } from "./exports.js";
+import { Inspector } from "./inspector.js";
 import { refusalPart } from "./outcome.js";
+import { WorkerEnded } from "./planner-client.js";
 import { Refusal } from "./planner.js";
 
+/** What a question about starts is about, as a word. */
+function keyOf({ settings, limits, scale }, ticks) {
+  const { start, window, ...more } = settings;
+  const amounts = [...Object.values(limits), ...Object.values(scale)].map(String);
+  return JSON.stringify([more, amounts, ticks[0]]);
+}
+
 export class StartsView {
-  constructor(choose) {
+  /** `choose` takes a start, and `changed` has the answer drawn. */
+  constructor(choose, changed) {
     this.choose = choose;
+    this.changed = changed;
     this.plot = byId("starts-plot");
-    this.inspector = new Inspector(this.plot, byId("starts-readout"), "Starts");
-    this.worker = null;
-    this.source = null;
+    this.inspector = new Inspector(this.plot, byId("starts-readout"), "Starts", byId("starts-take"));
     this.asked = null;
     this.question = 0;
-    byId("ask").addEventListener("click", () => this.ask());
+    this.isAsking = false;
+    byId("take-best").after(saveButtons("starts", "the starts", {
+      picture: () => this.plot.querySelector("svg"), table: () => this.asked && startRows(this.asked),
+    }));
+    byId("ask").addEventListener("click", () => (this.isAsking ? this.cancel() : this.ask()));
     byId("take-best").addEventListener("click", () => this.choose(this.asked.chosen.best.start));
   }
 
   /** Takes another trace: what is known of starts is of no use then. */
-  take(source, planner) {
-    this.worker?.terminate();
-    this.worker = null;
-    this.source = source;
-    this.planner = planner;
+  take(trace) {
+    this.trace = trace;
     this.asked = null;
     this.question += 1;
     byId("starts-answer").hidden = true;
     this.busy(null);
   }
 
-  /** What another answer would be about, as a word. */
-  keyOf({ settings, limits, scale }) {
-    const { start, window, ...more } = settings;
-    const amounts = [...Object.values(limits), scale.tick, scale.oneIn].map(String);
-    return JSON.stringify([more, amounts]);
-  }
-
   /** Learns the prediction that is shown: a question is about its settings. */
-  follow(prediction) {
+  follow(prediction, begin) {
     this.prediction = prediction;
-    byId("ask").disabled = !prediction;
-    const isOld = this.asked !== null && (!prediction || this.keyOf(prediction) !== this.asked.key);
+    if (prediction) {
+      const first = firstStartOf(this.trace.sizes, prediction.settings.base, begin);
+      this.ticks = startTicks(this.trace.sizes.last, first);
+    }
+    byId("ask").disabled = !prediction && !this.isAsking;
+    byId("ask").textContent = this.isAsking ? "Cancel" : `Plan ${counted(this.ticks?.length ?? 0)} starts`;
+    const isOld = this.asked !== null && (!prediction || keyOf(prediction, this.ticks) !== this.asked.key);
     byId("starts").classList.toggle("old", isOld);
     byId("starts-old").hidden = !isOld;
+    byId("take-best").disabled = isOld || !this.asked?.chosen.best;
+    if (this.asked && this.asked.hasTicks !== (prediction?.state.ticks ?? this.asked.hasTicks)) {
+      this.asked = { ...this.asked, hasTicks: prediction.state.ticks };
+    }
+    this.tell();
   }
 
   busy(share) {
+    this.isAsking = share !== null;
     byId("starts-progress").hidden = share === null;
     byId("starts-progress").value = share ?? 0;
   }
 
+  cancel() {
+    this.question += 1;
+    this.trace.cancelStarts();
+    this.busy(null);
+    this.changed();
+  }
+
   async ask() {
-    const { settings, scale, limits } = this.prediction;
-    const { last } = this.planner.sizes;
-    const ticks = startTicks(last, settings.base);
+    const { prediction, ticks, trace } = this;
     this.question += 1;
     const { question } = this;
-    this.waiting = { question, ticks, scale, limits, last, key: this.keyOf(this.prediction) };
     this.busy(0);
-    if (!this.worker) {
-      const worker = await startWorker((message) => this.answer(message));
-      if (this.question !== question) {
-        worker.terminate();
-        return;
+    this.changed();
+    try {
+      const told = (share) => question === this.question && this.busy(share);
+      const plans = await trace.starts(prediction.settings, ticks, told);
+      if (question === this.question && plans) {
+        this.finish(prediction, ticks, plans);
       }
-      this.worker = worker;
-      worker.postMessage({ trace: this.source.blob, question });
-    }
-    this.worker.postMessage({ question, settings, ticks });
-  }
-
-  answer({ question, done, of, plans, refused, failed }) {
-    if (done !== undefined) {
-      this.busy(question === this.question ? done / of : null);
-    } else if (failed || question === this.question) {
-      this.busy(null);
-      byId("starts-answer").hidden = false;
-      this.finish({ plans, refused, failed });
-      this.drawn();
+    } catch (error) {
+      if (!(error instanceof Refusal) && !(error instanceof WorkerEnded)) {
+        throw error;
+      }
+      this.fail(question, error);
     }
   }
 
-  /** Takes the plans of all starts, or says why there are none. */
-  finish({ plans, refused, failed }) {
-    if (plans) {
-      const { ticks, scale, limits, last, key } = this.waiting;
-      const costs = startCosts(scale, limits, ticks, plans, last);
-      this.asked = { costs, chosen: chosenStarts(costs), scale, limits, key };
-      this.tell();
+  finish(prediction, ticks, plans) {
+    const { scale, limits, state } = prediction;
+    const costs = startCosts(scale, limits, ticks, plans, this.trace.sizes.last);
+    this.asked = {
+      costs, chosen: chosenStarts(costs), scale, limits, key: keyOf(prediction, ticks), hasTicks: state.ticks,
+    };
+    this.busy(null);
+    byId("starts-answer").hidden = false;
+    byId("take-best").hidden = false;
+    this.changed();
+  }
+
+  /** Says why there is no answer. */
+  fail(question, error) {
+    if (question !== this.question) {
       return;
     }
     this.asked = null;
-    const words = failed ? "The worker of the page ended." : "The worker of the page failed.";
+    this.busy(null);
+    byId("starts-answer").hidden = false;
     byId("take-best").hidden = true;
-    byId("starts-choice").replaceChildren(refused ? refusalPart(new Refusal(refused), "Refused:")
-      : html("p", { class: "refusal" }, words));
+    byId("starts-choice").replaceChildren(error instanceof Refusal ? refusalPart(error, "Refused:")
+      : html("p", { class: "refusal" }, "The page's worker ended more than once."));
+    this.changed();
   }
 
-  /** Says the best and the worst start. */
+  /** Says the best and the worst start, and what the best saves. */
   tell() {
+    if (!this.asked) {
+      return;
+    }
     const { best, worst } = this.asked.chosen;
     const lines = best ? [["Best", best], ["Worst", worst]].map(([name, at]) =>
-      html("p", {}, html("strong", {}, `${name} start: `), startWords(this.asked, at)))
+      html("p", {}, html("strong", {}, `${name} start: `), startWords(this.asked, at, this.asked.hasTicks)))
       : [html("p", {}, "No migration ends within the trace: record longer.")];
-    byId("starts-choice").replaceChildren(...lines);
-    byId("take-best").hidden = !best;
-    this.follow(this.prediction);
+    byId("starts-choice").replaceChildren(...lines, ...this.savingParts(best));
+  }
+
+  /** The start of now against the best. */
+  savingParts(best) {
+    const { prediction } = this;
+    if (!best || !prediction || keyOf(prediction, this.ticks) !== this.asked.key) {
+      return [];
+    }
+    const { cost } = prediction;
+    const saved = (text, name) => signed(best.cost[name] - cost[name], text);
+    const words = prediction.settings.start === best.start ? "This plan starts there."
+      : `The best against this plan: time ${saved(timeText, "time")}, sent ${saved(bytesText, "bytes")}, downtime `
+        + `${saved(timeText, "downtime")}.`;
+    return [html("p", { id: "saving" }, words)];
   }
 
   /** Draws the answer, if there is one, on the axis of the windows; only if one of the two is another one. */
@@ -120,9 +155,10 @@ export class StartsView {
     [this.drawnOf, this.drawnOn] = [this.asked, axis];
     if (!this.asked || !axis) {
       this.plot.replaceChildren();
+      this.inspector.hold(null);
       return;
     }
     this.plot.replaceChildren(startsPicture(axis, this.asked));
-    this.inspector.take(startsLook(axis, this.asked, this.choose));
+    this.inspector.hold(startsLook(axis, this.asked, this.choose));
   }
 }

@@ -2,15 +2,24 @@
 // The rules are those of `precopy-view when`.
 
 import { costOf } from "./predictions.js";
+import { microsOf } from "./units.js";
 
 /** Into how many parts starts cut a trace. */
 const PARTS = 200;
 
-/** The ticks of the starts over a trace, from the base of a warm start on. */
-export function startTicks(last, base) {
-  const from = base ?? 0;
+function stepOver(from, to) {
+  return Math.max(1, Math.ceil((to - from) / PARTS));
+}
+
+/** The first start over a trace: where its recording begins; for a warm start a step after the copy. */
+export function firstStartOf({ last }, base, begin) {
+  return base === null ? Math.min(begin, last) : base + stepOver(base, Math.max(base, last));
+}
+
+/** The ticks of the starts from the first on. */
+export function startTicks(last, from) {
   const to = Math.max(from, last);
-  const every = Math.max(1, Math.ceil((to - from) / PARTS));
+  const every = stepOver(from, to);
   return Array.from({ length: Math.floor((to - from) / every) + 1 }, (_, place) => from + place * every);
 }
 
@@ -47,4 +56,12 @@ export function chosenStarts(costs) {
     }
   }
   return chosen;
+}
+
+/** The starts as columns and rows of numbers, for a file. */
+export function startRows({ costs, scale }) {
+  const columns = ["tick", "start_us", "time_us", "sent_bytes", "downtime_us", "kept", "within_trace"];
+  const rows = costs.map(({ start, cost }) => [start, microsOf(scale, start), cost.time, cost.bytes, cost.downtime,
+    Number(cost.isKept), Number(!cost.isLate)]);
+  return [columns, rows];
 }

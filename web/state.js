@@ -1,40 +1,46 @@
 // What the controls say: a plain object, and its words in the fragment of the page's address. The trace is never in it;
-// only the name of an example is.
+// only the name of an example is, or a fingerprint.
 
+import { quantityOf, wordOfQuantity } from "./quantities.js";
 import { RATE_UNITS, TIME_UNITS } from "./units.js";
 
-/** Rates and times are counts in a unit, `first` and `increase` per cent, `start`, `base` and `window` ticks. */
+const rate = (count, unit) => quantityOf(String(count), unit, RATE_UNITS);
+const time = (count, unit) => quantityOf(String(count), unit, TIME_UNITS);
+
+/**
+ * Rates and times are amounts in a unit, `first` and `increase` per cent, `start`, `base` and `window` ticks. `sample`
+ * is null if the trace has all pages of the guest, else `part` pages of the `whole`.
+ */
 const DEFAULTS = {
-  link: { count: 10, unit: "Gbit" },
+  link: rate(10, "Gbit"),
   first: 10,
   increase: 10,
-  downtime: { count: 300, unit: "ms" },
-  reserve: { count: 0, unit: "ms" },
+  downtime: time(300, "ms"),
+  reserve: time(0, "ms"),
   start: 0,
   rounds: 30,
   skip: false,
   base: null,
-  tick: { count: 1, unit: "ms" },
-  oneIn: 1,
+  tick: time(1, "ms"),
+  sample: null,
   window: 1000,
+  ticks: false,
 };
 
-/** The settings that suit the examples. */
+/** The settings that suit the examples. What their records say comes with the trace. */
 const PRESETS = {
-  gzip: {
-    link: { count: 8, unit: "MiB" }, downtime: { count: 4, unit: "ms" }, first: 25, window: 40, start: 400,
-  },
+  gzip: { link: rate(8, "MiB"), downtime: time(4, "ms"), first: 25, window: 40, start: 400 },
   sqlite: {
-    link: { count: 64, unit: "MiB" }, first: 50, start: 1000, oneIn: 32, window: 500,
+    link: rate(64, "MiB"), first: 50, start: 1000, sample: { part: 16_384, whole: 512_024 }, window: 500,
   },
 };
 
-/** About how many windows a trace is cut into at first. */
-const WINDOWS_AT_FIRST = 100;
+/** The most plans that are kept. */
+export const MOST_KEPT = 3;
 
 function readQuantity(word, units) {
-  const found = /^(\d{1,15})([A-Za-z]+)$/.exec(word);
-  return found && units[found[2]] ? { count: Number(found[1]), unit: found[2] } : undefined;
+  const found = /^([\d.]+)([A-Za-z]+)$/.exec(word);
+  return (found && quantityOf(found[1], found[2], units)) ?? undefined;
 }
 
 function readCount(word) {
@@ -42,8 +48,15 @@ function readCount(word) {
 }
 
 function readPercent(word) {
-  const count = readCount(word);
-  return count <= 100 ? count : undefined;
+  return /^\d{1,3}(\.\d{1,3})?$/.test(word) && Number(word) <= 100 ? Number(word) : undefined;
+}
+
+function readSample(word) {
+  const found = /^(\d{1,10})\/(\d{1,10})$/.exec(word);
+  if (word === "all") {
+    return null;
+  }
+  return found ? { part: Number(found[1]), whole: Number(found[2]) } : undefined;
 }
 
 /** How each part of the state is read from a word. What cannot be read is passed over. */
@@ -58,24 +71,28 @@ const READERS = {
   skip: (word) => ({ 0: false, 1: true })[word],
   base: (word) => (word === "none" ? null : readCount(word)),
   tick: (word) => readQuantity(word, TIME_UNITS),
-  oneIn: readCount,
+  sample: readSample,
   window: readCount,
+  ticks: (word) => ({ 0: false, 1: true })[word],
 };
 
-function wordOf(value) {
+function wordOf(name, value) {
+  if (name === "sample") {
+    return value === null ? "all" : `${value.part}/${value.whole}`;
+  }
   if (value === null) {
     return "none";
   }
-  return typeof value === "object" ? `${value.count}${value.unit}` : String(Number(value));
+  return typeof value === "object" ? wordOfQuantity(value) : String(Number(value));
 }
 
 /** The settings as words of a query. */
 function queryOf(settings) {
   const words = new URLSearchParams();
   for (const name of Object.keys(READERS)) {
-    words.set(name, wordOf(settings[name]));
+    words.set(name, wordOf(name, settings[name]));
   }
-  return words.toString();
+  return words.toString().replaceAll("%2F", "/");
 }
 
 /** The settings that the words of a query say; what they do not say is as in others. */
@@ -91,16 +108,16 @@ function settingsIn(query, others) {
   return settings;
 }
 
-/** The fragment for settings, the settings of a plan that is kept, and the name of an example. */
-export function fragmentOf({ settings, kept, example }) {
+/** The fragment for a state: settings, those of kept plans, and of which trace they are. */
+export function fragmentOf({ settings, kept, example, print }) {
   const words = new URLSearchParams(queryOf(settings));
-  if (kept) {
-    words.set("kept", queryOf(kept));
-  }
+  kept.forEach((some) => words.append("kept", queryOf(some)));
   if (example) {
     words.set("trace", example);
+  } else if (print) {
+    words.set("of", print);
   }
-  return words.toString();
+  return words.toString().replaceAll("%2F", "/");
 }
 
 /** What a fragment says. An example has settings of its own, but for those that the fragment says. */
@@ -108,33 +125,16 @@ export function stateIn(fragment) {
   const query = fragment.replace(/^#/, "");
   const words = new URLSearchParams(query);
   const example = Object.hasOwn(PRESETS, words.get("trace") ?? "") ? words.get("trace") : null;
+  const settings = settingsIn(query, example ? presetOf(example) : DEFAULTS);
   return {
-    settings: settingsIn(query, example ? presetOf(example) : DEFAULTS),
-    kept: words.has("kept") ? settingsIn(words.get("kept"), DEFAULTS) : null,
+    settings,
+    kept: words.getAll("kept").slice(0, MOST_KEPT).map((some) => settingsIn(some, DEFAULTS)),
     example,
+    print: /^[0-9a-f]{12}$/.test(words.get("of") ?? "") ? words.get("of") : null,
   };
 }
 
 /** The settings for an example. */
 export function presetOf(example) {
   return { ...structuredClone(DEFAULTS), ...structuredClone(PRESETS[example]) };
-}
-
-/** A length of windows, 1, 2 or 5 times a power of ten, that cuts a trace into at most about a hundred. */
-function windowFor(last) {
-  const least = Math.max(1, last / WINDOWS_AT_FIRST);
-  const power = 10 ** Math.floor(Math.log10(least));
-  return [1, 2, 5, 10].map((factor) => factor * power).find((length) => length >= least);
-}
-
-/** The settings of a page that nothing was asked of. */
-export function plainSettings() {
-  return structuredClone(DEFAULTS);
-}
-
-/** Settings that suit a trace with this last tick: start, base and windows lie within it. */
-export function fitted(settings, last) {
-  const start = Math.min(settings.start, last);
-  const base = settings.base === null ? null : Math.min(settings.base, start);
-  return { ...settings, start, base, window: windowFor(last) };
 }

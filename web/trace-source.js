@@ -3,7 +3,7 @@
 /** The examples, as the page has them: gzipped, in base64, in elements of these names. */
 const EXAMPLES = {
   gzip: { element: "example-gzip", name: "gzip.pcwt" },
-  sqlite: { element: "example-sqlite", name: "sqlite.light.pcwt" },
+  sqlite: { element: "example-sqlite", name: "sqlite.light.pcwt", record: "record-sqlite" },
 };
 
 /** The bytes of an element's base64, unzipped. */
@@ -14,10 +14,14 @@ export async function embeddedBytes(element) {
   return new Uint8Array(await new Response(stream).arrayBuffer());
 }
 
-/** An example by its short name, as a name and a blob. */
+/** An example by its short name: a trace as a name and a blob, and its record, if there is one. */
 export async function exampleSource(example) {
-  const { element, name } = EXAMPLES[example];
-  return { name, blob: new Blob([await embeddedBytes(element)]) };
+  const { element, name, record } = EXAMPLES[example];
+  const text = record ? new TextDecoder().decode(await embeddedBytes(record)) : null;
+  return {
+    name, example, blob: new Blob([await embeddedBytes(element)]),
+    record: record ? { name: name.replace(/pcwt$/, "json"), text } : null,
+  };
 }
 
 /** The bytes of a blob, piece by piece. */

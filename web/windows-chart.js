@@ -1,25 +1,39 @@
 // The picture of the working set: the pages of each window, and where a plan's rounds and its stop lie.
 
 import { area, box, label, svg } from "./elements.js";
-import { counted, countOf, secondsText } from "./numbers.js";
+import { counted, countOf, timeText } from "./numbers.js";
 import { axisOf, axisLabels, barOf, frameOf, panelOf, pictureOf } from "./plot.js";
 import { microsOf } from "./units.js";
 
 const WINDOWS_TOP = 26;
 const WINDOWS_HEIGHT = 150;
 
-/** The axis of a trace: from tick 0 to the end of its last window. */
-export function traceAxis(width, sizes, length) {
-  return axisOf(width, 0, (Math.floor(sizes.last / length) + 1) * length);
+/** The axis of a trace: from tick 0 to the end of its last window, or a range within it. */
+export function traceAxis(width, sizes, length, range) {
+  const end = (Math.floor(sizes.last / length) + 1) * length;
+  return range ? axisOf(width, range.first, Math.min(range.last, end)) : axisOf(width, 0, end);
+}
+
+/** The rows of the windows that lie in an axis, at least in part. */
+function seenRows(axis, windows, length) {
+  const rows = [];
+  for (let row = 0; row < windows.count; row += 1) {
+    const from = windows.number[row] * length;
+    if (from < axis.last && from + length > axis.first) {
+      rows.push(row);
+    }
+  }
+  return rows;
 }
 
 /** A window with this many times the pages of all others is drawn cut off, so that the others can be seen. */
 const OUTLIER = 4;
 
 /** How many pages the panel reaches: those of the window with the most, or of the next if the first is an outlier. */
-function reachOfPages(pages) {
+function reachOfPages(windows, rows) {
   let [most, next] = [1, 0];
-  for (const number of pages) {
+  for (const row of rows) {
+    const number = windows.pages[row];
     if (number > most) {
       [most, next] = [number, most];
     } else if (number > next) {
@@ -29,16 +43,19 @@ function reachOfPages(pages) {
   return next > 1 && most > OUTLIER * next ? Math.ceil(next * 1.25) : most;
 }
 
-/** The number of each bar that is cut off, beside its top. */
-function cutLabels(drawn, windows, panel) {
-  return drawn.filter(({ row }) => windows.pages[row] > panel.most)
-    .map(({ row, right }) => label("cut", right + 5, panel.top + 14, `\u2191 ${counted(windows.pages[row])} pages`));
+/** The number of the bar that is cut off, beside its top. */
+function cutLabels(axis, drawn, windows, panel) {
+  return drawn.filter(({ row }) => windows.pages[row] > panel.most).slice(0, 1).map(({ row, left, right }) => {
+    const isRight = right < axis.width - 160;
+    return label(isRight ? "cut" : "cut end", isRight ? right + 5 : left - 5, panel.top + 14,
+      `\u2191 ${counted(windows.pages[row])} pages`);
+  });
 }
 
 /** The windows that are drawn: of those that fall on one pixel, the one with the most pages. */
-function drawnWindows(axis, windows, length) {
+function drawnWindows(axis, windows, rows, length) {
   const drawn = [];
-  for (let row = 0; row < windows.count; row += 1) {
+  for (const row of rows) {
     const [left, right] = barOf(axis, windows.number[row] * length, (windows.number[row] + 1) * length);
     const before = drawn.at(-1);
     if (before && left < before.right - 0.5) {
@@ -51,7 +68,7 @@ function drawnWindows(axis, windows, length) {
   return drawn;
 }
 
-/** One path for all bars of a kind, each on top of what is below it. */
+/** One path for all bars of a kind, each on top of what is below it, and parted from it by a pixel if there is room. */
 function pathsOf(drawn, windows, panel) {
   const paths = { again: "", earlier: "", fresh: "" };
   for (const { row, left, right } of drawn) {
@@ -61,7 +78,8 @@ function pathsOf(drawn, windows, panel) {
     for (const [name, pages] of Object.entries(parts)) {
       const height = panel.rise(below + pages) - panel.rise(below);
       if (height > 0) {
-        paths[name] += box(left, panel.level(below + pages), right - left, height);
+        const gap = below > 0 && height > 2 ? 1 : 0;
+        paths[name] += box(left, panel.level(below + pages), right - left, height - gap);
       }
       below += pages;
     }
@@ -70,31 +88,42 @@ function pathsOf(drawn, windows, panel) {
 }
 
 /** The bars of the windows with axis and frame: they stay while only the limits of a migration change. */
-export function windowParts(axis, windows, length, tick) {
-  const panel = panelOf(WINDOWS_TOP, WINDOWS_HEIGHT, reachOfPages(windows.pages));
-  const drawn = drawnWindows(axis, windows, length);
+export function windowParts(axis, windows, length, { tick, isSample }) {
+  const rows = seenRows(axis, windows, length);
+  const panel = panelOf(WINDOWS_TOP, WINDOWS_HEIGHT, reachOfPages(windows, rows));
+  const drawn = drawnWindows(axis, windows, rows, length);
   const parts = [
-    ...frameOf(axis, panel, "Pages written in a window"), ...pathsOf(drawn, windows, panel),
-    ...cutLabels(drawn, windows, panel),
+    ...frameOf(axis, panel, isSample ? "Sample pages written in a window" : "Pages written in a window"),
+    ...pathsOf(drawn, windows, panel),
+    ...cutLabels(axis, drawn, windows, panel),
     ...axisLabels(axis, tick, panel.bottom),
   ];
   return { panel, drawn, parts };
 }
 
+/** The mark of a tick, if it lies in the axis, with a halo that parts it from the bars. */
+function markAt(axis, panel, className, tick) {
+  const x = axis.place(tick);
+  return tick < axis.first || tick > axis.last ? []
+    : [area("halo", x - 2, panel.top, 4, panel.height), area(className, x - 1, panel.top, 2, panel.height)];
+}
+
 /** Where the rounds of a plan lie, where the guest stops, and where the copy of a warm start is from. */
 export function planMarks(axis, panel, settings, plan) {
-  const from = axis.place(settings.start);
-  const to = Math.max(axis.place(plan.stop + plan.down), from + 2);
-  const marks = [
-    area("span", from, panel.top, to - from, panel.height), area("span top", from, panel.top - 4, to - from, 4),
-  ];
-  if (settings.base !== null) {
-    marks.push(area("base", axis.place(settings.base), panel.top, 2, panel.height));
+  const marks = [];
+  const end = plan.stop + plan.down;
+  if (settings.start <= axis.last && end >= axis.first) {
+    const from = axis.place(settings.start);
+    const to = Math.max(axis.place(end), from + 2);
+    marks.push(area("span", from, panel.top, to - from, panel.height),
+      area("span top", from, panel.top - 4, to - from, 4));
   }
-  if (plan.stop <= axis.last) {
-    marks.push(area("stop", axis.place(plan.stop) - 1, panel.top, 2, panel.height));
-  } else {
-    marks.push(label("end past", axis.width - 14, panel.top + 14, "stop after the trace \u2192"));
+  if (settings.base !== null) {
+    marks.push(...markAt(axis, panel, "base", settings.base));
+  }
+  marks.push(...markAt(axis, panel, "stop", plan.stop));
+  if (plan.stop > axis.last) {
+    marks.push(label("end past", axis.width - 14, panel.top - 9, "stop to the right \u2192"));
   }
   return marks;
 }
@@ -109,7 +138,7 @@ export function windowWords(windows, row, length, scale) {
   const from = microsOf(scale, windows.number[row] * length);
   const to = microsOf(scale, (windows.number[row] + 1) * length);
   const earlier = windows.pages[row] - windows.fresh[row] - windows.again[row];
-  return `Window ${windows.number[row]}, ${secondsText(from)} to ${secondsText(to)}: `
+  return `Window ${windows.number[row]}, ${timeText(from)} to ${timeText(to)}: `
     + `${countOf(windows.writes[row], "write")}, ${countOf(windows.pages[row], "page")}; again ${windows.again[row]}, `
     + `earlier ${earlier}, fresh ${windows.fresh[row]}`;
 }

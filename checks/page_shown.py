@@ -1,0 +1,126 @@
+"""What the planner's page shows, in a browser that a check drives."""
+
+import base64
+import json
+
+from browser import BrowserError
+from view_texts import Failure
+
+# Collects what the page shows, after the next time that it draws.
+COLLECTOR = r"""
+window.times = [];
+window.plans = [];
+window.begun = -1;
+window.opened = 0;
+window.openedAt = -2;
+new PerformanceObserver((list) => {
+  for (const { name, duration, startTime } of list.getEntries()) {
+    if (name === "replan") { times.push(duration); window.begun = startTime; }
+    if (name === "plan") { plans.push(duration); }
+    if (name === "refused") { window.opened += 1; }
+    if (name === "opened") { window.opened += 1; window.openedAt = startTime + duration; }
+  }
+}).observe({ type: "measure" });
+window.isDrawn = () => begun >= openedAt;
+window.workers = [];
+if (typeof Worker === "function") {
+  window.Worker = class extends Worker {
+    constructor(...words) {
+      super(...words);
+      workers.push(this);
+    }
+  };
+}
+window.numberIn = (cell) => Number(cell.textContent.replaceAll(",", ""));
+window.rowsOf = (id) => [...document.querySelectorAll(`#${id} tbody tr`)].map((row) => [...row.children].map(numberIn));
+window.textOf = (id) => document.getElementById(id).textContent.trim();
+window.shown = () => {
+  const refused = document.querySelector("#verdict .refusal")?.dataset.control ?? null;
+  return {
+    refused,
+    fault: refused && textOf(`control-${refused}-fault`),
+    verdict: textOf("verdict"),
+    warnings: document.querySelectorAll("#verdict .warnings li").length,
+    stale: document.getElementById("rounds").classList.contains("stale") || document.getElementById("rounds").hidden,
+    rounds: rowsOf("rounds-table-this"),
+    windows: rowsOf("windows-table"),
+    comparison: Object.fromEntries([...document.querySelectorAll("#comparison tr")].slice(1).map((row) => {
+      const cell = row.children[1];
+      return [cell.dataset.name, [cell.querySelector("b").textContent, cell.querySelector("small").textContent]];
+    })),
+    commands: Object.fromEntries(["live", "qemu", "libvirt"].map((name) => [name, textOf(`command-${name}`)])),
+    predict: textOf("command-predict"),
+  };
+};
+window.after = async (act) => {
+  const since = performance.now();
+  await act();
+  for (let count = 0; begun < since; count += 1) {
+    if (count > 3000) { throw new Error("nothing was drawn"); }
+    await new Promise((resume) => setTimeout(resume, 5));
+  }
+  return shown();
+};
+window.afterAsking = (hash) => after(() => {
+  history.replaceState(null, "", location.pathname + "#");
+  location.hash = hash;
+});
+window.drop = (files) => {
+  const holder = new DataTransfer();
+  for (const [name, text] of files) {
+    const bytes = Uint8Array.from(atob(text), (letter) => letter.charCodeAt(0));
+    holder.items.add(new File([bytes], name));
+  }
+  document.body.dispatchEvent(new DragEvent("drop", { dataTransfer: holder, bubbles: true, cancelable: true }));
+};
+"""
+
+
+class Page:
+    """The page in a browser, and what it shows."""
+
+    def __init__(self, browser, path):
+        self.browser, self.path = browser, path
+
+    def open(self, fragment=""):
+        """Opens the page anew, and waits for the trace of the address, if there is one."""
+        self.browser.open_page(f"file://{self.path}{fragment}")
+        self.browser.wait("document.readyState === 'complete' && typeof times === 'object'")
+
+    def wait_for_plan(self):
+        self.browser.wait("document.querySelectorAll('#rounds-table-this tbody tr').length > 0", 20)
+
+    def load(self, *paths):
+        """Chooses files, and returns what is said of them, once the page has drawn them if they were taken."""
+        before = self.browser.value("opened")
+        self.browser.choose("#file", paths)
+        self.browser.wait(f"opened > {before} && isDrawn()", 120)
+        return self.browser.value("textOf('trace-notes') + ' | ' + textOf('trace-state')")
+
+    def drop(self, *files):
+        """Drops files, given by name and bytes, and returns what is said of them."""
+        before = self.browser.value("opened")
+        texts = json.dumps([[name, base64.b64encode(text).decode()] for name, text in files])
+        self.browser.value(f"drop({texts})")
+        self.browser.wait(f"opened > {before} && isDrawn()", 20)
+        return self.browser.value("textOf('trace-notes') + ' | ' + textOf('trace-state')")
+
+    def ask(self, fragment):
+        """Asks for settings by the address, and returns what the page shows then."""
+        return self.browser.value(f"afterAsking({json.dumps(f'#{fragment}')})")
+
+    def after(self, act):
+        """Does something in the page, and returns what it shows once it has drawn that."""
+        return self.browser.value(f"after(() => {{ {act} }})")
+
+    def shown(self):
+        return self.browser.value("shown()")
+
+
+def tried(tally, told_of, act, *words):
+    """Counts a trial that fails by an exception."""
+    try:
+        act(*words)
+        return tally.add(True, told_of)
+    except (Failure, BrowserError, OSError, KeyError, ValueError, IndexError) as error:
+        return tally.add(False, f"{told_of}: {str(error)[:900]}")

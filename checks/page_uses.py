@@ -1,0 +1,371 @@
+"""What users do with the planner's page, in Chromium and in Firefox: traces of all shapes and their records, settings
+that make no plan, units, going back, files that are refused, and a worker that ends."""
+
+import json
+import os
+import random
+import re
+import xml.etree.ElementTree
+from fractions import Fraction
+
+import page_shapes
+from limit_cases import RATES, TIMES
+from page_cases import example
+from page_shown import tried
+from view_texts import Failure
+
+DROPPED = 50
+# A restart comes after a silence of 15 seconds.
+SECONDS_OF_SILENCE = 60
+
+
+def require(holds, words):
+    if not holds:
+        raise Failure(words)
+
+
+def read(path):
+    with open(path, "rb") as file:
+        return file.read()
+
+
+def typed(page, name, text):
+    """Types into a field, and returns what the page shows then."""
+    return page.after(f"const field = document.getElementById('control-{name}'); field.value = {json.dumps(text)};"
+                      "field.dispatchEvent(new Event('input'));")
+
+
+def word_of(page, name):
+    """What the address says of a setting, once the page has settled."""
+    page.browser.wait("location.hash.slice(1) === textOf('address').slice(1)", 5)
+    return re.search(rf"[#&]{name}=([^&]*)", page.browser.value("location.hash"))[1]
+
+
+def settled(page):
+    """Waits until the page has told its last change in the address."""
+    page.browser.value("new Promise((resume) => setTimeout(resume, 600))")
+
+
+# ---- Traces.
+
+
+def check_shape(page, number, text):
+    page.open()
+    page.wait_for_plan()
+    said = page.drop((f"shape-{number}.pcwt", text))
+    found = page.shown()
+    require(f"shape-{number}.pcwt: " in said, said)
+    require(found["refused"] is None and not found["stale"] and found["rounds"], f"{said}: {found['refused']}")
+
+
+def check_records(page, _):
+    """A record comes with its trace, after it, or before it; one that is not the trace's is refused by its field."""
+    trace, record = (read(example(f"guests/sqlite.light.{kind}")) for kind in ("pcwt", "json"))
+    wanted = [str(json.loads(record)["first_tick"]), "31.25146", "1"]
+    values = "['start', 'sample', 'tick'].map((name) => document.getElementById(`control-${name}`).value)"
+    for files in ([("a.pcwt", trace), ("a.json", record)], [("a.json", record), ("a.pcwt", trace)]):
+        page.open()
+        page.wait_for_plan()
+        page.drop(*files)
+        require(page.browser.value(values) == wanted, f"{page.browser.value(values)} in place of {wanted}")
+    page.open()
+    page.wait_for_plan()
+    page.drop(("a.pcwt", trace))
+    require(page.browser.value(values) == ["0", "1", "1"], f"{page.browser.value(values)} without a record")
+    said = page.drop(("a.json", record))
+    require(page.browser.value(values) == wanted and "as a.json says" in said, said)
+    require(not page.shown()["refused"], said)
+    for name, value in (("trace_writes", 3), ("tick_seconds", 7), ("sampled_pages", 1), ("trace_sha256", "0" * 64)):
+        said = page.drop(("b.json", json.dumps({**json.loads(record), name: value}).encode()))
+        require(f"b.json is not used: " in said and name in said, said)
+        require(page.browser.value(values) == wanted, f"{name} has changed {page.browser.value(values)}")
+
+
+def check_files(page, folder):
+    """Of two traces the second is named; a bad file leaves the good one, and its plan."""
+    good = read(example("guests/mid.light.pcwt"))
+    page.open()
+    page.wait_for_plan()
+    said = page.drop(("one.pcwt", good), ("two.pcwt", good), ("a.txt", b"text"))
+    require("Not opened: two.pcwt, a.txt." in said and "one.pcwt: " in said, said)
+    before = page.shown()
+    said = page.drop(("bad.pcwt", good[:-1]))
+    require("bad.pcwt is refused: E8 record" in said and "one.pcwt is still open." in said, said)
+    require(page.shown() == before, "a bad file has changed the plan")
+    require(not page.after("document.getElementById('control-rounds').value = '7';"
+                           "document.getElementById('control-rounds').dispatchEvent(new Event('input'))")["refused"],
+            "no plan after a bad file")
+    path = os.path.join(folder, "chosen.pcwt")
+    with open(path, "wb") as file:
+        file.write(good)
+    said = page.load(path, example("guests/sqlite.light.json"))
+    require("chosen.pcwt: " in said and "sqlite.light.json is not used: " in said, said)
+
+
+# ---- Settings that make no plan.
+
+# What is typed, and the value that is taken then: a number, and by how much it is further from what was typed than the
+# nearest that plans.
+REFUSED = [("link", "0.1", "Kbit", 125), ("link", "900000", "Gbit", 125), ("downtime", "90000", "s", 1),
+           ("reserve", "5", "s", 1), ("rounds", "0", None, 1), ("rounds", "99", None, 1), ("window", "0", None, 1),
+           ("window", str(1 << 41), None, 1), ("base", "999999", None, 1), ("tick", "0", "ms", 1),
+           ("tick", "5", "s", 1), ("start", str(1 << 41), None, 1), ("first", "0", None, None),
+           ("sample", "99999999", None, None), ("sample", "0.5", None, None)]
+
+
+def amount_in(word):
+    """A word of the address as a number: a count, or an amount in bytes a second or microseconds."""
+    count, unit = re.fullmatch(r"([\d.]+)([A-Za-z]*)", word.partition("/")[2] or word).groups()
+    return Fraction(count) * {**RATES, **TIMES, "": 1}[unit]
+
+
+def spelled(amount, unit):
+    if unit is None:
+        return str(amount)
+    return f"{amount / 125}Kbit" if unit in RATES else f"{amount}us"
+
+
+PLAIN = {"trace": "sqlite", "link": "1Gbit", "downtime": "300ms", "first": "10", "reserve": "0ms", "start": "1000",
+         "rounds": "30", "tick": "1ms", "base": "none", "window": "500"}
+
+
+def asked(page, **more):
+    """Asks for plain settings with some others."""
+    return page.ask("&".join(f"{name}={word}" for name, word in {**PLAIN, **more}.items()))
+
+
+def check_refused(page, name, text, unit, grain):
+    asked(page, **({"base": "500"} if name == "base" else {}))
+    before = page.shown()
+    if unit:
+        page.after(f"const unit = document.querySelector('[data-control={name}] select'); unit.value = '{unit}';"
+                   "unit.dispatchEvent(new Event('change'))")
+    found = typed(page, name, text)
+    require(found["refused"] == name and found["stale"], f"{name} {text} {unit}: {found['refused']}, {found['fault']}")
+    require(found["rounds"] == before["rounds"], "the last plan does not stay")
+    enabled = page.browser.value("['#keep', '#ask', '[data-copies=command-predict]', '#zoom-plan'].filter("
+                                 "(each) => !document.querySelector(each).disabled)")
+    require(not enabled, f"enabled without a plan: {enabled}")
+    label = page.browser.value(f"document.querySelector('label[for=control-{name}]').textContent")
+    require(label in found["verdict"] and "Take " in found["fault"], f"{found['verdict']}, {found['fault']}")
+    wrong = amount_in(f"{text}{unit or ''}")
+    taken = page.after(f"document.querySelector('#control-{name}-fault button').click()")
+    require(taken["refused"] is None and not taken["stale"], f"{name}: {taken['refused']}, {taken['fault']}")
+    settled(page)
+    if grain:
+        value = amount_in(word_of(page, name))
+        step = grain if value < wrong else -grain
+        nearer = asked(page, **{name: spelled(value + step, unit)})
+        require(nearer["refused"], f"{name}: {value + step} plans too, and is nearer to {wrong} than {value}")
+
+
+def check_unread(page):
+    """What is no number is said at its field, and does not change the settings."""
+    page.ask("trace=sqlite&link=1Gbit&downtime=300ms")
+    for text in ("", "-1", "1e3", "12x", "1.2.3"):
+        found = typed(page, "downtime", text)
+        require(found["refused"] == "downtime" and found["stale"], f"{text!r}: {found['refused']}")
+        found = page.after("document.querySelector('#control-downtime-fault button').click()")
+        value = page.browser.value("document.getElementById('control-downtime').value")
+        require(not found["refused"] and value == "300", f"after {text!r}: {found['refused']}, {value}")
+
+
+# ---- Units.
+
+
+def check_units(page):
+    """Another unit of a control is the same amount; a decimal is the amount that it says."""
+    draw = random.Random(300)
+    for name, units, some in (("link", RATES, "64MiB"), ("downtime", TIMES, "300ms"), ("reserve", TIMES, "1500us"),
+                              ("link", RATES, "10Gbit"), ("tick", TIMES, "1ms")):
+        page.ask(f"trace=sqlite&{name}={some}")
+        before = page.shown()
+        for _ in range(5):
+            unit = draw.choice(sorted(units))
+            found = page.after(f"const unit = document.querySelector('[data-control={name}] select');"
+                               f"unit.value = '{unit}'; unit.dispatchEvent(new Event('change'))")
+            differing = [key for key in found if found[key] != before[key] and key != "predict"]
+            require(not differing, f"{name} {some} in {unit}: other {differing}")
+        settled(page)
+        require(round(amount_in(word_of(page, name))) == amount_in(some), word_of(page, name))
+    page.ask("trace=sqlite&link=1Gbit&downtime=300ms")
+    require("--link 1500Mbit" in typed(page, "link", "1.5")["predict"], "1.5 Gbit/s")
+    require("--downtime 500us" in typed(page, "downtime", "0.5")["predict"], "0.5 ms")
+    require("--first 187500Kbit" in typed(page, "first", "12.5")["predict"], "12.5 %")
+
+
+# ---- Back, and away from a start.
+
+
+def check_back(page):
+    """Back and forward go through settings; a click on the working set has a way back."""
+    page.open("#trace=sqlite&link=1Gbit&rounds=30")
+    page.wait_for_plan()
+    page.browser.wait("location.hash.includes('window=')", 5)
+    for rounds in ("7", "8"):
+        typed(page, "rounds", rounds)
+        page.browser.wait(f"location.hash.includes('rounds={rounds}&')", 5)
+    value = "document.getElementById('control-rounds').value"
+    for act, wanted in (("back", "7"), ("back", "30"), ("forward", "7"), ("forward", "8")):
+        page.browser.value(f"history.{act}()")
+        page.browser.wait(f"{value} === '{wanted}' && location.hash.includes('rounds={wanted}&')", 5)
+    start = page.browser.value("document.getElementById('control-start').value")
+    page.after("""
+      const plot = document.getElementById("windows-plot");
+      const box = plot.getBoundingClientRect();
+      const place = { clientX: box.left + box.width / 2, clientY: box.top + 50, bubbles: true };
+      plot.dispatchEvent(new PointerEvent("click", { ...place, pointerType: "mouse" }));
+    """)
+    moved = page.browser.value("document.getElementById('control-start').value")
+    require(moved != start and "The start is moved" in page.browser.value("textOf('moved')"), f"{start}, {moved}")
+    page.after("document.getElementById('undo-start').click()")
+    require(page.browser.value("document.getElementById('control-start').value") == start, "Undo keeps the start")
+    page.browser.value("""(() => {
+      const plot = document.getElementById("windows-plot");
+      const box = plot.getBoundingClientRect();
+      const place = { clientX: box.left + box.width / 2, clientY: box.top + 50, bubbles: true };
+      plot.dispatchEvent(new PointerEvent("click", { ...place, pointerType: "touch" }));
+    })()""")
+    require(page.browser.value("document.getElementById('control-start').value") == start, "a finger takes a start")
+    page.after("document.getElementById('windows-take').click()")
+    require(page.browser.value("document.getElementById('control-start').value") != start, "a finger cannot take one")
+
+
+def check_warm(page):
+    """A copy is from before the start, and the best start is not the tick of the copy."""
+    for start in ("0", "1000", "20000"):
+        page.ask(f"trace=sqlite&link=1Gbit&start={start}&base=none")
+        found = page.after("document.getElementById('control-warm').click()")
+        base, at = page.browser.value("['base', 'start'].map((name) => Number(document.getElementById("
+                                      "`control-${name}`).value))")
+        require(base < at and found["rounds"][0][4] > 0, f"start {start}: copy {base}, start {at}")
+    page.browser.value("document.getElementById('ask').click()")
+    page.browser.wait("document.querySelector('#starts-choice p') !== null && !document.getElementById("
+                      "'starts-answer').hidden && document.getElementById('starts-progress').hidden")
+    page.after("document.getElementById('take-best').click()")
+    best = page.browser.value("Number(document.getElementById('control-start').value)")
+    require(best > base, f"the best start is {best}, the copy {base}")
+    found = page.ask(f"trace=sqlite&link=1Gbit&start={base}&base={base}")
+    require("Nothing to send" in found["verdict"] and not page.browser.value(
+        "document.querySelector('#verdict .good') !== null"), found["verdict"])
+
+
+# ---- The worker.
+
+
+def end_worker(page):
+    """Ends the page's worker, and has the page hear of it."""
+    page.browser.value("workers.at(-1).terminate(); workers.at(-1).onerror(); 0")
+
+
+def check_worker(page):
+    """A worker that ends is started again, whether the page hears of it or not; starts can be cancelled."""
+    page.open("#trace=sqlite&link=1Gbit&rounds=30")
+    page.wait_for_plan()
+    before = page.shown()
+    end_worker(page)
+    require(typed(page, "rounds", "7")["refused"] is None, "no plan by another worker")
+    require(typed(page, "rounds", "30") == before, "another plan by another worker")
+    page.browser.value("workers.at(-1).terminate()")
+    page.browser.value("""(() => {
+      const field = document.getElementById("control-rounds");
+      field.value = "9";
+      window.sinceEnd = performance.now();
+      field.dispatchEvent(new Event("input"));
+    })()""")
+    page.browser.wait("begun > sinceEnd", SECONDS_OF_SILENCE)
+    require(not page.shown()["refused"], "no plan after a silence")
+    page.browser.value("document.getElementById('ask').click()")
+    require(page.browser.value("textOf('ask')") == "Cancel", page.browser.value("textOf('ask')"))
+    page.browser.value("document.getElementById('ask').click()")
+    page.browser.wait("textOf('ask').startsWith('Plan ')", 5)
+    require(page.browser.value("document.getElementById('starts-answer').hidden"), "an answer that was cancelled")
+    require(typed(page, "rounds", "30") == before, "no plan after a cancel")
+
+
+# ---- What then.
+
+
+def check_limits(page):
+    """The least link and the shortest limit that are found keep the limit, and a click takes them."""
+    for fragment in ("trace=sqlite&link=1Gbit&downtime=300ms", "trace=gzip&link=8MiB&downtime=4ms&start=400"):
+        for name in ("link", "downtime"):
+            page.ask(fragment)
+            page.browser.value("document.getElementById('find-limits').click()")
+            page.browser.wait("document.querySelectorAll('#limits-answer b').length === 2", 60)
+            before = page.shown()
+            found = page.after(f"document.querySelector('[data-takes={name}]').click()")
+            require("Keeps the limit" in found["verdict"] and found != before, f"{name}: {found['verdict']}")
+            require(page.browser.value("textOf('limits-answer')") == "", "the answer is of other settings, and stays")
+
+
+def check_comparison(page):
+    """Of two kept plans each is compared; better and worse are marked, and one can be exchanged and dropped."""
+    asked(page)
+    page.after("document.getElementById('keep').click()")
+    first = asked_rounds(page, "2")
+    page.after("document.getElementById('keep').click()")
+    asked_rounds(page, "1")
+    heads = "[...document.querySelectorAll('#comparison thead th')].map((cell) => cell.firstChild.textContent.trim())"
+    require(page.browser.value(heads) == ["This plan", "Kept plan 1", "Kept plan 2"], page.browser.value(heads))
+    marks = page.browser.value("['better', 'worse'].map((name) => "
+                               "document.querySelectorAll(`#comparison .${name}`).length)")
+    require(min(marks) > 0, f"better and worse: {marks}")
+    found = page.after("document.querySelector('[data-exchanges=\"1\"]').click()")
+    require(found["comparison"] == first["comparison"], f"{found['comparison']} in place of {first['comparison']}")
+    page.after("document.querySelector('[data-drops=\"0\"]').click()")
+    page.after("document.querySelector('[data-drops=\"0\"]').click()")
+    require(page.browser.value(heads) == ["This plan"], page.browser.value(heads))
+
+
+def asked_rounds(page, rounds):
+    return typed(page, "rounds", rounds)
+
+
+def check_files_saved(page):
+    """Each picture is saved as PNG and SVG, and each table as CSV."""
+    asked(page)
+    page.browser.value("document.getElementById('ask').click()")
+    page.browser.wait("document.querySelector('#starts-plot svg') !== null")
+    page.browser.value("""(() => {
+      window.saved = [];
+      const made = URL.createObjectURL;
+      URL.createObjectURL = (blob) => { window.savedLast = blob; return made.call(URL, blob); };
+      HTMLAnchorElement.prototype.click = function click() { saved.push([this.download, savedLast]); };
+      for (const button of document.querySelectorAll(".saves button")) {
+        if (button.offsetParent) { button.click(); }
+      }
+    })()""")
+    wanted = 3 * 3 + 1
+    page.browser.wait(f"saved.length === {wanted}", 20)
+    files = dict(page.browser.value("""Promise.all(saved.map(async ([name, blob]) => [name, name.endsWith(".png")
+      ? await createImageBitmap(blob).then(({ width, height }) => `${width} ${height}`) : await blob.text()]))"""))
+    require(len(files) == wanted, f"files: {sorted(files)}")
+    shown = page.shown()
+    rows = [[int(cell) for cell in line.split(",")] for line in files["rounds-this.csv"].splitlines()[1:]]
+    require(rows == shown["rounds"], f"{rows} in place of {shown['rounds']}")
+    for name, text in files.items():
+        if name.endswith(".svg"):
+            root = xml.etree.ElementTree.fromstring(text)
+            parts = len(list(root.iter()))
+            require(root.tag.endswith("svg") and parts > 20, f"{name} has {parts} parts")
+        elif name.endswith(".png"):
+            require(min(int(number) for number in text.split()) > 300, f"{name}: {text} pixels")
+        else:
+            lines = text.splitlines()
+            require(len({line.count(",") for line in lines}) == 1 and len(lines) > 1, f"{name}: {lines[:3]}")
+
+
+def check_uses(tally, page, folder):
+    for number, text in enumerate(page_shapes.shapes(DROPPED, 50)):
+        tried(tally, f"a trace of shape {number} on a fresh page", check_shape, page, number, text)
+    tried(tally, "records", check_records, page, folder)
+    tried(tally, "files", check_files, page, folder)
+    page.open("#trace=sqlite")
+    page.wait_for_plan()
+    for case in REFUSED:
+        tried(tally, f"refused: {case}", check_refused, page, *case)
+    for words, check in (("what is no number", check_unread), ("units", check_units), ("warm starts", check_warm),
+                         ("back", check_back), ("limits", check_limits), ("kept plans", check_comparison),
+                         ("saved files", check_files_saved), ("the worker", check_worker)):
+        tried(tally, words, check, page)

@@ -1,0 +1,48 @@
+// Which controls there are, in their groups. `low` and `high` are the ends of a slider; a number may go beyond them.
+
+import { RATE_UNITS, TIME_UNITS } from "./units.js";
+
+const RATE = { units: RATE_UNITS, low: 125_000, high: 12_500_000_000 };
+
+export const GROUPS = [
+  {
+    title: "Link",
+    controls: [
+      { name: "link", label: "Link rate", ...RATE },
+      { name: "first", label: "First round", unit: "% of the link", low: 1, high: 100, isPercent: true },
+      { name: "increase", label: "Increment", unit: "% of the rest", low: 0, high: 100, isPercent: true },
+    ],
+  },
+  {
+    title: "Stop of the guest",
+    controls: [
+      { name: "downtime", label: "Downtime limit", units: TIME_UNITS, low: 1_000, high: 10_000_000 },
+      { name: "reserve", label: "Reserve for devices and switching", units: TIME_UNITS, low: 1_000, high: 1_000_000,
+        hasZero: true },
+    ],
+  },
+  {
+    title: "Migration",
+    controls: [
+      { name: "start", label: "Start", unit: "tick", low: 0, high: 0 },
+      { name: "rounds", label: "Most rounds", unit: "rounds", low: 1, high: 64 },
+      { name: "skip", label: "Skip pages that are written again before they are sent", isSwitch: true },
+      { name: "warm", label: "Warm start: the destination has a copy", isSwitch: true },
+      { name: "base", label: "Copy taken before", unit: "tick", low: 0, high: 0 },
+    ],
+  },
+  {
+    title: "Trace",
+    controls: [
+      { name: "tick", label: "Length of a tick", units: TIME_UNITS, low: 1, high: 1_000_000 },
+      { name: "sample", label: "A page of the trace stands for", unit: "of the guest's", low: 1, high: 4096,
+        isLog: true, isSample: true },
+      { name: "window", label: "Window", unit: "ticks", low: 1, high: 1000, isLog: true },
+      { name: "ticks", label: "Show ticks beside times", isSwitch: true },
+    ],
+  },
+];
+
+/** The label of each control, by its name. */
+export const LABELS = Object.fromEntries(GROUPS.flatMap(({ controls }) =>
+  controls.map(({ name, label }) => [name, label])));

@@ -1,0 +1,95 @@
+// What a plan needs of a trace: tick and page of each write. From them a light trace is made, with one byte for each
+// write, which plans as the whole does and is far shorter; and from them come standard errors.
+
+const HEADER = 16;
+const RECORD = 16;
+const LIGHT_RECORD = 17;
+
+/** The ticks and pages of a trace's writes. The bytes have been tested. */
+export function writesIn(bytes, count) {
+  const view = new DataView(bytes.buffer, bytes.byteOffset, bytes.byteLength);
+  const writes = { ticks: new Float64Array(count), pages: new Uint32Array(count) };
+  for (let place = 0, at = HEADER; place < count; place += 1) {
+    writes.ticks[place] = view.getUint32(at, true) + view.getUint32(at + 4, true) * 2 ** 32;
+    writes.pages[place] = view.getUint32(at + 8, true);
+    at += RECORD + view.getUint16(at + 14, true);
+  }
+  return writes;
+}
+
+/** A trace of the same writes with a byte each: it has other memory, and the same plans. */
+export function lightTrace(writes, { pages, pageBytes }) {
+  const count = writes.ticks.length;
+  const bytes = new Uint8Array(HEADER + count * LIGHT_RECORD);
+  const view = new DataView(bytes.buffer);
+  bytes.set([0x50, 0x43, 0x57, 0x54, 1, Math.log2(pageBytes)]);
+  view.setUint32(8, pages, true);
+  view.setUint32(12, count, true);
+  for (let place = 0, at = HEADER; place < count; place += 1, at += LIGHT_RECORD) {
+    const tick = writes.ticks[place];
+    view.setUint32(at, tick % 2 ** 32, true);
+    view.setUint32(at + 4, Math.floor(tick / 2 ** 32), true);
+    view.setUint32(at + 8, writes.pages[place], true);
+    view.setUint16(at + 14, 1, true);
+  }
+  return bytes;
+}
+
+/** The place of the first write at a tick or later. */
+function firstAt(ticks, tick) {
+  let [low, high] = [0, ticks.length];
+  while (low < high) {
+    const middle = (low + high) >> 1;
+    if (ticks[middle] < tick) {
+      low = middle + 1;
+    } else {
+      high = middle;
+    }
+  }
+  return low;
+}
+
+/** The first tick from `from` on and before `to` at which each page is written, in the order of pages. */
+function firstWrites({ ticks, pages }, from, to) {
+  const found = new Map();
+  for (let place = firstAt(ticks, from); place < ticks.length && ticks[place] < to; place += 1) {
+    if (!found.has(pages[place])) {
+      found.set(pages[place], ticks[place]);
+    }
+  }
+  return found;
+}
+
+/** The pages of a round that are sent: those that are not written before the sent pages below them are. */
+function sentPages(pages, again, { from, rate }) {
+  let below = 0;
+  return pages.filter((page) => {
+    const isWritten = again.get(page) < from + Math.floor((1_000 * below) / rate);
+    below += isWritten ? 0 : 1;
+    return !isWritten;
+  });
+}
+
+function sorted(pages) {
+  return Uint32Array.from(pages).sort();
+}
+
+/**
+ * How often pages are sent, over a plan and its stop: the sum of the squares of each page's times. Null if the sums of
+ * the plan are others.
+ */
+export function squaresSent(writes, count, settings, plan) {
+  const times = new Uint32Array(count);
+  const { base, start, skip } = settings;
+  let pages = base === null ? Uint32Array.from({ length: count }, (_, page) => page)
+    : sorted(firstWrites(writes, base, start).keys());
+  plan.rounds.forEach((round, place) => {
+    const again = firstWrites(writes, round.from, round.to);
+    const sent = skip && place > 0 ? sentPages(pages, again, round) : pages;
+    sent.forEach((page) => { times[page] += 1; });
+    pages = sorted(again.keys());
+  });
+  pages.forEach((page) => { times[page] += 1; });
+  const total = times.reduce((sum, each) => sum + each, 0);
+  return total === plan.total ? times.reduce((sum, each) => sum + each * each, 0) : null;
+}

@@ -1,0 +1,148 @@
+// What would keep the limit: the least link with this downtime limit, and the shortest downtime limit with this link.
+// Both are looked for over a grid and then between its steps; so each is the least of what was tried.
+
+import { byId, html } from "./elements.js";
+import { WorkerEnded } from "./planner-client.js";
+import { Refusal } from "./planner.js";
+import { costOf } from "./predictions.js";
+import { quantityWords } from "./quantities.js";
+import { ControlRefusal, limitsOf, RATE_UNITS, scaleOf, settingsOf, TIME_UNITS } from "./units.js";
+
+/** How many steps of the grid a factor of ten has, and how often the last step is halved. */
+const STEPS_OF_TEN = 12;
+const HALVINGS = 6;
+
+/** What is looked for: a control, the ends of its grid, and what its amounts are multiples of. */
+const WANTED = [
+  { name: "link", words: "Least link that keeps this limit", units: RATE_UNITS, low: 12_500, high: 12.5e9, grain: 125 },
+  { name: "downtime", words: "Shortest downtime limit that this link keeps", units: TIME_UNITS, low: 1_000, high: 1e7,
+    grain: 1_000 },
+];
+
+function grid({ low, high, grain }) {
+  const count = Math.round(STEPS_OF_TEN * Math.log10(high / low));
+  return Array.from({ length: count + 1 }, (_, step) =>
+    Math.round((low * 10 ** (step / STEPS_OF_TEN)) / grain) * grain);
+}
+
+/** The settings of a state, or null if it makes none. */
+function settingsIfAny(state, sizes) {
+  try {
+    return settingsOf(state, scaleOf(state, sizes), limitsOf(state));
+  } catch (error) {
+    if (error instanceof ControlRefusal) {
+      return null;
+    }
+    throw error;
+  }
+}
+
+export class LimitsView {
+  /** `choose` takes a control's value. */
+  constructor(choose) {
+    this.choose = choose;
+    this.question = 0;
+    this.key = null;
+    byId("find-limits").addEventListener("click", () => this.find());
+  }
+
+  /** Learns what is shown: an answer of other settings is hidden. */
+  follow(trace, settings, prediction) {
+    [this.trace, this.state] = [trace, settings];
+    byId("find-limits").disabled = !prediction;
+    if (this.key !== null && this.key !== this.keyOf()) {
+      this.forget();
+    }
+  }
+
+  forget() {
+    this.question += 1;
+    this.key = null;
+    byId("limits-answer").replaceChildren();
+  }
+
+  keyOf() {
+    return JSON.stringify([this.trace.print, this.state]);
+  }
+
+  async find() {
+    this.question += 1;
+    const { question } = this;
+    this.key = this.keyOf();
+    byId("limits-answer").replaceChildren(html("p", { class: "hint" }, "Planning \u2026"));
+    try {
+      const found = [];
+      for (const wanted of WANTED) {
+        found.push([wanted, await this.least(wanted)]);
+        if (question !== this.question) {
+          return;
+        }
+      }
+      byId("limits-answer").replaceChildren(...found.map(([wanted, amount]) => this.answerPart(wanted, amount)));
+    } catch (error) {
+      if (!(error instanceof Refusal) && !(error instanceof WorkerEnded)) {
+        throw error;
+      }
+      this.forget();
+    }
+  }
+
+  /** The least amount of a control, of a grid and of what lies below its first good step, that keeps the limit. */
+  async least(wanted) {
+    const amounts = grid(wanted);
+    const kept = await this.areKept(wanted, amounts);
+    const first = kept.indexOf(true);
+    if (first < 1) {
+      return first === -1 ? null : amounts[0];
+    }
+    let [low, high] = [amounts[first - 1], amounts[first]];
+    for (let count = 0; count < HALVINGS && high - low > wanted.grain; count += 1) {
+      const middle = Math.round((low + high) / 2 / wanted.grain) * wanted.grain;
+      const [isKept] = await this.areKept(wanted, [middle]);
+      [low, high] = isKept ? [low, middle] : [middle, high];
+    }
+    return high;
+  }
+
+  /** Whether a plan with each amount ends because few pages are left, within the trace and the limit. */
+  async areKept({ name }, amounts) {
+    const { sizes } = this.trace;
+    const states = amounts.map((amount) => ({ ...this.state, [name]: { ...this.state[name], amount } }));
+    const asked = states.map((state) => ({ state, settings: settingsIfAny(state, sizes) }));
+    const plans = await this.trace.plans(asked.map(({ settings }) => settings).filter(Boolean));
+    let place = 0;
+    return asked.map(({ state, settings }) => {
+      if (!settings) {
+        return false;
+      }
+      const plan = plans[place];
+      place += 1;
+      const cost = costOf(scaleOf(state, sizes), limitsOf(state), settings.start, plan, sizes.last);
+      return plan.reason === "few" && cost.isKept && !cost.isLate;
+    });
+  }
+
+  answerPart({ name, words, units }, amount) {
+    if (amount === null) {
+      return html("p", {}, `${words}: none from ${quantityWords(this.endOf(name, "low"), units)} to `
+        + `${quantityWords(this.endOf(name, "high"), units)}.`);
+    }
+    const value = this.shown(name, amount);
+    const said = quantityWords(value, units);
+    const button = html("button", { type: "button", class: "small", "data-takes": name, "aria-label": `Take ${said}` },
+      "Take it");
+    button.addEventListener("click", () => this.choose(name, value));
+    return html("p", {}, `${words}: `, html("b", {}, said), " ", button);
+  }
+
+  endOf(name, end) {
+    return this.shown(name, WANTED.find((wanted) => wanted.name === name)[end]);
+  }
+
+  /** An amount in a unit that suits it. */
+  shown(name, amount) {
+    const family = name === "link" ? ["Gbit", "Mbit", "Kbit"] : ["s", "ms", "us"];
+    const units = name === "link" ? RATE_UNITS : TIME_UNITS;
+    return { amount, unit: family.find((unit) => amount >= Number(units[unit])) };
+  }
+}

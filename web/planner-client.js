@@ -1,0 +1,119 @@
+// The page's side of the planner's worker: it asks, and has what is asked answered. A worker that ends, or that says
+// nothing for long, is started again, reads the trace again, and is asked again.
+
+import { Refusal } from "./planner.js";
+import { embeddedBytes } from "./trace-source.js";
+
+/** For how long a worker that was asked may be silent, in milliseconds; and how often one trace may end it. */
+const LONGEST_SILENCE = 15_000;
+const MOST_ENDS = 2;
+
+/** The worker ended, again and again, over this trace. */
+export class WorkerEnded extends Error {}
+
+export class PlannerClient {
+  constructor() {
+    this.worker = null;
+    this.waiting = new Map();
+    this.count = 0;
+    this.blob = null;
+    this.ends = 0;
+    this.told = () => {};
+  }
+
+  /** A new worker with the module, and with the trace that is open. */
+  async start() {
+    this.bytes ??= await embeddedBytes("planner-module");
+    const program = new Blob([document.getElementById("program").textContent], { type: "text/javascript" });
+    const address = URL.createObjectURL(program);
+    const worker = new Worker(address);
+    URL.revokeObjectURL(address);
+    worker.onmessage = ({ data }) => worker === this.worker && this.hear(data);
+    worker.onerror = () => worker === this.worker && this.restart();
+    this.worker = worker;
+    this.post(this.entryOf("module", { bytes: this.bytes }));
+  }
+
+  /** Asks the worker, and has its answer. `told` is called with the share that is done. */
+  async ask(name, asked, told = () => {}) {
+    if (!this.worker) {
+      this.starting ??= this.start();
+      await this.starting;
+    }
+    return new Promise((resolve, reject) => {
+      const entry = { ...this.entryOf(name, asked), resolve, reject, told };
+      this.post(entry);
+    });
+  }
+
+  entryOf(name, asked) {
+    this.count += 1;
+    return { number: this.count, name, asked, resolve: () => {}, reject: () => {}, told: () => {} };
+  }
+
+  post(entry) {
+    this.waiting.set(entry.number, entry);
+    const { number, name, asked } = entry;
+    this.worker.postMessage({ number, name, asked });
+    this.listen();
+  }
+
+  /** Counts the silence anew while something is waited for. */
+  listen() {
+    clearTimeout(this.silence);
+    if (this.waiting.size > 0) {
+      this.silence = setTimeout(() => this.restart(), LONGEST_SILENCE);
+    }
+  }
+
+  hear({ number, value, refused, failed, planned, read }) {
+    const entry = this.waiting.get(number);
+    if (read !== undefined) {
+      this.told(read);
+    } else if (planned !== undefined) {
+      entry?.told(planned);
+    } else if (entry) {
+      this.waiting.delete(number);
+      this.settle(entry, value, refused, failed);
+    }
+    this.listen();
+  }
+
+  settle(entry, value, refused, failed) {
+    if (refused) {
+      entry.reject(new Refusal(refused.number, refused.record));
+    } else if (failed) {
+      entry.reject(new Error(failed));
+    } else {
+      entry.resolve(value);
+    }
+  }
+
+  /** Opens a trace. One that is refused leaves the open one as it is. */
+  async open(blob, told) {
+    this.told = told;
+    this.ends = 0;
+    const found = await this.ask("open", { blob });
+    this.blob = blob;
+    return found;
+  }
+
+  /** Ends the worker and starts another, which is asked what the first was, once it has the trace. */
+  async restart() {
+    const entries = [...this.waiting.values()].filter(({ name }) => name !== "module");
+    this.worker?.terminate();
+    this.waiting.clear();
+    this.ends += 1;
+    if (this.ends > MOST_ENDS) {
+      this.worker = null;
+      this.starting = null;
+      entries.forEach((entry) => entry.reject(new WorkerEnded("the worker ended")));
+      return;
+    }
+    await this.start();
+    if (this.blob) {
+      this.post(this.entryOf("open", { blob: this.blob }));
+    }
+    entries.forEach((entry) => this.post(entry));
+  }
+}

@@ -1,0 +1,208 @@
+// The section of the trace: it opens files, traces with their records, and says what is open and what was not taken. A
+// file that is refused leaves what is open as it is.
+
+import { byId, html } from "./elements.js";
+import { bytesText, counted, countOf, timeText } from "./numbers.js";
+import { refusalPart } from "./outcome.js";
+import { PlannerClient, WorkerEnded } from "./planner-client.js";
+import { Refusal } from "./planner.js";
+import { MOST_RECORD_BYTES, recordIn, RecordRefusal } from "./record.js";
+import { exampleSource } from "./trace-source.js";
+import { microsOf, scaleOf } from "./units.js";
+
+/** How many digits of a trace's SHA-256 the address has. */
+const PRINT_DIGITS = 12;
+
+function isRecord(file) {
+  return file.name.toLowerCase().endsWith(".json");
+}
+
+/** A trace that is open in the planner's worker. */
+class OpenTrace {
+  constructor(client, source, { sizes, digest }) {
+    this.client = client;
+    this.source = source;
+    this.sizes = sizes;
+    this.digest = digest;
+    this.print = digest.slice(0, PRINT_DIGITS);
+    this.record = null;
+  }
+
+  /** What a plan of the trace comes to; with the squares that standard errors need, if they are asked for. */
+  plan(settings, hasErrors) {
+    return this.client.ask("plan", { settings, hasErrors });
+  }
+
+  windows(settings) {
+    return this.client.ask("windows", { settings });
+  }
+
+  /** The sums of a plan from each of some starts, or null if they were cancelled. */
+  starts(settings, ticks, told) {
+    const list = ticks.map((start) => ({ ...settings, start }));
+    return this.client.ask("plans", { kind: "starts", settings: list }, told);
+  }
+
+  cancelStarts() {
+    return this.client.ask("cancel", { kind: "starts" });
+  }
+
+  /** The sums of the plans of some settings. */
+  plans(settings) {
+    return this.client.ask("plans", { kind: "limits", settings });
+  }
+}
+
+/** `taken` is called with each trace that was opened, and with one whose record came later. */
+export class TraceDesk {
+  constructor(taken) {
+    this.taken = taken;
+    this.client = new PlannerClient();
+    this.trace = null;
+    this.loading = 0;
+    this.early = null;
+    this.sources = new Map();
+  }
+
+  /** Takes files: the first trace, and the record beside it. The others are named. */
+  async takeFiles(files, wish) {
+    const traces = files.filter((file) => !isRecord(file));
+    const records = files.filter(isRecord);
+    const others = [...traces.slice(1), ...records.slice(1)].map(({ name }) => name);
+    const notes = others.length > 0 ? [html("p", {}, `Not opened: ${others.join(", ")}. A page has one trace.`)] : [];
+    const record = records.length > 0 ? await this.textOf(records[0]) : null;
+    if (traces.length > 0) {
+      const [file] = traces;
+      await this.open({ name: file.name, blob: file, example: null, record: record ?? this.early }, wish, notes);
+    } else if (record) {
+      this.takeRecord(record, notes);
+    }
+  }
+
+  async textOf(file) {
+    return { name: file.name, text: file.size > MOST_RECORD_BYTES ? "" : await file.text() };
+  }
+
+  async takeExample(example, wish) {
+    await this.open(await exampleSource(example), wish, []);
+  }
+
+  /** Opens the trace of an address again, if it was open before on this page. */
+  async reopen(print, wish) {
+    const source = this.sources.get(print);
+    if (source) {
+      await this.open(source, wish, []);
+    }
+    return source !== undefined;
+  }
+
+  /** Opens a trace, if no other is asked for meanwhile. `wish` goes to `taken`. */
+  async open(source, wish, notes) {
+    this.loading += 1;
+    const { loading } = this;
+    let ending = "refused";
+    this.busy(`Reading ${source.name} \u2026`);
+    try {
+      const found = await this.client.open(source.blob, (share) => {
+        this.busy(`Reading ${source.name}: ${Math.floor(100 * share)} %`);
+      });
+      if (loading === this.loading) {
+        this.trace = new OpenTrace(this.client, source, found);
+        this.sources.set(this.trace.print, source);
+        this.early = null;
+        this.note([...notes, ...this.recordNotes(source.record)]);
+        this.taken(this.trace, wish);
+        ending = "opened";
+      }
+    } catch (error) {
+      this.refuse(error, source, loading, notes);
+    }
+    if (loading === this.loading) {
+      this.busy(null);
+    }
+    performance.measure(ending, { start: 0, end: performance.now() });
+  }
+
+  refuse(error, source, loading, notes) {
+    if (!(error instanceof Refusal) && !(error instanceof WorkerEnded)) {
+      throw error;
+    }
+    if (loading !== this.loading) {
+      return;
+    }
+    const said = error instanceof Refusal ? refusalPart(error, `${source.name} is refused:`)
+      : html("p", { class: "refusal" }, `${source.name} ended the page's worker more than once, and is not open.`);
+    const open = this.trace ? [html("p", {}, `${this.trace.source.name} is still open.`)] : [];
+    this.note([said, ...open, ...notes]);
+  }
+
+  /** Takes the record of the trace that is open, or of one that is still to come. */
+  takeRecord(record, notes) {
+    if (!this.trace) {
+      this.early = record;
+      this.note([html("p", {}, `${record.name} is read once its trace is here.`), ...notes]);
+      return;
+    }
+    const refused = this.recordNotes(record);
+    this.note([...refused, ...notes]);
+    if (refused.length === 0) {
+      this.trace.source.record = record;
+      this.taken(this.trace, { isRecordOnly: true });
+    }
+    performance.measure(refused.length === 0 ? "opened" : "refused", { start: 0, end: performance.now() });
+  }
+
+  /** Reads a record for the open trace. Returns why it was refused, if it was. */
+  recordNotes(record) {
+    if (!record) {
+      return [];
+    }
+    try {
+      this.trace.record = recordIn(record.text, this.trace);
+      return [];
+    } catch (error) {
+      if (!(error instanceof RecordRefusal)) {
+        throw error;
+      }
+      return [html("p", { class: "refusal" }, html("strong", {}, `${record.name} is not used:`), ` ${error.message}`)];
+    }
+  }
+
+  busy(words) {
+    byId("trace").setAttribute("aria-busy", String(words !== null));
+    if (words !== null) {
+      byId("trace-state").textContent = words;
+    } else if (!this.trace) {
+      byId("trace-state").textContent = "Choose a trace, or an example.";
+    }
+  }
+
+  note(parts) {
+    byId("trace-notes").replaceChildren(...parts);
+  }
+
+  /** Says what is open, in the units of the settings; `problem` is said beside it. */
+  tell(settings, problem) {
+    const { sizes, source } = this.trace;
+    const { pages, pageBytes, writes, last } = sizes;
+    const scale = this.scaleFor(settings);
+    const sample = scale?.isSample ? `, a sample of a guest of ${counted(scale.guest)}: `
+      + bytesText(scale.guest * scale.page) : `: ${bytesText(BigInt(pages) * BigInt(pageBytes))}`;
+    const time = scale ? timeText(microsOf(scale, last)) : countOf(last, "tick");
+    const words = `${source.name}: ${countOf(pages, "page")} of ${counted(pageBytes)} bytes${sample}; `
+      + `${countOf(writes, "write")} in ${time}${this.trace.record ? `, as ${source.record.name} says` : ""}`;
+    if (byId("trace-state").textContent !== words) {
+      byId("trace-state").textContent = words;
+    }
+    byId("trace-other").textContent = problem;
+    byId("trace-other").hidden = problem === "";
+  }
+
+  scaleFor(settings) {
+    try {
+      return scaleOf(settings, this.trace.sizes);
+    } catch {
+      return null;
+    }
+  }
+}
