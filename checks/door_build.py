@@ -14,7 +14,7 @@ import time
 import door_launchers
 
 TOP = os.path.dirname(os.path.dirname(os.path.abspath(__file__)))
-SECONDS = 400
+SECONDS, SECONDS_TO_END = 400, 20
 NOBODY = 65534
 COPIED = ("precopy", "precopy-view", "tools/build", "tools/library", "tools/start")
 LIBRARY = """\
@@ -151,6 +151,19 @@ def build_at_first(tally, tree):
     tally.add(time.monotonic() - begun < 5, "the second run builds again")
 
 
+def tell_after_silence(tally, tree):
+    """A build that says nothing for a while says what it proves: here after half a second."""
+    with open(f"{TOP}/tools/build", encoding="utf-8") as file:
+        text = file.read()
+    tally.add("\nSILENCE = 60  #" in text, "tools/build does not say after how long it speaks")
+    tree.write("tools/build", text.replace("\nSILENCE = 60  #", "\nSILENCE = 0.5  #"))
+    tree.set_program(20)
+    ran = tree.run()
+    tally.add(ran.output == "number 21\n" and "still proving precopy, " in ran.faults, f"a silent build: {ran}")
+    tree.write("tools/build", text)
+    tree.set_program(8)
+
+
 def call_it_otherwise(tally, tree, folder):
     """By a link, by a link to a link, from other folders, and by sh."""
     links = os.path.join(folder, "links")
@@ -250,8 +263,10 @@ def stop(tally, tree, number):
     ran = ended(started)
     told = f"stopped by {number.name}" in ran.faults and "the next run goes on" in ran.faults
     tally.add(told and not ran.output, f"a build stopped by {number.name}: {ran}")
-    time.sleep(0.5)
-    left = processes_in(tree.cache)
+    # On a busy machine a process that was told to end takes a while.
+    end = time.monotonic() + SECONDS_TO_END
+    while (left := processes_in(tree.cache)) and time.monotonic() < end:
+        time.sleep(0.1)
     tally.add(not left, f"a build stopped by {number.name} leaves {len(left)} processes")
 
 
@@ -294,6 +309,7 @@ def check(tally, folder):
     run_without_rights(tally, tree)
     build_twice_at_once(tally, tree)
     edit_meanwhile(tally, tree)
+    tell_after_silence(tally, tree)
     fail(tally, tree)
     for number in (signal.SIGINT, signal.SIGTERM, signal.SIGHUP):
         stop(tally, tree, number)
