@@ -9,7 +9,7 @@ import sys
 import tempfile
 import time
 
-from recorder_runs import RECORD, SECONDS, TOP, expect
+from recorder_runs import RECORD, SECONDS, TOP, expect, read_until_recording
 
 import mappings
 import samples
@@ -27,7 +27,8 @@ class Pages:
         command = [sys.executable, os.path.join(TOP, "checks", "known_pages.py"), kind, str(pages), *more]
         self.process = subprocess.Popen(command, stdin=subprocess.PIPE, stdout=subprocess.PIPE, text=True)
         self.pages, self.address = pages, int(self.process.stdout.readline())
-        self.source = ["--pid", str(self.process.pid), "--mapping", "largest"]
+        self.range = f"{self.address:x}-{self.address + pages * PAGE:x}"
+        self.source = ["--pid", str(self.process.pid), "--mapping", self.range]
         self.before = self.state()
 
     def write(self, pages):
@@ -81,11 +82,7 @@ class Drawn:
         command = [sys.executable, *stand_in, RECORD, *source, "--every", "50ms", "--map", self.map_path, *words]
         pipe = subprocess.PIPE
         self.process = subprocess.Popen([*command, self.trace_path], stdout=pipe, stderr=pipe, text=True, **more)
-        self.began = ""
-        for line in self.process.stdout:
-            self.began += line
-            if line.startswith("recording"):
-                break
+        self.began = read_until_recording(self.process.stdout)
 
     def end(self, number=None):
         if number:
@@ -158,8 +155,8 @@ def times_written(drawn):
 
 
 def drawn_places(pages, wanted, seed):
-    """The addresses of the pages that a recorder draws from the largest mapping."""
-    ranges = mappings.chosen(pages.process.pid, "largest")
+    """The addresses of the pages that a recorder draws."""
+    ranges = mappings.chosen(pages.process.pid, [pages.range])
     count = sum(end - begin for begin, end in ranges) // PAGE
     return set(mappings.places_of(ranges, samples.draw(count, wanted, seed)))
 
@@ -482,7 +479,7 @@ def bad_words(_, folder):
         (["--one-in", "x"], 2, "whole number from 1"),
         (["--one-in", "1"], 1, "--one-in 2"),
         (["--pages", "5", "--one-in", "5"], 2, "not allowed with"),
-        (["--by", "writes"], 2, "needs --pid"),
+        (["--by", "writes"], 2, "needs a process"),
         (["--by", "magic"], 2, "invalid choice"),
         (["--pages", "5", "--qmp", "socket"], 2, "leave out --qmp"),
         (["--pages", "5", "--image", "image"], 2, "leave out --image"),

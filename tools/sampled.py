@@ -17,13 +17,14 @@ WRITE = b"\x01"
 class SampledGuest:
     """The pages of a guest that are watched: drawn from a file, or from the memory of a process."""
 
-    def __init__(self, options):
-        self.options = options
+    def __init__(self, options, source):
+        self.options, self.process, self.of = options, source.process, source.of
         self.seed = options.seed if options.seed is not None else int.from_bytes(os.urandom(4), "little")
-        if options.file:
-            self._open_file(options.file)
+        if source.path:
+            self._open_file(source.path)
         else:
-            self._open_process(options.pid, options.mapping)
+            self.ranges = source.ranges or mappings.chosen(source.process, ["all"])
+            self.pages = page_values.ProcessPages(source.process)
         self.numbers = samples.draw(self.count, self._wanted(), self.seed)
         self.places = mappings.places_of(self.ranges, self.numbers)
 
@@ -32,14 +33,7 @@ class SampledGuest:
         size = os.fstat(descriptor).st_size
         if size == 0 or size % PAGE:
             raise ValueError(f"{path} has {size} bytes, which are no whole pages of {PAGE}")
-        self.ranges, self.of = [(0, size)], f"file {os.path.abspath(path)}"
-        self.pages = page_values.FilePages(descriptor, size)
-
-    def _open_process(self, process, which):
-        self.ranges = mappings.chosen(process, which)
-        self.pages = page_values.ProcessPages(process)
-        with open(f"/proc/{process}/comm", encoding="utf-8", errors="replace") as name:
-            self.of = f"process {process} {name.read().strip()}, mapping {which}"
+        self.ranges, self.pages = [(0, size)], page_values.FilePages(descriptor, size)
 
     @property
     def count(self):
@@ -60,7 +54,7 @@ class SampledGuest:
         if self.options.by == "values" or self.options.file:
             return page_values.ChangedPages(self.pages, self.places), "values", None
         try:
-            tracker = pagemap.WrittenPages(self.options.pid, self.ranges, self.places, self.options.scan)
+            tracker = pagemap.WrittenPages(self.process, self.ranges, self.places, self.options.scan)
             return tracker, "writes", None
         except pagemap.Unavailable as cause:
             if self.options.by == "writes":
