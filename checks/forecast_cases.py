@@ -138,6 +138,29 @@ def damaged_beside_tools(_, folder):
     expect(not os.path.exists(other), "a trace was written")
 
 
+def refused_traces(_, folder):
+    """A trace that is damaged at random is refused by file, name and cause, or it has another SHA-256."""
+    path, draws = os.path.join(folder, "guest.pcwt"), random.Random(7)
+    made_trace(os.path.join(folder, "whole.pcwt"), pages=64, ticks=200)
+    run_thin(os.path.join(folder, "whole.pcwt"), path, "--one-in", "1", "--start", "1000")
+    with open(path, "rb") as file:
+        text = file.read()
+    names = set()
+    for number in range(60):
+        damaged = bytearray(text)
+        for _ in range(draws.randrange(1, 3)):
+            damaged[draws.choice((draws.randrange(16), draws.randrange(len(text))))] ^= draws.randrange(1, 256)
+        damaged = damaged[: draws.choice((len(text), draws.randrange(len(text)), len(text)))] + b"x" * (number % 5 == 4)
+        with open(path, "wb") as file:
+            file.write(damaged)
+        printed, refused = run_predict(path, *LINK, status=1)
+        name = re.match(rf"predict: {re.escape(path)}: (E\d+)(?: record \d+)?: \w", refused)
+        expect(not printed and (name or "trace_sha256" in refused or "does not fit" in refused), refused)
+        expect(refused.count("\n") == 1, refused)
+        names.add(name and name[1])
+    expect(len(names) > 6, f"{names}")
+
+
 def thinned_pages(_, folder):
     """A thinned trace has the writes of the drawn pages, with their bytes, and can be thinned again."""
     whole, path, again = (os.path.join(folder, f"{name}.pcwt") for name in ("whole", "part", "less"))
@@ -164,7 +187,7 @@ def thinned_pages(_, folder):
         ([whole, os.path.join(folder, "a.light.pcwt"), "--one-in", "2"], 2, ".light.pcwt"),
         ([whole, os.path.join(folder, "a.pcwt")], 2, "--one-in"),
         ([whole, os.path.join(folder, "none", "a.pcwt"), "--one-in", "2"], 1, "No such file"),
-        ([text, os.path.join(folder, "a.pcwt"), "--one-in", "2"], 1, "E2"),
+        ([text, os.path.join(folder, "a.pcwt"), "--one-in", "2"], 1, f"{text}: E2: it does not begin as a trace"),
     ):
         _, refused = run_thin(*words, status=status)
         expect(said in refused, refused)
@@ -278,6 +301,7 @@ def bias_over_seeds(program, folder):
 CASES = [
     damaged_fields,
     damaged_beside_tools,
+    refused_traces,
     thinned_pages,
     predicted,
     longer_ticks,
