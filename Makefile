@@ -9,14 +9,14 @@
 #     make deb                        makes packages for Debian in out/: the programs, the library, its header
 #     make dist                       makes a tarball for other systems in out/, and its checksum
 #
-# DESTDIR stands in front of each path of an installation. BINDIR, LIBDIR, MANDIR, DOCDIR, BASHDIR, ZSHDIR, LIBRARYDIR
-# and INCLUDEDIR name single folders, and MAINTAINER who answers for a package.
+# DESTDIR stands in front of each path of an installation. BINDIR, LIBDIR, MANDIR, DOCDIR, BASHDIR, ZSHDIR, SYSTEMDDIR,
+# LIBRARYDIR and INCLUDEDIR name single folders, and MAINTAINER who answers for a package.
 
 PREFIX ?= /usr/local
 PACK = packaging/make
 WHERE = --prefix "$(PREFIX)" --destdir "$(DESTDIR)" --bindir "$(BINDIR)" --libdir "$(LIBDIR)" --mandir "$(MANDIR)" \
-	--docdir "$(DOCDIR)" --bashdir "$(BASHDIR)" --zshdir "$(ZSHDIR)" --librarydir "$(LIBRARYDIR)" \
-	--includedir "$(INCLUDEDIR)"
+	--docdir "$(DOCDIR)" --bashdir "$(BASHDIR)" --zshdir "$(ZSHDIR)" \
+	--systemddir "$(SYSTEMDDIR)" --librarydir "$(LIBRARYDIR)" --includedir "$(INCLUDEDIR)"
 
 all:
 	./precopy --help > /dev/null

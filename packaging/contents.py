@@ -37,6 +37,7 @@ class Places(NamedTuple):
     doc: str
     bash: str
     zsh: str
+    systemd: str
     library: str
     include: str
 
@@ -50,6 +51,7 @@ def places_below(prefix) -> Places:
         os.path.join(share, "doc", "precopy"),
         os.path.join(share, "bash-completion", "completions"),
         os.path.join(share, "zsh", "site-functions"),
+        os.path.join(prefix, "lib", "systemd", "system"),
         os.path.join(prefix, "lib"),
         os.path.join(prefix, "include"),
     )
@@ -129,6 +131,13 @@ def commands(places, python) -> Iterator[Entry]:
             yield Entry(os.path.join(places.lib, name), read(f"tools/{name}"))
 
 
+def services(places) -> Iterator[Entry]:
+    """Units for systemd."""
+    for name in sorted(os.listdir(os.path.join(TOP, "packaging"))):
+        if name.endswith(".service"):
+            yield Entry(os.path.join(places.systemd, name), read(f"packaging/{name}"))
+
+
 def pages(places) -> Iterator[Entry]:
     """Manuals and completions."""
     programs, tools = told_by_help()
@@ -157,5 +166,6 @@ def documents(places) -> Iterator[Entry]:
 
 def contents(places, python="/usr/bin/env python3") -> Iterator[Entry]:
     yield from commands(places, python)
+    yield from services(places)
     yield from pages(places)
     yield from documents(places)

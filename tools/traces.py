@@ -4,6 +4,7 @@ A write with no bytes releases its page: the whole page becomes zeros. Only trac
 """
 
 import errno
+import fcntl
 import os
 import shutil
 import struct
@@ -53,6 +54,10 @@ class Refused(Exception):
 
 class Full(Exception):
     """Some writes do not fit the trace any more; the text says which limit they pass."""
+
+
+class NoRoom(Full):
+    """Some writes do not fit the disk."""
 
 
 def told(fault):
@@ -160,6 +165,8 @@ class Pending:
         self.path = path
         folder, name = os.path.split(os.path.abspath(path)) if path != "-" else (None, "trace")
         self.descriptor, self.hidden = tempfile.mkstemp(prefix=f".{name}.", suffix=".part", dir=folder)
+        # While it is locked, it is not left over.
+        fcntl.flock(self.descriptor, fcntl.LOCK_EX | fcntl.LOCK_NB)
 
     def write(self, data):
         left = memoryview(data)
@@ -232,7 +239,7 @@ class Writer(Pending):
         except OSError as fault:
             os.ftruncate(self.descriptor, self.size)
             os.lseek(self.descriptor, self.size, os.SEEK_SET)
-            raise Full(f"{self.path}: {fault.strerror}") from fault
+            raise NoRoom(f"{self.path}: {fault.strerror}") from fault
         self.version = version
         self.writes += len(parts) // 2
         self.size += len(text)
