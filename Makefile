@@ -2,6 +2,7 @@
 #
 #     make                            builds the programs if they are not built yet or a source has changed
 #     make lib                        builds the library for C in out/library, in the same way
+#     make scan                       builds the recorder's loop of system calls, out/scan.so, if there is a C compiler
 #     make page                       builds the planner as one page, out/precopy.html, and its WebAssembly module
 #     make install PREFIX=/usr        installs below PREFIX: programs, tools, manuals, completions, documents, examples,
 #                                     the library with its header, and precopy.pc for pkg-config
@@ -25,6 +26,9 @@ all:
 lib:
 	$(PACK) lib
 
+scan:
+	$(PACK) scan
+
 page:
 	tools/page-module out/lent_planner.wasm
 	tools/join-page out/lent_planner.wasm out/precopy.html
@@ -38,4 +42,4 @@ uninstall:
 deb dist: all lib
 	$(PACK) $@ $(if $(MAINTAINER),--maintainer "$(MAINTAINER)")
 
-.PHONY: all lib page install uninstall deb dist
+.PHONY: all lib scan page install uninstall deb dist

@@ -147,7 +147,7 @@ def never_the_guest(_, folder):
                 expect(overlap(begin, end) == end - begin, f"{end - overlap(begin, end) - begin} bytes are left out")
             expect(not overlap(*known.other("code")), "the code buffer is taken")
             for it in mappings.mappings_of(known.pid):
-                is_library = it.name.startswith(("/usr", "/lib", "/root", "/home", "/opt")) and it.inode
+                is_library = it.inode and it.rights[3] == "p"
                 if is_library or it.name == "[stack]" or "x" in it.rights or "w" not in it.rights:
                     expect(not overlap(it.begin, it.end), f"{it.told()} is taken")
             for pointer in mappings.stack_pointers(known.pid):

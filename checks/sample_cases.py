@@ -76,10 +76,10 @@ class Pages:
 class Drawn:
     """One run of tools/record over drawn pages, from its first sample on."""
 
-    def __init__(self, folder, source, words=(), stand_in=(), **more):
+    def __init__(self, folder, source, words=(), stand_in=(), tool=RECORD, **more):
         self.folder, self.trace_path = folder, os.path.join(folder, "guest.light.pcwt")
         self.map_path = os.path.join(folder, "map")
-        command = [sys.executable, *stand_in, RECORD, *source, "--every", "50ms", "--map", self.map_path, *words]
+        command = [sys.executable, *stand_in, tool, *source, "--every", "50ms", "--map", self.map_path, *words]
         pipe = subprocess.PIPE
         self.process = subprocess.Popen([*command, self.trace_path], stdout=pipe, stderr=pipe, text=True, **more)
         self.began = read_until_recording(self.process.stdout)
@@ -168,13 +168,13 @@ def expect_exact(known, found):
     expect(sum(known.values()) >= 20, f"only {sum(known.values())} writes were of drawn pages")
 
 
-def exact(folder, kind, pages_of_it, wanted, method="writes", words=()):
+def exact(folder, kind, pages_of_it, wanted, method="writes", words=(), tool=RECORD):
     """No write is missed, and none is there that was not made: of all pages, or of those that are drawn."""
     with Pages(kind, pages_of_it, *(["changing"] if method == "values" else [])) as pages:
         expect(kind != "huge" or pages.huge_bytes(), "the process has no huge pages")
         places = drawn_places(pages, wanted, 5)
         words = ["--pages", str(wanted), "--seed", "5", "--by", method, *words]
-        drawn = Drawn(folder, pages.source, words)
+        drawn = Drawn(folder, pages.source, words, tool=tool)
         steps = written_again(drawn, pages, places, random.Random(kind))
         drawn.end(signal.SIGINT)
         pages.expect_as_before()
@@ -214,12 +214,13 @@ def exact_by_values(_, folder):
         exact(folder, kind, PAGES, 16_384, "values")
 
 
-def mapped_anew(_, folder):
+def mapped_anew(_, folder, tool=RECORD):
     """Memory that is mapped anew is watched from then on, and nothing of the other is lost."""
     for scan in ("pages", "whole"):
         with Pages("private", PAGES) as pages:
             places = drawn_places(pages, 700, 5)
-            drawn = Drawn(folder, pages.source, ["--pages", "700", "--seed", "5", "--by", "writes", "--scan", scan])
+            words = ["--pages", "700", "--seed", "5", "--by", "writes", "--scan", scan]
+            drawn = Drawn(folder, pages.source, words, tool=tool)
             before = drawn.bytes()
             pages.write(range(0, PAGES // 4, 5))
             pages.map_anew(PAGES // 2, PAGES)

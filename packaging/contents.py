@@ -68,6 +68,10 @@ class Entry:
     package: str = "precopy"
 
 
+PAGE = "out/precopy.html"
+SCAN = "tools/scan.c"
+
+
 class NotBuilt(Exception):
     """A program is not built; the text says which, and what builds it."""
 
@@ -119,6 +123,21 @@ def stripped(path):
             return file.read()
 
 
+def scan_library() -> bytes | None:
+    """The loop of system calls of the recorder, in machine code; None if there is no compiler for it."""
+    compiler = shutil.which(os.environ.get("CC", "cc"))
+    if not compiler:
+        return None
+    with tempfile.TemporaryDirectory() as folder:
+        made = os.path.join(folder, "scan.so")
+        how = ["-std=c99", "-O2", "-Wall", "-Wextra", "-fPIC", "-shared", "-s", "-Wl,-z,relro,-z,now"]
+        done = subprocess.run([compiler, *how, "-o", made, SCAN], cwd=TOP, capture_output=True, text=True)
+        if done.returncode:
+            raise NotBuilt(f"{SCAN} cannot be built: {done.stderr.strip()}")
+        with open(made, "rb") as file:
+            return file.read()
+
+
 def commands(places, python) -> Iterator[Entry]:
     for name in PROGRAMS:
         yield Entry(os.path.join(places.bin, name), stripped(program_file(name)), 0o755)
@@ -129,6 +148,8 @@ def commands(places, python) -> Iterator[Entry]:
     for name in sorted(os.listdir(os.path.join(TOP, "tools"))):
         if name.endswith((".py", ".c")):
             yield Entry(os.path.join(places.lib, name), read(f"tools/{name}"))
+    if library := scan_library():
+        yield Entry(os.path.join(places.lib, "scan.so"), library)
 
 
 def services(places) -> Iterator[Entry]:
