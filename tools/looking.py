@@ -8,6 +8,7 @@ import time
 import memory
 import qmp
 import traces
+import version
 from ticks import FIRST
 
 
@@ -64,7 +65,7 @@ def last(recorder, options, tick_now):
             looked = recorder.look(tick_now())
         stood = pause.seconds if pause else 0.0
     except qmp.Fault as fault:
-        print(f"record: the guest was not paused for the last sample, or did not go on: {fault}", file=sys.stderr)
+        version.complain("record", f"the guest was not paused for the last sample, or did not go on: {fault}")
     recorder.take(*(looked or recorder.look(tick_now())))
     return stood
 

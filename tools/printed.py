@@ -4,6 +4,8 @@ import os
 import sys
 from collections.abc import Callable
 
+import version
+
 
 class Stream:
     """A standard stream that can fail, as one whose reader has gone. What is written after that goes nowhere."""
@@ -38,7 +40,7 @@ def run(name: str, main: Callable[[list[str]], int], loses: bool) -> int:
     status = main(sys.argv[1:])
     sys.stdout.flush()
     if sys.stdout.fault is not None:
-        print(f"{name}: what it prints could not be written: {sys.stdout.fault.strerror}", file=sys.stderr)
+        version.complain(name, f"what it prints could not be written: {sys.stdout.fault.strerror}")
         status = status or int(loses)
     sys.stderr.flush()
     return status

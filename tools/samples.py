@@ -12,6 +12,7 @@ import os
 import random
 
 import traces
+import version
 
 FORMAT = "precopy sample 1"
 MOST_PAGES = traces.Limits().pages
@@ -170,7 +171,7 @@ def read(trace_path: str, trace: traces.Trace, written: list[tuple[int, int]]) -
         with open(path, "rb") as file:
             text = file.read()
     except FileNotFoundError as fault:
-        raise Refused(f"there is no {path} beside the trace: tools/record writes one for a sample") from fault
+        raise Refused(f"there is no {path} beside the trace: {version.called('record')} writes one") from fault
     sample = parsed(path, text)
     for rule, holds in rules_of(sample, trace, written):
         if not holds:

@@ -116,8 +116,8 @@ class Recording:
             _, ended_by = looking.go_on(self.recorder, self.options, self.stopping, begun, until)
             text = writer.seal(memory.SHIFT, self.recorder.pages())
             beside.put(self.recorder.sample(text))
-            writer.finish(memory.SHIFT, self.recorder.pages())
             beside.finish()
+            writer.finish(memory.SHIFT, self.recorder.pages())
         self.count += 1
         looking.hide()
         print(told(path, self.recorder, self.recorder.looked_at - begun, ended_by), flush=True)

@@ -69,10 +69,15 @@ def of_monitor(process: int, monitor, called: str) -> Source:
 
 def of_socket(path: str, process: int | None) -> Source:
     with qmp.Client(path) as client:
-        process = process or client.process()
-        if process is None:
-            raise qmp.Fault(f"{path}: the process that has made it is not in sight: --pid says which")
-        return of_monitor(process, client, "memory by QMP")
+        if process is not None:
+            return of_monitor(process, client, "memory by QMP")
+        maker = client.process()
+        if maker is None:
+            raise qmp.Fault(f"{path}: the process that has made it is not in sight: --pid says which is QEMU")
+        try:
+            return of_monitor(maker, client, "memory by QMP")
+        except ValueError as fault:
+            raise ValueError(f"{path}, made by process {maker}: {fault}; --pid says which process is QEMU") from fault
 
 
 def source_of(options) -> Source:
