@@ -7,7 +7,8 @@
 #     make install PREFIX=/usr        installs below PREFIX: programs, tools, manuals, completions, documents, examples,
 #                                     the library with its header, and precopy.pc for pkg-config
 #     make uninstall PREFIX=/usr      removes the same files
-#     make deb                        makes packages for Debian in out/: the programs, the library, its header
+#     make deb                        makes packages for Debian in out/: the programs, the library, its header. After
+#                                     ./precopy it takes 26 minutes of a processor, and more for the page's module
 #     make dist                       makes a tarball for other systems in out/, and its checksum
 #
 # DESTDIR stands in front of each path of an installation. BINDIR, LIBDIR, MANDIR, DOCDIR, BASHDIR, ZSHDIR, SYSTEMDDIR,
@@ -15,6 +16,8 @@
 
 PREFIX ?= /usr/local
 PACK = packaging/make
+MODULE = out/lent_planner.wasm
+PAGE = out/precopy.html
 WHERE = --prefix "$(PREFIX)" --destdir "$(DESTDIR)" --bindir "$(BINDIR)" --libdir "$(LIBDIR)" --mandir "$(MANDIR)" \
 	--docdir "$(DOCDIR)" --bashdir "$(BASHDIR)" --zshdir "$(ZSHDIR)" \
 	--systemddir "$(SYSTEMDDIR)" --librarydir "$(LIBRARYDIR)" --includedir "$(INCLUDEDIR)"
@@ -29,17 +32,21 @@ lib:
 scan:
 	$(PACK) scan
 
-page:
-	tools/page-module out/lent_planner.wasm
-	tools/join-page out/lent_planner.wasm out/precopy.html
+page: $(PAGE)
 
-install: all lib
+$(MODULE): $(wildcard crates/*/src/*.rt crates/*/specs/*.antt)
+	tools/page-module $@
+
+$(PAGE): $(MODULE) tools/join-page $(wildcard web/* examples/*.pcwt examples/guests/*.pcwt)
+	tools/join-page $(MODULE) $@
+
+install: all lib $(MODULE)
 	$(PACK) install $(WHERE)
 
 uninstall:
 	$(PACK) uninstall $(WHERE)
 
-deb dist: all lib
+deb dist: all lib $(MODULE)
 	$(PACK) $@ $(if $(MAINTAINER),--maintainer "$(MAINTAINER)")
 
 .PHONY: all lib scan page install uninstall deb dist

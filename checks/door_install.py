@@ -6,6 +6,7 @@ import shutil
 import subprocess
 import sys
 
+import door_documents
 from tally import has
 
 TOP = os.path.dirname(os.path.dirname(os.path.abspath(__file__)))
@@ -86,6 +87,7 @@ def check(tally, folder):
         return
     first = files_below(destination)
     run_from_there(tally, os.path.join(destination, "usr"))
+    door_documents.check(tally, folder, os.path.join(destination, "usr"))
     tally.add(files_below(destination) == first, "the installed programs leave files where they are installed")
     read_manuals(tally, folder, os.path.join(destination, "usr"))
     ran = make("install", f"DESTDIR={destination}", "PREFIX=/usr")

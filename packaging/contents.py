@@ -14,6 +14,7 @@ from dataclasses import dataclass
 from typing import Iterator, NamedTuple, Optional
 
 import completions
+import documents
 import manuals
 import options
 
@@ -68,7 +69,8 @@ class Entry:
     package: str = "precopy"
 
 
-PAGE = "out/precopy.html"
+MODULE = "out/lent_planner.wasm"
+PAGE = "precopy.html"
 SCAN = "tools/scan.c"
 
 
@@ -174,19 +176,40 @@ def pages(places) -> Iterator[Entry]:
         yield Entry(os.path.join(places.zsh, f"_{name}"), completions.zsh(command, path).encode())
 
 
-def documents(places) -> Iterator[Entry]:
+def page() -> bytes:
+    """The page that plans in a browser, as `make page` writes it."""
+    if not os.path.isfile(os.path.join(TOP, MODULE)):
+        raise NotBuilt("the page's module is not built: make page builds it")
+    with tempfile.TemporaryDirectory() as folder:
+        made = os.path.join(folder, PAGE)
+        joined = subprocess.run([os.path.join(TOP, "tools", "join-page"), os.path.join(TOP, MODULE), made])
+        if joined.returncode:
+            raise NotBuilt("the page cannot be joined: tools/join-page says why")
+        with open(made, "rb") as file:
+            return file.read()
+
+
+def document(places, path) -> Entry:
+    data = read(path)
+    if path.endswith(".md"):
+        data = documents.installed(path, data.decode(), TOOLS).encode()
+    return Entry(os.path.join(places.doc, path), data)
+
+
+def texts(places) -> Iterator[Entry]:
     """The documents and the examples, in folders as in the sources, so that the names in them lead to them."""
     for path in ("README.md", "CHANGELOG.md", "CONTRIBUTING.md", "LICENSE"):
-        yield Entry(os.path.join(places.doc, path), read(path))
+        yield document(places, path)
+    yield Entry(os.path.join(places.doc, PAGE), page())
     for folder in ("docs", "docs/pictures", "examples", "examples/c", "examples/guests", "bindings/python"):
         for name in sorted(os.listdir(os.path.join(TOP, folder))):
             path = os.path.join(folder, name)
             if os.path.isfile(os.path.join(TOP, path)):
-                yield Entry(os.path.join(places.doc, path), read(path))
+                yield document(places, path)
 
 
 def contents(places, python="/usr/bin/env python3") -> Iterator[Entry]:
     yield from commands(places, python)
     yield from services(places)
     yield from pages(places)
-    yield from documents(places)
+    yield from texts(places)
