@@ -4,8 +4,8 @@
 
 LAYOUT is JSON: `nodes` is a list of [name, kind, pages], `plugged` one that is plugged in by the line `plug`. `code`
 and `video` are pages that are not the guest's memory: a code buffer that can be executed, and video memory. It prints
-where each of them is as JSON, and answers on the socket as QEMU 7.2 does. Each line `write` writes to each page. The words
-are there for others to read in /proc.
+where each of them is as JSON, and answers on the socket as QEMU 7.2 does. Each line `write` writes to each page. The
+words are there for others to read in /proc.
 """
 
 import ctypes

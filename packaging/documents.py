@@ -31,7 +31,7 @@ RENAMED = {
     "-I include -o plan examples/c/plan.c out/library/libprecopy.a": "-o plan examples/c/plan.c -lprecopy",
     "; `cargo build --offline` builds both against `out/library`": "",
     "    $ examples/left_out.py": "    $ python3 examples/left_out.py",
-    "also need the built `precopy-view`, up to 26 minutes of a processor after\n`./precopy`.": "also need `precopy-view`.",
+    "need the built `precopy-view`, up to 26 minutes of a processor after\n`./precopy`.": "need `precopy-view`.",
     "machine code in the package, and in the sources after `make scan`, which needs a C compiler": "machine code",
     "needs `precopy` on its path": "needs the package",
 }
