@@ -140,8 +140,8 @@ def run_documents(tally, tree):
 
     def in_folder(page, words):
         place = f"/tmp/{page.replace('/', '-')}"
-        line = f"mkdir -p {place} && cd {place} && ln -sfn /usr/share/doc/precopy/* . && {shlex.join(words)}"
-        ran = in_tree(tree, line)
+        go_there = f"mkdir -p {place} && cd {place} && ln -sfn /usr/share/doc/precopy/* ."
+        ran = in_tree(tree, f"{go_there} && {shlex.join(words)}")
         return ran.returncode, ran.stdout
 
     door_documents.commands(tally, f"{tree}/usr/share/doc/precopy", in_folder)

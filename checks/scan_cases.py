@@ -65,8 +65,8 @@ def looks_with_a_bad_library(_, folder):
     for number, each in enumerate(bad):
         tool = tools_with(os.path.join(folder, str(number)), each)
         expect(not is_used(tool), f"library {number} is used")
-    tool = os.path.join(folder, "0", "memory", "tools", "record")
-    exact(os.path.join(folder, "0"), "private", PAGES, 16_384, tool=tool)
+    first = os.path.join(folder, "0")
+    exact(first, "private", PAGES, 16_384, tool=os.path.join(first, "memory", "tools", "record"))
 
 
 def same_by_both(_, folder):

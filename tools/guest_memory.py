@@ -25,7 +25,7 @@ MOST = 1 << 56
 
 
 class Place(NamedTuple):
-    """Some of a region: where the guest has it, and where it is in the region."""
+    """A page of a region: where the guest has it, and where it is in the region."""
 
     address: int
     offset: int
@@ -40,10 +40,11 @@ class Block(NamedTuple):
 
 
 class Memory(NamedTuple):
-    """The guest's memory, and the other blocks with their sizes."""
+    """The guest's memory, the other blocks with their sizes, and what QEMU says that the guest has in all."""
 
     blocks: list[Block]
     left_out: list[tuple[str, int]]
+    summary: dict
 
     @property
     def ranges(self) -> list[tuple[int, int]]:
@@ -107,17 +108,22 @@ def plugged_backends(monitor) -> list[str]:
 
 
 def places_in(view: str) -> dict[str, list[Place]]:
-    """Where each region is that the processors see as memory, from the text of `info mtree -f`."""
+    """The first and the last page of each part of a region that the processors see as memory, from the text of `info
+    mtree -f`."""
     parts = [part for part in view.split("FlatView #") if VIEW.search(part)]
     found: dict[str, list[Place]] = {}
-    for begin, _, name, offset in REGION.findall(parts[0] if parts else ""):
-        found.setdefault(plain(name), []).append(Place(int(begin, 16), int(offset or "0", 16)))
+    for begin, end, name, offset in REGION.findall(parts[0] if parts else ""):
+        first, at = int(begin, 16), int(offset or "0", 16)
+        last = int(end, 16) + 1 - PAGE
+        found.setdefault(plain(name), []).extend([Place(first, at), Place(last, at + last - first)])
     return found
 
 
-def begin_of(monitor, name: str, places: list[Place]) -> int:
-    """Where a region begins in the process; it is the same by its first and its last part."""
+def begin_of(monitor, name: str, places: list[Place], size: int) -> int:
+    """Where a region begins in the process; it is the same by its first and its last page."""
     begins = set()
+    if places[0].offset or places[-1].offset + PAGE != size:
+        raise qmp.Fault(f"QEMU shows to the guest only a part of {name}, which has {size_text(size)}")
     for place in (places[0], places[-1]):
         answer = told_by(monitor, f"gpa2hva {place.address:#x}")
         match = HOST.match(answer)
@@ -129,11 +135,16 @@ def begin_of(monitor, name: str, places: list[Place]) -> int:
     return begins.pop()
 
 
-def expected(monitor, backends: dict[str, int]) -> int:
-    """How much memory the guest has: what it began with, and all of the backends of its memory devices."""
+def summary_of(monitor) -> dict:
+    """What the guest began with, and what is plugged in, as QEMU tells it. It changes if memory comes or goes."""
     summary = monitor.ask("query-memory-size-summary")
     if not isinstance(summary, dict):
         raise qmp.Fault("QEMU does not tell how much memory the guest has")
+    return summary
+
+
+def expected(monitor, summary: dict, backends: dict[str, int]) -> int:
+    """How much memory the guest has: what it began with, and all of the backends of its memory devices."""
     plugged = plugged_backends(monitor)
     unknown = [name for name in plugged if name not in backends]
     if unknown:
@@ -144,10 +155,11 @@ def expected(monitor, backends: dict[str, int]) -> int:
 def asked(monitor) -> Memory:
     """The memory of the guest that a monitor is of. Its parts sum to what QEMU says that the guest has."""
     backends = backends_of(monitor)
-    size = expected(monitor, backends)
+    summary = summary_of(monitor)
+    size = expected(monitor, summary, backends)
     places = places_in(told_by(monitor, "info mtree -f"))
     names = [name for name in places if name in backends]
-    blocks = [Block(name, begin_of(monitor, name, places[name]), backends[name]) for name in names]
+    blocks = [Block(name, begin_of(monitor, name, places[name], backends[name]), backends[name]) for name in names]
     found = sum(block.size for block in blocks)
     if found != size or not blocks:
         raise qmp.Fault(
@@ -155,7 +167,7 @@ def asked(monitor) -> Memory:
             f"{size_text(found)} ({', '.join(names) or 'none'}): --mapping says which mappings are its memory"
         )
     others = [(plain(name), int(total, 16)) for name, total in RAM_BLOCK.findall(told_by(monitor, "info ramblock"))]
-    return Memory(blocks, [(name, total) for name, total in others if name not in backends])
+    return Memory(blocks, [(name, total) for name, total in others if name not in backends], summary)
 
 
 def checked(process: int, memory: Memory) -> list[tuple[int, int]]:

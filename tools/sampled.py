@@ -18,7 +18,7 @@ class SampledGuest:
     """The pages of a guest that are watched: drawn from a file, or from the memory of a process."""
 
     def __init__(self, options, source):
-        self.options, self.process, self.of = options, source.process, source.of
+        self.options, self.source, self.process, self.of = options, source, source.process, source.of
         self.seed = options.seed if options.seed is not None else int.from_bytes(os.urandom(4), "little")
         if source.path:
             self._open_file(source.path)

@@ -16,6 +16,7 @@ from collections.abc import Callable
 import looking
 import memory
 import samples
+import sources
 import traces
 
 LIGHT = ".light.pcwt"
@@ -100,7 +101,8 @@ class Recording:
         if self.recorder is None:
             self.recorder = self.recorder_of(writer)
             begun = looking.first(self.recorder, self.options)[1]
-            self.end = begun + (self.options.length or math.inf)
+            if self.count == 0:
+                self.end = begun + (self.options.length or math.inf)
             self.tell(self.recorder)
             return begun
         begun = self.recorder.begin_anew(writer)
@@ -122,12 +124,20 @@ class Recording:
         looking.hide()
         print(told(path, self.recorder, self.recorder.looked_at - begun, ended_by), flush=True)
         self.series.prune()
+        self._follow_changes()
         return ended_by
+
+    def _follow_changes(self) -> None:
+        """If memory was plugged in or taken away, the next segment is of the memory that the guest has then."""
+        if sources.has_changed(self.options, self.recorder.guest.source):
+            print("memory: the guest has other memory now, and pages are drawn anew")
+            self.recorder.close()
+            self.recorder = None
 
     def goes_on(self, ended_by) -> bool:
         """A segment that is full is followed by the next one, if it had room for more than its first look."""
         is_full = isinstance(ended_by, traces.Full) and not isinstance(ended_by, traces.NoRoom)
-        return ended_by is None or is_full and self.recorder.samples > 1
+        return ended_by is None or is_full and (self.recorder is None or self.recorder.samples > 1)
 
     def run(self):
         """Records segments until the time is over, a signal comes, or one ends for good. Returns why, or None."""

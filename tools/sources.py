@@ -11,6 +11,8 @@ from guests import name_of
 from mappings import size_text
 from memory import PAGE, FileSource
 
+# How long a monitor is waited for while the guest is recorded.
+SECONDS = 2
 OTHERS = "ROM, video memory, firmware"
 MAY_BE_TAKEN = f"taken too, if they are there: {OTHERS}, the process's own data; --qmp and --domain leave them out"
 LEFT_OUT = f"left out: {OTHERS} and other memory of the process, which have mappings of their own"
@@ -18,13 +20,14 @@ LEFT_OUT = f"left out: {OTHERS} and other memory of the process, which have mapp
 
 class Source(NamedTuple):
     """A file, or a process and the ranges of its memory. Without ranges it is all that may be a guest's, at any time.
-    `told` has lines that say what is taken."""
+    `told` has lines that say what is taken, `summary` what QEMU says that the guest has."""
 
     path: str | None
     process: int | None
     ranges: list[tuple[int, int]] | None
     of: str
     told: list[str]
+    summary: dict | None = None
 
     def opened(self):
         """All of it, to be read."""
@@ -64,7 +67,20 @@ def of_monitor(process: int, monitor, called: str) -> Source:
     ranges = guest_memory.checked(process, memory)
     names = " ".join(sorted(block.name for block in memory.blocks))
     told = [share(process, ranges), *memory.told()]
-    return Source(None, process, ranges, f"process {process} {name_of(process)}, {called}: {names}", told)
+    of = f"process {process} {name_of(process)}, {called}: {names}"
+    return Source(None, process, ranges, of, told, memory.summary)
+
+
+def has_changed(options, source: Source) -> bool:
+    """Whether the guest has other memory now than when it was asked. A monitor that does not answer tells nothing."""
+    if source.summary is None:
+        return False
+    try:
+        monitor = domains.Domain(options.domain) if options.domain else qmp.Client(options.qmp, SECONDS)
+        with monitor:
+            return guest_memory.summary_of(monitor) != source.summary
+    except qmp.Fault:
+        return False
 
 
 def of_socket(path: str, process: int | None) -> Source:
