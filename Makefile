@@ -2,23 +2,25 @@
 #
 #     make                            builds the programs if they are not built yet or a source has changed
 #     make lib                        builds the library for C in out/library, in the same way
+#     make scan                       builds the recorder's loop of system calls, out/scan.so, with a C compiler
 #     make page                       builds the planner as one page, out/precopy.html, and its WebAssembly module
 #     make install PREFIX=/usr        installs below PREFIX: programs, tools, manuals, completions, documents, examples,
 #                                     the page, the library with its header, and precopy.pc for pkg-config
 #     make install-lib PREFIX=/usr    installs the library alone: archive, shared library, header, precopy.pc, and the
 #                                     crate for Rust in share/precopy/rust
 #     make uninstall PREFIX=/usr      removes what make install put there; make uninstall-lib, what make install-lib did
-#     make deb                        makes packages for Debian in out/: the programs, the library, its header
+#     make deb                        makes packages for Debian in out/: the programs, the library, its header. After
+#                                     ./precopy it takes 26 minutes of a processor, and more for the page's module
 #     make dist                       makes a tarball for other systems in out/, and its checksum
 #
-# DESTDIR stands in front of each path of an installation. BINDIR, LIBDIR, MANDIR, DOCDIR, BASHDIR, ZSHDIR, LIBRARYDIR,
-# INCLUDEDIR and SHAREDIR name single folders, and MAINTAINER who answers for a package.
+# DESTDIR stands in front of each path of an installation. BINDIR, LIBDIR, MANDIR, DOCDIR, BASHDIR, ZSHDIR, SYSTEMDDIR,
+# LIBRARYDIR, INCLUDEDIR and SHAREDIR name single folders, and MAINTAINER who answers for a package.
 
 PREFIX ?= /usr/local
 PACK = packaging/make
 WHERE = --prefix "$(PREFIX)" --destdir "$(DESTDIR)" --bindir "$(BINDIR)" --libdir "$(LIBDIR)" --mandir "$(MANDIR)" \
-	--docdir "$(DOCDIR)" --bashdir "$(BASHDIR)" --zshdir "$(ZSHDIR)" --librarydir "$(LIBRARYDIR)" \
-	--includedir "$(INCLUDEDIR)" --sharedir "$(SHAREDIR)"
+	--docdir "$(DOCDIR)" --bashdir "$(BASHDIR)" --zshdir "$(ZSHDIR)" \
+	--systemddir "$(SYSTEMDDIR)" --librarydir "$(LIBRARYDIR)" --includedir "$(INCLUDEDIR)" --sharedir "$(SHAREDIR)"
 
 all:
 	./precopy --help > /dev/null
@@ -26,6 +28,9 @@ all:
 
 lib:
 	$(PACK) lib
+
+scan:
+	$(PACK) scan
 
 page:
 	tools/page-module --if-needed out/lent_planner.wasm
@@ -43,4 +48,4 @@ uninstall uninstall-lib:
 deb dist: all lib page
 	$(PACK) $@ $(if $(MAINTAINER),--maintainer "$(MAINTAINER)")
 
-.PHONY: all lib page install install-lib uninstall uninstall-lib deb dist
+.PHONY: all lib scan page install install-lib uninstall uninstall-lib deb dist

@@ -7,6 +7,7 @@ import subprocess
 import sys
 import time
 
+import door_documents
 from tally import has
 
 TOP = os.path.dirname(os.path.dirname(os.path.abspath(__file__)))
@@ -106,6 +107,7 @@ def check(tally, folder):
     first = files_below(destination)
     run_from_there(tally, os.path.join(destination, "usr"))
     find_large_pages(tally, os.path.join(destination, "usr"))
+    door_documents.check(tally, folder, os.path.join(destination, "usr"))
     tally.add(files_below(destination) == first, "the installed programs leave files where they are installed")
     read_manuals(tally, folder, os.path.join(destination, "usr"))
     ran = make("install", f"DESTDIR={destination}", "PREFIX=/usr")

@@ -9,7 +9,7 @@ import subprocess
 import sys
 import tarfile
 
-import pages
+import door_documents
 from tally import has, left_out
 
 TOP = os.path.dirname(os.path.dirname(os.path.abspath(__file__)))
@@ -97,13 +97,6 @@ def files_of(tree):
     return {it for it in found if not it.startswith(tuple(f"./{each}" for each in OF_THE_SYSTEM))}
 
 
-def commands_of_readme():
-    """The README's commands that run ./precopy, and what they print, with the installed program in its place."""
-    for kind, words, wanted in pages.steps(pages.read("README.md")):
-        if kind == "command":
-            yield words.replace("./precopy", "precopy"), wanted
-
-
 def in_tree(tree, line):
     environment = {"PATH": "/usr/sbin:/usr/bin:/sbin:/bin", "LC_ALL": "C.UTF-8", "DEBIAN_FRONTEND": "noninteractive"}
     for name in ("http_proxy", "https_proxy"):
@@ -142,6 +135,18 @@ def try_loaded(tally, tree):
     tally.add(ran.stdout == wanted, f"in a fresh tree: the Python module: {ran.stdout}")
 
 
+def run_documents(tally, tree):
+    """All commands of the installed documents."""
+
+    def in_folder(page, words):
+        place = f"/tmp/{page.replace('/', '-')}"
+        go_there = f"mkdir -p {place} && cd {place} && ln -sfn /usr/share/doc/precopy/* ."
+        ran = in_tree(tree, f"{go_there} && {shlex.join(words)}")
+        return ran.returncode, ran.stdout
+
+    door_documents.commands(tally, f"{tree}/usr/share/doc/precopy", in_folder)
+
+
 def try_fresh_tree(tally, tree, files):
     for package in files:
         shutil.copy(package, f"{tree}/tmp")
@@ -154,10 +159,7 @@ def try_fresh_tree(tally, tree, files):
     ran = in_tree(tree, "apt-get install -y --no-install-recommends /tmp/*.deb 2>&1")
     if not tally.add(ran.returncode == 0, f"apt-get install of the package in a fresh tree: {ran.stdout[-600:]}"):
         return
-    go_there = "mkdir -p /tmp/here && cd /tmp/here && ln -sfn /usr/share/doc/precopy/examples ."
-    for words, wanted in commands_of_readme():
-        ran = in_tree(tree, f"{go_there} && {words}")
-        tally.add(pages.agrees(wanted, ran.stdout), f"in a fresh tree: {words}\n{ran.stdout}")
+    run_documents(tally, tree)
     for name in contents.TOOLS:
         ran = in_tree(tree, f"precopy-{name} --help > /dev/null && precopy-{name} --version")
         wanted = f"precopy-{name} (precopy) {contents.version.VERSION}\n"

@@ -1,5 +1,6 @@
 """Cases of checks/recording: NAME.json beside a trace, tools/thin and tools/predict."""
 
+import datetime
 import json
 import os
 import random
@@ -7,10 +8,12 @@ import re
 import statistics
 import subprocess
 import sys
+import xml.etree.ElementTree
 from concurrent.futures import ThreadPoolExecutor
 
 from recorder_runs import SECONDS, TOP, expect
 
+import day_chart
 import forecast
 import places
 import plans
@@ -138,6 +141,29 @@ def damaged_beside_tools(_, folder):
     expect(not os.path.exists(other), "a trace was written")
 
 
+def refused_traces(_, folder):
+    """A trace that is damaged at random is refused by file, name and cause, or it has another SHA-256."""
+    path, draws = os.path.join(folder, "guest.pcwt"), random.Random(7)
+    made_trace(os.path.join(folder, "whole.pcwt"), pages=64, ticks=200)
+    run_thin(os.path.join(folder, "whole.pcwt"), path, "--one-in", "1", "--start", "1000")
+    with open(path, "rb") as file:
+        text = file.read()
+    names = set()
+    for number in range(60):
+        damaged = bytearray(text)
+        for _ in range(draws.randrange(1, 3)):
+            damaged[draws.choice((draws.randrange(16), draws.randrange(len(text))))] ^= draws.randrange(1, 256)
+        damaged = damaged[: draws.choice((len(text), draws.randrange(len(text)), len(text)))] + b"x" * (number % 5 == 4)
+        with open(path, "wb") as file:
+            file.write(damaged)
+        printed, refused = run_predict(path, *LINK, status=1)
+        name = re.match(rf"predict: {re.escape(path)}: (E\d+)(?: record \d+)?: \w", refused)
+        expect(not printed and (name or "trace_sha256" in refused or "does not fit" in refused), refused)
+        expect(refused.count("\n") == 1, refused)
+        names.add(name and name[1])
+    expect(len(names) > 6, f"{names}")
+
+
 def thinned_pages(_, folder):
     """A thinned trace has the writes of the drawn pages, with their bytes, and can be thinned again."""
     whole, path, again = (os.path.join(folder, f"{name}.pcwt") for name in ("whole", "part", "less"))
@@ -164,7 +190,7 @@ def thinned_pages(_, folder):
         ([whole, os.path.join(folder, "a.light.pcwt"), "--one-in", "2"], 2, ".light.pcwt"),
         ([whole, os.path.join(folder, "a.pcwt")], 2, "--one-in"),
         ([whole, os.path.join(folder, "none", "a.pcwt"), "--one-in", "2"], 1, "No such file"),
-        ([text, os.path.join(folder, "a.pcwt"), "--one-in", "2"], 1, "E2"),
+        ([text, os.path.join(folder, "a.pcwt"), "--one-in", "2"], 1, f"{text}: E2: it does not begin as a trace"),
     ):
         _, refused = run_thin(*words, status=status)
         expect(said in refused, refused)
@@ -275,12 +301,126 @@ def bias_over_seeds(program, folder):
     print(f"  bias of {SEEDS} samples, one page in {ONE_IN}: {told}", flush=True)
 
 
+# ---- Series.
+
+
+def made_series(folder, moments):
+    """A series of recordings that begin at some moments, and what is sent by each, in the order of their names."""
+    whole, part = os.path.join(folder, "whole.light.pcwt"), os.path.join(folder, "part.light.pcwt")
+    paths = []
+    for number, moment in enumerate(moments):
+        made_trace(whole, pages=512, ticks=4000, rate=1 + number)
+        run_thin(whole, part, "--one-in", "2", "--seed", str(number), "--start", "1000")
+        path = os.path.join(folder, f"guest.{moment:%Y%m%dT%H%M%SZ}.light.pcwt")
+        os.rename(part, path)
+        with open(samples.path_beside(part), encoding="utf-8") as file:
+            fields = json.load(file)
+        fields["taken_at"] = moment.isoformat()
+        with open(samples.path_beside(path), "w", encoding="utf-8") as file:
+            json.dump(fields, file)
+        os.unlink(samples.path_beside(part))
+        paths.append(path)
+    os.unlink(whole)
+    return paths
+
+
+def starts_of(path, link, downtime):
+    """What `precopy-view json when` tells of a trace, by words that are made here: of each 50th tick or so."""
+    trace = read_trace(path)
+    writes = [(tick, page) for tick, page, *_ in trace.records() if tick >= 1000]
+    text = forecast.encoded(forecast.Pages(trace.pages, 2.0, writes))
+    words = ["--link", link, "--downtime", downtime, "--tick", "1ms", "--page", "4096", "--sampled", "256/512"]
+    sides = ["--from", "1000", "--to", "4999", "--every", "67", "--rounds", "64"]
+    done = subprocess.run([VIEW[0], "json", "when", *words, *sides], input=text, capture_output=True, timeout=SECONDS)
+    return json.loads(done.stdout)
+
+
+def pictured(path):
+    """The dots of a picture: their places and colours, by what they are told to be."""
+    tree = xml.etree.ElementTree.parse(path).getroot()
+    space = "{http://www.w3.org/2000/svg}"
+    dots = tree.findall(f"{space}circle")
+    return [(float(dot.get("cx")), float(dot.get("cy")), dot.get("fill"), dot[0].text) for dot in dots]
+
+
+def predicted_series(_, folder):
+    """A line for each segment, and a picture of all by time of day; a damaged one is refused, and the others stay."""
+    begin = datetime.datetime(2026, 11, 26, 22, 0, tzinfo=datetime.timezone.utc)
+    moments = [begin + datetime.timedelta(hours=hours) for hours in (0, 1, 9, 25, 30)]
+    paths, picture = made_series(folder, moments), os.path.join(folder, "day.svg")
+    link = ["--link", "16MiB", "--downtime", "2ms", "--plans", "3"]
+    name = os.path.join(folder, "guest.light.pcwt")
+    printed, refused = run_predict(name, *link, "--picture", picture, status=3)
+    lines = printed.strip().split("\n")
+    expect(len(lines) == 5 and not refused, f"{printed!r}, {refused!r}")
+    within = 0
+    for path, moment, line in zip(paths, moments, lines):
+        alone, _ = run_predict(path, *link, status=0 if "does not" not in line and "no prediction" not in line else 3)
+        expect(line.startswith(f"{moment:%Y-%m-%d %H:%M:%S}  "), line)
+        for said in ("bytes sent", "time", "downtime"):
+            value = re.search(rf"^{said}: ([^,;\n]+)", alone, re.M)[1]
+            expect(f"  {value}  " in line, f"{value!r} is not in {line!r}")
+        told = starts_of(path, "16MiB", "2ms")
+        within += sum(start["within_trace"] for start in told["starts"])
+        for which in ("best", "worst"):
+            start = told[which]
+            at = moment + datetime.timedelta(seconds=start["start_seconds"] - 1)
+            expect(f"  {which} {at:%H:%M:%S} {start['sent_bytes'] / (1 << 20):.2f} MiB" in line, f"{which}: {line}")
+    dots = pictured(picture)
+    expect(len(dots) == 3 * within > 100, f"{len(dots)} dots, {within} starts")
+    expect({dot[2] for dot in dots} == {day_chart.KEPT, day_chart.NOT_KEPT}, "no colours")
+    for place, _, _, text in dots:
+        moment = datetime.datetime.fromisoformat(text[:19])
+        of_day = (moment - moment.replace(hour=0, minute=0, second=0)).total_seconds() / 86400
+        wanted = day_chart.LEFT + of_day * (day_chart.WIDTH - day_chart.LEFT - day_chart.RIGHT)
+        expect(abs(place - wanted) < 0.1, f"{text} stands at {place}")
+    with open(paths[2], "r+b") as file:
+        file.write(b"XXXX")
+    printed, refused = run_predict(name, *link, status=1)
+    expect(printed.strip().split("\n") == lines[:2] + lines[3:], printed)
+    expect(refused == f"predict: {paths[2]}: E2: {traces.CAUSES['E2']}\n", refused)
+    printed, refused = run_predict(os.path.join(folder, "other.light.pcwt"), *link, status=1)
+    expect("other.light.pcwt: No such file" in refused, refused)
+    run_predict(*paths[:2], *link, "--picture", os.path.join(folder, "none", "a.svg"), status=1)
+    expect(not [name for name in os.listdir(folder) if name.endswith(".part")], f"{os.listdir(folder)}")
+
+
+def pictures_of_any_starts(_, folder):
+    """Whatever the costs are, the picture is well formed, and no dot is outside of its panel."""
+    path = os.path.join(folder, "any.svg")
+    for seed in range(200):
+        draws = random.Random(seed)
+        begin = datetime.datetime.fromtimestamp(1_800_000_000 + draws.random() * 1e8, datetime.timezone.utc)
+        span = draws.choice((0, 1, 50, 4000, 86_399, 86_400, 900_000))
+        starts = [
+            day_chart.Start(
+                begin + datetime.timedelta(seconds=draws.uniform(0, span)),
+                draws.choice((0, 1, 1e6, 1e13)) * draws.random(),
+                draws.choice((0, 1e-6, 1e6)),
+                draws.random() * draws.choice((0, 1, 1000)),
+                draws.random() < 0.5,
+            )
+            for _ in range(draws.randrange(1, 40))
+        ]
+        with open(path, "w", encoding="utf-8") as file:
+            file.write(day_chart.drawn(starts, f"<{seed}> & \"others\""))
+        dots = pictured(path)
+        expect(len(dots) == 3 * len(starts), f"seed {seed}: {len(dots)} dots")
+        for number, (x, y, _, text) in enumerate(dots):
+            top = day_chart.TOP + 20 + number // len(starts) * (day_chart.HEIGHT + day_chart.GAP)
+            inside = day_chart.LEFT - 0.1 <= x <= day_chart.WIDTH - day_chart.RIGHT + 0.1
+            expect(inside and top - 0.1 <= y <= top + day_chart.HEIGHT + 0.1, f"seed {seed}: {text} at {x}, {y}")
+
+
 CASES = [
     damaged_fields,
     damaged_beside_tools,
+    refused_traces,
     thinned_pages,
     predicted,
     longer_ticks,
     whole_sample,
     bias_over_seeds,
+    predicted_series,
+    pictures_of_any_starts,
 ]

@@ -45,6 +45,16 @@ class Writing:
         self.process.communicate()
 
 
+def read_until_recording(lines):
+    """What the recorder prints up to its first sample."""
+    began = ""
+    for line in lines:
+        began += line
+        if line.startswith("recording"):
+            break
+    return began
+
+
 class Recording:
     """One run of tools/record, from its first sample on."""
 
@@ -54,7 +64,7 @@ class Recording:
         beside = ["--map", self.map_path] + ([] if "--light" in words else ["--image", self.image_path])
         command = [sys.executable, RECORD, *source, "--every", "50ms", *beside, *words, self.trace_path]
         self.process = subprocess.Popen(command, stdout=subprocess.PIPE, stderr=errors, text=True)
-        self.began = self.process.stdout.readline()
+        self.began = read_until_recording(self.process.stdout)
         self.known_begin = time.monotonic()
 
     def end(self, number=None):

@@ -9,7 +9,7 @@ import sys
 import tempfile
 import time
 
-from recorder_runs import RECORD, SECONDS, TOP, expect
+from recorder_runs import RECORD, SECONDS, TOP, expect, read_until_recording
 
 import mappings
 import samples
@@ -27,7 +27,8 @@ class Pages:
         command = [sys.executable, os.path.join(TOP, "checks", "known_pages.py"), kind, str(pages), *more]
         self.process = subprocess.Popen(command, stdin=subprocess.PIPE, stdout=subprocess.PIPE, text=True)
         self.pages, self.address = pages, int(self.process.stdout.readline())
-        self.source = ["--pid", str(self.process.pid), "--mapping", "largest"]
+        self.range = f"{self.address:x}-{self.address + pages * PAGE:x}"
+        self.source = ["--pid", str(self.process.pid), "--mapping", self.range]
         self.before = self.state()
 
     def write(self, pages):
@@ -75,17 +76,13 @@ class Pages:
 class Drawn:
     """One run of tools/record over drawn pages, from its first sample on."""
 
-    def __init__(self, folder, source, words=(), stand_in=(), **more):
+    def __init__(self, folder, source, words=(), stand_in=(), tool=RECORD, **more):
         self.folder, self.trace_path = folder, os.path.join(folder, "guest.light.pcwt")
         self.map_path = os.path.join(folder, "map")
-        command = [sys.executable, *stand_in, RECORD, *source, "--every", "50ms", "--map", self.map_path, *words]
+        command = [sys.executable, *stand_in, tool, *source, "--every", "50ms", "--map", self.map_path, *words]
         pipe = subprocess.PIPE
         self.process = subprocess.Popen([*command, self.trace_path], stdout=pipe, stderr=pipe, text=True, **more)
-        self.began = ""
-        for line in self.process.stdout:
-            self.began += line
-            if line.startswith("recording"):
-                break
+        self.began = read_until_recording(self.process.stdout)
 
     def end(self, number=None):
         if number:
@@ -158,8 +155,8 @@ def times_written(drawn):
 
 
 def drawn_places(pages, wanted, seed):
-    """The addresses of the pages that a recorder draws from the largest mapping."""
-    ranges = mappings.chosen(pages.process.pid, "largest")
+    """The addresses of the pages that a recorder draws."""
+    ranges = mappings.chosen(pages.process.pid, [pages.range])
     count = sum(end - begin for begin, end in ranges) // PAGE
     return set(mappings.places_of(ranges, samples.draw(count, wanted, seed)))
 
@@ -171,13 +168,13 @@ def expect_exact(known, found):
     expect(sum(known.values()) >= 20, f"only {sum(known.values())} writes were of drawn pages")
 
 
-def exact(folder, kind, pages_of_it, wanted, method="writes", words=()):
+def exact(folder, kind, pages_of_it, wanted, method="writes", words=(), tool=RECORD):
     """No write is missed, and none is there that was not made: of all pages, or of those that are drawn."""
     with Pages(kind, pages_of_it, *(["changing"] if method == "values" else [])) as pages:
         expect(kind != "huge" or pages.huge_bytes(), "the process has no huge pages")
         places = drawn_places(pages, wanted, 5)
         words = ["--pages", str(wanted), "--seed", "5", "--by", method, *words]
-        drawn = Drawn(folder, pages.source, words)
+        drawn = Drawn(folder, pages.source, words, tool=tool)
         steps = written_again(drawn, pages, places, random.Random(kind))
         drawn.end(signal.SIGINT)
         pages.expect_as_before()
@@ -217,12 +214,13 @@ def exact_by_values(_, folder):
         exact(folder, kind, PAGES, 16_384, "values")
 
 
-def mapped_anew(_, folder):
+def mapped_anew(_, folder, tool=RECORD):
     """Memory that is mapped anew is watched from then on, and nothing of the other is lost."""
     for scan in ("pages", "whole"):
         with Pages("private", PAGES) as pages:
             places = drawn_places(pages, 700, 5)
-            drawn = Drawn(folder, pages.source, ["--pages", "700", "--seed", "5", "--by", "writes", "--scan", scan])
+            words = ["--pages", "700", "--seed", "5", "--by", "writes", "--scan", scan]
+            drawn = Drawn(folder, pages.source, words, tool=tool)
             before = drawn.bytes()
             pages.write(range(0, PAGES // 4, 5))
             pages.map_anew(PAGES // 2, PAGES)
@@ -482,7 +480,7 @@ def bad_words(_, folder):
         (["--one-in", "x"], 2, "whole number from 1"),
         (["--one-in", "1"], 1, "--one-in 2"),
         (["--pages", "5", "--one-in", "5"], 2, "not allowed with"),
-        (["--by", "writes"], 2, "needs --pid"),
+        (["--by", "writes"], 2, "needs a process"),
         (["--by", "magic"], 2, "invalid choice"),
         (["--pages", "5", "--qmp", "socket"], 2, "leave out --qmp"),
         (["--pages", "5", "--image", "image"], 2, "leave out --image"),

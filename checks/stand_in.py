@@ -16,6 +16,7 @@ TOOLS = os.path.join(os.path.dirname(os.path.dirname(os.path.abspath(__file__)))
 sys.path.insert(0, TOOLS)
 import pagemap  # noqa: E402
 import remote  # noqa: E402
+import scans  # noqa: E402
 
 IOCTL, PTRACE, CALL = pagemap.ioctl, remote.ptrace, remote.StoppedThread.call
 
@@ -62,16 +63,20 @@ def process_ends():
     began = []
 
     def ioctl(descriptor, request, argument):
-        if request == pagemap.SCAN:
-            began.append(time.monotonic())
-            if began[-1] > began[0] + 0.4:
-                fails(errno.ESRCH)
+        began.append(time.monotonic())
+        if began[-1] > began[0] + 0.4:
+            fails(errno.ESRCH)
         return IOCTL(descriptor, request, argument)
 
-    pagemap.ioctl = ioctl
+    scans.LIBRARY, scans.ioctl = None, ioctl
 
 
-STOOD_IN = (old_kernel, no_userfaultfd, huge_pages, no_permission, other_machine, process_ends)
+def no_library():
+    """The library of the loop of system calls is not built."""
+    scans.LIBRARY = None
+
+
+STOOD_IN = (old_kernel, no_userfaultfd, huge_pages, no_permission, other_machine, process_ends, no_library)
 CAUSES = {cause.__name__: cause for cause in STOOD_IN}
 
 

@@ -13,7 +13,9 @@ import tempfile
 from dataclasses import dataclass
 from typing import Iterator, NamedTuple, Optional
 
+import compilers
 import completions
+import documents
 import launcher
 import manuals
 import options
@@ -40,6 +42,7 @@ class Places(NamedTuple):
     doc: str
     bash: str
     zsh: str
+    systemd: str
     library: str
     include: str
     share: str
@@ -54,6 +57,7 @@ def places_below(prefix) -> Places:
         os.path.join(share, "doc", "precopy"),
         os.path.join(share, "bash-completion", "completions"),
         os.path.join(share, "zsh", "site-functions"),
+        os.path.join(prefix, "lib", "systemd", "system"),
         os.path.join(prefix, "lib"),
         os.path.join(prefix, "include"),
         os.path.join(share, "precopy"),
@@ -69,6 +73,11 @@ class Entry:
     mode: int = 0o644
     link: Optional[str] = None
     package: str = "precopy"
+
+
+MODULE = "out/lent_planner.wasm"
+PAGE = "precopy.html"
+SCAN = "tools/scan.c"
 
 
 class NotBuilt(Exception):
@@ -122,6 +131,17 @@ def stripped(path):
             return file.read()
 
 
+def scan_library() -> bytes:
+    """The loop of system calls of the recorder, in machine code."""
+    how = ["-std=c99", "-O2", "-Wall", "-Wextra", "-fPIC", "-shared", "-Wl,--build-id=none", "-Wl,-s"]
+    how += ["-Wl,-z,relro,-z,now", os.path.join(TOP, SCAN)]
+    with tempfile.TemporaryDirectory() as folder:
+        made = os.path.join(folder, "scan.so")
+        compilers.run(compilers.tool("cc", "the recorder's loop of system calls"), *how, "-o", made)
+        with open(made, "rb") as file:
+            return file.read()
+
+
 def commands(places, python) -> Iterator[Entry]:
     for name in PROGRAMS:
         program = os.path.join(places.lib, name)
@@ -134,6 +154,14 @@ def commands(places, python) -> Iterator[Entry]:
     for name in sorted(os.listdir(os.path.join(TOP, "tools"))):
         if name.endswith((".py", ".c")):
             yield Entry(os.path.join(places.lib, name), read(f"tools/{name}"))
+    yield Entry(os.path.join(places.lib, "scan.so"), scan_library())
+
+
+def services(places) -> Iterator[Entry]:
+    """Units for systemd."""
+    for name in sorted(os.listdir(os.path.join(TOP, "packaging"))):
+        if name.endswith(".service"):
+            yield Entry(os.path.join(places.systemd, name), read(f"packaging/{name}"))
 
 
 def pages(places) -> Iterator[Entry]:
@@ -151,13 +179,34 @@ def pages(places) -> Iterator[Entry]:
         yield Entry(os.path.join(places.zsh, f"_{name}"), completions.zsh(command, path).encode())
 
 
-def documents(places) -> Iterator[Entry]:
+def page() -> bytes:
+    """The page that plans in a browser, as `make page` writes it."""
+    if not os.path.isfile(os.path.join(TOP, MODULE)):
+        raise NotBuilt("the page's module is not built: make page builds it")
+    with tempfile.TemporaryDirectory() as folder:
+        made = os.path.join(folder, PAGE)
+        joined = subprocess.run([os.path.join(TOP, "tools", "join-page"), os.path.join(TOP, MODULE), made])
+        if joined.returncode:
+            raise NotBuilt("the page cannot be joined: tools/join-page says why")
+        with open(made, "rb") as file:
+            return file.read()
+
+
+def document(places, path) -> Entry:
+    data = read(path)
+    if path.endswith(".md"):
+        data = documents.installed(path, data.decode(), TOOLS).encode()
+    return Entry(os.path.join(places.doc, path), data)
+
+
+def texts(places) -> Iterator[Entry]:
     """The documents and the examples, in folders as in the sources, so that the names in them lead to them."""
     for path in ("README.md", "CHANGELOG.md", "CONTRIBUTING.md", "LICENSE"):
-        yield Entry(os.path.join(places.doc, path), read(path))
+        yield document(places, path)
+    yield Entry(os.path.join(places.doc, PAGE), page())
     for folder in ("docs", "examples", "bindings"):
         for path in sources_below(folder):
-            yield Entry(os.path.join(places.doc, path), read(path))
+            yield document(places, path)
 
 
 def sources_below(folder) -> Iterator[str]:
@@ -169,20 +218,8 @@ def sources_below(folder) -> Iterator[str]:
                 yield os.path.relpath(os.path.join(at, name), TOP)
 
 
-def page(places) -> Iterator[Entry]:
-    """The page that plans in a browser, joined from its module."""
-    module = os.path.join(TOP, "out", "lent_planner.wasm")
-    if not os.path.isfile(module):
-        raise NotBuilt("the page is not built: make page builds it")
-    with tempfile.TemporaryDirectory() as folder:
-        made = os.path.join(folder, "precopy.html")
-        subprocess.run([os.path.join(TOP, "tools", "join-page"), module, made], check=True)
-        with open(made, "rb") as file:
-            yield Entry(os.path.join(places.doc, "precopy.html"), file.read())
-
-
 def contents(places, python="/usr/bin/env python3") -> Iterator[Entry]:
     yield from commands(places, python)
-    yield from page(places)
+    yield from services(places)
     yield from pages(places)
-    yield from documents(places)
+    yield from texts(places)

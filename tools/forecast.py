@@ -6,6 +6,7 @@ pages are drawn again from the sample, with replacement, and planned as the samp
 """
 
 import collections
+import datetime
 import math
 import random
 import statistics
@@ -128,6 +129,22 @@ class Forecast:
         if f"{round(1e6 * link.downtime)}us" not in words:
             return []
         return plans.host_words(self.program, encoded(pages, self.page_size), words)
+
+    def starts(self, link: Link, most: int) -> dict:
+        """What `precopy-view json when` tells of at most so many starts, which are evenly apart, in seconds from the
+        first look on."""
+        factor = self.factor(link)
+        pages, first = self.coarse(factor), self.start // factor
+        last = max(first, self._last_tick(pages, factor))
+        every = -(-(last - first + 1) // most)
+        words = self.limits(link, factor, self.sample.weight)
+        text = encoded(pages, self.page_size)
+        return plans.starts(self.program, text, words, first, last, every)
+
+    def moment(self, start: dict) -> datetime.datetime:
+        """When a start is, in UTC."""
+        taken = datetime.datetime.fromisoformat(self.sample.taken_at).astimezone(datetime.timezone.utc)
+        return taken + datetime.timedelta(seconds=start["start_seconds"] - self.start * self.sample.tick_seconds)
 
     def _last_tick(self, pages: Pages, factor: int) -> int:
         """Up to where the writes are known."""

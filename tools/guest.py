@@ -6,6 +6,7 @@ import re
 import shutil
 import subprocess
 import time
+from typing import NamedTuple
 
 import qmp
 
@@ -62,6 +63,15 @@ def program_files(name, package):
     return [(f"bin/{name}", path)] + [(library.lstrip("/"), library) for library in libraries]
 
 
+def added_files(path):
+    """A file of the user's, in the guest's /bin, and the libraries that it needs if it is a program."""
+    if not os.path.isfile(path):
+        raise Missing(f"there is no file {path}: --add names files")
+    listed = subprocess.run(["ldd", path], capture_output=True, text=True).stdout
+    libraries = re.findall(r"(/\S+) \(0x", listed)
+    return [(f"bin/{os.path.basename(path)}", path)] + [(library.lstrip("/"), library) for library in libraries]
+
+
 def entry(name, mode, data=b"", device=(0, 0)):
     """One entry of a cpio archive, in the form that kernels read."""
     name = name.encode() + b"\0"
@@ -93,24 +103,44 @@ def file_system(path, workload, folder, files=(), temporary="16m"):
         archive.write(entry("TRAILER!!!", 0))
 
 
-class Guest:
-    """One process of QEMU. Its memory is a file, and its console another one."""
+class Machine(NamedTuple):
+    """What both processes of QEMU have: the sizes of the guest's nodes, an accelerator, and more options."""
 
-    def __init__(self, name, folder, memory_folder, accelerator, file_system_path, size, incoming=None):
+    nodes: list[int]
+    accelerator: str
+    options: list[str]
+
+    def words(self, files):
+        """The options of QEMU, with the memory of each node in a file."""
+        words = ["-smp", "1", "-accel", self.accelerator, "-m", f"{sum(self.nodes) >> 10}K"]
+        for number, (size, path) in enumerate(zip(self.nodes, files)):
+            words += ["-object", f"memory-backend-file,id=node{number},size={size},mem-path={path},share=on"]
+            if len(self.nodes) > 1:
+                words += ["-numa", f"node,nodeid={number},memdev=node{number}{',cpus=0' if number == 0 else ''}"]
+        return [*words, "-machine", "pc" if len(self.nodes) > 1 else "pc,memory-backend=node0", *self.options]
+
+
+def nodes_of(memory, count):
+    """The sizes of the nodes of a guest, each of which QEMU migrates without losing pages."""
+    return [safe_size(memory // count) for _ in range(count)]
+
+
+class Guest:
+    """One process of QEMU. The memory of each of its nodes is a file, and its console another one."""
+
+    def __init__(self, name, folder, memory_folder, machine, file_system_path, incoming=False):
         self.name = name
-        self.memory = os.path.join(memory_folder, f"{name}.memory")
+        self.memories = [os.path.join(memory_folder, f"{name}.memory{n}") for n in range(len(machine.nodes))]
         self.console = os.path.join(folder, f"{name}.console")
         self.socket = os.path.join(folder, f"{name}.qmp")
         self.errors = open(os.path.join(folder, f"{name}.errors"), "w+b")
-        backend = f"memory-backend-file,id=mem,size={size},mem-path={self.memory},share=on"
-        command = [qemu(), "-nodefaults", "-no-user-config", "-no-reboot", "-display", "none", "-smp", "1"]
-        command += ["-accel", accelerator, "-m", f"{size >> 10}K", "-object", backend]
-        command += ["-machine", "pc,memory-backend=mem", "-serial", f"file:{self.console}"]
+        command = [qemu(), "-nodefaults", "-no-user-config", "-no-reboot", "-display", "none"]
+        command += [*machine.words(self.memories), "-serial", f"file:{self.console}"]
         command += ["-qmp", f"unix:{self.socket},server=on,wait=off", "-kernel", kernel(), "-initrd", file_system_path]
         # If the host is busy, the kernel takes its timer for broken, and panics.
         command += ["-append", "console=ttyS0 quiet panic=-1 no_timer_check"]
         if incoming:
-            command += ["-S", "-incoming", incoming]
+            command += ["-S", "-incoming", "defer"]
         self.process = subprocess.Popen(command, stdin=subprocess.DEVNULL, stdout=self.errors, stderr=self.errors)
 
     def _wait(self, seconds, holds, what):
@@ -157,6 +187,6 @@ class Guest:
                 self.process.kill()
                 self.process.wait()
         self.errors.close()
-        for path in (self.memory, self.socket):
+        for path in (*self.memories, self.socket):
             if os.path.exists(path):
                 os.unlink(path)

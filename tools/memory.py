@@ -34,39 +34,6 @@ class FileSource:
         return data
 
 
-class ProcessSource:
-    """The writable private mappings of a process, in the order of their addresses."""
-
-    def __init__(self, number):
-        self.folder = f"/proc/{number}"
-        self.descriptor = os.open(f"{self.folder}/mem", os.O_RDONLY)
-        if not self.ranges():
-            raise ValueError(f"process {number} has no writable private mapping")
-
-    def ranges(self):
-        found = []
-        try:
-            with open(f"{self.folder}/maps", encoding="utf-8", errors="replace") as lines:
-                for line in lines:
-                    place, rights = line.split()[:2]
-                    if rights[1] == "w" and rights[3] == "p":
-                        begin, end = (int(word, 16) for word in place.split("-"))
-                        found.append((begin, end))
-        except OSError as fault:
-            raise Gone("the process ended") from fault
-        return found
-
-    def read(self, place, length):
-        """The bytes there; None if none can be read, and fewer if the rest cannot."""
-        try:
-            data = os.pread(self.descriptor, length, place)
-        except OSError:
-            return None
-        if not data:
-            raise Gone("the process ended, or runs another program")
-        return data
-
-
 class Chunk:
     """Some pages one after the other, as they were last seen. Memory that was never looked at is zero."""
 

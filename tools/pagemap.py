@@ -9,9 +9,9 @@ Pages near one another are surveyed in one call: it shows which are still protec
 A page with no other near is asked for by itself, which costs the same for a guest of any size.
 """
 
+import array
 import bisect
 import contextlib
-import ctypes
 import errno
 import fcntl
 import os
@@ -22,8 +22,9 @@ from typing import NamedTuple
 import remote
 from memory import PAGE, Gone
 from remote import Unavailable
+from scans import Requests, address_of
 
-API, REGISTER, SCAN = 0xC018AA3F, 0xC020AA00, 0xC0606610
+API, REGISTER = 0xC018AA3F, 0xC020AA00
 VERSION, WP_MODE = 0xAA, 2
 # Write protection, also of shared memory and of pages that are not there yet; a write goes on at once.
 FEATURES = 1 << 0 | 1 << 12 | 1 << 13 | 1 << 15
@@ -41,20 +42,16 @@ PART = 32
 ioctl = fcntl.ioctl
 
 
-def address_of(buffer: bytearray) -> int:
-    return ctypes.addressof(ctypes.c_char.from_buffer(buffer))
-
-
-def asking(place: int, into: int) -> bytearray:
+def asking(place: int, into: int) -> bytes:
     """Whether a page was written. It is protected again, in the same step."""
     flags = PROTECTING | ONLY_WATCHED
-    return bytearray(REQUEST.pack(REQUEST.size, flags, place, place + PAGE, 0, into, 1, 0, 0, WRITTEN, 0, WRITTEN))
+    return REQUEST.pack(REQUEST.size, flags, place, place + PAGE, 0, into, 1, 0, 0, WRITTEN, 0, WRITTEN)
 
 
-def surveying(begin: int, end: int, into: int, regions: int) -> bytearray:
+def surveying(begin: int, end: int, into: int, regions: int) -> bytes:
     """Which pages are protected: they have an entry in a page table, and were not written. Nothing changes."""
     categories = WRITTEN, WRITTEN, PRESENT | SWAPPED, 0
-    return bytearray(REQUEST.pack(REQUEST.size, ONLY_WATCHED, begin, end, 0, into, regions, 0, *categories))
+    return REQUEST.pack(REQUEST.size, ONLY_WATCHED, begin, end, 0, into, regions, 0, *categories)
 
 
 def regions_of(places: list[int]) -> Iterator[bytes]:
@@ -91,19 +88,23 @@ class Survey:
     def __init__(self, groups: list[tuple[int, int]], places: list[int]):
         self.told = bytearray(REGION.size * len(places))
         self.parts: list[Part] = []
-        self.requests: list[bytearray] = []
+        requests = []
         into = address_of(self.told)
         for low, high in groups:
             of, slot = places[low:high], slice(REGION.size * low, REGION.size * high)
             unwritten = b"".join(regions_of(of)).ljust(slot.stop - slot.start, b"\0")
             self.parts.append(Part(dict(zip(of, range(low, high))), slot, unwritten))
-            self.requests.append(surveying(of[0], of[-1] + PAGE, into + slot.start, len(of)))
+            requests.append(surveying(of[0], of[-1] + PAGE, into + slot.start, len(of)))
+
+        self.requests = Requests(requests, REQUEST.size)
+        self.all = array.array("I", range(len(requests)))
 
     def look(self, pagemap: int) -> list[int]:
         """The numbers of the pages that are not known to be protected. There may be more than were written."""
         self.told[:] = bytes(len(self.told))
-        for request in self.requests:
-            ioctl(pagemap, SCAN, request)
+        _, _, fault = self.requests.make(pagemap, self.all)
+        if fault:
+            raise OSError(fault, os.strerror(fault))
         numbers, told = [], bytes(self.told)
         for part in self.parts:
             regions = told[part.slot]
@@ -163,15 +164,17 @@ class WrittenPages:
     def _prepare(self) -> None:
         """Makes the requests once: one for each page, and those of a survey of pages near one another."""
         groups = list(groups_of(self.ranges, self.places, REACH[self.scan]))
-        self.alone = [low for low, high in groups if high == low + 1]
+        self.alone = array.array("I", (low for low, high in groups if high == low + 1))
+        self.near = array.array("I", (n for low, high in groups if high > low + 1 for n in range(low, high)))
         self.survey = Survey([group for group in groups if group[1] > group[0] + 1], self.places)
         self.region = bytearray(REGION.size)
-        self.requests = [asking(place, address_of(self.region)) for place in self.places]
+        into = address_of(self.region)
+        self.requests = Requests((asking(place, into) for place in self.places), REQUEST.size)
 
     def look(self) -> list[int]:
         """The numbers of the places that were written since the last look, in order."""
         try:
-            written = self._ask(self._unprotected())
+            written = sorted(self._ask(self.alone) + self._ask(self._unprotected()))
         except ProcessLookupError as fault:
             raise Gone("the process ended") from fault
         except OSError as fault:
@@ -187,29 +190,33 @@ class WrittenPages:
             if not os.pread(self.memory, 1, self.places[0]):
                 raise Gone("the process ended, or runs another program")
 
-    def _unprotected(self) -> Iterable[int]:
-        """The numbers of pages that are to be asked for."""
+    def _unprotected(self) -> "array.array[int]":
+        """The numbers of pages of the survey that are to be asked for."""
         try:
-            return sorted(self.alone + self.survey.look(self.pagemap))
+            return array.array("I", sorted(self.survey.look(self.pagemap)))
         except PermissionError:
             self.register()
-            return range(len(self.places))
+            return self.near
 
-    def _ask(self, numbers: Iterable[int]) -> list[int]:
-        call, pagemap, requests, written = ioctl, self.pagemap, self.requests, []
-        for number in numbers:
-            try:
-                if call(pagemap, SCAN, requests[number]):
-                    written.append(number)
-            except PermissionError:
-                self._watch_anew(requests[number])
-                written.append(number)
-        return written
+    def _ask(self, numbers: "array.array[int]") -> list[int]:
+        written: list[int] = []
+        while True:
+            found, made, fault = self.requests.make(self.pagemap, numbers)
+            written += found
+            if not fault:
+                return written
+            if fault != errno.EPERM:
+                raise OSError(fault, os.strerror(fault))
+            self._watch_anew(numbers[made : made + 1])
+            written.append(numbers[made])
+            numbers = numbers[made + 1 :]
 
-    def _watch_anew(self, request: bytearray) -> None:
-        """Memory that was mapped anew is watched from now on, and all that was asked for counts as written."""
+    def _watch_anew(self, number: "array.array[int]") -> None:
+        """Memory that was mapped anew is watched from now on, and what was asked for counts as written."""
         self.register()
-        ioctl(self.pagemap, SCAN, request)
+        _, _, fault = self.requests.make(self.pagemap, number)
+        if fault:
+            raise OSError(fault, os.strerror(fault))
 
     def close(self) -> None:
         """Ends it; the kernel gives the process back the memory as it was."""

@@ -105,11 +105,27 @@ def answer(program: str, command: list[str], trace: bytes, statuses: tuple[int, 
     return done.stdout.decode()
 
 
+def document(program: str, command: list[str], trace: bytes, statuses: tuple[int, ...] = (0,)) -> dict:
+    """The JSON document that the program answers."""
+    text = answer(program, ["json", *command], trace, statuses)
+    try:
+        return json.loads(text)
+    except ValueError as fault:
+        raise Failed(f"{program} json {command[0]} answers no JSON: {text[:80]!r}") from fault
+
+
 def planned(program: str, trace: bytes, words: list[str]) -> Plan:
     """What precopy-view plans of a trace, by the words of limits()."""
-    told = json.loads(answer(program, ["json", "report", *words, "--window", str(1 << 40)], trace))
+    told = document(program, ["report", *words, "--window", str(1 << 40)], trace)
     stop = told["stop"]
     return Plan(stop["why"], stop["at"], stop["pages"], stop["down"], stop["total"], len(told["rounds"]))
+
+
+def starts(program: str, trace: bytes, words: list[str], first: int, last: int, every: int) -> dict:
+    """What the same migration costs from many starts, by the words of limits()."""
+    at = words.index("--start")
+    words = words[:at] + words[at + 2 :] + ["--from", str(first), "--to", str(last), "--every", str(every)]
+    return document(program, ["when", *words], trace, (0, 3))
 
 
 def host_words(program: str, trace: bytes, words: list[str]) -> list[str]:

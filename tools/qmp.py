@@ -3,25 +3,46 @@
 import contextlib
 import json
 import socket
+import struct
 import time
 
 SECONDS = 20
+# An answer is one line, and no answer that is asked for here is nearly as long.
+MOST_BYTES = 16 << 20
 
 
 class Fault(Exception):
     """QEMU does not answer, or answers with an error."""
 
 
+def is_object(message):
+    return isinstance(message, dict)
+
+
+def returned(path, command, answer):
+    """What an answer returns, or the error that it tells."""
+    if not is_object(answer) or "return" not in answer:
+        error = answer.get("error") if is_object(answer) else None
+        raise Fault(f"{path}: {command}: {error.get('desc') if is_object(error) else 'an answer without a return'}")
+    return answer["return"]
+
+
+def command_line(command, arguments):
+    asked = {"execute": command}
+    if arguments:
+        asked["arguments"] = {name.replace("_", "-"): value for name, value in arguments.items()}
+    return json.dumps(asked)
+
+
 class Client:
     """One connection. QEMU serves one client at a time, so keep it no longer than it is needed."""
 
     def __init__(self, path, seconds=SECONDS):
-        self.path = path
+        self.path, self.seconds, self.rest = path, seconds, bytearray()
         self.socket = socket.socket(socket.AF_UNIX)
-        self.socket.settimeout(seconds)
         try:
+            self.socket.settimeout(seconds)
             self.socket.connect(path)
-            self.lines = self.socket.makefile("r", encoding="utf-8")
             self._next("QMP")
             self.ask("qmp_capabilities")
         except (OSError, ValueError) as fault:
@@ -31,34 +52,54 @@ class Client:
             self.socket.close()
             raise
 
+    def _line(self, end):
+        """The next line, if it is there before the time."""
+        looked = 0
+        while (found := self.rest.find(b"\n", looked)) < 0:
+            looked, left = len(self.rest), end - time.monotonic()
+            if looked > MOST_BYTES:
+                raise Fault(f"{self.path}: an answer of more than {MOST_BYTES >> 20} MiB")
+            if left <= 0:
+                raise TimeoutError(f"no answer within {self.seconds:g} s")
+            self.socket.settimeout(left)
+            data = self.socket.recv(1 << 16)
+            if not data:
+                raise Fault(f"{self.path}: the connection is closed")
+            self.rest += data
+        line = bytes(self.rest[:found])
+        del self.rest[: found + 1]
+        return line
+
     def _next(self, *names):
         """The next message that has one of these names."""
+        end = time.monotonic() + self.seconds
         while True:
-            line = self.lines.readline()
-            if not line:
-                raise Fault(f"{self.path}: the connection is closed")
-            message = json.loads(line)
-            if any(name in message for name in names):
+            try:
+                message = json.loads(self._line(end))
+            except RecursionError as fault:
+                raise ValueError("an answer of lists without end") from fault
+            if is_object(message) and any(name in message for name in names):
                 return message
+            if time.monotonic() > end:
+                raise TimeoutError(f"no answer within {self.seconds:g} s")
 
     def ask(self, command, **arguments):
-        asked = {"execute": command}
-        if arguments:
-            asked["arguments"] = {name.replace("_", "-"): value for name, value in arguments.items()}
         try:
-            self.socket.sendall(json.dumps(asked).encode() + b"\n")
+            self.socket.sendall(command_line(command, arguments).encode() + b"\n")
             answer = self._next("return", "error")
         except (OSError, ValueError) as fault:
             raise Fault(f"{self.path}: {command}: {fault}") from fault
-        if "error" in answer:
-            raise Fault(f"{self.path}: {command}: {answer['error'].get('desc')}")
-        return answer["return"]
+        return returned(self.path, command, answer)
+
+    def process(self):
+        """The process that made the socket: QEMU, if it was not handed to it. None if it is in another namespace."""
+        size = struct.calcsize("3i")
+        return struct.unpack("3i", self.socket.getsockopt(socket.SOL_SOCKET, socket.SO_PEERCRED, size))[0] or None
 
     def __enter__(self):
         return self
 
     def __exit__(self, *_):
-        self.lines.close()
         self.socket.close()
 
 
@@ -73,7 +114,10 @@ def paused(path):
     """The guest is paused in the body. It goes on afterwards if it was running."""
     with Client(path) as client:
         pause = Pause()
-        running = client.ask("query-status")["running"]
+        status = client.ask("query-status")
+        running = status.get("running") if is_object(status) else None
+        if not isinstance(running, bool):
+            raise Fault(f"{path}: query-status: an answer without running")
         begun = time.monotonic()
         if running:
             client.ask("stop")

@@ -17,13 +17,14 @@ WRITE = b"\x01"
 class SampledGuest:
     """The pages of a guest that are watched: drawn from a file, or from the memory of a process."""
 
-    def __init__(self, options):
-        self.options = options
+    def __init__(self, options, source):
+        self.options, self.source, self.process, self.of = options, source, source.process, source.of
         self.seed = options.seed if options.seed is not None else int.from_bytes(os.urandom(4), "little")
-        if options.file:
-            self._open_file(options.file)
+        if source.path:
+            self._open_file(source.path)
         else:
-            self._open_process(options.pid, options.mapping)
+            self.ranges = source.ranges or mappings.chosen(source.process, ["all"])
+            self.pages = page_values.ProcessPages(source.process)
         self.numbers = samples.draw(self.count, self._wanted(), self.seed)
         self.places = mappings.places_of(self.ranges, self.numbers)
 
@@ -32,14 +33,7 @@ class SampledGuest:
         size = os.fstat(descriptor).st_size
         if size == 0 or size % PAGE:
             raise ValueError(f"{path} has {size} bytes, which are no whole pages of {PAGE}")
-        self.ranges, self.of = [(0, size)], f"file {os.path.abspath(path)}"
-        self.pages = page_values.FilePages(descriptor, size)
-
-    def _open_process(self, process, which):
-        self.ranges = mappings.chosen(process, which)
-        self.pages = page_values.ProcessPages(process)
-        with open(f"/proc/{process}/comm", encoding="utf-8", errors="replace") as name:
-            self.of = f"process {process} {name.read().strip()}, mapping {which}"
+        self.ranges, self.pages = [(0, size)], page_values.FilePages(descriptor, size)
 
     @property
     def count(self):
@@ -60,7 +54,7 @@ class SampledGuest:
         if self.options.by == "values" or self.options.file:
             return page_values.ChangedPages(self.pages, self.places), "values", None
         try:
-            tracker = pagemap.WrittenPages(self.options.pid, self.ranges, self.places, self.options.scan)
+            tracker = pagemap.WrittenPages(self.process, self.ranges, self.places, self.options.scan)
             return tracker, "writes", None
         except pagemap.Unavailable as cause:
             if self.options.by == "writes":
@@ -82,13 +76,24 @@ class SampleRecorder:
     """Takes samples of the drawn pages into a writer. Pages are numbered by their first write."""
 
     def __init__(self, guest, writer, options):
-        self.guest, self.writer, self.options = guest, writer, options
+        self.guest, self.options = guest, options
         self.tracker, self.method, self.cause = guest.tracker()
-        self.numbers = {}
-        self.samples = self.last = self.late = self.first_nonzero = 0
-        self.times = []
-        self.taken_at = samples.now()
         self.nonzero, self.counted = guest.nonzero()
+        self.first_nonzero, self.is_later = 0, False
+        self.unwritten, self.carried = [], []
+        self.looked_at = time.monotonic()
+        self._begin(writer)
+
+    def _begin(self, writer):
+        self.writer, self.numbers, self.times = writer, {}, []
+        self.samples = self.last = self.late = 0
+        self.taken_at = samples.now()
+
+    def begin_anew(self, writer):
+        """Goes on in another trace, without losing a write. Returns when the last look was, where that one begins."""
+        self.is_later, self.carried, self.unwritten = True, self.unwritten, []
+        self._begin(writer)
+        return self.looked_at
 
     def pages(self):
         """How many pages the trace has: at least one, even if none is ever written."""
@@ -106,10 +111,16 @@ class SampleRecorder:
         begun = time.monotonic()
         if tick >= traces.TICKS:
             raise traces.Full("ticks of a trace are below 2^40")
-        if tick == 0 and self.method == "writes":
-            self.tracker.look()
+        if tick == 0 and (self.is_later or self.method == "writes"):
+            if not self.is_later:
+                self.tracker.look()
             return tick, begun, [n for n, place in enumerate(self.guest.places) if self.guest.is_set(place)]
-        return tick, begun, self.tracker.look()
+        written = self.tracker.look()
+        self.looked_at = time.monotonic()
+        if self.carried:
+            written, self.carried = sorted({*written, *self.carried}), []
+        self.unwritten = written
+        return tick, begun, written
 
     def take(self, tick, begun, written):
         """Writes what look() saw, at ticks that are spread over the interval."""
@@ -125,10 +136,19 @@ class SampleRecorder:
         self.writer.append(records)
         numbers.update(fresh)
         if not self.samples:
-            self.first_nonzero = len(fresh)
+            self._found(len(fresh))
+        elif written is self.unwritten:
+            self.unwritten = []
         self.samples += 1
         self.last = tick
         self.times.append(time.monotonic() - begun)
+
+    def _found(self, nonzero):
+        """How many pages of the sample are not zero at first. Those of the guest are counted once; later they are as
+        many times those of the sample as then."""
+        if self.is_later and self.first_nonzero:
+            self.nonzero = min(self.guest.count, round(self.nonzero * nonzero / self.first_nonzero))
+        self.first_nonzero = nonzero
 
     def places(self):
         """Pages as (number in the trace, how many, place in the source)."""

@@ -12,6 +12,7 @@ import os
 import random
 
 import traces
+import version
 
 FORMAT = "precopy sample 1"
 MOST_PAGES = traces.Limits().pages
@@ -19,6 +20,7 @@ DEFAULT_PAGES = 16_384
 # At most this many pages of the guest are looked at, to know how many are not zero.
 MOST_COUNTED = 1 << 18
 MOST = 1 << 53
+MOST_TEXT = 4096
 METHODS = ("writes", "values", "trace")
 
 
@@ -169,7 +171,7 @@ def read(trace_path: str, trace: traces.Trace, written: list[tuple[int, int]]) -
         with open(path, "rb") as file:
             text = file.read()
     except FileNotFoundError as fault:
-        raise Refused(f"there is no {path} beside the trace: tools/record writes one for a sample") from fault
+        raise Refused(f"there is no {path} beside the trace: {version.called('record')} writes one") from fault
     sample = parsed(path, text)
     for rule, holds in rules_of(sample, trace, written):
         if not holds:
@@ -192,13 +194,30 @@ def thinned(base: Sample, records: list, one_in: int, seed: int) -> tuple[Sample
     return thin, kept
 
 
-def pending(trace_path: str, sample: Sample) -> traces.Pending:
+class Beside(traces.Pending):
+    """NAME.json beside a trace, with room for its text from the beginning: a disk that fills up meanwhile has it."""
+
+    def __init__(self, trace_path: str):
+        super().__init__(path_beside(trace_path))
+        try:
+            os.posix_fallocate(self.descriptor, 0, MOST_TEXT)
+        except OSError as fault:
+            self.discard()
+            raise OSError(fault.errno, fault.strerror, self.path) from fault
+
+    def put(self, sample: Sample) -> None:
+        """Its whole text. finish() gives it its name."""
+        text = sample.text()
+        self.write(text)
+        os.ftruncate(self.descriptor, len(text))
+
+
+def pending(trace_path: str, sample: Sample) -> Beside:
     """The whole text of NAME.json under another name; finish() gives it its own."""
-    file = traces.Pending(path_beside(trace_path))
+    file = Beside(trace_path)
     try:
-        file.write(sample.text())
+        file.put(sample)
     except OSError:
         file.discard()
         raise
     return file
-

@@ -4,6 +4,7 @@ A write with no bytes releases its page: the whole page becomes zeros. Only trac
 """
 
 import errno
+import fcntl
 import os
 import shutil
 import struct
@@ -17,6 +18,26 @@ HEADER = 16
 RECORD = struct.Struct("<QIHH")
 TICKS = 1 << 40
 LEAST_SHIFT, GREATEST_SHIFT = 4, 12
+
+
+# Why a trace is refused, by the name of the refusal.
+CAUSES = {
+    "E1": "it has fewer than 16 bytes",
+    "E2": "it does not begin as a trace: bytes 0 to 3 are not PCWT",
+    "E3": "byte 4, the version, is not 1 or 2",
+    "E4": "byte 5, the size of pages, is not 4 to 12",
+    "E5": "byte 6 or byte 7 is not 0",
+    "E6": "the number of pages is not 1 to 65,536",
+    "E7": "the number of writes is more than 1,048,576",
+    "E8": "it ends before the record does",
+    "E9": "the tick is below that of the record before",
+    "E10": "the tick is 2^40 or more",
+    "E11": "the page is not below the number of pages",
+    "E12": "the length is 0, and the record is no release",
+    "E13": "offset plus length is more than the page size",
+    "E14": "bytes follow the last record",
+    "E15": "it has more than 2^28 bytes",
+}
 
 
 class Limits(NamedTuple):
@@ -33,6 +54,10 @@ class Refused(Exception):
 
 class Full(Exception):
     """Some writes do not fit the trace any more; the text says which limit they pass."""
+
+
+class NoRoom(Full):
+    """Some writes do not fit the disk."""
 
 
 def told(fault):
@@ -116,6 +141,18 @@ def read(text):
     return Trace(text[4], text[5], pages, writes, text)
 
 
+def read_file(path):
+    """A trace in a file, and its records. A refusal names the file and the cause."""
+    with open(path, "rb") as file:
+        text = file.read()
+    try:
+        trace = read(text)
+        return trace, list(trace.records())
+    except Refused as refused:
+        name = str(refused)
+        raise Refused(f"{path}: {name}: {CAUSES[name.partition(' ')[0]]}") from refused
+
+
 class Pending:
     """A file that is written under another name, only for its owner, and takes its own name when it is whole.
 
@@ -128,6 +165,8 @@ class Pending:
         self.path = path
         folder, name = os.path.split(os.path.abspath(path)) if path != "-" else (None, "trace")
         self.descriptor, self.hidden = tempfile.mkstemp(prefix=f".{name}.", suffix=".part", dir=folder)
+        # While it is locked, it is not left over.
+        fcntl.flock(self.descriptor, fcntl.LOCK_EX | fcntl.LOCK_NB)
 
     def write(self, data):
         left = memoryview(data)
@@ -200,7 +239,7 @@ class Writer(Pending):
         except OSError as fault:
             os.ftruncate(self.descriptor, self.size)
             os.lseek(self.descriptor, self.size, os.SEEK_SET)
-            raise Full(f"{self.path}: {fault.strerror}") from fault
+            raise NoRoom(f"{self.path}: {fault.strerror}") from fault
         self.version = version
         self.writes += len(parts) // 2
         self.size += len(text)

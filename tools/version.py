@@ -9,6 +9,25 @@ VERSION = "0.6.0"
 DATE = "2026-11-26"
 
 
+HERE = os.path.dirname(os.path.realpath(__file__))
+IS_INSTALLED = not os.path.isdir(os.path.join(os.path.dirname(HERE), "crates"))
+
+
+def complain(tool, text):
+    """Says on standard error what is wrong, in the name that the tool has here."""
+    print(f"precopy-{tool}: {text}" if IS_INSTALLED else f"{tool}: {text}", file=sys.stderr)
+
+
+def called(tool):
+    """How another tool is called: as in the sources, or as it is installed."""
+    return f"precopy-{tool}" if IS_INSTALLED else f"tools/{tool}"
+
+
+def whence(program):
+    """What to do if a program is not there."""
+    return f"the package precopy has {program}" if IS_INSTALLED else f"./{program} builds it"
+
+
 def add_to(parser):
     """Adds --version. A tool that is installed as precopy-NAME has that name in its help, and not tools/NAME."""
     called = os.path.basename(sys.argv[0])

@@ -5,11 +5,27 @@ import re
 
 
 def seconds(word):
-    """A length of time, as 100ms, 250us or 1.5s."""
-    match = re.fullmatch(r"(\d+(?:\.\d+)?)(us|ms|s)", word)
+    """A length of time, as 100ms, 250us, 1.5s, 10m or 24h."""
+    match = re.fullmatch(r"(\d+(?:\.\d+)?)(us|ms|s|m|h)", word)
     if not match or not float(match[1]):
-        raise argparse.ArgumentTypeError(f"{word!r} is no length of time such as 100ms, 250us or 1.5s")
-    return float(match[1]) * {"us": 1e-6, "ms": 1e-3, "s": 1.0}[match[2]]
+        raise argparse.ArgumentTypeError(f"{word!r} is no length of time such as 100ms, 250us, 1.5s, 10m or 24h")
+    return float(match[1]) * {"us": 1e-6, "ms": 1e-3, "s": 1.0, "m": 60.0, "h": 3600.0}[match[2]]
+
+
+def memory(word):
+    """Bytes of memory in whole pages, as 64G, 512M or 130944K, in powers of 1,024."""
+    match = re.fullmatch(r"(\d{1,18})([KMGT]?)(?:iB)?", word)
+    size = int(match[1]) << {"": 0, "K": 10, "M": 20, "G": 30, "T": 40}[match[2]] if match else 0
+    if not size or size % 4096:
+        raise argparse.ArgumentTypeError(f"{word!r} is no size of memory in whole pages, such as 64G or 512M")
+    return size
+
+
+def process(word):
+    """The number of one process."""
+    if not re.fullmatch(r"\d{1,9}", word) or not int(word):
+        raise argparse.ArgumentTypeError(f"{word!r} is not the number of one process")
+    return int(word)
 
 
 def bytes_a_second(word):

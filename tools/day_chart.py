@@ -1,0 +1,107 @@
+"""A picture, in SVG, of what a migration costs by the time of day at which it begins."""
+
+import datetime
+import html
+import math
+from typing import NamedTuple
+
+WIDTH, LEFT, RIGHT, TOP = 900, 90, 20, 50
+HEIGHT, GAP, BELOW = 150, 45, 40
+KEPT, NOT_KEPT, AXIS = "#2166ac", "#b2182b", "#666"
+DAY = datetime.timedelta(days=1)
+STEPS = [datetime.timedelta(seconds=seconds) for seconds in (1, 5, 15, 60, 300, 900, 3600, 7200, 14400)]
+
+
+class Start(NamedTuple):
+    """A migration that begins at a moment, in UTC: its bytes, its time and downtime in seconds, and whether it keeps
+    its limit."""
+
+    moment: datetime.datetime
+    sent: float
+    seconds: float
+    downtime: float
+    kept: bool
+
+
+PANELS = (
+    ("sent, MiB", lambda start: start.sent / (1 << 20)),
+    ("time, s", lambda start: start.seconds),
+    ("downtime, ms", lambda start: 1000 * start.downtime),
+)
+
+
+class Axis(NamedTuple):
+    """The times that are shown: of one day, from midnight on, if the starts are of more than a day."""
+
+    begin: datetime.datetime
+    end: datetime.datetime
+    is_of_day: bool
+
+    def place(self, moment: datetime.datetime) -> float:
+        if self.is_of_day:
+            moment = self.begin + (moment - moment.replace(hour=0, minute=0, second=0, microsecond=0))
+        return LEFT + (moment - self.begin) / (self.end - self.begin) * (WIDTH - LEFT - RIGHT)
+
+    def labels(self) -> list[tuple[float, str]]:
+        length = self.end - self.begin
+        step = next((step for step in STEPS if length / step <= 12), STEPS[-1])
+        midnight = self.begin.replace(hour=0, minute=0, second=0, microsecond=0)
+        at = midnight + math.ceil((self.begin - midnight) / step) * step
+        form, found = "%H:%M" if step.seconds >= 60 else "%H:%M:%S", []
+        while at <= self.end:
+            text = "24:00" if self.is_of_day and at - self.begin == DAY else at.strftime(form)
+            found.append((LEFT + (at - self.begin) / length * (WIDTH - LEFT - RIGHT), text))
+            at += step
+        return found
+
+
+def axis_of(starts: list[Start]) -> Axis:
+    begin, end = min(start.moment for start in starts), max(start.moment for start in starts)
+    if end - begin >= DAY:
+        midnight = begin.replace(hour=0, minute=0, second=0, microsecond=0)
+        return Axis(midnight, midnight + DAY, True)
+    return Axis(begin, max(end, begin + datetime.timedelta(seconds=1)), False)
+
+
+def top_of(values: list[float]) -> float:
+    """A round number that is not below any of them: 1, 2 or 5 times a power of ten."""
+    most = max(values)
+    if most <= 0:
+        return 1.0
+    power = 10.0 ** math.floor(math.log10(most))
+    return next(times * power for times in (1, 2, 5, 10) if times * power >= most * (1 - 1e-12))
+
+
+def panel(title: str, places: list[float], values: list[float], starts: list[Start], y: int) -> list[str]:
+    """One value by time: a dot for each start, and a scale."""
+    top, right = top_of(values), WIDTH - RIGHT
+    lines = [f'<text x="{LEFT}" y="{y - 8}" font-weight="bold">{html.escape(title)}</text>']
+    for part in (0, 0.5, 1):
+        at = y + HEIGHT * (1 - part)
+        lines.append(f'<line x1="{LEFT}" x2="{right}" y1="{at:g}" y2="{at:g}" stroke="#ddd"/>')
+        lines.append(f'<text x="{LEFT - 6}" y="{at + 4:g}" text-anchor="end" fill="{AXIS}">{top * part:g}</text>')
+    for place, value, start in zip(places, values, starts):
+        told = f"{start.moment:%Y-%m-%d %H:%M:%S}: {value:.1f}"
+        color, at = KEPT if start.kept else NOT_KEPT, y + HEIGHT * (1 - value / top)
+        lines.append(f'<circle cx="{place:.1f}" cy="{at:.1f}" r="2.5" fill="{color}"><title>{told}</title></circle>')
+    return lines
+
+
+def drawn(starts: list[Start], title: str) -> str:
+    """The picture of some starts: at least one."""
+    axis, y = axis_of(starts), TOP + 20
+    places = [axis.place(start.moment) for start in starts]
+    lines = [f'<text x="{LEFT}" y="22" font-size="15">{html.escape(title)}</text>']
+    days = "time of day" if axis.is_of_day else f"{axis.begin:%Y-%m-%d}"
+    note = f"{days}, UTC; a dot is a migration that begins then; red ones do not keep the limit"
+    lines.append(f'<text x="{LEFT}" y="40" fill="{AXIS}">{note}</text>')
+    for name, value_of in PANELS:
+        lines += panel(name, places, [value_of(start) for start in starts], starts, y)
+        y += HEIGHT + GAP
+    bottom = y - GAP
+    for place, text in axis.labels():
+        lines.append(f'<line x1="{place:.1f}" x2="{place:.1f}" y1="{TOP + 20}" y2="{bottom}" stroke="#eee"/>')
+        lines.append(f'<text x="{place:.1f}" y="{bottom + 18}" text-anchor="middle" fill="{AXIS}">{text}</text>')
+    size = f'width="{WIDTH}" height="{bottom + BELOW}" viewBox="0 0 {WIDTH} {bottom + BELOW}"'
+    head = f'<svg xmlns="http://www.w3.org/2000/svg" {size} font-family="sans-serif" font-size="12">'
+    return "\n".join([head, '<rect width="100%" height="100%" fill="white"/>', *lines, "</svg>", ""])
