@@ -223,30 +223,31 @@ fn one_out(alloc: Global) -> Result<(LaneOut, Receiver), Fail> {
     Ok((out, Receiver::new(alloc, shape(), ends)))
 }
 
-/// Sends some bytes and takes them. Returns the capacity of the buffer that came back, if one did.
+/// Sends some bytes and takes them. Returns whether the buffer that came back has room for them, if one did.
 fn pass_text(
     out: &mut LaneOut,
     receiver: &mut Receiver,
     text: Vec<u8>,
-) -> Result<Option<usize>, &'static str> {
+) -> Result<Option<bool>, &'static str> {
     if receiver.lanes() == 0 || !out.has_room() {
         return Err("no room");
     }
+    let size = text.len();
     out.send(text);
     if !receiver.take(0) {
         return Err("nothing came");
     }
-    Ok(out.spare().map(|text| text.capacity()))
+    Ok(out.spare().map(|back| back.capacity() >= size))
 }
 
-/// Sends the encoding of page 1 and takes it. Returns the capacity of the buffer that came back, if one did.
+/// Sends the encoding of page 1 and takes it. Returns whether the buffer that came back has room for it, if one did.
 fn pass(
     alloc: Global,
     out: &mut LaneOut,
     receiver: &mut Receiver,
     stamp: u32,
     byte: u8,
-) -> Result<Option<usize>, &'static str>
+) -> Result<Option<bool>, &'static str>
     requires { stamp ≤ 5 }
 {
     match spelled(alloc, 1, stamp, byte) {
@@ -256,7 +257,7 @@ fn pass(
 }
 
 #[test]
-fn texts_of_older_frames_go_back(rt: HostRuntime) -> Result<(), Fail> {
+fn each_text_goes_back(rt: HostRuntime) -> Result<(), Fail> {
     let (mut out, mut receiver) = one_out(rt.alloc())?;
     let rooms = [
         pass(rt.alloc(), &mut out, &mut receiver, 2, 7),
@@ -265,27 +266,17 @@ fn texts_of_older_frames_go_back(rt: HostRuntime) -> Result<(), Fail> {
         pass(rt.alloc(), &mut out, &mut receiver, 5, 0),
         pass(rt.alloc(), &mut out, &mut receiver, 5, 0),
     ];
-    let whole = rooms.map(|room| room.map(|room| room.map(|room| room >= 25)));
-    assert_eq!(rt;
-        whole,
-        [
-            Ok(None),
-            Ok(Some(true)),
-            Ok(Some(true)),
-            Ok(Some(true)),
-            Ok(None)
-        ]
-    );
+    assert_eq!(rt; rooms, [Ok(Some(true)); 5]);
     Ok(())
 }
 
 #[test]
-fn no_text_goes_back_after_a_refusal(rt: HostRuntime) -> Result<(), Fail> {
+fn texts_go_back_after_a_refusal(rt: HostRuntime) -> Result<(), Fail> {
     let (mut out, mut receiver) = one_out(rt.alloc())?;
     let first = pass(rt.alloc(), &mut out, &mut receiver, 2, 7);
     let empty = pass_text(&mut out, &mut receiver, Vec::new(rt.alloc()));
     let refused = receiver.is_refused();
     let last = pass(rt.alloc(), &mut out, &mut receiver, 4, 8);
-    assert_eq!(rt; ([first, empty, last], refused), ([Ok(None); 3], true));
+    assert_eq!(rt; ([first, empty, last], refused), ([Ok(Some(true)); 3], true));
     Ok(())
 }
