@@ -1,7 +1,8 @@
 //! At which ticks a migration may begin.
 
-ghost use Rattle.std.specs.Prelude.{◌≡◌, ◌≤◌, ◌<◌, ◌+◌, ◌-◌, ◌*◌, ◌/◌, IfErr, IfOk, max};
+ghost use Rattle.std.specs.Prelude.{◌≡◌, ◌≤◌, ◌<◌, ◌+◌, ◌-◌, ◌*◌, ◌/◌, IfErr, IfOk, None, OnOk, Some, max};
 ghost use Rattle.migration_starts.specs.Starts.{RefusesStarts, cases_from, count_of, last_start, spacing_of};
+ghost use Rattle.rate_limit.specs.Refusals.{refusal_of};
 
 use crate::error::StartsError;
 use rate_limit::{Asked, Settings, SettingsError};
@@ -56,7 +57,8 @@ impl Starts {
         last_tick: u64,
     ) -> Result<Vec<Settings>, StartsError>
         ensures made { IfOk result (λ cases. cases.items ≡ cases_from settings.now self.now last_tick) }
-        ensures refused { IfErr result (RefusesStarts self.now last_tick) }
+        ensures few { OnOk result (count_of self.now last_tick ≤ 4_096) }
+        ensures refused { IfErr result (RefusesStarts settings.now self.now last_tick) }
     {
         let count = self.count(last_tick);
         if count > MOST_STARTS as u128 {
@@ -87,7 +89,9 @@ fn tick_at(from: u64, last: u64, every: u64, number: u64) -> u64
 
 /// Returns the settings of a migration that begins at a tick.
 fn case_at(settings: &Settings, tick: u64) -> Result<Settings, SettingsError>
-    ensures { IfOk result (λ case. case ≡ record settings.now { start = tick }) }
+    ensures made { IfOk result (λ case. case ≡ record settings.now { start = tick }) }
+    ensures accepted { OnOk result (refusal_of (record settings.now { start = tick }) ≡ None) }
+    ensures refused { IfErr result (λ e. refusal_of (record settings.now { start = tick }) ≡ Some e) }
 {
     Settings::new(Asked {
         start: tick,

@@ -1,5 +1,6 @@
--- How a text of advice ends. This project's own.
-use Rattle.std.specs.Prelude.{ℕ, if◌then◌else◌, Option, None, Some, List, [], ◌∷◌, ◌++◌, codes}
+-- The text of advice. This project's own.
+use Rattle.std.specs.Prelude.{ℕ, ◌^◌, ◌-◌, if◌then◌else◌, Option, None, Some, unwrap_or, List, [], ◌∷◌, ◌++◌, codes}
+use Rattle.std.specs.List.{flat_map}
 use Rattle.migration_model.specs.Rates.{MigrationSettings}
 use Rattle.migration_model.specs.Sweeps.{SweepLine}
 use Rattle.predictions.specs.Predictions.{MigrationCost, cost_of}
@@ -7,6 +8,8 @@ use Rattle.predictions.specs.Quantities.{bytes_text, seconds_text}
 use Rattle.sweep_report.specs.Lines.{field, line, case_line}
 use Rattle.trace_views.specs.declared.budget.Advice.{Advice}
 use Rattle.trace_views.specs.declared.budget.Advice.TheVariants as advices
+use Rattle.trace_views.specs.declared.budget.Budget.{Budget}
+use Rattle.trace_views.specs.declared.grid.Grid.{Grid}
 use Rattle.trace_views.specs.declared.view.Measured.{Measured}
 
 -- the number of the advised case
@@ -14,6 +17,46 @@ abbrev pub case_of : Advice → ℕ
 case_of (advices.Fits case) = case
 case_of (advices.OverTotal nearest cheapest) = nearest
 case_of (advices.OverDown nearest) = nearest
+
+-- the budget: its downtime, and its pages if it limits them
+abbrev pub total_field : Option ℕ → List ℕ
+total_field None = []
+total_field (Some total) = field (codes " total ") total
+
+abbrev pub budget_line : Budget → List ℕ
+budget_line budget = line (field (codes "budget down ") budget.down ∷ total_field budget.total ∷ [])
+
+-- some words, and a blank before each of some numbers
+abbrev pub number_fields : List ℕ → List ℕ
+number_fields numbers = flat_map (field (codes " ")) numbers
+
+abbrev pub numbers_line : List ℕ → List ℕ → List ℕ
+numbers_line words numbers = line (words ∷ number_fields numbers ∷ [])
+
+-- a grid: what all cases have, and the values of each axis
+unfoldable pub grid_lines : MigrationSettings → Grid → List ℕ
+grid_lines s grid = numbers_line (codes "grid start") (s.start ∷ []) ++ (numbers_line (codes "grid max") (s.max ∷ [])
+    ++ (numbers_line (codes "grid min") grid.min ++ (numbers_line (codes "grid inc") grid.increment
+    ++ (numbers_line (codes "grid threshold") grid.threshold ++ (numbers_line (codes "grid limit") grid.rounds
+    ++ numbers_line (codes "grid skip") (0 ∷ 1 ∷ []))))))
+
+-- how many cases there are, and which of them keeps the budget; or else why none does, which is the cheapest of those
+-- that keep the downtime, and which has the least downtime
+abbrev pub reason_fields : Budget → Advice → List (List ℕ)
+reason_fields budget (advices.Fits case) = field (codes " fits ") case ∷ []
+reason_fields budget (advices.OverDown nearest) =
+    field (codes " none within down ") budget.down ∷ field (codes " nearest ") nearest ∷ []
+reason_fields budget (advices.OverTotal nearest cheapest) =
+    field (codes " none within total ") (unwrap_or budget.total (2 ^ 64 - 1))
+    ∷ field (codes " of those within down ") budget.down ∷ field (codes " cheapest ") cheapest
+    ∷ field (codes " nearest ") nearest ∷ []
+
+abbrev pub reason_line : Budget → ℕ → Advice → List ℕ
+reason_line budget count advice = line (field (codes "cases ") count ∷ reason_fields budget advice)
+
+-- what precedes the advised case
+abbrev pub advice_head : Budget → MigrationSettings → Grid → ℕ → Advice → List ℕ
+advice_head budget s grid count advice = budget_line budget ++ (grid_lines s grid ++ reason_line budget count advice)
 
 -- the option for a base, if there is one
 abbrev pub base_field : Option ℕ → List ℕ

@@ -1,14 +1,14 @@
 -- What the same migration costs from each of some starts.
-use Rattle.std.specs.Prelude.{◌≡◌, ℕ, ◌<◌, Bool, false, List, Option, None, Some, ⊤}
+use Rattle.std.specs.Prelude.{◌≡◌, ℕ, ◌≤◌, Bool, false, List, Option, None, Some, ⊤}
 use Rattle.guest_units.specs.Scales.{TraceScale}
 use Rattle.guest_units.specs.declared.limits.Limits.{Limits}
 use Rattle.migration_model.specs.Sweeps.{SweepLine, AreLines}
 use Rattle.migration_model.specs.Touches.{GuestTouches}
 use Rattle.migration_starts.specs.Choices.{IsChosen, is_better_start, is_worse_start, known_of}
 use Rattle.migration_starts.specs.Costs.{CostAtStart, costs_at_starts}
-use Rattle.migration_starts.specs.Starts.{cases_from, count_of}
+use Rattle.migration_starts.specs.Starts.{RefusesStarts, cases_from, count_of}
 use Rattle.migration_starts.specs.Texts.{starts_text_of}
-use Rattle.migration_starts.specs.declared.starts.Starts.{Starts}
+use Rattle.migration_starts.specs.declared.error.StartsError.TheVariants as refusals
 use Rattle.predictions.specs.Predictions.{last_tick_of}
 use Rattle.trace_views.specs.Json.{line_of}
 use Rattle.trace_views.specs.StartsJson.{starts_object}
@@ -21,6 +21,7 @@ use Rattle.trace_views.specs.declared.view.StartsForm.TheVariants as forms
 -- what a migration over a log costs from each start, by its own plan, and the best and the worst of the known starts
 pub record AreStartsOf (log : GuestTouches) (asked : AskedStarts) (costs : List CostAtStart)
     (best worst : Option CostAtStart) : Type 0 where
+  pub few : count_of asked.starts (last_tick_of log.touches) ≤ 4_096
   pub lines : List SweepLine
   pub are_lines : AreLines log.pages log.touches
       (cases_from asked.settings asked.starts (last_tick_of log.touches)) lines
@@ -50,8 +51,10 @@ pub record IsStartsView (log : GuestTouches) (asked : AskedStarts) (text : List 
   pub text_is : IsStartsText asked.form asked.scale asked.limits costs best worst text
   pub kept : is_kept ≡ is_limit_kept best
 
--- why the starts cannot be shown
-abbrev pub RefusesStartsView : GuestTouches → Starts → ViewError → Type 0
-RefusesStartsView log starts errors.Memory = ⊤
-RefusesStartsView log starts errors.TooManyStarts = 4_096 < count_of starts (last_tick_of log.touches)
-RefusesStartsView log starts (errors.Settings e) = ⊤
+-- why the starts cannot be shown: memory ran out, or the starts are refused
+abbrev pub RefusesStartsView : GuestTouches → AskedStarts → ViewError → Type 0
+RefusesStartsView log asked errors.Memory = ⊤
+RefusesStartsView log asked errors.TooManyStarts =
+    RefusesStarts asked.settings asked.starts (last_tick_of log.touches) refusals.TooMany
+RefusesStartsView log asked (errors.Settings e) =
+    RefusesStarts asked.settings asked.starts (last_tick_of log.touches) (refusals.Settings e)

@@ -8,8 +8,8 @@ use Rattle.migration_model.specs.Touches.{GuestTouches}
 use Rattle.migration_model.specs.Windows.{working_sets_of}
 use Rattle.predictions.specs.Predictions.{last_tick_of}
 use Rattle.trace_views.specs.Advice.{IsAdvice}
-use Rattle.trace_views.specs.AdviceText.{case_of, choice_text, known_cost}
-use Rattle.trace_views.specs.Grid.{cases_for}
+use Rattle.trace_views.specs.AdviceText.{advice_head, case_of, choice_text, known_cost}
+use Rattle.trace_views.specs.Grid.{cases_for, grid_of}
 use Rattle.trace_views.specs.Json.{line_of, report_object, sweep_object}
 use Rattle.trace_views.specs.PredictionViews.{IsPredictionView}
 use Rattle.trace_views.specs.StartViews.{IsStartsView, RefusesStartsView}
@@ -39,7 +39,8 @@ pub record IsSweepView (log : GuestTouches) (cases : List MigrationSettings) (sc
   pub are_lines : AreLines log.pages log.touches cases lines
   pub text_is : text ≡ line_of (sweep_object scale lines)
 
--- a text of advice for a budget: it ends with the case to take of those around some settings, each planned by itself
+-- a text of advice for a budget: the budget, the grid, and the case to take of those around some settings, each planned
+-- by itself
 pub record IsAdviceView (log : GuestTouches) (settings : MigrationSettings) (budget : Budget)
     (measured : Option Measured) (text : List ℕ) : Type 0 where
   pub lines : List SweepLine
@@ -48,9 +49,9 @@ pub record IsAdviceView (log : GuestTouches) (settings : MigrationSettings) (bud
   pub is_advice : IsAdvice budget lines advice
   pub chosen : SweepLine
   pub is_chosen : chosen ≡ slice_index_or lines (case_of advice) chosen
-  pub front : List ℕ
   pub text_is : text
-      ≡ front ++ choice_text (case_of advice) chosen (known_cost measured chosen (last_tick_of log.touches))
+      ≡ advice_head budget settings (grid_of settings budget) (length lines) advice
+      ++ choice_text (case_of advice) chosen (known_cost measured chosen (last_tick_of log.touches))
 
 -- What a view shows about a trace, and whether a limit is kept. Nothing is said about pictures and terminal reports.
 abbrev pub IsView : GuestTouches → View → List ℕ → Bool → Type 0
@@ -65,7 +66,7 @@ IsView log (views.When asked) text is_kept = IsStartsView log asked text is_kept
 IsView log (views.Predict settings scale limits) text is_kept =
     IsPredictionView log settings scale limits text is_kept
 
--- why a view cannot be made: memory ran out, or there are too many starts
+-- why a view cannot be made: memory ran out, or its starts are refused
 abbrev pub RefusesView : GuestTouches → View → ViewError → Type 0
 RefusesView log (views.JsonReport settings scale) e = e ≡ Memory
 RefusesView log (views.JsonSweep cases workers scale) e = e ≡ Memory
@@ -73,4 +74,4 @@ RefusesView log (views.Advise budget settings measured) e = e ≡ Memory
 RefusesView log (views.Show settings scale style) e = e ≡ Memory
 RefusesView log (views.Chart settings scale) e = e ≡ Memory
 RefusesView log (views.Predict settings scale limits) e = e ≡ Memory
-RefusesView log (views.When asked) e = RefusesStartsView log asked.starts e
+RefusesView log (views.When asked) e = RefusesStartsView log asked e

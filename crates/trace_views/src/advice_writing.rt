@@ -1,7 +1,10 @@
 //! Advice as a text.
 
-ghost use Rattle.std.specs.Prelude.{◌≡◌, ◌++◌, OnOk, if◌then◌else◌, codes};
-ghost use Rattle.trace_views.specs.AdviceText.{base_field, choice_text, cost_line, live_line, measures_line};
+ghost use Rattle.std.specs.Prelude.{◌≡◌, ◌++◌, IfOk, OnOk, if◌then◌else◌, codes};
+ghost use Rattle.std.specs.List.{flat_map};
+ghost use Rattle.trace_views.specs.AdviceText.{advice_head, base_field, budget_line, choice_text, cost_line};
+ghost use Rattle.trace_views.specs.AdviceText.{grid_lines, live_line, measures_line, number_fields, numbers_line};
+ghost use Rattle.trace_views.specs.AdviceText.{reason_fields, reason_line, total_field};
 
 use crate::budget::{Advice, Budget};
 use crate::grid::Grid;
@@ -10,26 +13,49 @@ use rate_limit::Settings;
 use std::alloc::{AllocError, Global};
 use sweep_report::{Line, end_line, push_case, push_field};
 
-/// Appends a line of some words followed by numbers.
-fn push_numbers(text: &mut Vec<u8>, words: &str, numbers: &[u64]) -> Result<(), AllocError> {
-    text.extend_from_slice(words.as_bytes())?;
+/// Appends numbers, with a blank before each.
+fn push_list(text: &mut Vec<u8>, numbers: &[u64]) -> Result<(), AllocError>
+    ensures { OnOk result (text.new.items ≡ text.old.items ++ number_fields numbers.now) }
+{
     for number in numbers {
         push_field(text, " ", *number)?;
     }
+    Ok(())
+}
+
+/// Appends a line of some words followed by numbers.
+fn push_numbers(text: &mut Vec<u8>, words: &str, numbers: &[u64]) -> Result<(), AllocError>
+    ensures { OnOk result (text.new.items ≡ text.old.items ++ numbers_line words.now numbers.now) }
+{
+    text.extend_from_slice(words.as_bytes())?;
+    push_list(text, numbers)?;
     end_line(text)
+}
+
+/// Appends the most pages of a budget, if it limits them.
+fn push_total(text: &mut Vec<u8>, total: Option<u64>) -> Result<(), AllocError>
+    ensures { OnOk result (text.new.items ≡ text.old.items ++ total_field total) }
+{
+    match total {
+        Some(total) => push_field(text, " total ", total),
+        None => Ok(()),
+    }
 }
 
 /// Appends the line on a budget.
-fn push_budget(text: &mut Vec<u8>, budget: &Budget) -> Result<(), AllocError> {
+fn push_budget(text: &mut Vec<u8>, budget: &Budget) -> Result<(), AllocError>
+    ensures { OnOk result (text.new.items ≡ text.old.items ++ budget_line budget.now) }
+{
     push_field(text, "budget down ", budget.down)?;
-    if let Some(total) = budget.total {
-        push_field(text, " total ", total)?;
-    }
-    end_line(text)
+    push_total(text, budget.total)?;
+    end_line(text)?;
+    Ok(())
 }
 
 /// Appends the lines on a grid: what all cases have, and the values of each axis.
-fn push_grid(text: &mut Vec<u8>, settings: &Settings, grid: &Grid) -> Result<(), AllocError> {
+fn push_grid(text: &mut Vec<u8>, settings: &Settings, grid: &Grid) -> Result<(), AllocError>
+    ensures { OnOk result (text.new.items ≡ text.old.items ++ grid_lines settings.now grid.now) }
+{
     let asked = settings.asked();
     push_numbers(text, "grid start", &[asked.start])?;
     push_numbers(text, "grid max", &[asked.max])?;
@@ -37,22 +63,19 @@ fn push_grid(text: &mut Vec<u8>, settings: &Settings, grid: &Grid) -> Result<(),
     push_numbers(text, "grid inc", &grid.increment)?;
     push_numbers(text, "grid threshold", &grid.threshold)?;
     push_numbers(text, "grid limit", &grid.rounds)?;
-    push_numbers(text, "grid skip", &[0, 1])
+    push_numbers(text, "grid skip", &[0, 1])?;
+    Ok(())
 }
 
-/// Appends the line that says whether a case keeps the budget, and if not, why none does.
-fn push_reason(
-    text: &mut Vec<u8>,
-    budget: &Budget,
-    cases: usize,
-    advice: &Advice,
-) -> Result<(), AllocError> {
-    push_field(text, "cases ", cases as u64)?;
+/// Appends whether a case keeps the budget, and if not, why none does.
+fn push_reason(text: &mut Vec<u8>, budget: &Budget, advice: &Advice) -> Result<(), AllocError>
+    ensures { OnOk result (text.new.items ≡ text.old.items ++ flat_map (λ f. f) (reason_fields budget.now advice.now)) }
+{
     match advice {
-        Advice::Fits(case) => push_field(text, " fits ", *case as u64)?,
+        Advice::Fits(case) => push_field(text, " fits ", *case as u64),
         Advice::OverDown(nearest) => {
             push_field(text, " none within down ", budget.down)?;
-            push_field(text, " nearest ", *nearest as u64)?;
+            push_field(text, " nearest ", *nearest as u64)
         }
         Advice::OverTotal { nearest, cheapest } => {
             push_field(
@@ -62,9 +85,22 @@ fn push_reason(
             )?;
             push_field(text, " of those within down ", budget.down)?;
             push_field(text, " cheapest ", *cheapest as u64)?;
-            push_field(text, " nearest ", *nearest as u64)?;
+            push_field(text, " nearest ", *nearest as u64)
         }
     }
+}
+
+/// Appends the line of how many cases there are, and which of them keeps the budget or why none does.
+fn push_count(
+    text: &mut Vec<u8>,
+    budget: &Budget,
+    cases: usize,
+    advice: &Advice,
+) -> Result<(), AllocError>
+    ensures { OnOk result (text.new.items ≡ text.old.items ++ reason_line budget.now cases advice.now) }
+{
+    push_field(text, "cases ", cases as u64)?;
+    push_reason(text, budget, advice)?;
     end_line(text)
 }
 
@@ -150,10 +186,12 @@ pub(crate) fn advice_head(
     grid: &Grid,
     cases: usize,
     advice: &Advice,
-) -> Result<Vec<u8>, AllocError> {
+) -> Result<Vec<u8>, AllocError>
+    ensures { IfOk result (λ text. text.items ≡ advice_head budget.now settings.now grid.now cases advice.now) }
+{
     let mut text = Vec::new(alloc);
     push_budget(&mut text, budget)?;
     push_grid(&mut text, settings, grid)?;
-    push_reason(&mut text, budget, cases, advice)?;
+    push_count(&mut text, budget, cases, advice)?;
     Ok(text)
 }

@@ -44,7 +44,7 @@ fn starts_found<R: Threads + Sync>(
     log: &TouchLog,
 ) -> Result<Found, ViewError>
     ensures made { IfOk result (λ found. AreStartsOf log.now asked.now found.costs.items found.best found.worst) }
-    ensures refused { IfErr result (RefusesStartsView log.now asked.now.starts) }
+    ensures refused { IfErr result (RefusesStartsView log.now asked.now) }
 {
     let last = last_tick(log);
     let cases = asked.starts.cases(alloc, &asked.settings, last)?;
@@ -116,7 +116,7 @@ pub(crate) fn starts_view<R: Threads + Sync>(
     log: &TouchLog,
 ) -> Result<ViewText, ViewError>
     ensures made { IfOk result (λ shown. IsStartsView log.now asked.now shown.text.items shown.is_kept) }
-    ensures refused { IfErr result (RefusesStartsView log.now asked.now.starts) }
+    ensures refused { IfErr result (RefusesStartsView log.now asked.now) }
 {
     let found = starts_found(rt, alloc, asked, log)?;
     let text = formed(alloc, asked, &found, log)?;
