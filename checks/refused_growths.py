@@ -63,14 +63,25 @@ def is_for_saver(job, run, whole):
     return not first.callers[0].startswith("rattle_") and run.counts["threads"] == whole.counts["threads"] - 1
 
 
-# What starts the threads of a live run, each after it made room for the thread's handle.
-STARTING = re.compile(r"(live_engine|stop_copy)::\w+::start_\w+\b.*")
+# What starts the threads of a live run, as the compiler leaves it: the receivers, and those of a round. Each list of
+# their handles grows as lists do, first to four, and a handle is an address. A round's list of sent pages, of a page
+# and a stamp each, grows alike.
+RECEIVERS = re.compile(r"live_engine::migration::migrate\b.*")
+ROUND = re.compile(r"live_engine::rounds::Migration::run_round\b.*")
+FOUR = 4 * 8
 
 
-def is_for_start(run):
-    """Whether what was refused is room to start a thread, which is asked of the C library in place, or for its handle."""
-    callers = run.refused.callers if run.refused else []
-    return bool(callers) and (not callers[0].startswith("rattle_") or any(map(STARTING.fullmatch, callers)))
+def told_of_live(run, memory, thread):
+    """The lines that a live run may tell of one refused growth: those of `thread` if it was room to start a thread,
+    which is asked of the C library in place, or for its handle; else those of `memory`."""
+    if not run.refused or not run.refused.callers:
+        return memory
+    allocating, growing, asking = (*run.refused.callers[:3], "", "")[:3]
+    if not allocating.startswith("rattle_"):
+        return thread
+    if run.refused.size != FOUR or not GROWING.fullmatch(growing):
+        return memory
+    return thread if RECEIVERS.fullmatch(asking) else [*memory, *thread] if ROUND.fullmatch(asking) else memory
 
 
 AGAIN, SAVED = "asked again", "done by the caller"
