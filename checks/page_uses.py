@@ -1,6 +1,7 @@
 """What users do with the planner's page, in Chromium and in Firefox: traces of all shapes and their records, settings
 that make no plan, units, going back, files that are refused, and a worker that ends."""
 
+import base64
 import json
 import os
 import random
@@ -15,8 +16,8 @@ from page_shown import tried
 from view_texts import Failure
 
 DROPPED = 50
-# A restart comes after a silence of 15 seconds.
-SECONDS_OF_SILENCE = 60
+# A restart comes after a silence of 30 seconds.
+SECONDS_OF_SILENCE = 120
 
 
 def require(holds, words):
@@ -92,9 +93,18 @@ def check_files(page, folder):
     said = page.drop(("bad.pcwt", good[:-1]))
     require("bad.pcwt is refused: E8 record" in said and "one.pcwt is still open." in said, said)
     require(page.shown() == before, "a bad file has changed the plan")
+    require(page.browser.value("textOf('trace-state')").startswith("one.pcwt: 26,715 pages"), said)
     require(not page.after("document.getElementById('control-rounds').value = '7';"
                            "document.getElementById('control-rounds').dispatchEvent(new Event('input'))")["refused"],
             "no plan after a bad file")
+    # One after another, without waiting: the worker and the page have the same trace open then.
+    before = page.browser.value("opened")
+    for name, text in (("three.pcwt", read(example("gzip.pcwt"))), ("bad.pcwt", good[:-1])):
+        page.browser.value(f"drop([[{json.dumps(name)}, {json.dumps(base64.b64encode(text).decode())}]])")
+    page.browser.wait(f"opened === {before + 2} && isDrawn()")
+    said = page.browser.value("textOf('trace-notes') + ' | ' + textOf('trace-state')")
+    require("three.pcwt is still open." in said and "three.pcwt: 25 pages" in said, said)
+    require(page.shown()["rounds"][0][4] == 25, f"rounds of another trace: {page.shown()['rounds'][0]}")
     path = os.path.join(folder, "chosen.pcwt")
     with open(path, "wb") as file:
         file.write(good)

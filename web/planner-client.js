@@ -5,7 +5,7 @@ import { Refusal } from "./planner.js";
 import { embeddedBytes } from "./trace-source.js";
 
 /** For how long a worker that was asked may be silent, in milliseconds; and how often one trace may end it. */
-const LONGEST_SILENCE = 15_000;
+const LONGEST_SILENCE = 30_000;
 const MOST_ENDS = 2;
 
 /** The worker ended, again and again, over this trace. */
@@ -32,6 +32,9 @@ export class PlannerClient {
     worker.onerror = () => worker === this.worker && this.restart();
     this.worker = worker;
     this.post(this.entryOf("module", { bytes: this.bytes }));
+    if (this.blob) {
+      this.post(this.entryOf("open", { blob: this.blob }));
+    }
   }
 
   /** Asks the worker, and has its answer. `told` is called with the share that is done. */
@@ -41,14 +44,14 @@ export class PlannerClient {
       await this.starting;
     }
     return new Promise((resolve, reject) => {
-      const entry = { ...this.entryOf(name, asked), resolve, reject, told };
+      const entry = { ...this.entryOf(name, asked), isOwn: false, resolve, reject, told };
       this.post(entry);
     });
   }
 
   entryOf(name, asked) {
     this.count += 1;
-    return { number: this.count, name, asked, resolve: () => {}, reject: () => {}, told: () => {} };
+    return { number: this.count, name, asked, isOwn: true, resolve: () => {}, reject: () => {}, told: () => {} };
   }
 
   post(entry) {
@@ -100,7 +103,7 @@ export class PlannerClient {
 
   /** Ends the worker and starts another, which is asked what the first was, once it has the trace. */
   async restart() {
-    const entries = [...this.waiting.values()].filter(({ name }) => name !== "module");
+    const entries = [...this.waiting.values()].filter(({ isOwn }) => !isOwn);
     this.worker?.terminate();
     this.waiting.clear();
     this.ends += 1;
@@ -111,9 +114,6 @@ export class PlannerClient {
       return;
     }
     await this.start();
-    if (this.blob) {
-      this.post(this.entryOf("open", { blob: this.blob }));
-    }
     entries.forEach((entry) => this.post(entry));
   }
 }

@@ -61,6 +61,7 @@ export class TraceDesk {
     this.trace = null;
     this.loading = 0;
     this.early = null;
+    this.said = null;
     this.sources = new Map();
   }
 
@@ -96,7 +97,7 @@ export class TraceDesk {
     return source !== undefined;
   }
 
-  /** Opens a trace, if no other is asked for meanwhile. `wish` goes to `taken`. */
+  /** Opens a trace; several are opened in turn, as the worker does. `wish` goes to `taken`. */
   async open(source, wish, notes) {
     this.loading += 1;
     const { loading } = this;
@@ -106,16 +107,15 @@ export class TraceDesk {
       const found = await this.client.open(source.blob, (share) => {
         this.busy(`Reading ${source.name}: ${Math.floor(100 * share)} %`);
       });
-      if (loading === this.loading) {
-        this.trace = new OpenTrace(this.client, source, found);
-        this.sources.set(this.trace.print, source);
-        this.early = null;
-        this.note([...notes, ...this.recordNotes(source.record)]);
-        this.taken(this.trace, wish);
-        ending = "opened";
-      }
+      this.trace = new OpenTrace(this.client, source, found);
+      this.said = null;
+      this.sources.set(this.trace.print, source);
+      this.early = null;
+      this.note([...notes, ...this.recordNotes(source.record)]);
+      this.taken(this.trace, wish);
+      ending = "opened";
     } catch (error) {
-      this.refuse(error, source, loading, notes);
+      this.refuse(error, source, notes);
     }
     if (loading === this.loading) {
       this.busy(null);
@@ -123,12 +123,9 @@ export class TraceDesk {
     performance.measure(ending, { start: 0, end: performance.now() });
   }
 
-  refuse(error, source, loading, notes) {
+  refuse(error, source, notes) {
     if (!(error instanceof Refusal) && !(error instanceof WorkerEnded)) {
       throw error;
-    }
-    if (loading !== this.loading) {
-      return;
     }
     const said = error instanceof Refusal ? refusalPart(error, `${source.name} is refused:`)
       : html("p", { class: "refusal" }, `${source.name} ended the page's worker more than once, and is not open.`);
@@ -174,6 +171,8 @@ export class TraceDesk {
       byId("trace-state").textContent = words;
     } else if (!this.trace) {
       byId("trace-state").textContent = "Choose a trace, or an example.";
+    } else if (this.said) {
+      this.tell(...this.said);
     }
   }
 
@@ -183,6 +182,10 @@ export class TraceDesk {
 
   /** Says what is open, in the units of the settings; `problem` is said beside it. */
   tell(settings, problem) {
+    this.said = [settings, problem];
+    if (byId("trace").getAttribute("aria-busy") === "true") {
+      return;
+    }
     const { sizes, source } = this.trace;
     const { pages, pageBytes, writes, last } = sizes;
     const scale = this.scaleFor(settings);
