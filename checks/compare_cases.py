@@ -61,7 +61,7 @@ def words_of_a_comparison(_, folder):
         (["slower"], "invalid choice"),
     ):
         command = [sys.executable, COMPARE, *words, "--program", "/bin/true", "--view", "/bin/true"]
-        done = subprocess.run(command, cwd=folder, capture_output=True, text=True, timeout=SECONDS)
+        done = subprocess.run(command, cwd=folder, capture_output=True, text=True, timeout=4 * SECONDS)
         expect(done.returncode == 2 and said in done.stderr, f"{words}: {done.returncode}, {done.stderr!r}")
 
 

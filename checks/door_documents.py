@@ -2,6 +2,7 @@
 
 import os
 import re
+import shutil
 import subprocess
 import sys
 
@@ -52,16 +53,14 @@ def commands(tally, folder, run):
 
 
 def runner(folder, prefix):
-    """Runs commands of each page in a folder of its own, with nothing of the sources on the way."""
+    """Runs commands of each page in a copy of the documents, with nothing of the sources on the way."""
     shared = os.path.join(prefix, "share", "doc", "precopy")
     environment = {"PATH": f"{prefix}/bin:/usr/bin:/bin", "LC_ALL": "C.UTF-8", "LD_LIBRARY_PATH": f"{prefix}/lib"}
 
     def run(page, words):
         place = os.path.join(folder, page.replace("/", "-"))
         if not os.path.isdir(place):
-            os.makedirs(place)
-            for name in os.listdir(shared):
-                os.symlink(os.path.join(shared, name), os.path.join(place, name))
+            shutil.copytree(shared, place)
         done = subprocess.run(
             words, cwd=place, env=environment, stdin=subprocess.DEVNULL, stdout=subprocess.PIPE,
             stderr=subprocess.STDOUT, timeout=SECONDS,

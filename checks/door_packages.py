@@ -140,7 +140,7 @@ def run_documents(tally, tree):
 
     def in_folder(page, words):
         place = f"/tmp/{page.replace('/', '-')}"
-        go_there = f"mkdir -p {place} && cd {place} && ln -sfn /usr/share/doc/precopy/* ."
+        go_there = f"(test -d {place} || cp -r /usr/share/doc/precopy {place}) && cd {place}"
         ran = in_tree(tree, f"{go_there} && {shlex.join(words)}")
         return ran.returncode, ran.stdout
 

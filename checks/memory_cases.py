@@ -451,7 +451,7 @@ def listed_guests(_, folder):
             (["--pid", pid, "1", "--for", "1s", output], 2, "--pid: 2 processes"),
             (["--pid", f"{pid} 1", output], 2, "not the number of one process"),
         ):
-            done = subprocess.run([sys.executable, RECORD, *words], capture_output=True, text=True, timeout=SECONDS)
+            done = subprocess.run([sys.executable, RECORD, *words], capture_output=True, text=True, timeout=4 * SECONDS)
             printed = done.stderr if status else done.stdout
             expect(done.returncode == status and said in printed, f"{words}: {done.returncode}, {printed!r}")
             if "number" not in said:

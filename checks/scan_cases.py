@@ -34,7 +34,8 @@ def built():
 
 def is_used(tool):
     words = [sys.executable, "-Bc", "import scans; print(scans.LIBRARY is not None)"]
-    return subprocess.run(words, cwd=os.path.dirname(tool), capture_output=True, timeout=SECONDS).stdout == b"True\n"
+    told = subprocess.run(words, cwd=os.path.dirname(tool), capture_output=True, timeout=4 * SECONDS).stdout
+    return told == b"True\n"
 
 
 def looks_in_machine_code(_, folder):

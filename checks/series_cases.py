@@ -284,7 +284,7 @@ def words_of_a_series(_, folder):
             run.end()
             expect(run.status == 2 and said in run.faults, f"{words}: {run.status}, {run.faults!r}")
         command = [sys.executable, RECORD, *pages.source, "--keep", "2", os.path.join(folder, NAME)]
-        done = subprocess.run(command, capture_output=True, text=True, timeout=SECONDS)
+        done = subprocess.run(command, capture_output=True, text=True, timeout=4 * SECONDS)
         expect(done.returncode == 2 and "--keep goes with --segment" in done.stderr, done.stderr)
         expect(sorted(os.listdir(folder)) == before, f"{os.listdir(folder)}")
 
@@ -306,7 +306,7 @@ def service_of_a_guest(_, folder):
         known.ask("write")
         time.sleep(0.3)
         process.send_signal(signal.SIGTERM)
-        _, faults = process.communicate(timeout=SECONDS)
+        _, faults = process.communicate(timeout=4 * SECONDS)
         expect(process.returncode == 0 and not faults, f"{process.returncode}, {faults!r}")
     found = segments_in(folder)
     expect(len(found) == 1 and found[0][3].guest_pages == 1100, f"{found[0][3] if found else os.listdir(folder)}")

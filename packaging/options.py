@@ -73,7 +73,7 @@ class Unread(Exception):
 
 
 def help_of(path, words):
-    environment = {**os.environ, "COLUMNS": "400", "LC_ALL": "C.UTF-8"}
+    environment = {**os.environ, "COLUMNS": "2000", "LC_ALL": "C.UTF-8"}
     command = [path, *words, "--help"]
     done = subprocess.run(command, env=environment, stdin=subprocess.DEVNULL, capture_output=True, timeout=SECONDS)
     if done.returncode:
