@@ -133,7 +133,7 @@ fn traces() {
     ] {
         assert_eq!(refused, Err(cut));
     }
-    assert_eq!(cut.to_string(), "trace E8: a record is cut off, record 4");
+    assert_eq!(cut.to_string(), "trace E8: it ends within this record, record 4");
     let short = Refused::Trace {
         status: status::SHORT_HEADER,
         record: None,
