@@ -109,6 +109,10 @@ class Browser:
         self.call("Page.navigate", url="about:blank")
         self.call("Page.navigate", url=url)
 
+    def forget_pages(self):
+        """Leaves no page to go back to. The list is bounded, and Chromium drops from it what no user came to."""
+        self.call("Page.resetNavigationHistory")
+
     def choose(self, selector, paths):
         """Chooses files as a user does."""
         root = self.call("DOM.getDocument")["root"]["nodeId"]

@@ -166,6 +166,9 @@ class Firefox:
         """Runs a script in each page before its own."""
         self.call("script.addPreloadScript", functionDeclaration=f"() => {{ {script} }}")
 
+    def forget_pages(self):
+        """Firefox keeps all pages to go back to that the checks need."""
+
     def open_page(self, url):
         for each in ("about:blank", url):
             self.call("browsingContext.navigate", context=self.tab, url=each, wait="complete")

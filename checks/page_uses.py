@@ -209,6 +209,7 @@ def check_units(page):
 
 def check_back(page):
     """Back and forward go through settings; a click on the working set has a way back."""
+    page.browser.forget_pages()
     page.open("#trace=sqlite&link=1Gbit&rounds=30")
     page.wait_for_plan()
     page.browser.wait("location.hash.includes('window=')", 5)

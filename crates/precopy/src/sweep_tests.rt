@@ -47,10 +47,7 @@ fn sweeps_cases(rt: HostRuntime) -> Result<(), Fail> {
             ],
             TWICE_LATER,
         ),
-        (
-            &["2,4,1,1,8,0", "--start", "3000", "--base=2000"],
-            WARM,
-        ),
+        (&["2,4,1,1,8,0", "--start", "3000", "--base=2000"], WARM),
     ];
     for (words, expected) in sweeps {
         let (status, output, _) = told(&rt, alloc, "sweep", whole(alloc)?, words)?;

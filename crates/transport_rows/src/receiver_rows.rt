@@ -277,6 +277,9 @@ fn texts_go_back_after_a_refusal(rt: HostRuntime) -> Result<(), Fail> {
     let empty = pass_text(&mut out, &mut receiver, Vec::new(rt.alloc()));
     let refused = receiver.is_refused();
     let last = pass(rt.alloc(), &mut out, &mut receiver, 4, 8);
-    assert_eq!(rt; ([first, empty, last], refused), ([Ok(Some(true)); 3], true));
+    assert_eq!(rt;
+        ([first, empty, last], refused),
+        ([Ok(Some(true)); 3], true)
+    );
     Ok(())
 }
