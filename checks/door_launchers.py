@@ -102,7 +102,9 @@ def hand_on_statuses(tally, it):
         ran = it.run([b"precopy", b"signal", b"%d" % number], restore_signals=True)
         tally.add(ran[0] == -number, f"the launcher of a program that ends by {number.name}: {ran}")
     for number in (signal.SIGINT, signal.SIGTERM, signal.SIGHUP):
-        started, end = it.start([b"precopy", b"wait"]), time.monotonic() + SECONDS
+        # A shell starts what it runs in the background with some of these ignored.
+        started = it.start([b"precopy", b"wait"], preexec_fn=lambda: signal.signal(number, signal.SIG_DFL))
+        end = time.monotonic() + SECONDS
         while not it.heard("process") and time.monotonic() < end:
             time.sleep(0.01)
         tally.add(it.heard("process") == [str(started.pid)], "the program runs in another process than the launcher")
