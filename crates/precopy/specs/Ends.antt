@@ -6,12 +6,16 @@ use Rattle.migration_jobs.specs.Output.{IsOutput, IsRefusalOf, RefusesRun}
 use Rattle.migration_jobs.specs.Sink.{AppendsPart}
 use Rattle.migration_jobs.specs.declared.error.RunError.{RunError}
 use Rattle.migration_jobs.specs.declared.error.RunError.TheVariants as errors
+use Rattle.job_words.specs.Commands.{IsWordsRefusal, WordsFail}
+use Rattle.job_words.specs.declared.command.WordsError.{WordsError}
+use Rattle.program_edge.specs.Ends.{TellsWords}
+use Rattle.program_edge.specs.declared.program.Program.TheVariants.{Precopy}
 use Rattle.trace_codec.specs.declared.error.TraceError.TheVariants.{ReadFault}
 
 -- A job over what a source held failed: the sink holds a prefix of the output if a write failed, and otherwise what it
--- held before. `unread` and `unwritten` say whether the source and the sink failed.
+-- held before. `unread` and `unwritten` say whether the source and the sink failed, and `tells` what was told.
 pub record HasFailed (known : Option (List ℕ)) (job : Job) (unread unwritten : Bool) (old new : Option (List ℕ))
-    : Type 0 where
+    (tells : RunError → Type 0) : Type 0 where
   pub error : RunError
   pub own : IsRefusalOf job error
   pub cause : RefusesRun known error
@@ -19,3 +23,11 @@ pub record HasFailed (known : Option (List ℕ)) (job : Job) (unread unwritten :
   pub write_failed : (error ≡ errors.Write) ↔ (unwritten ≡ true)
   pub part : error ≡ errors.Write → (output : List ℕ) × IsOutput known job output × AppendsPart old new output
   pub kept : error ≢ errors.Write → Keeps old new
+  pub told : tells error
+
+-- words are refused, and that was told
+pub record TellsRefusal (words : List (List ℕ)) (old new : Option (List ℕ)) (has_failed : Bool) : Type 0 where
+  pub error : WordsError
+  pub fails : WordsFail words error
+  pub is_refusal : IsWordsRefusal error
+  pub told : TellsWords Precopy error old new has_failed

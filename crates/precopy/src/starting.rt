@@ -5,13 +5,13 @@ ghost use Rattle.std.specs.Io.KnownBytes.{Appends};
 ghost use Rattle.job_words.specs.Commands.{AreRefusedWords, AskForHelp, WordsAsk};
 ghost use Rattle.migration_jobs.specs.Output.{IsOutput};
 ghost use Rattle.migration_jobs.specs.Sink.{AppendsPart};
-ghost use Rattle.precopy.specs.Ends.{HasFailed};
-ghost use Rattle.program_edge.specs.Ends.{IsTold, memory_line};
+ghost use Rattle.precopy.specs.Ends.{HasFailed, TellsRefusal};
+ghost use Rattle.program_edge.specs.Ends.{IsTold, TellsRun, memory_line};
 
 use job_words::job_of;
 use live_engine::OpenGate;
-use migration_jobs::{Job, Sink, run};
-use program_edge::{Program, fault, refuse};
+use migration_jobs::{Job, RunError, Sink, run};
+use program_edge::{Program, refuse, run_fault};
 use std::alloc::Global;
 use std::sync::Wait;
 use std::thread::Threads;
@@ -34,12 +34,13 @@ fn run_job<R: Threads + Wait + Sync, S: Source, K: Sink, E: Sink>(
     ensures written { result ≡ 0 → (output : List ℕ) × IsOutput (S.remaining source.old) job.now output
         × Appends (K.contents sink.old) (K.contents sink.new) output }
     ensures failed { result ≡ 1 → HasFailed (S.remaining source.old) job.now (S.has_failed source.new)
-        (K.has_failed sink.new)
-        (K.contents sink.old) (K.contents sink.new) }
+        (K.has_failed sink.new) (K.contents sink.old) (K.contents sink.new)
+        (λ e. TellsRun Program.Precopy e (E.contents faults.old) (E.contents faults.new) (E.has_failed faults.new)) }
+    ensures untold { result ≡ 0 → faults.new ≡ faults.old }
 {
     match run(rt, alloc, job, source, sink, &OpenGate) {
         Ok(()) => 0,
-        Err(error) => fault(Program::Precopy, &error, faults),
+        Err(error) => run_fault(Program::Precopy, &error, faults),
     }
 }
 
@@ -69,17 +70,22 @@ pub fn start<R: Threads + Wait + Sync, S: Source, K: Sink, E: Sink>(
         ⊎ (AskForHelp (map string_bytes words.items) × (source.new ≡ source.old)
         × (text : List ℕ) × Appends (K.contents sink.old) (K.contents sink.new) text) }
     // The job that the words ask for failed; or else nothing was read: a write of help failed, or memory ran out while
-    // the words were read, which is reported, and nothing is written.
+    // the words were read, and nothing is written. Each of these is told.
     ensures failed { result ≡ 1 → ((job : Job) × WordsAsk (map string_bytes words.items) job
         × HasFailed (S.remaining source.old) job (S.has_failed source.new) (K.has_failed sink.new)
-        (K.contents sink.old) (K.contents sink.new))
+        (K.contents sink.old) (K.contents sink.new)
+        (λ e. TellsRun Program.Precopy e (E.contents faults.old) (E.contents faults.new) (E.has_failed faults.new)))
         ⊎ ((source.new ≡ source.old) × ((AskForHelp (map string_bytes words.items) × (K.has_failed sink.new ≡ true)
-        × (text : List ℕ) × AppendsPart (K.contents sink.old) (K.contents sink.new) text)
+        × TellsRun Program.Precopy RunError.Write (E.contents faults.old) (E.contents faults.new)
+        (E.has_failed faults.new) × (text : List ℕ) × AppendsPart (K.contents sink.old) (K.contents sink.new) text)
         ⊎ ((sink.new ≡ sink.old) × IsTold (memory_line Program.Precopy) (E.contents faults.old)
         (E.contents faults.new) (E.has_failed faults.new)))) }
     // Words are refused before any byte of the trace is read, and nothing is written then.
     ensures refused { result ≡ 2 → AreRefusedWords (map string_bytes words.items) × (source.new ≡ source.old)
         × (sink.new ≡ sink.old) }
+    ensures told { result ≡ 2 → TellsRefusal (map string_bytes words.items) (E.contents faults.old)
+        (E.contents faults.new) (E.has_failed faults.new) }
+    ensures untold { result ≡ 0 → faults.new ≡ faults.old }
 {
     match job_of(alloc, &words) {
         Ok(job) => run_job(rt, alloc, &job, source, sink, faults),

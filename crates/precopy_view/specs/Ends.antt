@@ -1,7 +1,10 @@
--- How words that make no view end.
-use Rattle.std.specs.Prelude.{ℕ, List, ⊤}
+-- How words that make no view end, and what is told of that and of a failed view.
+use Rattle.std.specs.Prelude.{ℕ, Bool, List, Option, ⊤}
 use Rattle.job_words.specs.Commands.{IsWordsRefusal}
-use Rattle.program_edge.specs.Ends.{IsHelpText}
+use Rattle.precopy_view.specs.declared.faults.ShowError.{ShowError}
+use Rattle.precopy_view.specs.declared.faults.ShowError.TheVariants as shows
+use Rattle.program_edge.specs.Ends.{IsHelpText, TellsLine, TellsRun, TellsWords}
+use Rattle.program_edge.specs.declared.program.Program.TheVariants.{PrecopyView}
 use Rattle.view_words.specs.Views.{WordsFail}
 use Rattle.view_words.specs.declared.command.ViewWordsError.{ViewWordsError}
 use Rattle.view_words.specs.declared.command.ViewWordsError.TheVariants as asked
@@ -23,3 +26,22 @@ IsRefusal (asked.Limits refusal) = ⊤
 -- words make no view, for an error of this kind
 abbrev pub FailsAs : (ViewWordsError → Type 0) → List (List ℕ) → Type 0
 FailsAs Is words = (e : ViewWordsError) × WordsFail words e × Is e
+
+-- what was told of words that make no view
+abbrev pub TellsViewWords : ViewWordsError → Option (List ℕ) → Option (List ℕ) → Bool → Type 0
+TellsViewWords (asked.Words e) old new has_failed = TellsWords PrecopyView e old new has_failed
+TellsViewWords (asked.Limits refusal) old new has_failed = TellsLine PrecopyView old new has_failed
+
+-- words are refused, and that was told
+pub record TellsRefusal (words : List (List ℕ)) (old new : Option (List ℕ)) (has_failed : Bool) : Type 0 where
+  pub error : ViewWordsError
+  pub fails : WordsFail words error
+  pub is_refusal : IsRefusal error
+  pub told : TellsViewWords error old new has_failed
+
+-- the fault line of a view that failed was told
+abbrev pub TellsShow : ShowError → Option (List ℕ) → Option (List ℕ) → Bool → Type 0
+TellsShow (shows.Run e) old new has_failed = TellsRun PrecopyView e old new has_failed
+TellsShow (shows.PageSize size) old new has_failed = TellsLine PrecopyView old new has_failed
+TellsShow (shows.TooManyPages pages) old new has_failed = TellsLine PrecopyView old new has_failed
+TellsShow (shows.View e) old new has_failed = TellsLine PrecopyView old new has_failed

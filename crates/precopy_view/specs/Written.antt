@@ -1,12 +1,14 @@
 -- What the program writes, and why it does not.
-use Rattle.std.specs.Prelude.{ℕ, Bool, List, Option}
+use Rattle.std.specs.Prelude.{◌⊎◌, ℕ, Bool, List, Option, ⊤}
 use Rattle.std.specs.Io.KnownBytes.{Appends}
-use Rattle.migration_jobs.specs.Output.{RefusesRun}
 use Rattle.migration_jobs.specs.Sink.{AppendsPart}
+use Rattle.migration_jobs.specs.declared.error.RunError.{RunError}
+use Rattle.migration_jobs.specs.declared.error.RunError.TheVariants as runs
 use Rattle.migration_model.specs.Touches.{GuestTouches}
 use Rattle.precopy_view.specs.Fitting.{FitsScale, IsMisfit}
 use Rattle.precopy_view.specs.declared.faults.ShowError.{ShowError}
 use Rattle.precopy_view.specs.declared.faults.ShowError.TheVariants as errors
+use Rattle.trace_codec.specs.Source.{SourceRefuses}
 use Rattle.trace_readers.specs.Pieces.{IsLogOf}
 use Rattle.trace_views.specs.Views.{IsView, RefusesView}
 use Rattle.trace_views.specs.declared.error.ViewError.{ViewError}
@@ -45,10 +47,27 @@ pub record RefusesMaking (known : Option (List ℕ)) (asked : AskedView) (e : Vi
   pub fits : FitsScale asked.scale log.shift log.pages
   pub refused : RefusesView log asked.view e
 
+-- reading a trace and writing a view is not refused for a thread, nor as a live run
+abbrev pub RefusesReading : Option (List ℕ) → RunError → Type 0
+RefusesReading known (runs.Trace e) = SourceRefuses known e
+RefusesReading known runs.Memory = ⊤
+RefusesReading known runs.Write = ⊤
+RefusesReading known runs.Thread = ⊥
+RefusesReading known (runs.Live e) = ⊥
+
 -- A trace is refused only for a cause in what the source held or outside of it, for its scale, or for what the view
 -- asks of it.
 abbrev pub RefusesAskedView : Option (List ℕ) → AskedView → ShowError → Type 0
-RefusesAskedView known asked (errors.Run e) = RefusesRun known e
+RefusesAskedView known asked (errors.Run e) = RefusesReading known e
 RefusesAskedView known asked (errors.PageSize size) = RefusesScale known asked (errors.PageSize size)
 RefusesAskedView known asked (errors.TooManyPages pages) = RefusesScale known asked (errors.TooManyPages pages)
 RefusesAskedView known asked (errors.View e) = RefusesMaking known asked e
+
+-- A view of what a source held failed for a cause, which was told. `old` and `new` are what the sink held and holds:
+-- a prefix of the view was written, or nothing.
+pub record HasFailed (known : Option (List ℕ)) (asked : AskedView) (old new : Option (List ℕ)) (is_unwritten : Type 0)
+    (tells : ShowError → Type 0) : Type 0 where
+  pub error : ShowError
+  pub cause : RefusesAskedView known asked error
+  pub part : is_unwritten ⊎ WritesViewPart known asked old new
+  pub told : tells error

@@ -3,13 +3,13 @@
 ghost use Rattle.std.specs.Prelude.{◌≡◌, ◌≤◌, ◌⊎◌, IfErr, List, OnOk, ℕ, false, true};
 ghost use Rattle.std.specs.Io.KnownBytes.{Appends};
 ghost use Rattle.migration_jobs.specs.Sink.{AppendsPart};
-ghost use Rattle.program_edge.specs.Ends.{IsTold, memory_line};
-ghost use Rattle.precopy_view.specs.Ends.{IsHelpOf, IsRefusal};
+ghost use Rattle.program_edge.specs.Ends.{IsTold, TellsRun, memory_line};
+ghost use Rattle.precopy_view.specs.Ends.{IsHelpOf, IsRefusal, TellsShow, TellsViewWords};
 ghost use Rattle.precopy_view.specs.Fitting.{FitsScale, IsMisfit};
 
 use guest_units::Scale;
 use migration_jobs::{RunError, Sink};
-use program_edge::{Program, tell_line};
+use program_edge::{Program, run_fault, tell_line};
 use thiserror::Error;
 use trace_codec::TraceError;
 use trace_readers::TouchLog;
@@ -81,17 +81,33 @@ fn cause_of(error: &TraceError) -> &'static str {
 #[error("trace {0}: {1}")]
 struct ExplainedTrace(TraceError, &'static str);
 
-/// Writes the fault line of an error, and returns the error's status, 1. It allocates nothing.
-pub(crate) fn fault<E: Sink>(faults: &mut E, error: &ShowError) -> u8
+/// Writes the fault line of a failed run, with what is wrong with a refused trace, and returns its status, 1.
+fn explained_fault<E: Sink>(faults: &mut E, error: &RunError) -> u8
     requires { E.has_failed faults.old ≡ false }
-    ensures { result ≡ 1 }
+    ensures status { result ≡ 1 }
+    ensures told { TellsRun Program.PrecopyView error.now (E.contents faults.old) (E.contents faults.new)
+        (E.has_failed faults.new) }
 {
     match error {
-        ShowError::Run(RunError::Trace(trace)) => {
+        RunError::Trace(trace) => {
             let explained = ExplainedTrace(*trace, cause_of(trace));
             program_edge::fault(Program::PrecopyView, &explained, faults)
         }
-        other => program_edge::fault(Program::PrecopyView, other, faults),
+        _ => run_fault(Program::PrecopyView, error, faults),
+    }
+}
+
+/// Writes the fault line of an error, and returns the error's status, 1. It allocates nothing.
+pub(crate) fn fault<E: Sink>(faults: &mut E, error: &ShowError) -> u8
+    requires { E.has_failed faults.old ≡ false }
+    ensures status { result ≡ 1 }
+    ensures told { TellsShow error.now (E.contents faults.old) (E.contents faults.new) (E.has_failed faults.new) }
+{
+    match error {
+        ShowError::Run(run) => explained_fault(faults, run),
+        ShowError::PageSize(_) => program_edge::fault(Program::PrecopyView, error, faults),
+        ShowError::TooManyPages(_) => program_edge::fault(Program::PrecopyView, error, faults),
+        ShowError::View(_) => program_edge::fault(Program::PrecopyView, error, faults),
     }
 }
 
@@ -104,9 +120,14 @@ pub fn refuse<K: Sink, E: Sink>(error: ViewWordsError, sink: &mut K, faults: &mu
     ensures help { result ≡ 0 → (text : List ℕ) × IsHelpOf error text
         × Appends (K.contents sink.old) (K.contents sink.new) text }
     ensures refused { result ≡ 2 → IsRefusal error × (sink.new ≡ sink.old) }
+    // Each status but 0 is told.
+    ensures told { (1 ≤ result) → TellsViewWords error (E.contents faults.old) (E.contents faults.new)
+        (E.has_failed faults.new) }
+    ensures untold { result ≡ 0 → faults.new ≡ faults.old }
     // Help that could not be written, or memory that ran out.
     ensures failed { result ≡ 1 → ((text : List ℕ) × IsHelpOf error text × (K.has_failed sink.new ≡ true)
-        × AppendsPart (K.contents sink.old) (K.contents sink.new) text)
+        × TellsRun Program.PrecopyView RunError.Write (E.contents faults.old) (E.contents faults.new)
+        (E.has_failed faults.new) × AppendsPart (K.contents sink.old) (K.contents sink.new) text)
         ⊎ ((sink.new ≡ sink.old) × IsTold (memory_line Program.PrecopyView) (E.contents faults.old)
         (E.contents faults.new) (E.has_failed faults.new)) }
 {

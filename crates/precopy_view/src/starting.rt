@@ -3,9 +3,9 @@
 ghost use Rattle.std.specs.Prelude.{◌≡◌, ◌≢◌, ◌≤◌, ◌⊎◌, IfErr, IfOk, List, OnOk, ℕ, false, map, string_bytes, true};
 ghost use Rattle.std.specs.Io.KnownBytes.{Appends};
 ghost use Rattle.migration_jobs.specs.Sink.{AppendsPart};
-ghost use Rattle.program_edge.specs.Ends.{IsTold, memory_line};
-ghost use Rattle.precopy_view.specs.Ends.{FailsAs, IsHelp, IsRefusal};
-ghost use Rattle.precopy_view.specs.Written.{MakesView, RefusesAskedView, WritesView, WritesViewPart};
+ghost use Rattle.program_edge.specs.Ends.{IsTold, TellsRun, memory_line};
+ghost use Rattle.precopy_view.specs.Ends.{FailsAs, IsHelp, IsRefusal, TellsRefusal, TellsShow};
+ghost use Rattle.precopy_view.specs.Written.{HasFailed, MakesView, RefusesAskedView, WritesView, WritesViewPart};
 ghost use Rattle.view_words.specs.Views.{WordsAsk};
 
 use crate::faults::{ShowError, check_scale, fault, refuse};
@@ -85,8 +85,10 @@ fn show<R: Threads + Sync, S: Source, K: Sink, E: Sink>(
         (K.contents sink.new) }
     ensures missed { result ≡ 3 → WritesView (S.remaining source.old) asked.now false (K.contents sink.old)
         (K.contents sink.new) }
-    ensures part { result ≡ 1 → (sink.new ≡ sink.old) ⊎ WritesViewPart (S.remaining source.old) asked.now
-        (K.contents sink.old) (K.contents sink.new) }
+    ensures failed { result ≡ 1 → HasFailed (S.remaining source.old) asked.now (K.contents sink.old)
+        (K.contents sink.new) (sink.new ≡ sink.old)
+        (λ e. TellsShow e (E.contents faults.old) (E.contents faults.new) (E.has_failed faults.new)) }
+    ensures untold { (result ≡ 0) ⊎ (result ≡ 3) → faults.new ≡ faults.old }
 {
     match run_view(rt, alloc, asked, source, sink) {
         Ok(true) => 0,
@@ -127,15 +129,20 @@ pub fn start<R: Threads + Sync, S: Source, K: Sink, E: Sink>(
     ensures refused { result ≡ 2 → FailsAs IsRefusal (map string_bytes words.items) × (source.new ≡ source.old)
         × (sink.new ≡ sink.old) }
     // The view that the words ask for failed, and nothing or a prefix of it was written; or else nothing was read: a
-    // write of help failed, or memory ran out while the words were read, which is reported, and nothing is written.
+    // write of help failed, or memory ran out while the words were read, and nothing is written. Each of these is told.
     ensures failed { result ≡ 1 → ((asked : AskedView) × WordsAsk (map string_bytes words.items) asked
-        × ((sink.new ≡ sink.old) ⊎ WritesViewPart (S.remaining source.old) asked (K.contents sink.old)
-        (K.contents sink.new)))
+        × HasFailed (S.remaining source.old) asked (K.contents sink.old) (K.contents sink.new) (sink.new ≡ sink.old)
+        (λ e. TellsShow e (E.contents faults.old) (E.contents faults.new) (E.has_failed faults.new)))
         ⊎ ((source.new ≡ source.old) × ((FailsAs IsHelp (map string_bytes words.items)
-        × (K.has_failed sink.new ≡ true) × (text : List ℕ) × AppendsPart (K.contents sink.old) (K.contents sink.new)
-        text)
+        × (K.has_failed sink.new ≡ true) × TellsRun Program.PrecopyView RunError.Write (E.contents faults.old)
+        (E.contents faults.new) (E.has_failed faults.new)
+        × (text : List ℕ) × AppendsPart (K.contents sink.old) (K.contents sink.new) text)
         ⊎ ((sink.new ≡ sink.old) × IsTold (memory_line Program.PrecopyView) (E.contents faults.old)
         (E.contents faults.new) (E.has_failed faults.new)))) }
+    ensures told { result ≡ 2 → TellsRefusal (map string_bytes words.items) (E.contents faults.old)
+        (E.contents faults.new) (E.has_failed faults.new) }
+    // A view or help that was written is not told.
+    ensures untold { (result ≡ 0) ⊎ (result ≡ 3) → faults.new ≡ faults.old }
 {
     match view_of(alloc, &words) {
         Ok(asked) => show(rt, alloc, &asked, source, sink, faults),

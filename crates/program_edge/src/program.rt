@@ -1,7 +1,7 @@
 //! The programs, by name.
 
-ghost use Rattle.std.specs.Prelude.{◌≡◌};
-ghost use Rattle.program_edge.specs.Ends.{memory_line, name_of};
+ghost use Rattle.std.specs.Prelude.{◌≡◌, ◌≤◌, length};
+ghost use Rattle.program_edge.specs.Ends.{name_of};
 
 /// A program. Its name begins each of its fault lines.
 #[derive(Clone, Copy, Debug, PartialEq, Eq)]
@@ -15,21 +15,12 @@ pub enum Program {
 impl Program {
     /// Returns the name of the program.
     pub fn name(self) -> &'static str
-        ensures { result.now ≡ name_of self }
+        ensures name { result.now ≡ name_of self }
+        ensures short { length result.now ≤ 12 }
     {
         match self {
             Program::Precopy => "precopy",
             Program::PrecopyView => "precopy-view",
-        }
-    }
-
-    /// Returns the fault line of a want of memory.
-    pub fn memory_line(self) -> &'static str
-        ensures { result.now ≡ memory_line self }
-    {
-        match self {
-            Program::Precopy => "precopy: memory\n",
-            Program::PrecopyView => "precopy-view: memory\n",
         }
     }
 }

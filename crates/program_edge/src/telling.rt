@@ -1,15 +1,15 @@
 //! What is told on standard output and standard error in place of a program's own output.
 
-ghost use Rattle.std.specs.Prelude.{◌≡◌, ◌≤◌, ◌⊎◌, ◌↔◌, List, ℕ, false, true};
+ghost use Rattle.std.specs.Prelude.{◌≡◌, ◌≤◌, ◌⊎◌, ◌↔◌, List, codes, length, ℕ, false, true};
 ghost use Rattle.std.specs.Io.KnownBytes.{Appends};
 ghost use Rattle.job_words.specs.Commands.{IsWordsRefusal};
 ghost use Rattle.migration_jobs.specs.Sink.{AppendsPart};
-ghost use Rattle.program_edge.specs.Ends.{IsHelpText, IsTold, memory_line};
+ghost use Rattle.program_edge.specs.Ends.{IsHelpText, IsTold, TellsLine, TellsRun, TellsWords, line_of, memory_line};
 
 use crate::program::Program;
 use arrayvec::ArrayString;
 use job_words::WordsError;
-use migration_jobs::{Sink, write_out};
+use migration_jobs::{RunError, Sink, write_out};
 use std::fmt::{Display, Write};
 
 /// Writes a text of faults. If that fails, nobody can be told.
@@ -20,24 +20,63 @@ fn tell<E: Sink>(faults: &mut E, text: &str)
     let _ = write_out(faults, text.as_bytes());
 }
 
-/// Writes a fault line: the program's name, and a cause. It has at most 128 bytes, and allocates nothing.
+/// Returns a fault line: the program's name, a cause, and a newline.
+fn line_of(program: Program, cause: &str) -> ArrayString<160>
+    requires { length cause.now ≤ 128 }
+    ensures { result.bytes ≡ line_of program cause.now }
+{
+    let mut line = ArrayString::<160>::new();
+    line.push_str(program.name());
+    line.push_str(": ");
+    line.push_str(cause);
+    line.push_str("\n");
+    line
+}
+
+/// Writes the fault line of a cause. It allocates nothing.
+fn tell_cause<E: Sink>(program: Program, cause: &str, faults: &mut E)
+    requires untold { E.has_failed faults.old ≡ false }
+    requires short { length cause.now ≤ 128 }
+    ensures { IsTold (line_of program cause.now) (E.contents faults.old) (E.contents faults.new)
+        (E.has_failed faults.new) }
+{
+    let line = line_of(program, cause);
+    tell(faults, line.as_str());
+}
+
+/// Writes a fault line: the program's name, a cause of at most 128 bytes, and a newline. It allocates nothing.
 pub fn tell_line<E: Sink, D: Display>(program: Program, cause: &D, faults: &mut E)
     requires { E.has_failed faults.old ≡ false }
-    ensures { (line : List ℕ) × IsTold line (E.contents faults.old) (E.contents faults.new) (E.has_failed faults.new) }
+    ensures { TellsLine program (E.contents faults.old) (E.contents faults.new) (E.has_failed faults.new) }
 {
-    let mut line = ArrayString::<128>::new();
-    let _ = write!(line, "{}: {cause}\n", program.name());
-    tell(faults, line.as_str());
+    let mut words = ArrayString::<128>::new();
+    let _ = write!(words, "{cause}");
+    tell_cause(program, words.as_str(), faults);
 }
 
 /// Writes the fault line of an error, and returns the error's status, 1.
 pub fn fault<E: Sink, D: Display>(program: Program, error: &D, faults: &mut E) -> u8
     requires { E.has_failed faults.old ≡ false }
     ensures status { result ≡ 1 }
-    ensures told { (line : List ℕ) × IsTold line (E.contents faults.old) (E.contents faults.new)
-        (E.has_failed faults.new) }
+    ensures told { TellsLine program (E.contents faults.old) (E.contents faults.new) (E.has_failed faults.new) }
 {
     tell_line(program, error, faults);
+    1
+}
+
+/// Writes the fault line of a failed run, and returns its status, 1.
+pub fn run_fault<E: Sink>(program: Program, error: &RunError, faults: &mut E) -> u8
+    requires { E.has_failed faults.old ≡ false }
+    ensures status { result ≡ 1 }
+    ensures told { TellsRun program error.now (E.contents faults.old) (E.contents faults.new)
+        (E.has_failed faults.new) }
+{
+    match error {
+        RunError::Memory => tell_cause(program, "memory", faults),
+        RunError::Thread => tell_cause(program, "thread", faults),
+        RunError::Write => tell_cause(program, "write", faults),
+        RunError::Trace(_) | RunError::Live(_) => tell_line(program, error, faults),
+    }
     1
 }
 
@@ -48,7 +87,7 @@ fn short_of_memory<E: Sink>(program: Program, faults: &mut E) -> u8
     ensures told { IsTold (memory_line program) (E.contents faults.old) (E.contents faults.new)
         (E.has_failed faults.new) }
 {
-    tell(faults, program.memory_line());
+    tell_cause(program, "memory", faults);
     1
 }
 
@@ -61,10 +100,13 @@ fn run_help<K: Sink, E: Sink>(program: Program, text: &str, sink: &mut K, faults
     ensures written { result ≡ 0 → Appends (K.contents sink.old) (K.contents sink.new) text.now }
     ensures part { result ≡ 1 → AppendsPart (K.contents sink.old) (K.contents sink.new) text.now }
     ensures failed { result ≡ 1 → K.has_failed sink.new ≡ true }
+    ensures told { result ≡ 1 → TellsRun program RunError.Write (E.contents faults.old) (E.contents faults.new)
+        (E.has_failed faults.new) }
+    ensures untold { result ≡ 0 → faults.new ≡ faults.old }
 {
     match write_out(sink, text.as_bytes()) {
         Ok(()) => 0,
-        Err(error) => fault(program, &error, faults),
+        Err(error) => run_fault(program, &error, faults),
     }
 }
 
@@ -85,9 +127,14 @@ pub fn refuse<K: Sink, E: Sink>(
     ensures refused { (result ≡ 2) ↔ IsWordsRefusal error }
     ensures unwritten { result ≡ 2 → sink.new ≡ sink.old }
     ensures kept { ((text : List ℕ) → ¬ IsHelpText error text) → sink.new ≡ sink.old }
+    // Each status but 0 is told.
+    ensures told { (1 ≤ result) → TellsWords program error (E.contents faults.old) (E.contents faults.new)
+        (E.has_failed faults.new) }
+    ensures untold { result ≡ 0 → faults.new ≡ faults.old }
     // Help that could not be written, or memory that ran out.
-    ensures failed { result ≡ 1 → ((K.has_failed sink.new ≡ true) × (text : List ℕ) × IsHelpText error text
-        × AppendsPart (K.contents sink.old) (K.contents sink.new) text)
+    ensures failed { result ≡ 1 → ((K.has_failed sink.new ≡ true)
+        × TellsRun program RunError.Write (E.contents faults.old) (E.contents faults.new) (E.has_failed faults.new)
+        × (text : List ℕ) × IsHelpText error text × AppendsPart (K.contents sink.old) (K.contents sink.new) text)
         ⊎ ((error ≡ WordsError.Memory) × IsTold (memory_line program) (E.contents faults.old) (E.contents faults.new)
         (E.has_failed faults.new)) }
 {

@@ -1,4 +1,4 @@
-use Rattle.std.proofs.Common.{inl, inr, map, refl, string_bytes}
+use Rattle.std.proofs.Common.{arith, inl, inr, map, refl, string_bytes}
 use Rattle.precopy.proofs.Told.{asked_for, no_text}
 use Rattle.precopy.proofs.starting.start.Goals as goal
 
@@ -15,12 +15,21 @@ returns-clause-failed g c one =
       | inl unshown ↦ inr (
         refl,
         inl (
-          asked_for (map string_bytes c.args.words.items) c.in-Err.error unshown.1 fails
-              unshown.2,
+          asked_for (map string_bytes c.args.words.items) c.in-Err.error unshown.2 fails
+              unshown.3,
           unshown.0,
           unshown.1,
-          unshown.3,
+          unshown.2,
+          unshown.4,
         ),
       )
       | inr memory ↦ inr (refl, inr (c.refuse.ensures.kept (no_text c.in-Err.error memory.0), memory.1))
     ]
+
+pub returns-clause-told : goal.returns-clause-told
+returns-clause-told g c two = record {
+  error = c.in-Err.error;
+  fails = rw c.deref.ensures.value at c.in-Err.ensures.failed;
+  is_refusal = c.refuse.ensures.refused.0 two;
+  told = c.refuse.ensures.told (omega (arith, two));
+}
