@@ -1,6 +1,6 @@
 -- What an index of the writes of a trace holds. This project's own, as versions are.
-use Rattle.std.specs.Prelude.{◌≡◌, ℕ, ◌==◌, List, map}
-use Rattle.std.specs.List.{enumerate_from, filter}
+use Rattle.std.specs.Prelude.{◌≡◌, ℕ, ◌==◌, nat_le, List, map, max}
+use Rattle.std.specs.List.{enumerate_from, filter, fold}
 use Rattle.migration_model.specs.Trace.{GuestTrace}
 use Rattle.migration_model.specs.Touches.{GuestTouch, touches_of}
 
@@ -23,6 +23,10 @@ places_in touches page = map (λ at. at.0) (filter (λ at. at.1.page == page) (e
 -- the places of a trace's writes to a page, in ascending order
 abbrev pub places_of : GuestTrace → ℕ → List ℕ
 places_of trace page = map (λ at. at.0) (filter (λ at. at.1.page == page) (enumerate_from 1 trace.writes))
+
+-- the version of a page after the first `count` writes of a trace: the greatest place of a write to it among them, or 0
+abbrev pub version_after : GuestTrace → ℕ → ℕ → ℕ
+version_after trace page count = fold max 0 (filter (λ place. nat_le place count) (places_of trace page))
 
 -- the place and tick of each touch of a page, and of each of a trace's writes to it, in ascending order
 abbrev pub stamps_in : List GuestTouch → ℕ → List (ℕ × ℕ)

@@ -5,13 +5,14 @@ ghost use Rattle.std.specs.List.{filter};
 ghost use Rattle.migration_model.specs.Trace.{GuestTrace};
 ghost use Rattle.migration_model.specs.Versions.{page_at, version_before as version_of};
 ghost use Rattle.page_versions.specs.Index.{GuestIndex, HasWritesOf, IsIndexOf, index_with, places_in, places_of};
+ghost use Rattle.page_versions.specs.Index.{version_after as version_at};
 ghost use Rattle.page_versions.specs.Layout.{IsLaidOut};
 
 use crate::bytes::{put_bytes, put_writes};
 use crate::error::IndexError;
-use crate::index_parts::{are_touches, parts_of, touches_in};
+use crate::index_parts::{are_touches, parts_alone, parts_of, touches_in};
 use crate::laying::Parts;
-use crate::searching::{greatest_before, places_after, places_between, places_to};
+use crate::searching::{greatest_before, greatest_to, places_after, places_between, places_to};
 use guest_log::{Touch, WriteLog};
 use std::alloc::{AllocError, Global};
 use std::marker::Model;
@@ -74,6 +75,21 @@ impl PageIndex {
         })
     }
 
+    /// Returns the index of a trace, made in the caller's thread alone. The only error is that memory runs out.
+    pub fn build_alone<W: WriteLog>(alloc: Global, trace: &W) -> Result<PageIndex, IndexError>
+        ensures { IfOk result (λ index. IsIndexOf index (W.trace trace.now)) }
+    {
+        let pages = trace.page_count();
+        let touches = touches_in(alloc, trace)?;
+        let Parts { starts, places } = parts_alone(alloc, trace)?;
+        Ok(PageIndex {
+            pages,
+            touches,
+            starts,
+            places,
+        })
+    }
+
     /// Returns the page's part of the list of places.
     fn part(&self, page: u32) -> &[u32]
         requires { page < self.now.pages }
@@ -110,6 +126,15 @@ impl PageIndex {
         ensures { (trace : GuestTrace) → IsIndexOf self.now trace → result ≡ version_of trace page tick }
     {
         greatest_before(&self.touches, self.part(page), tick)
+    }
+
+    /// Returns the page's version after the first `count` writes of the trace: the greatest place of a write to it among
+    /// them, or 0 if there is none. It does a binary search.
+    pub fn version_after(&self, page: u32, count: u32) -> u32
+        requires { page < self.now.pages }
+        ensures { (trace : GuestTrace) → IsIndexOf self.now trace → result ≡ version_at trace page count }
+    {
+        greatest_to(self.part(page), count)
     }
 
     /// Returns the bytes of the page after the first `version` writes of the trace. It applies only the page's own

@@ -5,7 +5,7 @@ ghost use Rattle.page_versions.specs.Layout.{IsLaidOut};
 
 use crate::error::IndexError;
 use crate::laying::{Parts, lay_out};
-use crate::runs::{runs_of, sort_runs};
+use crate::runs::{runs_of, sort_alone, sort_runs};
 use guest_log::{Timeline, Touch};
 use std::alloc::{AllocError, Global};
 use std::thread::Threads;
@@ -34,6 +34,17 @@ pub(crate) fn parts_of<T: Timeline>(
     let pages = timeline.page_count();
     let mut runs = runs_of(alloc, timeline)?;
     sort_runs(rt, &mut runs);
+    Ok(lay_out(alloc, pages, timeline.touch_count(), &runs)?)
+}
+
+/// Returns the places of all touches, page by page, made in this thread.
+pub(crate) fn parts_alone<T: Timeline>(alloc: Global, timeline: &T) -> Result<Parts, IndexError>
+    ensures { IfOk result (λ parts. IsLaidOut (T.pages timeline.now) (T.touches timeline.now) parts.starts.items
+        parts.places.items) }
+{
+    let pages = timeline.page_count();
+    let mut runs = runs_of(alloc, timeline)?;
+    sort_alone(&mut runs);
     Ok(lay_out(alloc, pages, timeline.touch_count(), &runs)?)
 }
 

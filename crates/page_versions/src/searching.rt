@@ -103,6 +103,15 @@ pub(crate) fn greatest_before(touches: &[Touch], places: &[u32], tick: u64) -> u
     greatest(&places[..count])
 }
 
+/// Returns the greatest of ascending places that is not after a version, or 0.
+pub(crate) fn greatest_to(places: &[u32], version: u32) -> u32
+    requires { IsNonDecreasing places.now }
+    ensures { result ≡ fold max 0 (filter (λ place. nat_le place version) places.now) }
+{
+    let count = count_to(places, version);
+    greatest(&places[..count])
+}
+
 /// Returns the places that are not after a version.
 pub(crate) fn places_to(places: &[u32], version: u32) -> &[u32]
     requires { IsNonDecreasing places.now }
