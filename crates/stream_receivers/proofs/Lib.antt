@@ -6,3 +6,4 @@ pub mod Holding
 pub mod Stood
 pub mod Ends
 pub mod Viewed
+pub mod Kept
