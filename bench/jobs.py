@@ -6,6 +6,9 @@ from dataclasses import dataclass
 MOST_RATE = 1_000_000
 ALL = ("precopy", "fast", "plain")
 BOTH = ("precopy", "fast")
+# The peer is fast with frames of bytes.
+PEER = ("precopy", "fast", "peer")
+MORE_WORDS = {"peer": ["--encoded"]}
 
 
 @dataclass(frozen=True)
@@ -130,14 +133,14 @@ def quick_jobs():
         Job("report-warm", lambda trace: ["report", *options(**settings_of(trace), **base)]),
         Job("sweep-warm", lambda trace: [*sweep(16, 2)(trace), *options(**base)]),
         SWEEP_1,
-        LIVE_1,
+        Job("live", live(), PEER, ("image",)),
         LIVE_2,
-        Job("live-many", live(workers=3, streams=4, replayers=2, lane=7), BOTH, after),
-        Job("live-lane-of-one", live(workers=2, streams=1, replayers=3, lane=1, skip=True), BOTH, after),
-        Job("live-start", live(workers=4, streams=2, replayers=5, lane=64, at_stop=True, **start), BOTH),
+        Job("live-many", live(workers=3, streams=4, replayers=2, lane=7), PEER, after),
+        Job("live-lane-of-one", live(workers=2, streams=1, replayers=3, lane=1, skip=True), PEER, after),
+        Job("live-start", live(workers=4, streams=2, replayers=5, lane=64, at_stop=True, **start), PEER),
         Job("live-start-on", live(streams=3, **start), BOTH, after),
         COLD,
         WARM,
-        Job("live-warm-stop", live_warm(workers=3, streams=2, replayers=2, skip=True, at_stop=True), BOTH),
+        Job("live-warm-stop", live_warm(workers=3, streams=2, replayers=2, skip=True, at_stop=True), PEER),
         Job("live-warm-empty", live(base=700, start=700, streams=2, threshold=1, at_stop=True), BOTH),
     ]

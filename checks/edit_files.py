@@ -1,6 +1,7 @@
 """The files of wrong bodies, crates/NAME/FOLDER/*.edit (docs/EDITS.md), and the sources with one of them in place."""
 
 import dataclasses
+import hashlib
 import os
 import re
 
@@ -27,6 +28,9 @@ class Edit:
     def __str__(self):
         return f"{self.crate}/{self.name}"
 
+    def digest(self):
+        return digest_of(f"{TOP}/crates/{self.crate}/{self.folder}/{self.name}.edit")
+
     def put_in(self, top):
         """Returns the texts of the files that the body changes, by their paths below `top`, with the body in them."""
         texts = {}
@@ -42,6 +46,12 @@ class Edit:
             if text == text_of(top, path):
                 raise BadEdit(f"it leaves {path} as it is")
         return texts
+
+
+def digest_of(path):
+    """Returns what tells one text of a wrong body from another, in the record of tries."""
+    with open(path, "rb") as file:
+        return hashlib.sha256(file.read()).hexdigest()[:12]
 
 
 def text_of(top, path):

@@ -18,6 +18,8 @@ pub struct Settings {
     pub lane: usize,
     pub skip: bool,
     pub at_stop: bool,
+    /// Frames go over lanes as bytes and not by pointer; precopy has no such word.
+    pub encoded: bool,
 }
 
 const DEFAULTS: Settings = Settings {
@@ -36,6 +38,7 @@ const DEFAULTS: Settings = Settings {
     lane: 1024,
     skip: false,
     at_stop: false,
+    encoded: false,
 };
 
 pub enum Job {
@@ -116,6 +119,7 @@ pub fn job(mut words: impl Iterator<Item = String>) -> Result<Job, String> {
         match (option, command.as_str()) {
             ("skip", "report" | "live") => settings.skip = true,
             ("at-stop", "live") => settings.at_stop = true,
+            ("encoded", "live") => settings.encoded = true,
             _ => {
                 let (name, value) = match option.split_once('=') {
                     Some((name, value)) => (name, Some(value.to_string())),

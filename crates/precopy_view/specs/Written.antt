@@ -1,5 +1,5 @@
 -- What the program writes, and why it does not.
-use Rattle.std.specs.Prelude.{◌⊎◌, ℕ, Bool, List, Option, ⊤}
+use Rattle.std.specs.Prelude.{◌≡◌, ◌≢◌, ◌↔◌, ℕ, Bool, List, Option, ⊤, true}
 use Rattle.std.specs.Io.KnownBytes.{Appends}
 use Rattle.migration_jobs.specs.Sink.{AppendsPart}
 use Rattle.migration_jobs.specs.declared.error.RunError.{RunError}
@@ -9,6 +9,7 @@ use Rattle.precopy_view.specs.Fitting.{FitsScale, IsMisfit}
 use Rattle.precopy_view.specs.declared.faults.ShowError.{ShowError}
 use Rattle.precopy_view.specs.declared.faults.ShowError.TheVariants as errors
 use Rattle.trace_codec.specs.Source.{SourceRefuses}
+use Rattle.trace_codec.specs.declared.error.TraceError.TheVariants.{ReadFault}
 use Rattle.trace_readers.specs.Pieces.{IsLogOf}
 use Rattle.trace_views.specs.Views.{IsView, RefusesView}
 use Rattle.trace_views.specs.declared.error.ViewError.{ViewError}
@@ -63,11 +64,14 @@ RefusesAskedView known asked (errors.PageSize size) = RefusesScale known asked (
 RefusesAskedView known asked (errors.TooManyPages pages) = RefusesScale known asked (errors.TooManyPages pages)
 RefusesAskedView known asked (errors.View e) = RefusesMaking known asked e
 
--- A view of what a source held failed for a cause, which was told. `old` and `new` are what the sink held and holds:
--- a prefix of the view was written, or nothing.
-pub record HasFailed (known : Option (List ℕ)) (asked : AskedView) (old new : Option (List ℕ)) (is_unwritten : Type 0)
-    (tells : ShowError → Type 0) : Type 0 where
+-- A view of what a source held failed for a cause, which was told. `unread` and `unwritten` say whether the source and
+-- the sink failed. The sink holds a prefix of the view if a write failed, and is otherwise as it was: `is_kept`.
+pub record HasFailed (known : Option (List ℕ)) (asked : AskedView) (unread unwritten : Bool)
+    (old new : Option (List ℕ)) (is_kept : Type 0) (tells : ShowError → Type 0) : Type 0 where
   pub error : ShowError
   pub cause : RefusesAskedView known asked error
-  pub part : is_unwritten ⊎ WritesViewPart known asked old new
+  pub read_failed : (error ≡ errors.Run (runs.Trace ReadFault)) ↔ (unread ≡ true)
+  pub write_failed : (error ≡ errors.Run runs.Write) ↔ (unwritten ≡ true)
+  pub part : error ≡ errors.Run runs.Write → WritesViewPart known asked old new
+  pub kept : error ≢ errors.Run runs.Write → is_kept
   pub told : tells error

@@ -1,11 +1,13 @@
 //! The program over words, a source and two sinks.
 
-ghost use Rattle.std.specs.Prelude.{◌≡◌, ◌≢◌, ◌≤◌, ◌⊎◌, IfErr, IfOk, List, OnOk, ℕ, false, map, string_bytes, true};
+ghost use Rattle.std.specs.Prelude.{◌≡◌, ◌≢◌, ◌≤◌, ◌↔◌, ◌⊎◌, Err, IfErr, IfOk, List, OnOk, ℕ, false, map};
+ghost use Rattle.std.specs.Prelude.{string_bytes, true};
 ghost use Rattle.std.specs.Io.KnownBytes.{Appends};
 ghost use Rattle.migration_jobs.specs.Sink.{AppendsPart};
 ghost use Rattle.program_edge.specs.Ends.{IsTold, TellsRun, memory_line};
 ghost use Rattle.precopy_view.specs.Ends.{FailsAs, IsHelp, IsRefusal, TellsRefusal, TellsShow};
 ghost use Rattle.precopy_view.specs.Written.{HasFailed, MakesView, RefusesAskedView, WritesView, WritesViewPart};
+ghost use Rattle.trace_codec.specs.declared.error.TraceError.TheVariants.{ReadFault};
 ghost use Rattle.view_words.specs.Views.{WordsAsk};
 
 use crate::faults::{ShowError, check_scale, fault, refuse};
@@ -29,6 +31,8 @@ fn text_of<R: Threads + Sync, S: Source>(
     ensures made { IfOk result (λ v. MakesView (S.remaining source.old) asked.now v.text.items v.is_kept) }
     ensures refused { IfErr result (RefusesAskedView (S.remaining source.old) asked.now) }
     ensures unwritten { IfErr result (λ e. e ≢ ShowError.Run RunError.Write) }
+    ensures read_failed { (result ≡ Err (ShowError.Run (RunError.Trace ReadFault)))
+        ↔ (S.has_failed source.new ≡ true) }
 {
     let log = match TouchLog::read(alloc, source) {
         Ok(log) => log,
@@ -57,8 +61,12 @@ fn run_view<R: Threads + Sync, S: Source, K: Sink>(
         (K.contents sink.new)) }
     ensures flushed { OnOk result (K.is_flushed sink.new ≡ true) }
     ensures refused { IfErr result (RefusesAskedView (S.remaining source.old) asked.now) }
-    ensures part { IfErr result (λ e. (sink.new ≡ sink.old) ⊎ WritesViewPart (S.remaining source.old) asked.now
-        (K.contents sink.old) (K.contents sink.new)) }
+    ensures part { result ≡ Err (ShowError.Run RunError.Write) → WritesViewPart (S.remaining source.old) asked.now
+        (K.contents sink.old) (K.contents sink.new) }
+    ensures kept { IfErr result (λ e. e ≢ ShowError.Run RunError.Write → sink.new ≡ sink.old) }
+    ensures read_failed { (result ≡ Err (ShowError.Run (RunError.Trace ReadFault)))
+        ↔ (S.has_failed source.new ≡ true) }
+    ensures write_failed { (result ≡ Err (ShowError.Run RunError.Write)) ↔ (K.has_failed sink.new ≡ true) }
 {
     let shown = text_of(rt, alloc, asked, source)?;
     match write_out(sink, &shown.text) {
@@ -85,8 +93,8 @@ fn show<R: Threads + Sync, S: Source, K: Sink, E: Sink>(
         (K.contents sink.new) }
     ensures missed { result ≡ 3 → WritesView (S.remaining source.old) asked.now false (K.contents sink.old)
         (K.contents sink.new) }
-    ensures failed { result ≡ 1 → HasFailed (S.remaining source.old) asked.now (K.contents sink.old)
-        (K.contents sink.new) (sink.new ≡ sink.old)
+    ensures failed { result ≡ 1 → HasFailed (S.remaining source.old) asked.now (S.has_failed source.new)
+        (K.has_failed sink.new) (K.contents sink.old) (K.contents sink.new) (sink.new ≡ sink.old)
         (λ e. TellsShow e (E.contents faults.old) (E.contents faults.new) (E.has_failed faults.new)) }
     ensures untold { (result ≡ 0) ⊎ (result ≡ 3) → faults.new ≡ faults.old }
 {
@@ -128,10 +136,11 @@ pub fn start<R: Threads + Sync, S: Source, K: Sink, E: Sink>(
     // Words are refused before any byte of the trace is read, and nothing is written then.
     ensures refused { result ≡ 2 → FailsAs IsRefusal (map string_bytes words.items) × (source.new ≡ source.old)
         × (sink.new ≡ sink.old) }
-    // The view that the words ask for failed, and nothing or a prefix of it was written; or else nothing was read: a
-    // write of help failed, or memory ran out while the words were read, and nothing is written. Each of these is told.
+    // The view that the words ask for failed; or else nothing was read: a write of help failed, or memory ran out while
+    // the words were read, and nothing is written. Each of these is told.
     ensures failed { result ≡ 1 → ((asked : AskedView) × WordsAsk (map string_bytes words.items) asked
-        × HasFailed (S.remaining source.old) asked (K.contents sink.old) (K.contents sink.new) (sink.new ≡ sink.old)
+        × HasFailed (S.remaining source.old) asked (S.has_failed source.new) (K.has_failed sink.new)
+        (K.contents sink.old) (K.contents sink.new) (sink.new ≡ sink.old)
         (λ e. TellsShow e (E.contents faults.old) (E.contents faults.new) (E.has_failed faults.new)))
         ⊎ ((source.new ≡ source.old) × ((FailsAs IsHelp (map string_bytes words.items)
         × (K.has_failed sink.new ≡ true) × TellsRun Program.PrecopyView RunError.Write (E.contents faults.old)

@@ -2,9 +2,9 @@
 //!
 //! Replayers store the version of a page and then set its dirty bit. Copiers take the dirty bits of 64 pages at once,
 //! read the version of each page, make its bytes and hand them to the streams in turn. Each stream has a thread that
-//! keeps the newest version of each page. Bytes change hands by pointer: only its copier writes a body, and
-//! comes back over a lane when a newer version has taken its place.
+//! keeps the newest version of each page. `carriage.rs` has the two ways in which bytes change hands.
 
+use crate::carriage::{Carriage, Frame, Part};
 use crate::lanes::{lane, Giver, Taker};
 use crate::pages::{fetch, Body, Index, Rooms, RELEASE, ZEROS};
 use crate::plan::{Plan, Planner, Touches};
@@ -15,14 +15,6 @@ use std::sync::atomic::{AtomicBool, AtomicU32, AtomicU64, Ordering::*};
 use std::sync::Barrier;
 use std::thread::{scope, sleep};
 use std::time::Duration;
-
-/// A page at a version: the place of the last write that it has, from 1, or 0.
-#[derive(Clone, Copy)]
-struct Frame {
-    page: u32,
-    stamp: u32,
-    body: Body,
-}
 
 /// The guest, and what all threads share.
 pub struct Guest {
@@ -103,8 +95,8 @@ fn ranges(plan: &Plan, touches: &Touches) -> Vec<Range<usize>> {
     plan.rounds.iter().map(|round| touches.at(round.from)..touches.at(round.to)).collect()
 }
 
-/// The lane to a stream, and the one on which bodies come back.
-type Lanes = (Giver<Frame>, Taker<Body>);
+/// The lane to a stream, and the one on which memory comes back.
+type Lanes<C> = (Giver<C>, Taker<Body>);
 
 /// What a copier made last of one of its pages, and how many of the page's writes are in it.
 #[derive(Clone, Copy)]
@@ -114,23 +106,27 @@ struct Newest {
 }
 
 /// A copier has the dirty words whose number leaves its own by the number of copiers.
-struct Copier<'a> {
+struct Copier<'a, C> {
     guest: &'a Guest,
     number: usize,
     copiers: usize,
     newest: Vec<Newest>,
     rooms: Rooms,
+    /// Memory that comes back over the lanes, if frames have memory of their own.
+    spare: Rooms,
     turn: usize,
-    lanes: Vec<Lanes>,
+    lanes: Vec<Lanes<C>>,
+    sent: usize,
 }
 
-impl Copier<'_> {
+impl<C: Carriage> Copier<'_, C> {
     /// It goes on from the pages that the destination has.
-    fn new<'a>(guest: &'a Guest, number: usize, copiers: usize, lanes: Vec<Lanes>, first: &Part) -> Copier<'a> {
+    fn new<'a>(guest: &'a Guest, number: usize, copiers: usize, lanes: Vec<Lanes<C>>, first: &Part) -> Copier<'a, C> {
         let own = guest.dirty.len().div_ceil(copiers) * 64;
         let newest = vec![Newest { body: ZEROS, writes: 0 }; own];
-        let rooms = Rooms::new(guest.sizes.page_size(), guest.sizes.pages);
-        let mut copier = Copier { guest, number, copiers, newest, rooms, turn: 0, lanes };
+        let size = guest.sizes.page_size();
+        let (rooms, spare) = (Rooms::new(size, guest.sizes.pages), C::spare(size, guest.sizes.pages));
+        let mut copier = Copier { guest, number, copiers, newest, rooms, spare, turn: 0, lanes, sent: 0 };
         let words: Vec<usize> = if guest.base.is_some() { copier.words().collect() } else { Vec::new() };
         for page in words.into_iter().flat_map(|word| 64 * word..first.len().min(64 * word + 64)) {
             let (next, body) = first[page];
@@ -148,8 +144,8 @@ impl Copier<'_> {
         &mut self.newest[page / 64 / self.copiers * 64 + page % 64]
     }
 
-    /// Takes all rounds, and then makes the frames of the pages that are dirty still.
-    fn work(mut self, skip: bool, meeting: &Barrier) -> Vec<Frame> {
+    /// Takes all rounds, and then makes the frames of the pages that are dirty still. Answers also how many it sent.
+    fn work(mut self, skip: bool, meeting: &Barrier) -> (Vec<C>, usize) {
         for round in 0..self.guest.rounds.len() {
             self.round(skip && round > 0);
             meeting.wait();
@@ -164,7 +160,8 @@ impl Copier<'_> {
                 last.push(self.frame(page));
             }
         }
-        last
+        let sent = self.sent + last.len();
+        (last, sent)
     }
 
     fn round(&mut self, skip: bool) {
@@ -187,6 +184,7 @@ impl Copier<'_> {
                 self.ahead(word, left);
                 let frame = self.frame(64 * word + bit.trailing_zeros() as usize);
                 self.lanes[stream].0.give(frame);
+                self.sent += 1;
             }
             if returned != 0 {
                 dirty.fetch_or(returned, Release);
@@ -206,47 +204,35 @@ impl Copier<'_> {
     }
 
     /// The frame of a page as it is now.
-    fn frame(&mut self, page: usize) -> Frame {
+    fn frame(&mut self, page: usize) -> C {
         let guest = self.guest;
         let stamp = guest.versions[page].load(Acquire);
         let (old, writes) = (*self.newest(page), guest.index.of(page));
         let new = writes[old.writes..].iter().take_while(|(place, _)| *place <= stamp).count();
-        if !self.rooms.has_free() {
+        if !C::returned(&mut self.rooms, &mut self.spare).has_free() {
             self.fetch_back();
         }
-        let body = self.rooms.with_writes(guest.text, old.body, &writes[old.writes..old.writes + new]);
+        let body = C::brought_on(&mut self.rooms, guest.text, old.body, &writes[old.writes..old.writes + new]);
         *self.newest(page) = Newest { body, writes: old.writes + new };
-        Frame { page: page as u32, stamp, body }
+        C::packed(Frame { page: page as u32, stamp, body }, &mut self.spare)
     }
 
-    /// Takes back the bodies that streams have let go of.
+    /// Takes back the memory that streams have let go of.
     fn fetch_back(&mut self) {
         for (_, back) in &mut self.lanes {
             while let Some(body) = back.take() {
-                self.rooms.give_back(body);
+                C::returned(&mut self.rooms, &mut self.spare).give_back(body);
             }
             back.publish();
         }
     }
 }
 
-/// What a stream has of each page: one more than the stamp, or 0, and the bytes.
-type Part = Vec<(u32, Body)>;
+/// For each copier the lane from it, the one back to it, and memory for which that had no room yet.
+type Stream<C> = Vec<(Taker<C>, Giver<Body>, Vec<Body>)>;
 
-/// Puts a frame into a part, and tells which body is needed no more. Of equal versions the later one stays: it is the
-/// one that its copier goes on from.
-fn accept(part: &mut Part, frame: Frame) -> Body {
-    let kept = &mut part[frame.page as usize];
-    if frame.stamp + 1 < kept.0 {
-        return frame.body;
-    }
-    std::mem::replace(kept, (frame.stamp + 1, frame.body)).1
-}
-
-/// For each copier the lane from it, the one back to it, and bodies for which that had no room yet.
-type Stream = Vec<(Taker<Frame>, Giver<Body>, Vec<Body>)>;
-
-fn receive(mut stream: Stream, mut part: Part, over: &AtomicBool) -> Part {
+fn receive<C: Carriage>(mut stream: Stream<C>, mut part: Part, size: usize, over: &AtomicBool) -> (Part, Rooms) {
+    let mut rooms = Rooms::new(size, part.len());
     let mut idle = 0;
     loop {
         let is_last = over.load(Acquire);
@@ -254,7 +240,7 @@ fn receive(mut stream: Stream, mut part: Part, over: &AtomicBool) -> Part {
         for (lane, back, old) in &mut stream {
             while let Some(frame) = lane.take() {
                 came = true;
-                let body = accept(&mut part, frame);
+                let body = frame.accepted(&mut part, &mut rooms);
                 if !body.is_zeros() {
                     old.push(body);
                 }
@@ -267,7 +253,7 @@ fn receive(mut stream: Stream, mut part: Part, over: &AtomicBool) -> Part {
         }
         idle = if came { 0 } else { idle + 1 };
         if is_last && !came {
-            return part;
+            return (part, rooms);
         }
         match idle {
             0 => {}
@@ -277,9 +263,9 @@ fn receive(mut stream: Stream, mut part: Part, over: &AtomicBool) -> Part {
     }
 }
 
-/// Performs the migration. Answers the parts of all streams.
-fn migrate(guest: &Guest, settings: &Settings) -> Vec<Part> {
-    let mut streams: Vec<Stream> = (0..settings.streams).map(|_| Vec::new()).collect();
+/// Performs the migration. Answers the parts of all streams, and how many pages were sent.
+fn migrate<C: Carriage>(guest: &Guest, settings: &Settings) -> (Vec<Part>, usize) {
+    let mut streams: Vec<Stream<C>> = (0..settings.streams).map(|_| Vec::new()).collect();
     let (first, mut copiers) = (guest.first_part(), Vec::new());
     for number in 0..settings.workers {
         let mut lanes = Vec::new();
@@ -291,12 +277,12 @@ fn migrate(guest: &Guest, settings: &Settings) -> Vec<Part> {
         copiers.push(Copier::new(guest, number, settings.workers, lanes, &first));
     }
     let (over, meeting) = (AtomicBool::new(false), Barrier::new(settings.replayers + settings.workers));
-    let (over, meeting) = (&over, &meeting);
+    let (over, meeting, size) = (&over, &meeting, guest.sizes.page_size());
     let mut parts = vec![vec![(0, ZEROS); guest.sizes.pages]; settings.streams];
-    parts[0] = first;
+    parts[0] = C::own(first, size);
     scope(|scope| {
-        let receiving = streams.into_iter().zip(parts).map(|(it, part)| scope.spawn(move || receive(it, part, over)));
-        let receivers: Vec<_> = receiving.collect();
+        let receive = |(stream, part)| scope.spawn(move || receive(stream, part, size, over));
+        let receivers: Vec<_> = streams.into_iter().zip(parts).map(receive).collect();
         for number in 0..settings.replayers {
             scope.spawn(move || guest.replay(number, settings.replayers, meeting));
         }
@@ -304,11 +290,16 @@ fn migrate(guest: &Guest, settings: &Settings) -> Vec<Part> {
         let copiers: Vec<_> = copying.collect();
         let last: Vec<_> = copiers.into_iter().map(|it| it.join().expect("a copier ends")).collect();
         over.store(true, Release);
-        let mut parts: Vec<_> = receivers.into_iter().map(|it| it.join().expect("a receiver ends")).collect();
-        for frame in last.into_iter().flatten() {
-            accept(&mut parts[0], frame);
+        let ended = receivers.into_iter().map(|it| it.join().expect("a receiver ends"));
+        let (mut parts, mut rooms): (Vec<_>, Vec<_>) = ended.unzip();
+        let mut sent = 0;
+        for (frames, count) in last {
+            sent += count;
+            for frame in frames {
+                frame.accepted(&mut parts[0], &mut rooms[0]);
+            }
         }
-        parts
+        (parts, sent)
     })
 }
 
@@ -318,9 +309,15 @@ fn join(parts: &[Part], pages: usize) -> Vec<Body> {
     (0..pages).map(|page| newest(page).expect("there is a stream").1).collect()
 }
 
-pub fn live(settings: &Settings) -> Result<(), Refused> {
+/// Performs the migration and writes the memory. If the environment has `FAST_COUNTS`, standard error gets how many
+/// pages were sent.
+pub fn live<C: Carriage>(settings: &Settings) -> Result<(), Refused> {
     let guest = Guest::read(settings)?;
-    let mut pages = join(&migrate(&guest, settings), guest.sizes.pages);
+    let (parts, sent) = migrate::<C>(&guest, settings);
+    if std::env::var_os("FAST_COUNTS").is_some() {
+        eprintln!("sent {sent}");
+    }
+    let mut pages = join(&parts, guest.sizes.pages);
     let workers = if settings.at_stop { 0 } else { settings.workers };
     crate::output::write(&guest, &mut pages, workers)
 }

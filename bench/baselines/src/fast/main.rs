@@ -1,6 +1,7 @@
 //! The baseline "fast": the four commands of precopy, written only for speed. What it writes for a valid trace has to
 //! be what precopy writes, byte for byte. Nothing of it is proved, and memory is handled by hand.
 
+mod carriage;
 mod image;
 mod lanes;
 mod live;
@@ -47,7 +48,8 @@ fn run() -> Result<(), Refused> {
         Job::Image => put(image::image()?),
         Job::Report(settings) => report(&settings),
         Job::Sweep(cases, workers) => sweep(&cases, workers),
-        Job::Live(settings) => live::live(&settings),
+        Job::Live(settings) if settings.encoded => live::live::<carriage::Encoded>(&settings),
+        Job::Live(settings) => live::live::<carriage::Frame>(&settings),
     }
 }
 

@@ -117,7 +117,28 @@ impl Rooms {
                 put_all(text, writes, body, size);
             }
         }
-        if has_only_zeros(body, size) {
+        self.unless_zeros(body)
+    }
+
+    /// The body with more writes on top, in its own room.
+    pub fn with_writes_in_place(&mut self, text: &[u8], old: Body, writes: &[(u32, u32)]) -> Body {
+        let (released, writes) = behind_release(writes);
+        if writes.is_empty() && !released {
+            return old;
+        }
+        let size = self.size;
+        let (body, is_zeroed) = if old.is_zeros() { self.room() } else { (old, false) };
+        unsafe {
+            if released || (old.is_zeros() && !is_zeroed) {
+                body.0.write_bytes(0, size);
+            }
+            put_all(text, writes, body, size);
+        }
+        self.unless_zeros(body)
+    }
+
+    fn unless_zeros(&mut self, body: Body) -> Body {
+        if has_only_zeros(body, self.size) {
             self.give_back(body);
             return ZEROS;
         }
