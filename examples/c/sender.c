@@ -1,0 +1,300 @@
+/*
+ * A migration engine that uses nothing of precopy: it moves its own memory to destination.c over sockets, while its
+ * threads write to it. It shows how to instrument an engine, so that its migrations can be tested.
+ *
+ *     cc -pthread -o sender examples/c/sender.c
+ *     cc -pthread -o destination examples/c/destination.c
+ *     mkdir run && ./destination run 1024 2 & ./sender run 1024 2 4
+ *
+ * It sends all pages, and then in rounds those that were written since, until few are left. Then it stops the threads
+ * and sends the rest. It leaves run/trace.pcwt with all writes, and run/source, the memory at the stop. destination.c
+ * adds run/stream.0 and so on, the frames as they came, and run/memory, what they left.
+ *
+ * The kernel protects pages by userfaultfd. At a write it takes the protection away, and the writer goes on at once
+ * (Linux 6.7); or it asks a thread of this process to do so (Linux 5.13). So a page without protection was written.
+ * From this alone the engine knows what to send.
+ *
+ * Why the trace and the stamps are true:
+ *
+ * - Memory changes only in write_memory, under the lock of the page. There a write also gets its place, the next number
+ *   of one counter. So the writes of a page have places in the order in which they changed it. Writes to two pages have
+ *   no byte in common, so their order changes nothing.
+ * - A page is copied under its lock, together with its stamp, the place of its last write. So the copy has what the
+ *   writes up to the stamp leave, and nothing of a later one. (Without the lock, half a write may be copied. The page
+ *   then has no protection, and is sent again.)
+ * - At the stop no thread is in write_memory, so each place up to the counter's has its write in the log.
+ * - A tick is a millisecond. The clock is read after the place is taken, so a write may have read an earlier time than
+ *   one with a lower place. The trace gives each write the greatest time up to its place.
+ */
+#define _GNU_SOURCE
+#include <err.h>
+#include <errno.h>
+#include <fcntl.h>
+#include <linux/userfaultfd.h>
+#include <pthread.h>
+#include <signal.h>
+#include <stdatomic.h>
+#include <stdbool.h>
+#include <stddef.h>
+#include <stdint.h>
+#include <stdio.h>
+#include <stdlib.h>
+#include <string.h>
+#include <sys/ioctl.h>
+#include <sys/mman.h>
+#include <sys/socket.h>
+#include <sys/syscall.h>
+#include <sys/un.h>
+#include <time.h>
+#include <unistd.h>
+
+enum {
+    SHIFT = 12,
+    PAGE = 1 << SHIFT,
+    MOST_PAGES = 1 << 16,
+    MOST_THREADS = 16,
+    MOST_WRITES = 1 << 20,
+    FULL = MOST_WRITES - MOST_THREADS, /* writes; each thread may be about to take one more place */
+    MOST_ROUNDS = 12,
+    FEW = 64,               /* a round of so few pages is the last one before the stop */
+    NEVER_WRITTEN = 8,      /* pages at the end of memory */
+    ASYNCHRONOUS = 1 << 15, /* UFFD_FEATURE_WP_ASYNC, which older headers lack */
+    PROTECTED = 57,         /* the bit of a page's entry in /proc/self/pagemap */
+};
+
+/* Who takes the protection away at a write. */
+enum tracking { KERNEL, THREAD, NOBODY };
+static const char *const trackings[] = {"kernel", "thread"};
+
+/* Frames and records of the trace, as in files: processors that have userfaultfd are little-endian. */
+struct frame {
+    uint32_t page, stamp;
+    uint8_t kind, bytes[PAGE];
+};
+struct record {
+    uint64_t tick;
+    uint32_t page;
+    uint16_t offset, length;
+    uint8_t bytes[16];
+};
+
+static enum tracking tracking;
+static uint32_t pages, stream_count, writer_count;
+static uint8_t *memory;
+static int userfaultfd, pagemap;
+static uint32_t listed[MOST_PAGES]; /* the pages of a round */
+static size_t listed_count;
+static FILE *streams[MOST_THREADS];
+static pthread_t writers[MOST_THREADS], senders[MOST_THREADS];
+static atomic_bool stopping;
+
+/* The instrumentation: what page locks guard, and the log. */
+static pthread_mutex_t locks[MOST_PAGES];
+static uint32_t stamps[MOST_PAGES];
+static struct record records[MOST_WRITES];
+static atomic_uint places;
+static uint64_t began; /* milliseconds of the clock */
+
+static uint64_t milliseconds(void) {
+    struct timespec now;
+    clock_gettime(CLOCK_MONOTONIC, &now);
+    return (uint64_t)now.tv_sec * 1000 + (uint64_t)now.tv_nsec / 1000000 - began;
+}
+
+static void write_memory(struct record write) {
+    pthread_mutex_lock(&locks[write.page]);
+    uint32_t place = atomic_fetch_add(&places, 1);
+    write.tick = milliseconds();
+    records[place] = write;
+    memcpy(memory + write.page * PAGE + write.offset, write.bytes, write.length);
+    stamps[write.page] = place + 1;
+    pthread_mutex_unlock(&locks[write.page]);
+}
+
+/* Writes low pages more often than high ones. */
+static void *write_until_stopped(void *seed) {
+    unsigned short state[3] = {(unsigned short)(uintptr_t)seed, 1, 2};
+    for (uint32_t count = 1; !atomic_load(&stopping) && places < FULL; count++) {
+        struct record write = {.length = (uint16_t)(1 + nrand48(state) % 16)};
+        write.page = (uint32_t)(erand48(state) * erand48(state) * (pages - NEVER_WRITTEN));
+        write.offset = (uint16_t)(nrand48(state) % (PAGE - 15));
+        for (int i = 0; i < write.length; i++)
+            write.bytes[i] = (uint8_t)nrand48(state);
+        write_memory(write);
+        if (count % 64 == 0)
+            usleep(500);
+    }
+    return NULL;
+}
+
+/* Starts threads, and waits until they have written enough. */
+static void start_writers(uintptr_t seed) {
+    uint32_t enough = places + 2000;
+    atomic_store(&stopping, false);
+    for (uint32_t i = 0; i < writer_count; i++)
+        pthread_create(&writers[i], NULL, write_until_stopped, (void *)(seed + i));
+    while (places < enough && places < FULL)
+        usleep(1000);
+}
+
+static void stop_writers(void) {
+    atomic_store(&stopping, true);
+    for (uint32_t i = 0; i < writer_count; i++)
+        pthread_join(writers[i], NULL);
+}
+
+static void write_trace(const char *name) {
+    uint32_t header[4] = {0x54574350, SHIFT << 8 | 1, pages, places};
+    uint64_t latest = 0;
+    FILE *file = fopen(name, "wb");
+    if (!file || fwrite(header, sizeof header, 1, file) != 1)
+        err(1, "%s", name);
+    for (struct record *record = records; record < records + places; record++) {
+        latest = record->tick > latest ? record->tick : latest;
+        record->tick = latest;
+        fwrite(record, offsetof(struct record, bytes) + record->length, 1, file);
+    }
+    if (ferror(file) | fclose(file))
+        err(1, "%s", name);
+}
+
+static void protect(uint64_t page, uint64_t mode) {
+    struct uffdio_writeprotect ask = {{(uintptr_t)memory + page * PAGE, PAGE}, mode};
+    while (ioctl(userfaultfd, UFFDIO_WRITEPROTECT, &ask) != 0) {
+        if (errno != EAGAIN)
+            err(1, "UFFDIO_WRITEPROTECT");
+    }
+}
+
+static void *answer_faults(void *unused) {
+    struct uffd_msg fault;
+    while (read(userfaultfd, &fault, sizeof fault) == sizeof fault)
+        protect((fault.arg.pagefault.address - (uintptr_t)memory) / PAGE, 0);
+    return unused;
+}
+
+/* Has the kernel watch memory, and returns whether it can. No page is protected yet. */
+static bool watch_memory(void) {
+    uint64_t features = UFFD_FEATURE_PAGEFAULT_FLAG_WP | (tracking == KERNEL ? ASYNCHRONOUS : 0);
+    struct uffdio_api api = {UFFD_API, features, 0};
+    struct uffdio_register all = {{(uintptr_t)memory, (uint64_t)pages * PAGE}, UFFDIO_REGISTER_MODE_WP, 0};
+    pthread_t thread;
+    userfaultfd = (int)syscall(SYS_userfaultfd, O_CLOEXEC | UFFD_USER_MODE_ONLY);
+    if (userfaultfd >= 0 && !ioctl(userfaultfd, UFFDIO_API, &api) && !ioctl(userfaultfd, UFFDIO_REGISTER, &all))
+        return tracking == KERNEL || !pthread_create(&thread, NULL, answer_faults, NULL);
+    warn("no userfaultfd whose protections the %s takes away", trackings[tracking]);
+    return false;
+}
+
+/* Lists the pages that were written since they were protected. */
+static void list_written(void) {
+    static uint64_t entries[MOST_PAGES];
+    size_t length = pages * sizeof *entries;
+    if (pread(pagemap, entries, length, (off_t)((uintptr_t)memory / PAGE * sizeof *entries)) != (ssize_t)length)
+        err(1, "/proc/self/pagemap");
+    listed_count = 0;
+    for (uint32_t page = 0; page < pages; page++) {
+        if (!(entries[page] >> PROTECTED & 1))
+            listed[listed_count++] = page;
+    }
+}
+
+static void send_page(FILE *stream, uint32_t page) {
+    struct frame frame = {.page = page};
+    pthread_mutex_lock(&locks[page]);
+    memcpy(frame.bytes, memory + page * PAGE, PAGE);
+    frame.stamp = stamps[page];
+    pthread_mutex_unlock(&locks[page]);
+    frame.kind = frame.bytes[0] != 0 || memcmp(frame.bytes, frame.bytes + 1, PAGE - 1) != 0;
+    if (fwrite(&frame, offsetof(struct frame, bytes) + frame.kind * PAGE, 1, stream) != 1)
+        err(1, "the destination is gone");
+}
+
+/* Sends the listed pages of a stream. A page always has the same stream, so its frames come in order. */
+static void *send_listed(void *stream) {
+    size_t number = (uintptr_t)stream;
+    for (size_t at = 0; at < listed_count; at++) {
+        if (listed[at] % stream_count == number)
+            send_page(streams[number], listed[at]);
+    }
+    return NULL;
+}
+
+/* Sends what was written since the last round, and returns how many pages that are. */
+static size_t send_round(void) {
+    list_written();
+    for (size_t at = 0; at < listed_count; at++)
+        protect(listed[at], UFFDIO_WRITEPROTECT_MODE_WP);
+    for (size_t i = 0; i < stream_count; i++)
+        pthread_create(&senders[i], NULL, send_listed, (void *)i);
+    for (size_t i = 0; i < stream_count; i++)
+        pthread_join(senders[i], NULL);
+    return listed_count;
+}
+
+static FILE *connected(void) {
+    struct sockaddr_un to = {AF_UNIX, "socket"};
+    int made = socket(AF_UNIX, SOCK_STREAM | SOCK_CLOEXEC, 0);
+    for (int tries = 0; connect(made, (struct sockaddr *)&to, sizeof to) != 0; tries++) {
+        if (tries == 500)
+            err(1, "the destination does not listen");
+        usleep(10000);
+    }
+    return fdopen(made, "wb");
+}
+
+/* Returns the number of rounds before the stop. */
+static int migrate(void) {
+    int rounds = 1;
+    while (send_round() > FEW && rounds < MOST_ROUNDS)
+        rounds++;
+    stop_writers();
+    send_round();
+    for (size_t i = 0; i < stream_count; i++) {
+        char answer;
+        int stream = fileno(streams[i]);
+        if (fflush(streams[i]) != 0 || shutdown(stream, SHUT_WR) != 0 || read(stream, &answer, 1) != 1)
+            err(1, "the destination did not take all");
+    }
+    return rounds;
+}
+
+int main(int argc, char **argv) {
+    if (argc != 5 && argc != 6)
+        errx(2, "usage: sender FOLDER PAGES STREAMS WRITERS [kernel|thread]");
+    pages = (uint32_t)atoi(argv[2]), stream_count = (uint32_t)atoi(argv[3]), writer_count = (uint32_t)atoi(argv[4]);
+    if (pages <= NEVER_WRITTEN || pages > MOST_PAGES || stream_count - 1 >= MOST_THREADS
+        || writer_count - 1 >= MOST_THREADS || sysconf(_SC_PAGESIZE) != PAGE)
+        errx(2, "it takes 9 to 65,536 pages of 4,096 bytes, 1 to 16 streams, and 1 to 16 writers");
+    memory = mmap(NULL, pages * PAGE, PROT_READ | PROT_WRITE, MAP_PRIVATE | MAP_ANONYMOUS | MAP_POPULATE, -1, 0);
+    pagemap = open("/proc/self/pagemap", O_RDONLY | O_CLOEXEC);
+    if (memory == MAP_FAILED || pagemap < 0 || chdir(argv[1]) != 0)
+        err(1, "%s", argv[1]);
+    for (tracking = argc == 6 && !strcmp(argv[5], trackings[THREAD]) ? THREAD : KERNEL; !watch_memory(); tracking++) {
+        if (argc == 6 || tracking == THREAD)
+            return 3;
+    }
+    for (uint32_t page = 0; page < pages; page++)
+        pthread_mutex_init(&locks[page], NULL);
+    for (uint32_t i = 0; i < stream_count; i++)
+        streams[i] = connected();
+    signal(SIGPIPE, SIG_IGN);
+    began = milliseconds();
+    start_writers(1);
+    int rounds = migrate();
+    uint32_t stop = places;
+    uint64_t tick = milliseconds() + 1;
+    FILE *source = fopen("source", "wb");
+    if (!source || fwrite(memory, PAGE, pages, source) != pages || fclose(source) != 0)
+        err(1, "source");
+
+    /* The source goes on for a while. What is written now is none of the migration's. */
+    while (milliseconds() < tick)
+        usleep(500);
+    start_writers(1 + MOST_THREADS);
+    stop_writers();
+    write_trace("trace.pcwt");
+    printf("stopped at tick %ju, after %u of %u writes and %d rounds; the %s takes protections away\n", (uintmax_t)tick,
+           stop, places, rounds, trackings[tracking]);
+    return 0;
+}
