@@ -49,6 +49,9 @@ PROTECT = """\
 """
 SEND = """\
     if (fwrite(&frame,"""
+STOP, ROUND, END = "    stop_writers();\n", "    send_round();\n", "    return listed_count;\n"
+# However little time the threads get, they write meanwhile.
+WAIT = "    if (!stopping)\n        await_writes(200);\n"
 FINISH = """\
     for (size_t i = 0; i < stream_count; i++) {
         char answer;
@@ -80,7 +83,7 @@ BUGS = {
     ),
     # Pages are protected after they were sent, and not before: what is written in between is not seen.
     "lost": Bug(
-        [(PROTECT, ""), ("    return listed_count;\n", PROTECT + "    return listed_count;\n")],
+        [(PROTECT, ""), (END, WAIT + PROTECT + END)],
         is_stale_page,
     ),
     # A loop ends one page too early.
@@ -90,7 +93,7 @@ BUGS = {
     ),
     # The last round is sent while threads still write.
     "early": Bug(
-        [("    stop_writers();\n    send_round();\n", "    send_round();\n    stop_writers();\n")],
+        [(STOP + ROUND, ROUND + WAIT + STOP)],
         is_stale_page,
     ),
 }

@@ -1,14 +1,14 @@
 /*
- * A migration engine that uses nothing of precopy: it moves its own memory to destination.c over sockets, while its
- * threads write to it. It shows how to instrument an engine, so that its migrations can be tested.
+ * A migration engine that uses nothing of precopy: it moves its own memory to destination.c over sockets while threads
+ * write to it, and is instrumented so that its migrations can be tested.
  *
  *     cc -pthread -o sender examples/c/sender.c
  *     cc -pthread -o destination examples/c/destination.c
  *     mkdir run && ./destination run 1024 2 & ./sender run 1024 2 4
  *
- * It sends all pages, and then in rounds those that were written since, until few are left. Then it stops the threads
- * and sends the rest. It leaves run/trace.pcwt with all writes, and run/source, the memory at the stop. destination.c
- * adds run/stream.0 and so on, the frames as they came, and run/memory, what they left.
+ * It sends all pages, and then in rounds those that were written since. Then it stops the threads, and sends the rest.
+ * It leaves all writes in run/trace.pcwt, and its memory at the stop in run/source. destination.c leaves the frames as
+ * they came in run/stream.0 and so on, and its memory in run/memory.
  *
  * The kernel protects pages by userfaultfd. At a write it takes the protection away, and the writer goes on at once
  * (Linux 6.7); or it asks a thread of this process to do so (Linux 5.13). So a page without protection was written.
@@ -16,19 +16,17 @@
  *
  * Why the trace and the stamps are true:
  *
- * - Memory changes only in write_memory, under the lock of the page. There a write also gets its place, the next number
- *   of one counter. So the writes of a page have places in the order in which they changed it. Writes to two pages have
- *   no byte in common, so their order changes nothing.
+ * - Memory changes only in write_memory, under the lock of the page. There a write also takes its place, the next
+ *   number of one counter, so a page's writes have places in their order. Writes to two pages have no byte in common.
  * - A page is copied under its lock, together with its stamp, the place of its last write. So the copy has what the
- *   writes up to the stamp leave, and nothing of a later one. (Without the lock, half a write may be copied. The page
+ *   writes up to the stamp leave, and nothing of a later one. (Without the lock half a write may be copied. The page
  *   then has no protection, and is sent again.)
  * - At the stop no thread is in write_memory, so each place up to the counter's has its write in the log.
- * - A tick is a millisecond. The clock is read after the place is taken, so a write may have read an earlier time than
- *   one with a lower place. The trace gives each write the greatest time up to its place.
+ * - A tick is a millisecond. The clock is read after the place is taken, so a later place may have an earlier time. In
+ *   the trace a write has the greatest time up to its place.
  */
 #define _GNU_SOURCE
 #include <err.h>
-#include <errno.h>
 #include <fcntl.h>
 #include <linux/userfaultfd.h>
 #include <pthread.h>
@@ -49,24 +47,22 @@
 #include <unistd.h>
 
 enum {
-    SHIFT = 12,
-    PAGE = 1 << SHIFT,
+    PAGE = 4096,
     MOST_PAGES = 1 << 16,
     MOST_THREADS = 16,
     MOST_WRITES = 1 << 20,
     FULL = MOST_WRITES - MOST_THREADS, /* writes; each thread may be about to take one more place */
     MOST_ROUNDS = 12,
-    FEW = 64,               /* a round of so few pages is the last one before the stop */
-    NEVER_WRITTEN = 8,      /* pages at the end of memory */
+    FEW = 16,               /* a round of so few pages is the last one before the stop */
     ASYNCHRONOUS = 1 << 15, /* UFFD_FEATURE_WP_ASYNC, which older headers lack */
     PROTECTED = 57,         /* the bit of a page's entry in /proc/self/pagemap */
 };
 
 /* Who takes the protection away at a write. */
-enum tracking { KERNEL, THREAD, NOBODY };
+static enum { KERNEL, THREAD } tracking;
 static const char *const trackings[] = {"kernel", "thread"};
 
-/* Frames and records of the trace, as in files: processors that have userfaultfd are little-endian. */
+/* A frame and a record of the trace, as in files: processors that have userfaultfd are little-endian. */
 struct frame {
     uint32_t page, stamp;
     uint8_t kind, bytes[PAGE];
@@ -78,12 +74,10 @@ struct record {
     uint8_t bytes[16];
 };
 
-static enum tracking tracking;
 static uint32_t pages, stream_count, writer_count;
 static uint8_t *memory;
 static int userfaultfd, pagemap;
-static uint32_t listed[MOST_PAGES]; /* the pages of a round */
-static size_t listed_count;
+static uint32_t listed[MOST_PAGES], listed_count; /* the pages of a round */
 static FILE *streams[MOST_THREADS];
 static pthread_t writers[MOST_THREADS], senders[MOST_THREADS];
 static atomic_bool stopping;
@@ -101,6 +95,13 @@ static uint64_t milliseconds(void) {
     return (uint64_t)now.tv_sec * 1000 + (uint64_t)now.tv_nsec / 1000000 - began;
 }
 
+static pthread_t started(void *(*run)(void *), void *argument) {
+    pthread_t thread;
+    if (pthread_create(&thread, NULL, run, argument) != 0)
+        errx(1, "a thread did not start");
+    return thread;
+}
+
 static void write_memory(struct record write) {
     pthread_mutex_lock(&locks[write.page]);
     uint32_t place = atomic_fetch_add(&places, 1);
@@ -111,12 +112,12 @@ static void write_memory(struct record write) {
     pthread_mutex_unlock(&locks[write.page]);
 }
 
-/* Writes low pages more often than high ones. */
+/* Writes low pages often, and high ones hardly ever. */
 static void *write_until_stopped(void *seed) {
     unsigned short state[3] = {(unsigned short)(uintptr_t)seed, 1, 2};
     for (uint32_t count = 1; !atomic_load(&stopping) && places < FULL; count++) {
         struct record write = {.length = (uint16_t)(1 + nrand48(state) % 16)};
-        write.page = (uint32_t)(erand48(state) * erand48(state) * (pages - NEVER_WRITTEN));
+        write.page = (uint32_t)(erand48(state) * erand48(state) * erand48(state) * pages);
         write.offset = (uint16_t)(nrand48(state) % (PAGE - 15));
         for (int i = 0; i < write.length; i++)
             write.bytes[i] = (uint8_t)nrand48(state);
@@ -127,14 +128,17 @@ static void *write_until_stopped(void *seed) {
     return NULL;
 }
 
-/* Starts threads, and waits until they have written enough. */
 static void start_writers(uintptr_t seed) {
-    uint32_t enough = places + 2000;
     atomic_store(&stopping, false);
     for (uint32_t i = 0; i < writer_count; i++)
-        pthread_create(&writers[i], NULL, write_until_stopped, (void *)(seed + i));
+        writers[i] = started(write_until_stopped, (void *)(seed + i));
+}
+
+/* Waits until the threads have written so often, however little time they get. */
+static void await_writes(uint32_t count) {
+    uint32_t enough = places + count;
     while (places < enough && places < FULL)
-        usleep(1000);
+        usleep(100);
 }
 
 static void stop_writers(void) {
@@ -144,14 +148,13 @@ static void stop_writers(void) {
 }
 
 static void write_trace(const char *name) {
-    uint32_t header[4] = {0x54574350, SHIFT << 8 | 1, pages, places};
+    uint32_t header[4] = {0x54574350 /* PCWT */, 12 << 8 | 1 /* pages of 2^12 bytes, version 1 */, pages, places};
     uint64_t latest = 0;
     FILE *file = fopen(name, "wb");
     if (!file || fwrite(header, sizeof header, 1, file) != 1)
         err(1, "%s", name);
     for (struct record *record = records; record < records + places; record++) {
-        latest = record->tick > latest ? record->tick : latest;
-        record->tick = latest;
+        latest = record->tick = record->tick > latest ? record->tick : latest;
         fwrite(record, offsetof(struct record, bytes) + record->length, 1, file);
     }
     if (ferror(file) | fclose(file))
@@ -160,10 +163,8 @@ static void write_trace(const char *name) {
 
 static void protect(uint64_t page, uint64_t mode) {
     struct uffdio_writeprotect ask = {{(uintptr_t)memory + page * PAGE, PAGE}, mode};
-    while (ioctl(userfaultfd, UFFDIO_WRITEPROTECT, &ask) != 0) {
-        if (errno != EAGAIN)
-            err(1, "UFFDIO_WRITEPROTECT");
-    }
+    if (ioctl(userfaultfd, UFFDIO_WRITEPROTECT, &ask) != 0)
+        err(1, "UFFDIO_WRITEPROTECT");
 }
 
 static void *answer_faults(void *unused) {
@@ -175,13 +176,11 @@ static void *answer_faults(void *unused) {
 
 /* Has the kernel watch memory, and returns whether it can. No page is protected yet. */
 static bool watch_memory(void) {
-    uint64_t features = UFFD_FEATURE_PAGEFAULT_FLAG_WP | (tracking == KERNEL ? ASYNCHRONOUS : 0);
-    struct uffdio_api api = {UFFD_API, features, 0};
+    struct uffdio_api api = {UFFD_API, UFFD_FEATURE_PAGEFAULT_FLAG_WP | (tracking == KERNEL ? ASYNCHRONOUS : 0), 0};
     struct uffdio_register all = {{(uintptr_t)memory, (uint64_t)pages * PAGE}, UFFDIO_REGISTER_MODE_WP, 0};
-    pthread_t thread;
     userfaultfd = (int)syscall(SYS_userfaultfd, O_CLOEXEC | UFFD_USER_MODE_ONLY);
     if (userfaultfd >= 0 && !ioctl(userfaultfd, UFFDIO_API, &api) && !ioctl(userfaultfd, UFFDIO_REGISTER, &all))
-        return tracking == KERNEL || !pthread_create(&thread, NULL, answer_faults, NULL);
+        return tracking == KERNEL || started(answer_faults, NULL);
     warn("no userfaultfd whose protections the %s takes away", trackings[tracking]);
     return false;
 }
@@ -226,7 +225,7 @@ static size_t send_round(void) {
     for (size_t at = 0; at < listed_count; at++)
         protect(listed[at], UFFDIO_WRITEPROTECT_MODE_WP);
     for (size_t i = 0; i < stream_count; i++)
-        pthread_create(&senders[i], NULL, send_listed, (void *)i);
+        senders[i] = started(send_listed, (void *)i);
     for (size_t i = 0; i < stream_count; i++)
         pthread_join(senders[i], NULL);
     return listed_count;
@@ -246,8 +245,8 @@ static FILE *connected(void) {
 /* Returns the number of rounds before the stop. */
 static int migrate(void) {
     int rounds = 1;
-    while (send_round() > FEW && rounds < MOST_ROUNDS)
-        rounds++;
+    for (; send_round() > FEW && rounds < MOST_ROUNDS; rounds++)
+        await_writes(200);
     stop_writers();
     send_round();
     for (size_t i = 0; i < stream_count; i++) {
@@ -263,9 +262,9 @@ int main(int argc, char **argv) {
     if (argc != 5 && argc != 6)
         errx(2, "usage: sender FOLDER PAGES STREAMS WRITERS [kernel|thread]");
     pages = (uint32_t)atoi(argv[2]), stream_count = (uint32_t)atoi(argv[3]), writer_count = (uint32_t)atoi(argv[4]);
-    if (pages <= NEVER_WRITTEN || pages > MOST_PAGES || stream_count - 1 >= MOST_THREADS
-        || writer_count - 1 >= MOST_THREADS || sysconf(_SC_PAGESIZE) != PAGE)
-        errx(2, "it takes 9 to 65,536 pages of 4,096 bytes, 1 to 16 streams, and 1 to 16 writers");
+    if (pages - 1 >= MOST_PAGES || stream_count - 1 >= MOST_THREADS || writer_count - 1 >= MOST_THREADS
+        || sysconf(_SC_PAGESIZE) != PAGE)
+        errx(2, "it takes 1 to 65,536 pages of 4,096 bytes, 1 to 16 streams, and 1 to 16 writers");
     memory = mmap(NULL, pages * PAGE, PROT_READ | PROT_WRITE, MAP_PRIVATE | MAP_ANONYMOUS | MAP_POPULATE, -1, 0);
     pagemap = open("/proc/self/pagemap", O_RDONLY | O_CLOEXEC);
     if (memory == MAP_FAILED || pagemap < 0 || chdir(argv[1]) != 0)
@@ -281,17 +280,18 @@ int main(int argc, char **argv) {
     signal(SIGPIPE, SIG_IGN);
     began = milliseconds();
     start_writers(1);
+    await_writes(2000);
     int rounds = migrate();
     uint32_t stop = places;
     uint64_t tick = milliseconds() + 1;
     FILE *source = fopen("source", "wb");
     if (!source || fwrite(memory, PAGE, pages, source) != pages || fclose(source) != 0)
         err(1, "source");
-
     /* The source goes on for a while. What is written now is none of the migration's. */
     while (milliseconds() < tick)
         usleep(500);
     start_writers(1 + MOST_THREADS);
+    await_writes(1000);
     stop_writers();
     write_trace("trace.pcwt");
     printf("stopped at tick %ju, after %u of %u writes and %d rounds; the %s takes protections away\n", (uintmax_t)tick,
