@@ -12,11 +12,11 @@ class Bug(NamedTuple):
     is_sign: Callable[[Wrong, list[bytes]], bool]
 
 
-def planted(source: str, name: str) -> str:
-    """The engine with a bug. Each text to replace must stand there once."""
-    for old, new in BUGS[name].edits:
+def planted(source: str, edits: list[tuple[str, str]]) -> str:
+    """The engine with some edits. Each text to replace must stand there once."""
+    for old, new in edits:
         if source.count(old) != 1:
-            raise ValueError(f"{name}: this text stands {source.count(old)} times in the engine: {old}")
+            raise ValueError(f"this text stands {source.count(old)} times in the engine: {old}")
         source = source.replace(old, new)
     return source
 
@@ -97,3 +97,6 @@ BUGS = {
         is_stale_page,
     ),
 }
+
+# Not a bug, but a kernel that offers nothing.
+WITHOUT_USERFAULTFD = [("syscall(SYS_userfaultfd,", "syscall(-1,")]
