@@ -51,7 +51,7 @@ static void *take_frames(void *argument) {
     }
     if (came != 0)
         errx(1, "a frame is cut off");
-    if (fclose(stream->copy) != 0 || write(fileno(stream->socket), "", 1) != 1)
+    if (fclose(stream->copy) != 0 || write(fileno(stream->socket), "", 1) != 1 || fclose(stream->socket) != 0)
         err(1, "the end of a stream");
     return NULL;
 }
@@ -89,5 +89,6 @@ int main(int argc, char **argv) {
     if (!file || fwrite(memory, PAGE, pages, file) != pages || fclose(file) != 0)
         err(1, "memory");
     unlink("socket");
+    free(memory);
     return 0;
 }
