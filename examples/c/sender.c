@@ -76,7 +76,7 @@ struct record {
 
 static uint32_t pages, stream_count, writer_count;
 static uint8_t *memory;
-static int userfaultfd, pagemap;
+static int watcher, pagemap; /* a userfaultfd, and /proc/self/pagemap */
 static uint32_t listed[MOST_PAGES], listed_count; /* the pages of a round */
 static FILE *streams[MOST_THREADS];
 static pthread_t writers[MOST_THREADS], senders[MOST_THREADS];
@@ -163,13 +163,13 @@ static void write_trace(const char *name) {
 
 static void protect(uint64_t page, uint64_t mode) {
     struct uffdio_writeprotect ask = {{(uintptr_t)memory + page * PAGE, PAGE}, mode};
-    if (ioctl(userfaultfd, UFFDIO_WRITEPROTECT, &ask) != 0)
+    if (ioctl(watcher, UFFDIO_WRITEPROTECT, &ask) != 0)
         err(1, "UFFDIO_WRITEPROTECT");
 }
 
 static void *answer_faults(void *unused) {
     struct uffd_msg fault;
-    while (read(userfaultfd, &fault, sizeof fault) == sizeof fault)
+    while (read(watcher, &fault, sizeof fault) == sizeof fault)
         protect((fault.arg.pagefault.address - (uintptr_t)memory) / PAGE, 0);
     return unused;
 }
@@ -178,10 +178,11 @@ static void *answer_faults(void *unused) {
 static bool watch_memory(void) {
     struct uffdio_api api = {UFFD_API, UFFD_FEATURE_PAGEFAULT_FLAG_WP | (tracking == KERNEL ? ASYNCHRONOUS : 0), 0};
     struct uffdio_register all = {{(uintptr_t)memory, (uint64_t)pages * PAGE}, UFFDIO_REGISTER_MODE_WP, 0};
-    userfaultfd = (int)syscall(SYS_userfaultfd, O_CLOEXEC | UFFD_USER_MODE_ONLY);
-    if (userfaultfd >= 0 && !ioctl(userfaultfd, UFFDIO_API, &api) && !ioctl(userfaultfd, UFFDIO_REGISTER, &all))
+    watcher = (int)syscall(SYS_userfaultfd, O_CLOEXEC | UFFD_USER_MODE_ONLY);
+    pagemap = open("/proc/self/pagemap", O_RDONLY | O_CLOEXEC);
+    if (watcher >= 0 && !ioctl(watcher, UFFDIO_API, &api) && !ioctl(watcher, UFFDIO_REGISTER, &all) && pagemap >= 0)
         return tracking == KERNEL || started(answer_faults, NULL);
-    warn("no userfaultfd whose protections the %s takes away", trackings[tracking]);
+    warn("pages cannot be watched so that the %s takes protections away", trackings[tracking]);
     return false;
 }
 
@@ -266,8 +267,7 @@ int main(int argc, char **argv) {
         || sysconf(_SC_PAGESIZE) != PAGE)
         errx(2, "it takes 1 to 65,536 pages of 4,096 bytes, 1 to 16 streams, and 1 to 16 writers");
     memory = mmap(NULL, pages * PAGE, PROT_READ | PROT_WRITE, MAP_PRIVATE | MAP_ANONYMOUS | MAP_POPULATE, -1, 0);
-    pagemap = open("/proc/self/pagemap", O_RDONLY | O_CLOEXEC);
-    if (memory == MAP_FAILED || pagemap < 0 || chdir(argv[1]) != 0)
+    if (memory == MAP_FAILED || chdir(argv[1]) != 0)
         err(1, "%s", argv[1]);
     for (tracking = argc == 6 && !strcmp(argv[5], trackings[THREAD]) ? THREAD : KERNEL; !watch_memory(); tracking++) {
         if (argc == 6 || tracking == THREAD)
