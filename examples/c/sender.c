@@ -51,15 +51,14 @@ enum {
     MOST_PAGES = 1 << 16,
     MOST_THREADS = 16,
     MOST_WRITES = 1 << 20,
-    FULL = MOST_WRITES - MOST_THREADS, /* writes; each thread may be about to take one more place */
     MOST_ROUNDS = 12,
+    MOST_IN_ROUND = 30000,  /* writes, so that the log has room for those of all rounds */
     FEW = 16,               /* a round of so few pages is the last one before the stop */
     ASYNCHRONOUS = 1 << 15, /* UFFD_FEATURE_WP_ASYNC, which older headers lack */
     PROTECTED = 57,         /* the bit of a page's entry in /proc/self/pagemap */
 };
 
-/* Who takes the protection away at a write. */
-static enum { KERNEL, THREAD } tracking;
+static enum { KERNEL, THREAD } tracking; /* who takes the protection away at a write */
 static const char *const trackings[] = {"kernel", "thread"};
 
 /* A frame and a record of the trace, as in files: processors that have userfaultfd are little-endian. */
@@ -86,7 +85,7 @@ static atomic_bool stopping;
 static pthread_mutex_t locks[MOST_PAGES];
 static uint32_t stamps[MOST_PAGES];
 static struct record records[MOST_WRITES];
-static atomic_uint places;
+static atomic_uint places, last_place; /* last_place: the threads wait there for the next round */
 static uint64_t began; /* milliseconds of the clock */
 
 static uint64_t milliseconds(void) {
@@ -115,15 +114,16 @@ static void write_memory(struct record write) {
 /* Writes low pages often, and high ones hardly ever. */
 static void *write_until_stopped(void *seed) {
     unsigned short state[3] = {(unsigned short)(uintptr_t)seed, 1, 2};
-    for (uint32_t count = 1; !atomic_load(&stopping) && places < FULL; count++) {
-        struct record write = {.length = (uint16_t)(1 + nrand48(state) % 16)};
-        write.page = (uint32_t)(erand48(state) * erand48(state) * erand48(state) * pages);
-        write.offset = (uint16_t)(nrand48(state) % (PAGE - 15));
-        for (int i = 0; i < write.length; i++)
-            write.bytes[i] = (uint8_t)nrand48(state);
-        write_memory(write);
-        if (count % 64 == 0)
-            usleep(500);
+    while (!atomic_load(&stopping)) {
+        for (int count = 0; count < 64 && places < last_place; count++) {
+            struct record write = {.length = (uint16_t)(1 + nrand48(state) % 16)};
+            write.page = (uint32_t)(erand48(state) * erand48(state) * erand48(state) * pages);
+            write.offset = (uint16_t)(nrand48(state) % (PAGE - 15));
+            for (int i = 0; i < write.length; i++)
+                write.bytes[i] = (uint8_t)nrand48(state);
+            write_memory(write);
+        }
+        usleep(500);
     }
     return NULL;
 }
@@ -134,10 +134,11 @@ static void start_writers(uintptr_t seed) {
         writers[i] = started(write_until_stopped, (void *)(seed + i));
 }
 
-/* Waits until the threads have written so often, however little time they get. */
+/* Lets the threads write, and waits until they have done so this often, however little time they get. */
 static void await_writes(uint32_t count) {
     uint32_t enough = places + count;
-    while (places < enough && places < FULL)
+    last_place = places + MOST_IN_ROUND;
+    while (places < enough)
         usleep(100);
 }
 
@@ -252,20 +253,19 @@ static int migrate(void) {
     send_round();
     for (size_t i = 0; i < stream_count; i++) {
         char answer;
-        int stream = fileno(streams[i]);
-        if (fflush(streams[i]) != 0 || shutdown(stream, SHUT_WR) != 0 || read(stream, &answer, 1) != 1)
+        if (fflush(streams[i]) || shutdown(fileno(streams[i]), SHUT_WR) || read(fileno(streams[i]), &answer, 1) != 1)
             err(1, "the destination did not take all");
     }
     return rounds;
 }
 
 int main(int argc, char **argv) {
-    if (argc != 5 && argc != 6)
-        errx(2, "usage: sender FOLDER PAGES STREAMS WRITERS [kernel|thread]");
-    pages = (uint32_t)atoi(argv[2]), stream_count = (uint32_t)atoi(argv[3]), writer_count = (uint32_t)atoi(argv[4]);
-    if (pages - 1 >= MOST_PAGES || stream_count - 1 >= MOST_THREADS || writer_count - 1 >= MOST_THREADS
-        || sysconf(_SC_PAGESIZE) != PAGE)
-        errx(2, "it takes 1 to 65,536 pages of 4,096 bytes, 1 to 16 streams, and 1 to 16 writers");
+    if (argc == 5 || (argc == 6 && (!strcmp(argv[5], trackings[KERNEL]) || !strcmp(argv[5], trackings[THREAD]))))
+        pages = (uint32_t)atoi(argv[2]), stream_count = (uint32_t)atoi(argv[3]), writer_count = (uint32_t)atoi(argv[4]);
+    if (pages - 1 >= MOST_PAGES || stream_count - 1 >= MOST_THREADS || writer_count - 1 >= MOST_THREADS)
+        errx(2, "usage: sender FOLDER PAGES STREAMS WRITERS [kernel|thread], up to 65,536 pages, and 16 of the others");
+    if (sysconf(_SC_PAGESIZE) != PAGE)
+        errx(3, "pages of this kernel do not have 4,096 bytes");
     memory = mmap(NULL, pages * PAGE, PROT_READ | PROT_WRITE, MAP_PRIVATE | MAP_ANONYMOUS | MAP_POPULATE, -1, 0);
     if (memory == MAP_FAILED || chdir(argv[1]) != 0)
         err(1, "%s", argv[1]);
