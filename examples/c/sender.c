@@ -4,7 +4,7 @@
  *
  *     cc -pthread -o sender examples/c/sender.c
  *     cc -pthread -o destination examples/c/destination.c
- *     mkdir run && ./destination run 1024 2 & ./sender run 1024 2 4
+ *     mkdir run; ./destination run 1024 2 & ./sender run 1024 2 4
  *
  * It sends all pages, and then in rounds those that were written since. Then it stops the threads, and sends the rest.
  * It leaves all writes in run/trace.pcwt, and its memory at the stop in run/source. destination.c leaves the frames as
