@@ -374,7 +374,8 @@ static void try_all(struct guest *guest, const struct precopy_sizes *sizes) {
     uint8_t frame[9 + 4096];
     size_t needed = 0, text = 0, count = 0;
     guest->page = input_of(whole.room.at, size);
-    precopy_encode_frame(sizes, 0, 0, guest->page.at, size, frame, sizeof frame, &needed);
+    uint32_t status = precopy_encode_frame(sizes, 0, 0, guest->page.at, size, frame, sizeof frame, &needed);
+    expect(status == PRECOPY_OK, "encode_frame", "of page 0");
     guest->stream = input_of(frame, needed);
     struct outputs none = outputs_of(0, sizeof(size_t));
     report(guest, &none);

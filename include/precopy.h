@@ -5,10 +5,25 @@
  * 1,000 ticks. Pages are numbered from 0, and have 2^shift bytes. Memory is all pages, one after the other. A stamp
  * is the place of the last write in a page, 1 for the first write of the trace, or 0 before any.
  *
+ * To plan the migration of a trace that is in memory:
+ *
+ *     struct precopy_settings settings = PRECOPY_SETTINGS_DEFAULT;
+ *     struct precopy_sums sums;
+ *     uint32_t status = precopy_plan(trace, trace_length, &settings, &sums);
+ *     if (status == PRECOPY_OK)
+ *         printf("the guest stands still for %u ticks\n", (unsigned)sums.down);
+ *     else
+ *         fprintf(stderr, "%s\n", precopy_strerror(status));
+ *
+ * Programs are linked with -lprecopy; pkg-config knows it as precopy.
+ *
  * What holds for every function:
  *
  * - It returns PRECOPY_OK, which is 0, or another number of enum precopy_status. If it isn't PRECOPY_OK, the
  *   function has written only what its comment names.
+ * - Of several causes it returns the first in this order: the settings or sizes, then the trace or what its comment
+ *   names, and last a buffer that is too short. Only precopy_sweep tests its buffer first. PRECOPY_NO_MEMORY comes as
+ *   soon as memory runs out, before what is tested later.
  * - It keeps nothing between two calls, starts no thread, and doesn't block. Any number of threads may call at
  *   once.
  * - All memory is the caller's. A function that needs memory of its own gets it from malloc, frees it before it
@@ -18,7 +33,7 @@
  *
  * What nothing checks, and a caller must ensure:
  *
- * - No pointer is null, even if its length is 0. Each pointer is aligned for its type.
+ * - Only a pointer whose length is 0 may be null. Each other pointer is aligned for its type.
  * - The memory that a pointer and its length describe is there, and all of an input is initialized.
  * - What a function writes overlaps nothing else that is passed to it, and no other thread reads or writes it
  *   meanwhile. No thread writes an input meanwhile.
@@ -37,6 +52,18 @@ extern "C" {
 
 /* The number in the name libprecopy.so.1: it changes when programs must be recompiled. */
 #define PRECOPY_ABI 1
+
+/* The version of this header as a number, which is 10203 for 1.2.3. */
+#define PRECOPY_VERSION_NUMBER 600
+
+/* For compilers that can tell: an answer must be looked at, and the arguments at these places are not null. */
+#if defined(__GNUC__)
+#define PRECOPY_ANSWERS __attribute__((warn_unused_result))
+#define PRECOPY_NOT_NULL(...) __attribute__((nonnull(__VA_ARGS__)))
+#else
+#define PRECOPY_ANSWERS
+#define PRECOPY_NOT_NULL(...)
+#endif
 
 /* What functions return. The names E1, S1 and F1 are those that the program precopy writes. */
 enum precopy_status {
@@ -90,7 +117,7 @@ enum precopy_status {
 /* A line about a status, in English. It never returns null, and the text stays. */
 const char *precopy_strerror(uint32_t status);
 
-/* The version of the library, as "1.2.3". The text stays. */
+/* The version of the library that is linked, as "1.2.3". The text stays. */
 const char *precopy_version(void);
 
 /* ---- traces */
@@ -108,6 +135,7 @@ struct precopy_sizes {
  * If they are refused for a record, PRECOPY_SHORT_RECORD to PRECOPY_OUT_OF_PAGE, *record is its number, from 0. Of
  * several causes the first is returned. It takes no memory.
  */
+PRECOPY_ANSWERS PRECOPY_NOT_NULL(3, 4)
 uint32_t precopy_check_trace(const uint8_t *trace, size_t trace_length, struct precopy_sizes *sizes, uint32_t *record);
 
 /* ---- plans */
@@ -157,14 +185,15 @@ struct precopy_round {
 };
 
 /* Tests settings: returns PRECOPY_OK, or why the first bad one is refused. It takes no memory. */
+PRECOPY_ANSWERS PRECOPY_NOT_NULL(1)
 uint32_t precopy_check_settings(const struct precopy_settings *settings);
 
 /*
  * Plans the migration of a trace, and writes the plan's sums into *sums.
  *
- * The settings are tested first, and then the trace. It takes 16 bytes for each write, and 8 for each page of each
- * round.
+ * It takes 16 bytes for each write, and 8 for each page of each round.
  */
+PRECOPY_ANSWERS PRECOPY_NOT_NULL(3, 4)
 uint32_t precopy_plan(const uint8_t *trace, size_t trace_length, const struct precopy_settings *settings,
                       struct precopy_sums *sums);
 
@@ -174,6 +203,7 @@ uint32_t precopy_plan(const uint8_t *trace, size_t trace_length, const struct pr
  * If the array has fewer elements, it returns PRECOPY_SHORT_BUFFER and writes only *count. There are at most 64 rounds.
  * It takes memory as precopy_plan does.
  */
+PRECOPY_ANSWERS PRECOPY_NOT_NULL(3, 6)
 uint32_t precopy_rounds(const uint8_t *trace, size_t trace_length, const struct precopy_settings *settings,
                         struct precopy_round *rounds, size_t rounds_length, size_t *count);
 
@@ -183,6 +213,7 @@ uint32_t precopy_rounds(const uint8_t *trace, size_t trace_length, const struct 
  * If the buffer is shorter, it returns PRECOPY_SHORT_BUFFER and writes only *needed. It takes memory as precopy_plan
  * does, and for the text.
  */
+PRECOPY_ANSWERS PRECOPY_NOT_NULL(3, 6)
 uint32_t precopy_report(const uint8_t *trace, size_t trace_length, const struct precopy_settings *settings,
                         uint8_t *text, size_t text_length, size_t *needed);
 
@@ -191,10 +222,11 @@ uint32_t precopy_report(const uint8_t *trace, size_t trace_length, const struct 
  * number of the best case: the first with the least downtime, and of these the first with the fewest pages sent. With
  * no cases it is 0.
  *
- * If there are fewer sums than cases, it returns PRECOPY_SHORT_BUFFER; it needs as many sums as cases. That is tested
- * first, then the cases, and then the trace. It refuses the first case that is out of range; precopy_check_settings
- * finds which that is. It takes 20 bytes for each write, and memory for each case.
+ * If there are fewer sums than cases, it returns PRECOPY_SHORT_BUFFER, whatever else is refused; it needs as many sums
+ * as cases. It refuses the first case that is out of range; precopy_check_settings finds which that is. It takes 20
+ * bytes for each write, and memory for each case.
  */
+PRECOPY_ANSWERS PRECOPY_NOT_NULL(7)
 uint32_t precopy_sweep(const uint8_t *trace, size_t trace_length, const struct precopy_settings *cases,
                        size_t cases_length, struct precopy_sums *sums, size_t sums_length, size_t *best);
 
@@ -206,6 +238,7 @@ uint32_t precopy_sweep(const uint8_t *trace, size_t trace_length, const struct p
  *
  * If the buffer is shorter, it returns PRECOPY_SHORT_BUFFER and writes only *needed. It takes no memory.
  */
+PRECOPY_ANSWERS PRECOPY_NOT_NULL(5)
 uint32_t precopy_memory(const uint8_t *trace, size_t trace_length, uint8_t *memory, size_t memory_length,
                         size_t *needed);
 
@@ -213,6 +246,7 @@ uint32_t precopy_memory(const uint8_t *trace, size_t trace_length, uint8_t *memo
  * Writes the memory before a tick, after the writes of all lower ticks; otherwise like precopy_memory. A migration that
  * stops its guest at that tick must leave this memory.
  */
+PRECOPY_ANSWERS PRECOPY_NOT_NULL(6)
 uint32_t precopy_memory_before(const uint8_t *trace, size_t trace_length, uint64_t tick, uint8_t *memory,
                                size_t memory_length, size_t *needed);
 
@@ -229,9 +263,10 @@ struct precopy_frame {
  * Encodes the frame of a page at a stamp, with these bytes of the page. *needed is how many bytes the frame has: 9
  * for a page of zeros, or 9 and those of the page.
  *
- * The sizes are tested first, then the page, the stamp, and the number of bytes. If the buffer is shorter than the
+ * After the sizes the page is tested, then the stamp, and then the number of bytes. If the buffer is shorter than the
  * frame, it returns PRECOPY_SHORT_BUFFER and writes only *needed. It takes memory for one frame.
  */
+PRECOPY_ANSWERS PRECOPY_NOT_NULL(1, 8)
 uint32_t precopy_encode_frame(const struct precopy_sizes *sizes, uint32_t page, uint32_t stamp, const uint8_t *bytes,
                               size_t bytes_length, uint8_t *frame, size_t frame_length, size_t *needed);
 
@@ -239,9 +274,10 @@ uint32_t precopy_encode_frame(const struct precopy_sizes *sizes, uint32_t page, 
  * Decodes the frame at the front of some bytes: writes what it has into *frame, and the bytes of its page to
  * `content`.
  *
- * Bytes after the frame are left: the next frame begins at bytes + frame->size. The sizes are tested first, and then
- * the frame. If `content` is then shorter than a page, it returns PRECOPY_SHORT_BUFFER. It takes no memory.
+ * Bytes after the frame are left: the next frame begins at bytes + frame->size. If `content` is shorter than a page, it
+ * returns PRECOPY_SHORT_BUFFER. It takes no memory.
  */
+PRECOPY_ANSWERS PRECOPY_NOT_NULL(1, 4)
 uint32_t precopy_decode_frame(const struct precopy_sizes *sizes, const uint8_t *bytes, size_t bytes_length,
                               struct precopy_frame *frame, uint8_t *content, size_t content_length);
 
@@ -267,9 +303,10 @@ struct precopy_taken {
  * there are; stream + taken->bytes is where the refused one begins. So if a stream comes in pieces, keep what
  * PRECOPY_FRAME_SHORT leaves, and append the next piece to it.
  *
- * Any other status leaves memory, pages and *taken as they were. The sizes are tested first, then the length of memory,
- * and then the number of pages. It takes no memory.
+ * Any other status leaves memory, pages and *taken as they were. After the sizes the length of memory is tested, then
+ * the number of pages, and then the stream. It takes no memory.
  */
+PRECOPY_ANSWERS PRECOPY_NOT_NULL(1, 8)
 uint32_t precopy_accept(const struct precopy_sizes *sizes, const uint8_t *stream, size_t stream_length, uint8_t *memory,
                         size_t memory_length, struct precopy_page *pages, size_t pages_length,
                         struct precopy_taken *taken);
@@ -278,9 +315,11 @@ uint32_t precopy_accept(const struct precopy_sizes *sizes, const uint8_t *stream
  * Returns PRECOPY_OK if each page came, or PRECOPY_PAGE_MISSING, and then *page is the first that did not. It
  * takes no memory.
  */
+PRECOPY_ANSWERS PRECOPY_NOT_NULL(3)
 uint32_t precopy_missing(const struct precopy_page *pages, size_t pages_length, size_t *page);
 
 /* Returns whether each byte is 0; with no bytes it is true. It takes no memory. */
+PRECOPY_ANSWERS
 bool precopy_is_zero(const uint8_t *bytes, size_t bytes_length);
 
 #ifdef __cplusplus

@@ -1,0 +1,110 @@
+/*
+ * Null pointers whose length is 0, and the order of refusals, in each function of the library for C that has them.
+ */
+#include "precopy.h"
+
+#include <stdio.h>
+#include <string.h>
+
+static int passed, failed;
+
+#define ROW(holds)                                                                                                     \
+    do {                                                                                                               \
+        if (holds) {                                                                                                   \
+            passed++;                                                                                                  \
+        } else {                                                                                                       \
+            failed++;                                                                                                  \
+            printf("FAILED line %d: %s\n", __LINE__, #holds);                                                          \
+        }                                                                                                              \
+    } while (0)
+
+/* Pages of 16 bytes, 1 page, and a write of a byte at tick 7. */
+static const uint8_t trace[33] = {0x50, 0x43, 0x57, 0x54, 1, 4, 0, 0, 1, 0, 0, 0, 1, 0, 0, 0, 7,
+                                  0,    0,    0,    0,    0, 0, 0, 0, 0, 0, 0, 0, 0, 1, 0, 5};
+static const uint8_t page[16] = {5};
+/* The page at stamp 1. */
+static const uint8_t frame[25] = {0, 0, 0, 0, 1, 0, 0, 0, 1, 5};
+static const struct precopy_settings good = PRECOPY_SETTINGS_DEFAULT;
+static const struct precopy_settings bad = {1000, 5000, 500, 0, 30, 0, 1000, 2, 0, 0, 0};
+static const struct precopy_sizes sizes = {4, 1, 1}, no_sizes = {4, 0, 1};
+
+static void nulls_of_traces(void) {
+    struct precopy_sizes found;
+    struct precopy_sums sums;
+    uint32_t record;
+    size_t count = 9;
+    ROW(precopy_check_trace(NULL, 0, &found, &record) == PRECOPY_SHORT_HEADER);
+    ROW(precopy_plan(NULL, 0, &good, &sums) == PRECOPY_SHORT_HEADER);
+    ROW(precopy_rounds(NULL, 0, &good, NULL, 0, &count) == PRECOPY_SHORT_HEADER && count == 9);
+    ROW(precopy_rounds(trace, sizeof trace, &good, NULL, 0, &count) == PRECOPY_SHORT_BUFFER && count == 1);
+    ROW(precopy_report(NULL, 0, &good, NULL, 0, &count) == PRECOPY_SHORT_HEADER && count == 1);
+    ROW(precopy_report(trace, sizeof trace, &good, NULL, 0, &count) == PRECOPY_SHORT_BUFFER && count > 100);
+    ROW(precopy_sweep(NULL, 0, NULL, 0, NULL, 0, &count) == PRECOPY_SHORT_HEADER);
+    ROW(precopy_sweep(trace, sizeof trace, NULL, 0, NULL, 0, &count) == PRECOPY_OK && count == 0);
+    ROW(precopy_sweep(trace, sizeof trace, &good, 1, NULL, 0, &count) == PRECOPY_SHORT_BUFFER && count == 0);
+    ROW(precopy_sweep(trace, sizeof trace, NULL, 0, &sums, 1, &count) == PRECOPY_OK && count == 0);
+    ROW(precopy_memory(NULL, 0, NULL, 0, &count) == PRECOPY_SHORT_HEADER && count == 0);
+    ROW(precopy_memory(trace, sizeof trace, NULL, 0, &count) == PRECOPY_SHORT_BUFFER && count == 16);
+    ROW(precopy_memory_before(NULL, 0, 8, NULL, 0, &count) == PRECOPY_SHORT_HEADER && count == 16);
+    ROW(precopy_memory_before(trace, sizeof trace, 8, NULL, 0, &count) == PRECOPY_SHORT_BUFFER && count == 16);
+}
+
+static void nulls_of_frames(void) {
+    struct precopy_frame head;
+    struct precopy_taken taken = {9, 9};
+    struct precopy_page state = {0, 0};
+    uint8_t memory[16] = {0};
+    size_t needed = 9;
+    ROW(precopy_encode_frame(&sizes, 0, 1, NULL, 0, NULL, 0, &needed) == PRECOPY_PAGE_LENGTH && needed == 9);
+    ROW(precopy_encode_frame(&sizes, 0, 1, page, 16, NULL, 0, &needed) == PRECOPY_SHORT_BUFFER && needed == 25);
+    ROW(precopy_decode_frame(&sizes, NULL, 0, &head, NULL, 0) == PRECOPY_FRAME_SHORT);
+    ROW(precopy_decode_frame(&sizes, frame, 25, &head, NULL, 0) == PRECOPY_SHORT_BUFFER);
+    ROW(precopy_accept(&sizes, NULL, 0, NULL, 0, NULL, 0, &taken) == PRECOPY_MEMORY_LENGTH && taken.frames == 9);
+    ROW(precopy_accept(&sizes, NULL, 0, memory, 16, NULL, 0, &taken) == PRECOPY_PAGE_COUNT && taken.frames == 9);
+    ROW(precopy_accept(&sizes, NULL, 0, memory, 16, &state, 1, &taken) == PRECOPY_OK && taken.frames == 0);
+    ROW(precopy_missing(NULL, 0, &needed) == PRECOPY_OK && needed == 25);
+    ROW(precopy_is_zero(NULL, 0));
+}
+
+static void order_of_traces(void) {
+    static const struct precopy_settings cases[2] = {PRECOPY_SETTINGS_DEFAULT, {0, 0, 0, 0, 0, 0, 0, 0, 0, 0, 0}};
+    struct precopy_sums sums[2];
+    size_t count;
+    ROW(precopy_plan(trace, 5, &bad, sums) == PRECOPY_BAD_THRESHOLD);
+    ROW(precopy_rounds(trace, 5, &bad, NULL, 0, &count) == PRECOPY_BAD_THRESHOLD);
+    ROW(precopy_rounds(trace, 32, &good, NULL, 0, &count) == PRECOPY_SHORT_RECORD);
+    ROW(precopy_report(trace, 5, &bad, NULL, 0, &count) == PRECOPY_BAD_THRESHOLD);
+    ROW(precopy_report(trace, 32, &good, NULL, 0, &count) == PRECOPY_SHORT_RECORD);
+    ROW(precopy_sweep(trace, 5, cases, 2, sums, 1, &count) == PRECOPY_SHORT_BUFFER);
+    ROW(precopy_sweep(trace, 5, cases, 2, sums, 2, &count) == PRECOPY_BAD_MIN);
+    ROW(precopy_sweep(trace, 5, cases, 1, sums, 2, &count) == PRECOPY_SHORT_HEADER);
+    ROW(precopy_memory(trace, 32, NULL, 0, &count) == PRECOPY_SHORT_RECORD);
+    ROW(precopy_memory_before(trace, 32, 8, NULL, 0, &count) == PRECOPY_SHORT_RECORD);
+}
+
+static void order_of_frames(void) {
+    struct precopy_frame head;
+    struct precopy_taken taken;
+    struct precopy_page states[2] = {{0, 0}, {0, 0}};
+    uint8_t memory[17] = {0};
+    size_t needed;
+    ROW(precopy_encode_frame(&no_sizes, 1, 2, page, 15, NULL, 0, &needed) == PRECOPY_BAD_PAGES);
+    ROW(precopy_encode_frame(&sizes, 1, 2, page, 15, NULL, 0, &needed) == PRECOPY_FRAME_PAGE);
+    ROW(precopy_encode_frame(&sizes, 0, 2, page, 15, NULL, 0, &needed) == PRECOPY_FRAME_STAMP);
+    ROW(precopy_encode_frame(&sizes, 0, 1, page, 15, NULL, 0, &needed) == PRECOPY_PAGE_LENGTH);
+    ROW(precopy_decode_frame(&no_sizes, frame, 24, &head, NULL, 0) == PRECOPY_BAD_PAGES);
+    ROW(precopy_decode_frame(&sizes, frame, 24, &head, NULL, 0) == PRECOPY_FRAME_SHORT);
+    ROW(precopy_accept(&no_sizes, frame, 24, memory, 17, states, 2, &taken) == PRECOPY_BAD_PAGES);
+    ROW(precopy_accept(&sizes, frame, 24, memory, 17, states, 2, &taken) == PRECOPY_MEMORY_LENGTH);
+    ROW(precopy_accept(&sizes, frame, 24, memory, 16, states, 2, &taken) == PRECOPY_PAGE_COUNT);
+    ROW(precopy_accept(&sizes, frame, 24, memory, 16, states, 1, &taken) == PRECOPY_FRAME_SHORT);
+}
+
+int main(void) {
+    nulls_of_traces();
+    nulls_of_frames();
+    order_of_traces();
+    order_of_frames();
+    printf("%d passed, %d failed\n", passed, failed);
+    return failed != 0;
+}
