@@ -1,6 +1,8 @@
 // What a plan needs of a trace: tick and page of each write. From them a light trace is made, with one byte for each
 // write, which plans as the whole does and is far shorter; and from them come standard errors.
 
+import { firstPlace } from "./search.js";
+
 const HEADER = 16;
 const RECORD = 16;
 const LIGHT_RECORD = 17;
@@ -35,24 +37,11 @@ export function lightTrace(writes, { pages, pageBytes }) {
   return bytes;
 }
 
-/** The place of the first write at a tick or later. */
-function firstAt(ticks, tick) {
-  let [low, high] = [0, ticks.length];
-  while (low < high) {
-    const middle = (low + high) >> 1;
-    if (ticks[middle] < tick) {
-      low = middle + 1;
-    } else {
-      high = middle;
-    }
-  }
-  return low;
-}
-
 /** The first tick from `from` on and before `to` at which each page is written, in the order of pages. */
 function firstWrites({ ticks, pages }, from, to) {
   const found = new Map();
-  for (let place = firstAt(ticks, from); place < ticks.length && ticks[place] < to; place += 1) {
+  const begin = firstPlace(ticks.length, (place) => ticks[place] >= from);
+  for (let place = begin; place < ticks.length && ticks[place] < to; place += 1) {
     if (!found.has(pages[place])) {
       found.set(pages[place], ticks[place]);
     }

@@ -4,21 +4,22 @@
 import { Refusal } from "./planner.js";
 import { embeddedBytes } from "./trace-source.js";
 
-/** For how long a worker that was asked may be silent, in milliseconds; and how often one trace may end it. */
+/** For how long a worker that was asked may be silent, in milliseconds; and how often it may end without an answer. */
 const LONGEST_SILENCE = 30_000;
 const MOST_ENDS = 2;
 
-/** The worker ended, again and again, over this trace. */
+/** The worker ended, again and again, and gave no answer. */
 export class WorkerEnded extends Error {}
 
 export class PlannerClient {
-  constructor() {
+  /** `rereading` is told the share of the trace that another worker has read, and null at the end. */
+  constructor(rereading) {
+    this.rereading = rereading;
     this.worker = null;
     this.waiting = new Map();
     this.count = 0;
     this.blob = null;
     this.ends = 0;
-    this.told = () => {};
   }
 
   /** A new worker with the module, and with the trace that is open. */
@@ -33,7 +34,8 @@ export class PlannerClient {
     this.worker = worker;
     this.post(this.entryOf("module", { bytes: this.bytes }));
     if (this.blob) {
-      this.post(this.entryOf("open", { blob: this.blob }));
+      const end = () => this.rereading(null);
+      this.post({ ...this.entryOf("open", { blob: this.blob }), told: this.rereading, resolve: end, reject: end });
     }
   }
 
@@ -69,12 +71,10 @@ export class PlannerClient {
     }
   }
 
-  hear({ number, value, refused, failed, planned, read }) {
+  hear({ number, value, refused, failed, share }) {
     const entry = this.waiting.get(number);
-    if (read !== undefined) {
-      this.told(read);
-    } else if (planned !== undefined) {
-      entry?.told(planned);
+    if (share !== undefined) {
+      entry?.told(share);
     } else if (entry) {
       this.waiting.delete(number);
       this.settle(entry, value, refused, failed);
@@ -83,6 +83,7 @@ export class PlannerClient {
   }
 
   settle(entry, value, refused, failed) {
+    this.ends = entry.isOwn ? this.ends : 0;
     if (refused) {
       entry.reject(new Refusal(refused.number, refused.record));
     } else if (failed) {
@@ -94,9 +95,7 @@ export class PlannerClient {
 
   /** Opens a trace. One that is refused leaves the open one as it is. */
   async open(blob, told) {
-    this.told = told;
-    this.ends = 0;
-    const found = await this.ask("open", { blob });
+    const found = await this.ask("open", { blob }, told);
     this.blob = blob;
     return found;
   }
@@ -110,6 +109,7 @@ export class PlannerClient {
     if (this.ends > MOST_ENDS) {
       this.worker = null;
       this.starting = null;
+      this.rereading(null);
       entries.forEach((entry) => entry.reject(new WorkerEnded("the worker ended")));
       return;
     }

@@ -91,7 +91,7 @@ export class WindowsView {
 
   lookAt(axis, windows, drawn, settings) {
     const { length } = this.counted;
-    const scale = { tick: amountOf(settings.tick) };
+    const scale = { tick: amountOf(settings.tick), isSample: this.isSample };
     const tickOf = (at) => Math.max(axis.first, windows.number[drawn[at].row] * length);
     return {
       count: drawn.length,
