@@ -1,6 +1,7 @@
 """Drives a headless Chromium by the DevTools protocol, over a pipe."""
 
 import base64
+import contextlib
 import json
 import os
 import select
@@ -148,6 +149,39 @@ class Browser(Driven):
         features = [{"name": "prefers-color-scheme", "value": "dark" if is_dark else "light"},
                     {"name": "prefers-reduced-motion", "value": "reduce" if is_still else "no-preference"}]
         self.call("Emulation.setEmulatedMedia", features=features)
+
+    def longest_task(self, act):
+        """Does something, and returns how long the longest task of a page's own thread worked meanwhile, in
+        milliseconds. The clock is the processor's, which stops while others have it."""
+        config = {"includedCategories": ["toplevel"], "excludedCategories": ["*"]}
+        self.call("Tracing.start", traceConfig=config, transferMode="ReportEvents")
+        act()
+        self.call("Tracing.end")
+        self.wait("true")
+        while not any(event["method"] == "Tracing.tracingComplete" for event in self.events):
+            self.value("0")
+        told = [some for event in self.events if event["method"] == "Tracing.dataCollected"
+                for some in event["params"]["value"]]
+        self.events = [event for event in self.events if not event["method"].startswith("Tracing.")]
+        threads = {(some["pid"], some["tid"]) for some in told
+                   if some["name"] == "thread_name" and some["args"]["name"] == "CrRendererMain"}
+        tasks = [some["tdur"] for some in told if "tdur" in some and (some["pid"], some["tid"]) in threads]
+        if not tasks:
+            raise BrowserError("the browser tells no task of a page")
+        return max(tasks) / 1_000
+
+    def memory(self):
+        """How much memory the browser's processes have, in bytes. What they share counts once."""
+        size, numbers = 0, [self.process.pid]
+        while numbers:
+            folder = f"/proc/{numbers.pop()}"
+            with contextlib.suppress(OSError):
+                for thread in os.listdir(f"{folder}/task"):
+                    with open(f"{folder}/task/{thread}/children", encoding="ascii") as file:
+                        numbers += file.read().split()
+                with open(f"{folder}/smaps_rollup", encoding="ascii") as lines:
+                    size += sum(int(line.split()[1]) << 10 for line in lines if line.startswith("Pss:"))
+        return size
 
     def picture(self, path, is_whole=True):
         """Writes a picture of the page."""
