@@ -155,7 +155,7 @@ def check_speed(page, folder):
     processor, so its own time is taken too."""
     path = os.path.join(folder, "full.pcwt")
     write_full(path, 32, 1)
-    page.open()
+    require_free(page, "opened, with the first example", lambda: (page.open(), page.wait_for_plan()))
     if "1,048,576 writes" not in page.load(path):
         raise Failure("the trace of 2^20 writes is not open")
     page.ask(SETTINGS)

@@ -19,10 +19,15 @@ export function writesIn(bytes, count) {
   return writes;
 }
 
+/** How many bytes the light trace of so many writes has. */
+export function lightLength({ writes }) {
+  return HEADER + writes * LIGHT_RECORD;
+}
+
 /** A trace of the same writes with a byte each: it has other memory, and the same plans. */
-export function lightTrace(writes, { pages, pageBytes }) {
-  const count = writes.ticks.length;
-  const bytes = new Uint8Array(HEADER + count * LIGHT_RECORD);
+export function lightTrace(writes, sizes) {
+  const { pages, pageBytes, writes: count } = sizes;
+  const bytes = new Uint8Array(lightLength(sizes));
   const view = new DataView(bytes.buffer);
   bytes.set([0x50, 0x43, 0x57, 0x54, 1, Math.log2(pageBytes)]);
   view.setUint32(8, pages, true);

@@ -1,5 +1,6 @@
 // The page's side of the planner's worker: it asks, and has what is asked answered. A worker that ends, or that says
-// nothing for long, is started again, reads the trace again, and is asked again.
+// nothing for long, is started again, reads the trace again, and is asked again. So is one that has read a long trace:
+// the next one reads only a light trace, and the memory of the first goes with it.
 
 import { Refusal } from "./planner.js";
 import { embeddedBytes } from "./trace-source.js";
@@ -22,8 +23,8 @@ export class PlannerClient {
     this.ends = 0;
   }
 
-  /** A new worker with the module, and with the trace that is open. */
-  async start() {
+  /** A new worker with the module, and with the trace that is open: `told` is called with the share that it has read. */
+  async start(told) {
     this.bytes ??= await embeddedBytes("planner-module");
     const program = new Blob([document.getElementById("program").textContent], { type: "text/javascript" });
     const address = URL.createObjectURL(program);
@@ -34,15 +35,15 @@ export class PlannerClient {
     this.worker = worker;
     this.post(this.entryOf("module", { bytes: this.bytes }));
     if (this.blob) {
-      const end = () => this.rereading(null);
-      this.post({ ...this.entryOf("open", { blob: this.blob }), told: this.rereading, resolve: end, reject: end });
+      const end = () => told(null);
+      this.post({ ...this.entryOf("open", { blob: this.blob }), told, resolve: end, reject: end });
     }
   }
 
   /** Asks the worker, and has its answer. `told` is called with the share that is done. */
   async ask(name, asked, told = () => {}) {
     if (!this.worker) {
-      this.starting ??= this.start();
+      this.starting ??= this.start(this.rereading);
       await this.starting;
     }
     return new Promise((resolve, reject) => {
@@ -95,25 +96,40 @@ export class PlannerClient {
 
   /** Opens a trace. One that is refused leaves the open one as it is. */
   async open(blob, told) {
-    const found = await this.ask("open", { blob }, told);
-    this.blob = blob;
+    const { light, ...found } = await this.ask("open", { blob }, told);
+    this.blob = light ?? blob;
+    if (light) {
+      await this.replace(() => {});
+    }
     return found;
   }
 
-  /** Ends the worker and starts another, which is asked what the first was, once it has the trace. */
-  async restart() {
+  /** Ends the worker, and returns what was asked of it by others. */
+  end() {
     const entries = [...this.waiting.values()].filter(({ isOwn }) => !isOwn);
     this.worker?.terminate();
     this.waiting.clear();
+    return entries;
+  }
+
+  /** Ends the worker and starts another, which is asked what the first was, once it has the trace. */
+  async replace(told) {
+    const entries = this.end();
+    await this.start(told);
+    entries.forEach((entry) => this.post(entry));
+  }
+
+  /** Has another worker in place of one that ended by itself, unless that has happened too often. */
+  async restart() {
     this.ends += 1;
-    if (this.ends > MOST_ENDS) {
-      this.worker = null;
-      this.starting = null;
-      this.rereading(null);
-      entries.forEach((entry) => entry.reject(new WorkerEnded("the worker ended")));
+    if (this.ends <= MOST_ENDS) {
+      await this.replace(this.rereading);
       return;
     }
-    await this.start();
-    entries.forEach((entry) => this.post(entry));
+    const entries = this.end();
+    this.worker = null;
+    this.starting = null;
+    this.rereading(null);
+    entries.forEach((entry) => entry.reject(new WorkerEnded("the worker ended")));
   }
 }

@@ -1,7 +1,7 @@
 // The planner's worker: it reads and tests a trace, keeps tick and page of each write, and plans. It runs the page's
 // own program.
 
-import { lightTrace, squaresSent, writesIn } from "./light-trace.js";
+import { lightLength, lightTrace, squaresSent, writesIn } from "./light-trace.js";
 import { Planner, Refusal } from "./planner.js";
 import { Sha256 } from "./sha256.js";
 import { Slice } from "./slices.js";
@@ -32,18 +32,16 @@ async function* digested(blob, digest, number) {
   }
 }
 
-/** Opens a trace, and keeps a light one in its place, if that is shorter. An open trace stays until then. */
+/** Opens a trace; an open one stays until then. Answers a light one too, if that is shorter by far. */
 async function openTrace({ number, blob }) {
   const digest = new Sha256();
-  const whole = await Planner.open(held.module, blob.size, digested(blob, digest, number));
-  const bytes = whole.traceBytes();
-  const writes = writesIn(bytes, whole.sizes.writes);
-  const light = lightTrace(writes, whole.sizes);
-  const isShorter = 2 * light.length < bytes.length;
-  held.planner = isShorter ? await Planner.open(held.module, light.length, [light]) : whole;
-  held.writes = writes;
+  const opened = await Planner.open(held.module, blob.size, digested(blob, digest, number));
+  const { sizes } = opened;
+  held.planner = opened;
+  held.writes = writesIn(opened.traceBytes(), sizes.writes);
   held.asked.clear();
-  return { sizes: held.planner.sizes, digest: digest.digest() };
+  const isShorter = 2 * lightLength(sizes) < blob.size;
+  return { sizes, digest: digest.digest(), light: isShorter ? new Blob([lightTrace(held.writes, sizes)]) : null };
 }
 
 function plan({ settings, hasErrors }) {
