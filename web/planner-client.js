@@ -23,7 +23,7 @@ export class PlannerClient {
     this.ends = 0;
   }
 
-  /** A new worker with the module, and with the trace that is open: `told` is called with the share that it has read. */
+  /** A new worker with the module and the open trace. `told` is called with the share that it has read, then null. */
   async start(told) {
     this.bytes ??= await embeddedBytes("planner-module");
     const program = new Blob([document.getElementById("program").textContent], { type: "text/javascript" });
