@@ -142,8 +142,8 @@ def use(page, before):
     require_free(page, "over it all starts", lambda: plan_starts(page))
     seconds = (page.browser.value("performance.now()") - begun) / 1_000
     memory = page.browser.memory() - before
-    print(f"over it a plan takes {middle:.1f} ms, all starts {seconds:.1f} s; the browser has {memory / 1e6:.0f} MB more "
-          "than before the trace")
+    print(f"over it a plan takes {middle:.1f} ms, all starts {seconds:.1f} s; the browser has {memory / 1e6:.0f} MB "
+          "more than before")
     if middle > MOST_LIGHT_MILLIS:
         raise Failure(f"a plan takes {middle:.1f} ms")
     if memory > MOST_MEMORY:
