@@ -49,20 +49,26 @@ function cutLabels(axis, drawn, windows, panel) {
   });
 }
 
+/** Of some rows, the first with the most pages. */
+function fullestRow({ pages }, begin, end) {
+  let found = begin;
+  for (let row = begin + 1; row < end; row += 1) {
+    if (pages[row] > pages[found]) {
+      found = row;
+    }
+  }
+  return found;
+}
+
 /** The windows that are drawn: of those that begin on one pixel, the one with the most pages. */
 function drawnWindows(axis, windows, [begin, end], length) {
   const drawn = [];
-  let before = null;
-  for (let row = begin; row < end; row += 1) {
-    const [from, to] = [windows.number[row] * length, (windows.number[row] + 1) * length];
-    if (before && axis.place(from) < before.left + 1) {
-      before.right = Math.max(before.right, axis.place(to));
-      before.row = windows.pages[row] > windows.pages[before.row] ? row : before.row;
-    } else {
-      const [left, right] = barOf(axis, from, to);
-      before = { row, left, right };
-      drawn.push(before);
-    }
+  for (let row = begin, next = begin; row < end; row = next) {
+    const [left, right] = barOf(axis, windows.number[row] * length, (windows.number[row] + 1) * length);
+    const isBeyond = (at) => axis.place(windows.number[row + at] * length) >= left + 1;
+    next = row + firstPlace(end - row, isBeyond);
+    const endOfAll = next > row + 1 ? axis.place((windows.number[next - 1] + 1) * length) : right;
+    drawn.push({ row: fullestRow(windows, row, next), left, right: Math.max(right, endOfAll) });
   }
   return drawn;
 }
