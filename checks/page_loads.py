@@ -10,9 +10,11 @@ from page_shown import tried
 from view_texts import Failure
 
 MOST_BYTES = 1 << 28
-MOST_MILLIS, MOST_LIGHT_MILLIS, MOST_TASK_MILLIS, MOST_CANCEL_SECONDS = 30, 40, 50, 1
-# The pages of a browser without a trace, and what a long one may add once it is read.
-MOST_MEMORY = 400 << 20
+MOST_MILLIS, MOST_TASK_MILLIS, MOST_CANCEL_SECONDS = 30, 50, 1
+# By how many times a plan may take longer if each write has more bytes, and the bytes of each.
+MOST_TIMES, LENGTHS = 1.5, (1, 236)
+# What a trace that is read may add to the memory of the browser.
+MOST_MEMORY = 160 << 20
 
 # Moves the slider of the link, sixty times, each time after the page has drawn.
 CHANGES = """
@@ -71,9 +73,9 @@ def processor_millis(page):
 
 
 def require_free(page, words, act):
-    """Does something, and fails if one task of the page's own thread works long meanwhile. Returns the longest."""
+    """Does something, and fails if one task of the page's own thread works long meanwhile."""
     longest = page.browser.longest_task(act)
-    print(f"{words}: the longest task of the page's thread works for {longest:.0f} ms")
+    print(f"  {words}: the longest task of the page's thread works for {longest:.0f} ms")
     if longest > MOST_TASK_MILLIS:
         raise Failure(f"{words}: a task works for {longest:.0f} ms")
 
@@ -109,74 +111,81 @@ def cancel_starts(page):
 # ---- The trials.
 
 
+def opened(page, path):
+    """Opens a trace, and returns what is said of it and how many bytes of memory the browser has more, once it is
+    used."""
+    said, before = [], page.browser.memory()
+    require_free(page, "reading", lambda: said.append(page.load(path)))
+    return said[0], lambda: page.browser.memory() - before
+
+
+def check_speed(page, folder):
+    """Changes, starts and a cancel over as many writes as there may be; with more bytes in each they take no longer."""
+    require_free(page, "opening, with the first example", lambda: (page.open(), page.wait_for_plan()))
+    middles = [speed_over(page, folder, length) for length in LENGTHS]
+    if middles[1] > MOST_TIMES * middles[0]:
+        raise Failure(f"a plan takes {middles[0]:.1f} ms, and over more bytes {middles[1]:.1f}")
+
+
+def speed_over(page, folder, length):
+    """The time of a plan over 2^20 writes of some length, in milliseconds. On a busy machine the page's thread waits
+    for a processor, so its own time is taken too."""
+    path = os.path.join(folder, "full.pcwt")
+    write_full(path, 32, length)
+    print(f"2^20 writes in {os.path.getsize(path) / 1e6:.0f} MB:")
+    page.open()
+    said, more_memory = opened(page, path)
+    if "1,048,576 writes" not in said:
+        raise Failure(said)
+    page.ask(SETTINGS)
+    page.browser.call("Performance.enable", timeDomain="threadTicks")
+    before = processor_millis(page)
+    require_free(page, "60 changes", lambda: page.browser.value(CHANGES))
+    times, plans = page.browser.value("times"), page.browser.value("plans")
+    each = (processor_millis(page) - before) / len(times)
+    middle, plan = statistics.median(times), statistics.median(plans)
+    print(f"  a change takes {middle:.1f} ms in the middle, {plan:.1f} of it for the plan, {max(times):.1f} at most, "
+          f"and {each:.1f} ms of the page's thread")
+    if min(middle, each) > MOST_MILLIS:
+        raise Failure(f"a change takes {middle:.1f} ms, and {each:.1f} ms of a processor")
+    seconds = cancel_starts(page)
+    print(f"  after a cancel the next plan takes {seconds:.2f} s")
+    if seconds > MOST_CANCEL_SECONDS:
+        raise Failure(f"after a cancel the next plan takes {seconds:.2f} s")
+    tell_starts(page, more_memory)
+    return plan
+
+
+def tell_starts(page, more_memory):
+    begun = page.browser.value("performance.now()")
+    require_free(page, "all starts", lambda: plan_starts(page))
+    seconds, memory = (page.browser.value("performance.now()") - begun) / 1_000, more_memory()
+    print(f"  all starts take {seconds:.1f} s; the browser has {memory / 1e6:.0f} MB more than before")
+    if memory > MOST_MEMORY:
+        raise Failure(f"{memory:,} bytes more than without the trace")
+
+
 def check_long(page, folder):
     """A trace as long as may be is planned or refused; one byte more is refused."""
     path = os.path.join(folder, "long.pcwt")
     write_long(path)
     page.open("#link=64MiB&first=100&downtime=300ms&window=1000")
-    before = page.browser.memory()
-    said = []
-    require_free(page, "a trace of 2^28 bytes, read", lambda: said.append(page.load(path)))
-    print(f"a trace of 2^28 bytes: {said[0]}")
+    said, more_memory = opened(page, path)
+    print(f"a trace of 2^28 bytes: {said}")
     if page.browser.value("document.body.classList.contains('loaded')"):
-        if "65,280 writes" not in said[0] and "65,281 writes" not in said[0]:
-            raise Failure(said[0])
+        if "65,280 writes" not in said and "65,281 writes" not in said:
+            raise Failure(said)
         page.wait_for_plan()
-        use(page, before)
-    elif "E16" not in said[0]:
-        raise Failure(said[0])
+        require_free(page, "60 changes", lambda: page.browser.value(CHANGES))
+        tell_starts(page, more_memory)
+    elif "E16" not in said:
+        raise Failure(said)
     with open(path, "ab") as file:
         file.write(b"\0")
     said = page.load(path)
     os.unlink(path)
     if "is refused: E15 " not in said:
         raise Failure(said)
-
-
-def use(page, before):
-    """A plan over a long trace takes no longer than one over its ticks and pages alone, starts can be cancelled, and
-    the trace's bytes are gone."""
-    require_free(page, "over it 60 changes", lambda: page.browser.value(CHANGES))
-    middle = statistics.median(page.browser.value("plans"))
-    begun = page.browser.value("performance.now()")
-    require_free(page, "over it all starts", lambda: plan_starts(page))
-    seconds = (page.browser.value("performance.now()") - begun) / 1_000
-    memory = page.browser.memory() - before
-    print(f"over it a plan takes {middle:.1f} ms, all starts {seconds:.1f} s; the browser has {memory / 1e6:.0f} MB "
-          "more than before")
-    if middle > MOST_LIGHT_MILLIS:
-        raise Failure(f"a plan takes {middle:.1f} ms")
-    if memory > MOST_MEMORY:
-        raise Failure(f"{memory:,} bytes more than without a trace")
-
-
-def check_speed(page, folder):
-    """Replans over as many writes as there may be, change by change. On a busy machine the page's thread waits for a
-    processor, so its own time is taken too."""
-    path = os.path.join(folder, "full.pcwt")
-    write_full(path, 32, 1)
-    require_free(page, "opened, with the first example", lambda: (page.open(), page.wait_for_plan()))
-    if "1,048,576 writes" not in page.load(path):
-        raise Failure("the trace of 2^20 writes is not open")
-    page.ask(SETTINGS)
-    page.browser.call("Performance.enable", timeDomain="threadTicks")
-    before = processor_millis(page)
-    require_free(page, "over 2^20 writes 60 changes", lambda: page.browser.value(CHANGES))
-    times, plans = page.browser.value("times"), page.browser.value("plans")
-    each = (processor_millis(page) - before) / len(times)
-    middle, most = statistics.median(times), max(times)
-    plan = statistics.median(plans)
-    print(f"a change over 2^20 writes: {middle:.1f} ms in the middle of {len(times)}, {plan:.1f} of it for the plan; "
-          f"{most:.1f} ms at most; {each:.1f} ms of a processor with layout and paint")
-    if min(middle, each) > MOST_MILLIS:
-        raise Failure(f"a change takes {middle:.1f} ms, and {each:.1f} ms of a processor")
-    seconds = cancel_starts(page)
-    print(f"over it starts that are cancelled leave the page free after {seconds:.2f} s")
-    if seconds > MOST_CANCEL_SECONDS:
-        raise Failure(f"after a cancel the next plan takes {seconds:.2f} s")
-    begun = page.browser.value("performance.now()")
-    require_free(page, "over it all starts", lambda: plan_starts(page))
-    print(f"over it all starts take {(page.browser.value('performance.now()') - begun) / 1_000:.1f} s")
 
 
 def check_many_windows(page, folder):
