@@ -82,9 +82,9 @@ def nothing_fits(page):
     """A short trace: each plan ends after it."""
     open_with(page, "#trace=sqlite")
     page.drop(("short.pcwt", page_shapes.trace(12, 5_000, [(tick, tick % 50, 1) for tick in range(60)])))
-    typed(page, "link", "40")
-    page.after("const unit = document.querySelector('[data-control=link] select'); unit.value = 'Kbit';"
+    page.after("const unit = document.querySelector('[data-control=link] select'); unit.value = 'Mbit';"
                "unit.dispatchEvent(new Event('change'))")
+    typed(page, "link", "4")
     plan_starts(page)
 
 

@@ -56,7 +56,7 @@ export function roundsPicture(width, { plan, settings, scale }, reach) {
   const stop = plan.stop - settings.start;
   const parts = [
     ...frameOf(axis, pages, scale.isSample ? "Sample pages of a round" : "Pages of a round"),
-    ...frameOf(axis, rates, `Rate, in ${scale.isSample ? "sample " : ""}pages per 1,000 ticks`),
+    ...frameOf(axis, rates, `${scale.isSample ? "Sample" : "Rate, in"} pages per 1,000 ticks`),
     ...plan.rounds.flatMap((round) => roundParts(axis, pages, rates, round, settings.start)),
     area("link", axis.place(0), rates.level(settings.max) - 0.5, axis.room, 1),
     ...stopParts(axis, pages, stop, plan.down), ...stopParts(axis, rates, stop, plan.down),

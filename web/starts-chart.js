@@ -109,9 +109,9 @@ function curveParts(axis, { name, number, unit, hasLimit }, place, asked) {
   return [
     ...latePart(axis, panel, asked.costs),
     ...frameOf(axis, panel, `${name} by start, in ${unitName}`, text),
+    ...startMark(axis, panel, "worst", asked.chosen.worst), ...startMark(axis, panel, "best", asked.chosen.best),
     ...(hasLimit ? [area("limit", axis.place(axis.first), panel.level(limit) - 1, axis.room, 2)] : []),
     ...known.map((stretch) => lineOf(axis, panel, stretch, number)),
-    ...startMark(axis, panel, "worst", asked.chosen.worst), ...startMark(axis, panel, "best", asked.chosen.best),
     ...cutStart(axis, panel, known.flat(), number, text),
   ];
 }

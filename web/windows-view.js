@@ -86,6 +86,7 @@ export class WindowsView {
     marks.replaceChildren(...(prediction ? planMarks(axis, panel, prediction.settings, prediction.plan) : []));
     byId("zoom-out").disabled = this.range === null;
     byId("zoom-plan").disabled = !prediction;
+    byId("base-key").hidden = settings.base === null;
     this.axis = axis;
   }
 
