@@ -38,7 +38,7 @@ const ROWS = [
     text: (pages, { scale }) => pagesText(scale, pages),
     more: ({ settings }) => `fewer than ${counted(settings.threshold)} end pre-copy` },
   { name: "stop", title: "Stop at", number: ({ plan, scale }) => microsOf(scale, plan.stop), text: timeText,
-    more: (some) => tickWords(some, `tick ${some.plan.stop}`) },
+    more: (some) => tickWords(some, `tick ${counted(some.plan.stop)}`) },
 ];
 
 /** The verdict on a prediction, in a line. */

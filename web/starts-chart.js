@@ -128,7 +128,7 @@ export function startsPicture(axis, asked) {
 /** What a migration from a start costs, in words. */
 export function startWords(asked, { start, cost }, hasTicks) {
   const mark = cost.isLate ? "ends after the trace" : cost.isKept ? "kept" : "not kept";
-  return `${timeText(microsOf(asked.scale, start))}${hasTicks ? `, tick ${start}` : ""}: time ${timeText(cost.time)}, `
+  return `${timeText(microsOf(asked.scale, start))}${hasTicks ? `, tick ${counted(start)}` : ""}: time ${timeText(cost.time)}, `
     + `sent ${bytesText(cost.bytes)}, downtime ${timeText(cost.downtime)}, ${mark}`;
 }
 

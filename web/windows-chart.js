@@ -128,7 +128,7 @@ export function planMarks(axis, panel, settings, plan) {
   }
   marks.push(...markAt(axis, panel, "stop", plan.stop));
   if (plan.stop > axis.last) {
-    marks.push(label("end past", axis.width - 14, panel.top - 9, "stop to the right \u2192"));
+    marks.push(label("end past", axis.width - 14, panel.top + 30, "stop to the right \u2192"));
   }
   return marks;
 }
