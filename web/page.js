@@ -325,12 +325,13 @@ class Page {
       const { min, max, increment, threshold } = prediction.settings;
       const { scale } = prediction;
       const limits = limitsOf(settings);
-      const pages = scale.isSample ? "sample pages" : "pages";
+      const noun = scale.isSample ? "sample page" : "page";
+      const pages = `${noun}s`;
       words.link = `${rateText(limits.link)}: ${counted(max)} ${pages} per 1,000 ticks`;
       words.first = `${rateText(limits.first)}: ${counted(min)} ${pages} per 1,000 ticks`;
       words.increase = `${counted(increment)} ${pages} per 1,000 ticks`;
       words.reserve = `${timeText(limits.downtime - limits.reserve)} for pages`;
-      words.downtime = `stops at fewer than ${counted(threshold)} ${pages}`;
+      words.downtime = `stops at fewer than ${countOf(threshold, noun)}`;
       words.sample = scale.isSample ? `${counted(scale.sampled)} of ${counted(scale.guest)} pages, `
         + bytesText(scale.guest * scale.page) : `itself: the trace has all ${countOf(sizes.pages, "page")}`;
     }
