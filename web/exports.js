@@ -52,20 +52,20 @@ async function pixelsOf(picture) {
   return new Promise((resolve) => canvas.toBlob(resolve, "image/png"));
 }
 
-/** Columns and rows as the parts of a file: there may be a million rows. */
+/** Columns and rows as the parts of a file, a slice of time after another: there may be a million rows. */
 async function csvParts(columns, rows) {
-  const parts = [`${columns.join(",")}\n`];
+  const parts = [];
   const slice = new Slice();
-  let lines = "";
+  let lines = [columns.join(",")];
   for (const cells of rows) {
-    lines += `${cells.join(",")}\n`;
+    lines.push(cells.join(","));
     if (slice.isOver()) {
-      parts.push(lines);
-      lines = "";
+      parts.push(new Blob([`${lines.join("\n")}\n`]));
+      lines = [];
       await slice.next();
     }
   }
-  return [...parts, lines];
+  return [...parts, ...lines.map((line) => `${line}\n`)];
 }
 
 /**
