@@ -152,12 +152,12 @@ class Browser(Driven):
 
     def longest_task(self, act):
         """Does something, and returns how long the longest task of a page's own thread worked meanwhile, in
-        milliseconds. The clock is the processor's, which stops while others have it."""
+        milliseconds. The clock is the processor's, which stops while others have it. Garbage of before goes first."""
+        self.call("HeapProfiler.collectGarbage")
         config = {"includedCategories": ["toplevel"], "excludedCategories": ["*"]}
         self.call("Tracing.start", traceConfig=config, transferMode="ReportEvents")
         act()
         self.call("Tracing.end")
-        self.wait("true")
         while not any(event["method"] == "Tracing.tracingComplete" for event in self.events):
             self.value("0")
         told = [some for event in self.events if event["method"] == "Tracing.dataCollected"

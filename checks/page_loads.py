@@ -177,6 +177,7 @@ def check_long(page, folder):
             raise Failure(said)
         page.wait_for_plan()
         require_free(page, "60 changes", lambda: page.browser.value(CHANGES))
+        print(f"  a plan takes {statistics.median(page.browser.value('plans')):.1f} ms in the middle")
         tell_starts(page, more_memory)
     elif "E16" not in said:
         raise Failure(said)
