@@ -12,7 +12,7 @@ from view_texts import Failure
 MOST_BYTES = 1 << 28
 MOST_MILLIS, MOST_TASK_MILLIS, MOST_CANCEL_SECONDS = 30, 50, 1
 # By how many times a plan may take longer if each write has more bytes, and the bytes of each.
-MOST_TIMES, LENGTHS = 1.5, (1, 236)
+MOST_TIMES, LENGTHS = 2, (1, 236)
 # What a trace that is read may add to the memory of the browser.
 MOST_MEMORY = 160 << 20
 

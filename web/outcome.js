@@ -41,11 +41,16 @@ const ROWS = [
     more: (some) => tickWords(some, `tick ${counted(some.plan.stop)}`) },
 ];
 
+/** A time whose number and unit stay on one line. */
+function wholeTime(micros) {
+  return timeText(micros).replace(" ", "\u00a0");
+}
+
 /** The verdict on a prediction, in a line. */
 export function verdictOf(prediction) {
   const { cost, limits } = prediction;
-  return `${endingOf(prediction)} The guest stands still for ${timeText(cost.downtime)}; the limit of `
-    + `${timeText(limits.downtime)} ${cost.isKept ? "is kept" : "is not kept"}.`;
+  return `${endingOf(prediction)} The guest stands still for ${wholeTime(cost.downtime)}; the limit of `
+    + `${wholeTime(limits.downtime)} ${cost.isKept ? "is kept" : "is not kept"}.`;
 }
 
 /** The word for a prediction, and whether it is good, bad or neither. */
