@@ -1,6 +1,7 @@
 """Drives a headless Chromium by the DevTools protocol, over a pipe."""
 
 import base64
+import contextlib
 import json
 import os
 import select
@@ -20,35 +21,13 @@ class BrowserError(Exception):
     """The browser did not do what it was asked."""
 
 
-class Browser:
-    """A browser of its own profile, with one tab. Its low priority leaves processors to others."""
+class Driven:
+    """A browser of its own profile, with one tab, that answers calls by their numbers. Its low priority leaves
+    processors to others. How it is started, and how a message goes to it and comes from it, is its own."""
 
-    def __init__(self, command):
+    def __init__(self):
         self.profile = tempfile.mkdtemp()
-        (their_in, self.to), (self.back, their_out) = os.pipe(), os.pipe()
-        words = ["nice", "-n", "19", "sh", "-c", f'exec "$@" 3<&{their_in} 4>&{their_out}', "sh", command]
-        words += [f"--user-data-dir={self.profile}", *(["--no-sandbox"] if os.geteuid() == 0 else []), *WORDS]
-        quiet = {"stdin": subprocess.DEVNULL, "stdout": subprocess.DEVNULL, "stderr": subprocess.DEVNULL}
-        self.process = subprocess.Popen(words, pass_fds=(their_in, their_out), **quiet)
-        os.close(their_in)
-        os.close(their_out)
-        self.count, self.rest, self.events = 0, b"", []
-        self.session = None
-        targets = self.call("Target.getTargets")["targetInfos"]
-        tab = next(target["targetId"] for target in targets if target["type"] == "page")
-        self.session = self.call("Target.attachToTarget", targetId=tab, flatten=True)["sessionId"]
-        for name in ("Page", "Runtime", "Network", "Log", "DOM"):
-            self.call(f"{name}.enable")
-
-    def close(self):
-        os.close(self.to)
-        try:
-            self.process.wait(10)
-        except subprocess.TimeoutExpired:
-            self.process.kill()
-            self.process.wait()
-        os.close(self.back)
-        shutil.rmtree(self.profile, ignore_errors=True)
+        self.count, self.events = 0, []
 
     def __enter__(self):
         return self
@@ -56,41 +35,28 @@ class Browser:
     def __exit__(self, *_):
         self.close()
 
-    def _next(self, until):
-        """The next message of the browser."""
-        while b"\0" not in self.rest:
-            ready, _, _ = select.select([self.back], [], [], max(0, until - time.monotonic()))
-            piece = os.read(self.back, 1 << 20) if ready else b""
-            if not piece:
-                raise BrowserError("the browser ended" if ready else "the browser does not answer")
-            self.rest += piece
-        message, _, self.rest = self.rest.partition(b"\0")
-        return json.loads(message)
+    def wait_for_end(self):
+        try:
+            self.process.wait(20)
+        except subprocess.TimeoutExpired:
+            self.process.kill()
+            self.process.wait()
+        shutil.rmtree(self.profile, ignore_errors=True)
 
     def call(self, method, seconds=SECONDS, **parameters):
         """Calls a method of the protocol. Events that come meanwhile are kept."""
         self.count += 1
-        message = {"id": self.count, "method": method, "params": parameters}
-        if self.session:
-            message["sessionId"] = self.session
-        os.write(self.to, json.dumps(message).encode() + b"\0")
+        self.send({"id": self.count, "method": method, "params": parameters})
         until = time.monotonic() + seconds
         while True:
-            found = self._next(until)
+            found = json.loads(self.receive(until))
             if found.get("id") == self.count:
                 if "error" in found:
-                    raise BrowserError(f"{method}: {found['error']['message']}")
+                    told = found["error"] if isinstance(found["error"], dict) else found
+                    raise BrowserError(f"{method}: {told['message'][:500]}")
                 return found["result"]
             if "method" in found:
                 self.events.append(found)
-
-    def value(self, expression, seconds=SECONDS):
-        """The value of an expression of JavaScript, waited for if it is a promise."""
-        found = self.call("Runtime.evaluate", seconds, expression=expression, returnByValue=True, awaitPromise=True)
-        if "exceptionDetails" in found:
-            details = found["exceptionDetails"]
-            raise BrowserError(details.get("exception", {}).get("description", details["text"]))
-        return found["result"].get("value")
 
     def wait(self, expression, seconds=SECONDS):
         """Waits until an expression is true, and returns its value."""
@@ -100,6 +66,59 @@ class Browser:
                 return found
             time.sleep(0.02)
         raise BrowserError(f"after {seconds} s there is no {expression}")
+
+    def keep_picture(self, path, found):
+        with open(path, "wb") as file:
+            file.write(base64.b64decode(found["data"]))
+
+
+class Browser(Driven):
+    """Chromium."""
+
+    def __init__(self, command):
+        super().__init__()
+        (their_in, self.to), (self.back, their_out) = os.pipe(), os.pipe()
+        words = ["nice", "-n", "19", "sh", "-c", f'exec "$@" 3<&{their_in} 4>&{their_out}', "sh", command]
+        words += [f"--user-data-dir={self.profile}", *(["--no-sandbox"] if os.geteuid() == 0 else []), *WORDS]
+        quiet = {"stdin": subprocess.DEVNULL, "stdout": subprocess.DEVNULL, "stderr": subprocess.DEVNULL}
+        self.process = subprocess.Popen(words, pass_fds=(their_in, their_out), **quiet)
+        os.close(their_in)
+        os.close(their_out)
+        self.rest, self.session = b"", None
+        targets = self.call("Target.getTargets")["targetInfos"]
+        tab = next(target["targetId"] for target in targets if target["type"] == "page")
+        self.session = self.call("Target.attachToTarget", targetId=tab, flatten=True)["sessionId"]
+        for name in ("Page", "Runtime", "Network", "Log", "DOM"):
+            self.call(f"{name}.enable")
+
+    def close(self):
+        os.close(self.to)
+        self.wait_for_end()
+        os.close(self.back)
+
+    def send(self, message):
+        if self.session:
+            message["sessionId"] = self.session
+        os.write(self.to, json.dumps(message).encode() + b"\0")
+
+    def receive(self, until):
+        """The next message of the browser."""
+        while b"\0" not in self.rest:
+            ready, _, _ = select.select([self.back], [], [], max(0, until - time.monotonic()))
+            piece = os.read(self.back, 1 << 20) if ready else b""
+            if not piece:
+                raise BrowserError("the browser ended" if ready else "the browser does not answer")
+            self.rest += piece
+        message, _, self.rest = self.rest.partition(b"\0")
+        return message
+
+    def value(self, expression, seconds=SECONDS):
+        """The value of an expression of JavaScript, waited for if it is a promise."""
+        found = self.call("Runtime.evaluate", seconds, expression=expression, returnByValue=True, awaitPromise=True)
+        if "exceptionDetails" in found:
+            details = found["exceptionDetails"]
+            raise BrowserError(details.get("exception", {}).get("description", details["text"]))
+        return found["result"].get("value")
 
     def begin_with(self, script):
         """Runs a script in each page before its own."""
@@ -131,8 +150,39 @@ class Browser:
                     {"name": "prefers-reduced-motion", "value": "reduce" if is_still else "no-preference"}]
         self.call("Emulation.setEmulatedMedia", features=features)
 
+    def longest_task(self, act):
+        """Does something, and returns how long the longest task of a page's own thread worked meanwhile, in
+        milliseconds. The clock is the processor's, which stops while others have it. Garbage of before goes first."""
+        self.call("HeapProfiler.collectGarbage")
+        config = {"includedCategories": ["toplevel"], "excludedCategories": ["*"]}
+        self.call("Tracing.start", traceConfig=config, transferMode="ReportEvents")
+        act()
+        self.call("Tracing.end")
+        while not any(event["method"] == "Tracing.tracingComplete" for event in self.events):
+            self.value("0")
+        told = [some for event in self.events if event["method"] == "Tracing.dataCollected"
+                for some in event["params"]["value"]]
+        self.events = [event for event in self.events if not event["method"].startswith("Tracing.")]
+        threads = {(some["pid"], some["tid"]) for some in told
+                   if some["name"] == "thread_name" and some["args"]["name"] == "CrRendererMain"}
+        tasks = [some["tdur"] for some in told if "tdur" in some and (some["pid"], some["tid"]) in threads]
+        if not tasks:
+            raise BrowserError("the browser tells no task of a page")
+        return max(tasks) / 1_000
+
+    def memory(self):
+        """How much memory the browser's processes have, in bytes. What they share counts once."""
+        size, numbers = 0, [self.process.pid]
+        while numbers:
+            folder = f"/proc/{numbers.pop()}"
+            with contextlib.suppress(OSError):
+                for thread in os.listdir(f"{folder}/task"):
+                    with open(f"{folder}/task/{thread}/children", encoding="ascii") as file:
+                        numbers += file.read().split()
+                with open(f"{folder}/smaps_rollup", encoding="ascii") as lines:
+                    size += sum(int(line.split()[1]) << 10 for line in lines if line.startswith("Pss:"))
+        return size
+
     def picture(self, path, is_whole=True):
         """Writes a picture of the page."""
-        found = self.call("Page.captureScreenshot", format="png", captureBeyondViewport=is_whole)
-        with open(path, "wb") as file:
-            file.write(base64.b64decode(found["data"]))
+        self.keep_picture(path, self.call("Page.captureScreenshot", format="png", captureBeyondViewport=is_whole))

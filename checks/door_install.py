@@ -61,6 +61,9 @@ def run_from_there(tally, prefix):
     found = output_of(sys.executable, "-Bc", where, cwd=os.path.join(prefix, "lib", "precopy"), env={}).decode()
     good = os.path.realpath(found.strip()) == os.path.realpath(os.path.join(bin_folder, "precopy"))
     tally.add(good, f"the installed tools run the program {found}")
+    page = os.path.realpath(os.path.join(prefix, "share", "precopy", "precopy.html"))
+    told = shell("precopy-page").decode()
+    tally.add(told == f"{page}\n" and os.path.isfile(page), f"precopy-page tells {told!r} in place of {page}")
     for name in contents.TOOLS:
         told = shell(f"precopy-{name} --version").decode()
         tally.add(told == f"precopy-{name} (precopy) {version.VERSION}\n", f"precopy-{name} --version tells {told!r}")

@@ -67,10 +67,10 @@ def try_tarball(tally, folder):
     tally.add(len(owners) == 1, f"the tarball has files of several owners or times: {owners}")
     (top,) = (os.path.join(tree, name) for name in os.listdir(tree))
     line = "bin/precopy image < share/doc/precopy/examples/gzip.pcwt | wc -c; bin/precopy-record --version"
-    line += "; bin/precopy-view --version"
+    line += "; bin/precopy-view --version; head -c 15 \"$(bin/precopy-page)\""
     ran = run("sh", "-c", line, cwd=top, env={"PATH": os.environ["PATH"]})
     wanted = "".join(f"precopy-{name} (precopy) {contents.version.VERSION}\n" for name in ("record", "view"))
-    wanted = f"102400\n{wanted}"
+    wanted = f"102400\n{wanted}<!doctype html>"
     tally.add(ran.stdout == wanted, f"the programs of the tarball, where it was unpacked: {ran.stdout}")
 
 
@@ -167,6 +167,9 @@ def try_fresh_tree(tally, tree, files):
     trace = "/usr/share/doc/precopy/examples/gzip.pcwt"
     ran = in_tree(tree, f"precopy-export {trace} - | precopy-import - - | cmp - {trace} && echo equal")
     tally.add(ran.stdout == "equal\n", f"in a fresh tree: precopy-export and precopy-import: {ran.stdout}")
+    ran = in_tree(tree, 'precopy-page && head -c 15 "$(precopy-page)"')
+    wanted = "/usr/share/precopy/precopy.html\n<!doctype html>"
+    tally.add(ran.stdout == wanted, f"in a fresh tree: precopy-page: {ran.stdout}")
     ran = in_tree(tree, "dpkg --verify precopy && dpkg -L precopy | grep -c /man1/")
     tally.add(ran.stdout == f"{2 + len(contents.TOOLS)}\n", f"in a fresh tree: the manuals: {ran.stdout}")
     try_loaded(tally, tree)

@@ -5,14 +5,12 @@ import json
 import os
 import re
 import select
-import shutil
 import socket
 import struct
 import subprocess
-import tempfile
 import time
 
-from browser import SECONDS, BrowserError
+from browser import SECONDS, BrowserError, Driven
 
 LISTENING = re.compile(rb"WebDriver BiDi listening on ws://([\d.]+):(\d+)")
 PREFERENCES = {"remote.active-protocols": 1, "datareporting.policy.dataSubmissionEnabled": False,
@@ -84,11 +82,9 @@ class WebSocket:
                     return b"".join(parts).decode()
 
 
-class Firefox:
-    """A browser of its own profile, with one tab. Its low priority leaves processors to others."""
-
+class Firefox(Driven):
     def __init__(self, command="firefox-esr"):
-        self.profile = tempfile.mkdtemp()
+        super().__init__()
         with open(os.path.join(self.profile, "user.js"), "w", encoding="utf-8") as file:
             for name, value in PREFERENCES.items():
                 file.write(f"user_pref({json.dumps(name)}, {json.dumps(value)});\n")
@@ -98,7 +94,6 @@ class Firefox:
         environment = {**os.environ, "HOME": self.profile, "MOZ_DISABLE_CONTENT_SANDBOX": "1"}
         self.process = subprocess.Popen(words, stderr=subprocess.PIPE, env=environment, **quiet)
         host, port = self._address()
-        self.count, self.events = 0, []
         self.socket = WebSocket(host, port, "/session")
         self.call("session.new", capabilities={"alwaysMatch": {"acceptInsecureCerts": False}})
         self.tab = self.call("browsingContext.getTree")["contexts"][0]["context"]
@@ -115,35 +110,19 @@ class Firefox:
 
     def close(self):
         self.process.terminate()
-        try:
-            self.process.wait(20)
-        except subprocess.TimeoutExpired:
-            self.process.kill()
-            self.process.wait()
+        self.wait_for_end()
         self.process.stderr.close()
-        shutil.rmtree(self.profile, ignore_errors=True)
 
-    def __enter__(self):
-        return self
+    def send(self, message):
+        self.socket.send(json.dumps(message))
 
-    def __exit__(self, *_):
-        self.close()
-
-    def call(self, method, seconds=SECONDS, **parameters):
-        """Calls a method of the protocol. Events that come meanwhile are kept."""
-        self.count += 1
-        self.socket.socket.settimeout(seconds)
-        self.socket.send(json.dumps({"id": self.count, "method": method, "params": parameters}))
-        while True:
-            try:
-                found = json.loads(self.socket.receive())
-            except TimeoutError as fault:
-                raise BrowserError(f"{method}: no answer") from fault
-            if found.get("id") == self.count:
-                if found["type"] == "error":
-                    raise BrowserError(f"{method}: {found['message'][:500]}")
-                return found["result"]
-            self.events.append(found)
+    def receive(self, until):
+        """The next message of the browser."""
+        self.socket.socket.settimeout(max(0.01, until - time.monotonic()))
+        try:
+            return self.socket.receive()
+        except TimeoutError as fault:
+            raise BrowserError("the browser does not answer") from fault
 
     def value(self, expression, seconds=SECONDS):
         """The value of an expression of JavaScript, waited for if it is a promise."""
@@ -152,15 +131,6 @@ class Firefox:
         if found["type"] == "exception":
             raise BrowserError(found["exceptionDetails"]["text"])
         return plain(found["result"])
-
-    def wait(self, expression, seconds=SECONDS):
-        """Waits until an expression is true, and returns its value."""
-        until = time.monotonic() + seconds
-        while time.monotonic() < until:
-            if found := self.value(expression, seconds):
-                return found
-            time.sleep(0.02)
-        raise BrowserError(f"after {seconds} s there is no {expression}")
 
     def begin_with(self, script):
         """Runs a script in each page before its own."""
@@ -181,6 +151,4 @@ class Firefox:
 
     def picture(self, path):
         """Writes a picture of the page."""
-        found = self.call("browsingContext.captureScreenshot", context=self.tab, origin="document")
-        with open(path, "wb") as file:
-            file.write(base64.b64decode(found["data"]))
+        self.keep_picture(path, self.call("browsingContext.captureScreenshot", context=self.tab, origin="document"))

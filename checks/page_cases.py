@@ -6,14 +6,12 @@ The facts are worked out from the lines of `precopy report` and `precopy sweep`,
 import collections
 import os
 import random
-import struct
 
 import page_shapes
 from limit_cases import RATES, TIMES, Known, error_of, seconds
 from view_texts import TOP, Failure, ran, report_facts, sweep_facts, told
 
 TRACES = ["a.pcwt", "gzip.pcwt", "released.pcwt", "guests/mid.light.pcwt", "guests/sqlite.light.pcwt"]
-MOST_BYTES = 1 << 28
 ROWS_SHOWN = 1000
 SHAPES, SETTINGS = 15, 20
 
@@ -48,32 +46,6 @@ def damages():
         ("E13 record 1", changed(text, records[1] + 12, [16, 0])), ("E2", changed(changed(text, 0, [0x51]), 4, [2])),
         ("E12 record 4", changed(changed(text, 4, [2])[:-1], records[4] + 12, [1, 0, 0, 0])),
     ]
-
-
-# ---- Traces that are made.
-
-
-def write_long(path):
-    """A trace of exactly `2^28` bytes: writes of whole pages."""
-    pages, length = 65_536, 4096
-    count = (MOST_BYTES - 16) // (16 + length)
-    rest = MOST_BYTES - 16 - count * (16 + length) - 16
-    with open(path, "wb") as file:
-        file.write(b"PCWT" + bytes([1, 12, 0, 0]) + struct.pack("<II", pages, count + 1))
-        for number in range(count):
-            file.write(struct.pack("<QIHH", 2 * number, number * 7919 % pages, 0, length) + bytes(length))
-        file.write(struct.pack("<QIHH", 2 * count, 0, 0, rest) + bytes(rest))
-
-
-def write_full(path):
-    """A trace with as many writes as there may be: a hot set and a rest, over all pages."""
-    draw = random.Random(20)
-    records = []
-    for number in range(1 << 20):
-        page = draw.randrange(2_000) if number % 5 else draw.randrange(65_536)
-        records.append(struct.pack("<QIHHB", number // 32, page, 0, 1, 1))
-    with open(path, "wb") as file:
-        file.write(b"PCWT" + bytes([1, 12, 0, 0]) + struct.pack("<II", 65_536, 1 << 20) + b"".join(records))
 
 
 # ---- Settings.

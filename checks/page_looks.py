@@ -13,7 +13,7 @@ from page_cases import example
 from view_texts import Failure
 
 WIDTHS = [360, 800, 1400, 1920]
-LEAST_CONTRAST, LEAST_MARK_CONTRAST = 4.5, 3
+LEAST_CONTRAST = 4.5
 HEIGHT, SHAPES = 900, 24
 
 # Each text of the page with a contrast below a bound: the ratio of WCAG 2, section 1.4.3.
@@ -113,35 +113,6 @@ def open_example(page, more=""):
     page.wait_for_plan()
 
 
-def fill(page):
-    """Shows all that the page has: kept plans beside another, the curves, the tables."""
-    browser = page.browser
-    open_example(page, "&link=64MiB&first=50&window=500&start=1000&rounds=12")
-    page.after("document.getElementById('keep').click(); document.getElementById('control-skip').click()")
-    page.after("document.getElementById('keep').click(); document.getElementById('control-rounds').value = '2';"
-               "document.getElementById('control-rounds').dispatchEvent(new Event('input'))")
-    browser.value("document.getElementById('windows-details').open = true;"
-                  "document.getElementById('ask').click()")
-    browser.wait("document.querySelector('#starts-plot svg') !== null")
-
-
-def check_widths(page, folder):
-    """Nothing is wider than the page, nor over another text; each text can be read on its ground, each mark seen."""
-    browser = page.browser
-    for is_dark in (False, True):
-        for width in WIDTHS:
-            browser.dress(width, HEIGHT, is_dark)
-            browser.value("new Promise((resume) => setTimeout(resume, 300))")
-            name = f"page-{width}-{'dark' if is_dark else 'light'}"
-            check_look(page, name)
-            if folder:
-                os.makedirs(folder, exist_ok=True)
-                browser.picture(os.path.join(folder, f"{name}.png"))
-        marks = browser.value(MARKS.replace("BOUND", str(LEAST_MARK_CONTRAST)))
-        require(not marks, f"marks, dark {is_dark}: {marks}")
-    browser.dress(1400, HEIGHT)
-
-
 def check_look(page, name):
     browser = page.browser
     width = browser.value("innerWidth")
@@ -156,6 +127,7 @@ def check_look(page, name):
 def check_shapes(page, folder):
     """The same for pictures of traces of other shapes, with and without a plan, with starts, and taken nearer."""
     browser = page.browser
+    open_example(page)
     for number, text in enumerate(page_shapes.shapes(SHAPES, 7)):
         width, is_dark = WIDTHS[number % len(WIDTHS)], number % 2 == 1
         browser.dress(width, HEIGHT, is_dark)
@@ -289,11 +261,8 @@ def check_stillness(page):
 
 
 def check_looks(tally, page, tried, folder):
-    if tried(tally, "all parts of the page", fill, page):
-        tried(tally, "widths and colours", check_widths, page, folder)
-        tried(tally, "names", check_names, page)
-        tried(tally, "traces of other shapes", check_shapes, page, folder)
-        tried(tally, "stillness", check_stillness, page)
+    tried(tally, "traces of other shapes", check_shapes, page, folder)
+    tried(tally, "stillness", check_stillness, page)
     for words, check in (("keyboard", check_keyboard), ("address", check_address), ("print", check_print),
                          ("old browser", check_old_browser)):
         tried(tally, words, check, page)

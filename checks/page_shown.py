@@ -28,6 +28,7 @@ if (typeof Worker === "function") {
     constructor(...words) {
       super(...words);
       workers.push(this);
+      if (window.isDeadly) { setTimeout(() => { this.terminate(); this.onerror(); }); }
     }
   };
 }

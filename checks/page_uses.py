@@ -153,8 +153,9 @@ def check_refused(page, name, text, unit, grain):
     found = typed(page, name, text)
     require(found["refused"] == name and found["stale"], f"{name} {text} {unit}: {found['refused']}, {found['fault']}")
     require(found["rounds"] == before["rounds"], "the last plan does not stay")
-    enabled = page.browser.value("['#keep', '#ask', '[data-copies=command-predict]', '#zoom-plan'].filter("
-                                 "(each) => !document.querySelector(each).disabled)")
+    enabled = page.browser.value("['#keep', '#ask', '[data-copies=command-predict]', '#zoom-plan', '#find-limits',"
+                                 "'#outcome .saves button', '#plan-this .saves button']"
+                                 ".filter((each) => !document.querySelector(each).disabled)")
     require(not enabled, f"enabled without a plan: {enabled}")
     label = page.browser.value(f"document.querySelector('label[for=control-{name}]').textContent")
     require(label in found["verdict"] and "Take " in found["fault"], f"{found['verdict']}, {found['fault']}")
@@ -261,6 +262,31 @@ def check_warm(page):
         "document.querySelector('#verdict .good') !== null"), found["verdict"])
 
 
+def check_looking(page):
+    """The item at the cursor is told beside it. A stretch that is drawn over is taken nearer, and takes no start."""
+    asked(page)
+    start = page.browser.value("document.getElementById('control-start').value")
+    tip = page.browser.value("""(() => {
+      const plot = document.getElementById("windows-plot");
+      const box = plot.getBoundingClientRect();
+      const send = (to, kind, share) => to.dispatchEvent(new PointerEvent(kind, { pointerType: "mouse", bubbles: true,
+        clientX: box.left + 64 + (box.width - 76) * share, clientY: box.top + 60 }));
+      send(plot, "pointermove", 0.25);
+      const tip = plot.querySelector(".tip").textContent;
+      send(plot, "pointerdown", 0.25);
+      send(window, "pointermove", 0.5);
+      send(window, "pointerup", 0.5);
+      send(plot, "click", 0.5);
+      return tip;
+    })()""")
+    require(tip.startswith("Window 18, 9.000 s to 9.500 s: "), f"at a quarter of 37.5 s: {tip}")
+    labels = page.browser.value("[...document.querySelectorAll('#windows-plot text')].map((text) => text.textContent)"
+                                ".filter((words) => /^[0-9.]+ s$/.test(words)).map(parseFloat)")
+    require(len(labels) > 3 and 9 <= min(labels) and max(labels) <= 19, f"of 9.4 to 18.8 s: {labels}")
+    require(page.browser.value("document.getElementById('control-start').value") == start, "the brush takes a start")
+    page.browser.value("document.getElementById('zoom-out').click()")
+
+
 # ---- The worker.
 
 
@@ -277,6 +303,13 @@ def check_worker(page):
     end_worker(page)
     require(typed(page, "rounds", "7")["refused"] is None, "no plan by another worker")
     require(typed(page, "rounds", "30") == before, "another plan by another worker")
+    page.browser.wait("textOf('trace-state').startsWith('sqlite.light.pcwt: ')", 5)
+    page.browser.value("window.isDeadly = true; 0")
+    end_worker(page)
+    found = typed(page, "rounds", "7")
+    require("the planner ended" in found["verdict"] and found["stale"], f"after three ends: {found['verdict']}")
+    page.browser.value("window.isDeadly = false; 0")
+    require(typed(page, "rounds", "30") == before, "no plan after three ends")
     page.browser.value("workers.at(-1).terminate()")
     page.browser.value("""(() => {
       const field = document.getElementById("control-rounds");
@@ -378,5 +411,5 @@ def check_uses(tally, page, folder):
         tried(tally, f"refused: {case}", check_refused, page, *case)
     for words, check in (("what is no number", check_unread), ("units", check_units), ("warm starts", check_warm),
                          ("back", check_back), ("limits", check_limits), ("kept plans", check_comparison),
-                         ("saved files", check_files_saved), ("the worker", check_worker)):
+                         ("saved files", check_files_saved), ("looking", check_looking), ("the worker", check_worker)):
         tried(tally, words, check, page)

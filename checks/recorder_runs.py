@@ -55,28 +55,34 @@ def read_until_recording(lines):
     return began
 
 
-class Recording:
-    """One run of tools/record, from its first sample on."""
+class Run:
+    """One run of a recorder into a folder, from its first sample on."""
 
-    def __init__(self, folder, source, words, name="guest.pcwt", errors=subprocess.PIPE):
+    def __init__(self, folder, words, path, errors=subprocess.PIPE, **more):
         self.folder = folder
-        self.trace_path, self.image_path, self.map_path = (os.path.join(folder, n) for n in (name, "image", "map"))
-        beside = ["--map", self.map_path] + ([] if "--light" in words else ["--image", self.image_path])
-        command = [sys.executable, RECORD, *source, "--every", "50ms", *beside, *words, self.trace_path]
-        self.process = subprocess.Popen(command, stdout=subprocess.PIPE, stderr=errors, text=True)
+        command = [sys.executable, *words, path]
+        self.process = subprocess.Popen(command, stdout=subprocess.PIPE, stderr=errors, text=True, **more)
         self.began = read_until_recording(self.process.stdout)
-        self.known_begin = time.monotonic()
 
     def end(self, number=None):
         if number:
             self.process.send_signal(number)
         try:
-            rest, self.faults = self.process.communicate(timeout=SECONDS)
+            rest, self.faults = self.process.communicate(timeout=2 * SECONDS)
         except subprocess.TimeoutExpired as late:
             self.process.kill()
             raise AssertionError(f"the recorder does not end: {late}") from late
-        self.output = self.began + rest
-        self.status = self.process.returncode
+        self.output, self.status = self.began + rest, self.process.returncode
+
+
+class Recording(Run):
+    """A run of tools/record that writes all of a trace."""
+
+    def __init__(self, folder, source, words, name="guest.pcwt", errors=subprocess.PIPE):
+        self.trace_path, self.image_path, self.map_path = (os.path.join(folder, n) for n in (name, "image", "map"))
+        beside = ["--map", self.map_path] + ([] if "--light" in words else ["--image", self.image_path])
+        super().__init__(folder, [RECORD, *source, "--every", "50ms", *beside, *words], self.trace_path, errors)
+        self.known_begin = time.monotonic()
 
     def trace(self):
         with open(self.trace_path, "rb") as file:

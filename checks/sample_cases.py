@@ -9,7 +9,7 @@ import sys
 import tempfile
 import time
 
-from recorder_runs import RECORD, SECONDS, TOP, expect, read_until_recording
+from recorder_runs import RECORD, SECONDS, TOP, Run, expect
 
 import mappings
 import samples
@@ -73,22 +73,13 @@ class Pages:
         self.process.communicate()
 
 
-class Drawn:
-    """One run of tools/record over drawn pages, from its first sample on."""
+class Drawn(Run):
+    """A run of tools/record over drawn pages."""
 
     def __init__(self, folder, source, words=(), stand_in=(), tool=RECORD, **more):
-        self.folder, self.trace_path = folder, os.path.join(folder, "guest.light.pcwt")
-        self.map_path = os.path.join(folder, "map")
-        command = [sys.executable, *stand_in, tool, *source, "--every", "50ms", "--map", self.map_path, *words]
-        pipe = subprocess.PIPE
-        self.process = subprocess.Popen([*command, self.trace_path], stdout=pipe, stderr=pipe, text=True, **more)
-        self.began = read_until_recording(self.process.stdout)
-
-    def end(self, number=None):
-        if number:
-            self.process.send_signal(number)
-        rest, self.faults = self.process.communicate(timeout=2 * SECONDS)
-        self.output, self.status = self.began + rest, self.process.returncode
+        self.trace_path, self.map_path = os.path.join(folder, "guest.light.pcwt"), os.path.join(folder, "map")
+        words = [*stand_in, tool, *source, "--every", "50ms", "--map", self.map_path, *words]
+        super().__init__(folder, words, self.trace_path, **more)
 
     def bytes(self):
         """How much of the trace is written so far."""

@@ -12,7 +12,7 @@ import time
 import uuid
 
 from memory_cases import Known, virsh_in
-from recorder_runs import RECORD, SECONDS, TOP, expect, read_until_recording
+from recorder_runs import RECORD, SECONDS, TOP, Run, expect, read_until_recording
 from sample_cases import PAGE, PAGES, Pages
 
 import samples
@@ -26,22 +26,12 @@ OTHERS = ("guest.light.json", "guest.20260101T000000Z.light.pcwt.old", "guest2.2
           "xguest.20260101T000000Z.light.pcwt", "guest.2026.light.pcwt", ".guest.20260101T000000Z.light.pcwt.part")
 
 
-class Segments:
-    """One run of tools/record that writes a series into a folder."""
+class Segments(Run):
+    """A run of tools/record that writes a series into a folder."""
 
     def __init__(self, folder, source, *words, **more):
-        self.folder = folder
-        command = [sys.executable, RECORD, *source, "--every", "50ms", "--segment", "1s", *words]
-        pipe = subprocess.PIPE
-        path = os.path.join(folder, NAME)
-        self.process = subprocess.Popen([*command, path], stdout=pipe, stderr=pipe, text=True, **more)
-        self.began = read_until_recording(self.process.stdout)
-
-    def end(self, number=None):
-        if number:
-            self.process.send_signal(number)
-        rest, self.faults = self.process.communicate(timeout=2 * SECONDS)
-        self.output, self.status = self.began + rest, self.process.returncode
+        words = [RECORD, *source, "--every", "50ms", "--segment", "1s", *words]
+        super().__init__(folder, words, os.path.join(folder, NAME), **more)
 
     def bytes(self):
         """How much of the segment that is written is there."""

@@ -74,6 +74,15 @@ class Entry:
     link: Optional[str] = None
     package: str = "precopy"
 
+    def write(self, path):
+        """Makes the file or the link at a path, where there is none, with its rights."""
+        if self.link is not None:
+            os.symlink(self.link, path)
+            return
+        with open(path, "wb") as file:
+            file.write(self.data)
+        os.chmod(path, self.mode)
+
 
 MODULE = "out/lent_planner.wasm"
 PAGE = "precopy.html"
@@ -179,8 +188,16 @@ def pages(places) -> Iterator[Entry]:
         yield Entry(os.path.join(places.zsh, f"_{name}"), completions.zsh(command, path).encode())
 
 
-def page() -> bytes:
-    """The page that plans in a browser, as `make page` writes it."""
+def page_that_plans(places) -> Iterator[Entry]:
+    """The page that plans in a browser, with links to it beside the documents and the tools."""
+    place = os.path.join(places.share, PAGE)
+    yield Entry(place, joined_page())
+    for folder in (places.doc, places.lib):
+        yield Entry(os.path.join(folder, PAGE), link=os.path.relpath(place, folder))
+
+
+def joined_page() -> bytes:
+    """The page as `make page` writes it."""
     if not os.path.isfile(os.path.join(TOP, MODULE)):
         raise NotBuilt("the page's module is not built: make page builds it")
     with tempfile.TemporaryDirectory() as folder:
@@ -203,7 +220,6 @@ def texts(places) -> Iterator[Entry]:
     """The documents and the examples, in folders as in the sources, so that the names in them lead to them."""
     for path in ("README.md", "CHANGELOG.md", "CONTRIBUTING.md", "LICENSE"):
         yield document(places, path)
-    yield Entry(os.path.join(places.doc, PAGE), page())
     for folder in ("docs", "examples", "bindings"):
         for path in sources_below(folder):
             yield document(places, path)
@@ -222,4 +238,5 @@ def contents(places, python="/usr/bin/env python3") -> Iterator[Entry]:
     yield from commands(places, python)
     yield from services(places)
     yield from pages(places)
+    yield from page_that_plans(places)
     yield from texts(places)

@@ -55,9 +55,9 @@ def needed_by_builders(_):
     return f"{library.RUNTIME} (= {contents.version.VERSION})"
 
 
-def needed_by_python(_):
+def needed_by_python(entries):
     """What the Python module needs: the same version of the library, and Python."""
-    return f"{library.RUNTIME} (= {contents.version.VERSION}), python3 (>= {LEAST_PYTHON})"
+    return f"{needed_by_builders(entries)}, python3 (>= {LEAST_PYTHON})"
 
 
 OF_THE_LIBRARY = """\
@@ -205,12 +205,7 @@ def put(folder, entries):
     for entry in entries:
         path = os.path.join(folder, entry.place)
         os.makedirs(os.path.dirname(path), exist_ok=True)
-        if entry.link is not None:
-            os.symlink(entry.link, path)
-            continue
-        with open(path, "wb") as file:
-            file.write(entry.data)
-        os.chmod(path, entry.mode)
+        entry.write(path)
 
 
 def build(package, entries, maintainer, folder):
@@ -221,9 +216,8 @@ def build(package, entries, maintainer, folder):
         os.chmod(tree, 0o755)
         old = os.umask(0o022)
         put(tree, entries)
-        put(f"{tree}/DEBIAN", [contents.Entry("control", control(package, entries, maintainer).encode())])
-        put(f"{tree}/DEBIAN", [contents.Entry("md5sums", sums.encode())])
-        for name, text in package.parts.items():
+        parts = {"control": control(package, entries, maintainer), "md5sums": sums, **package.parts}
+        for name, text in parts.items():
             put(f"{tree}/DEBIAN", [contents.Entry(name, text.encode(), 0o755 if name in SCRIPTS else 0o644)])
         os.umask(old)
         command = ["dpkg-deb", "--root-owner-group", "-Zgzip", "-z9", "--build", tree, folder]

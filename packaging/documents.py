@@ -26,7 +26,7 @@ OF_BUILDERS = {
 }
 # What is called otherwise where it is installed.
 RENAMED = {
-    "`make page` writes `out/precopy.html`": "`precopy.html` stands beside `README.md`",
+    "`make page` writes `out/precopy.html`": "`precopy-page` prints where `precopy.html` is",
     "`make lib` builds a static and a shared library": "the package `libprecopy-dev` has the library",
     "`make deb` makes `python3-precopy`": "the package `python3-precopy` has the module",
     "`./precopy` and installed programs add": "Programs add",

@@ -1,4 +1,4 @@
-"""Where the programs are: built in these sources, or installed with the tools."""
+"""Where the programs and the page are: built in these sources, or installed with the tools."""
 
 import os
 import shutil
@@ -13,3 +13,10 @@ def program(name: str = "precopy") -> str:
         return os.path.join(top, "crates", crate, "out", crate)
     installed = os.path.join(os.path.dirname(top), "bin", name)
     return installed if os.access(installed, os.X_OK) else shutil.which(name) or name
+
+
+def page() -> str:
+    """The path of the page that plans in a browser, or the one that it will have. An installation has a link to it."""
+    top = os.path.dirname(HERE)
+    folder = os.path.join(top, "out") if os.path.isdir(os.path.join(top, "crates")) else HERE
+    return os.path.realpath(os.path.join(folder, "precopy.html"))

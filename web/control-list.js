@@ -1,4 +1,5 @@
-// Which controls there are, in their groups. `low` and `high` are the ends of a slider; a number may go beyond them.
+// Which controls there are, in their groups. `low` and `high` are the ends of a slider; a number may go beyond them. Of
+// what is plain it is not said what it comes to.
 
 import { RATE_UNITS, TIME_UNITS } from "./units.js";
 
@@ -17,7 +18,7 @@ export const GROUPS = [
     title: "Stop of the guest",
     controls: [
       { name: "downtime", label: "Downtime limit", units: TIME_UNITS, low: 1_000, high: 10_000_000 },
-      { name: "reserve", label: "Reserve for devices and switching", units: TIME_UNITS, low: 1_000, high: 1_000_000,
+      { name: "reserve", label: "Reserve for switchover", units: TIME_UNITS, low: 1_000, high: 1_000_000,
         hasZero: true },
     ],
   },
@@ -25,7 +26,7 @@ export const GROUPS = [
     title: "Migration",
     controls: [
       { name: "start", label: "Start", unit: "tick", low: 0, high: 0 },
-      { name: "rounds", label: "Most rounds", unit: "rounds", low: 1, high: 64 },
+      { name: "rounds", label: "Most rounds", unit: "rounds", low: 1, high: 64, isPlain: true },
       { name: "skip", label: "Skip pages that are written again before they are sent", isSwitch: true },
       { name: "warm", label: "Warm start: the destination has a copy", isSwitch: true },
       { name: "base", label: "Copy taken before", unit: "tick", low: 0, high: 0 },
@@ -34,8 +35,8 @@ export const GROUPS = [
   {
     title: "Trace",
     controls: [
-      { name: "tick", label: "Length of a tick", units: TIME_UNITS, low: 1, high: 1_000_000 },
-      { name: "sample", label: "A page of the trace stands for", unit: "of the guest's", low: 1, high: 4096,
+      { name: "tick", label: "Length of a tick", units: TIME_UNITS, low: 1, high: 1_000_000, isPlain: true },
+      { name: "sample", label: "A page stands for", unit: "of the guest's", low: 1, high: 4096,
         isLog: true, isSample: true },
       { name: "window", label: "Window", unit: "ticks", low: 1, high: 1000, isLog: true },
       { name: "ticks", label: "Show ticks beside times", isSwitch: true },

@@ -48,10 +48,10 @@ export class Controls {
     }
     part.field = html("input", {
       type: "text", id, inputmode: "decimal", autocomplete: "off", spellcheck: "false",
-      "aria-describedby": `${id}-derived ${id}-fault`,
+      "aria-describedby": control.isPlain ? `${id}-fault` : `${id}-derived ${id}-fault`,
     });
     part.slider = html("input", { type: "range", "aria-label": `${control.label}, slider`, min: "0" });
-    part.derived = html("p", { class: "derived", id: `${id}-derived` });
+    part.derived = control.isPlain ? null : html("p", { class: "derived", id: `${id}-derived` });
     part.fault = html("div", { class: "fault", id: `${id}-fault` });
     part.field.addEventListener("input", () => this.typed(part));
     part.field.addEventListener("change", () => this.unread || this.show(this.settings));
@@ -60,8 +60,8 @@ export class Controls {
     part.unit = control.units ? this.unitChoice(part) : html("span", { class: "unit" }, control.unit);
     const fields = html("div", { class: "fields" }, part.field, part.unit);
     part.whole = html("div", { class: "control", "data-control": control.name },
-      html("div", { class: "head" }, html("label", { for: id }, control.label), fields), part.slider, part.derived,
-      part.fault);
+      html("div", { class: "head" }, html("label", { for: id }, control.label), fields), part.slider,
+      ...(part.derived ? [part.derived] : []), part.fault);
     return part.whole;
   }
 

@@ -1,6 +1,7 @@
 // Pictures and tables as files: PNG, SVG and CSV, made in the page and saved by the browser.
 
 import { html } from "./elements.js";
+import { Slice } from "./slices.js";
 
 /** What a picture's own file needs of the page's style. */
 const STYLES = ["fill", "fill-opacity", "stroke", "stroke-width", "stroke-dasharray", "paint-order", "font-family",
@@ -12,14 +13,10 @@ const FINENESS = 2;
 /** For how long a file is kept for the browser to save it, in milliseconds. */
 const KEPT = 60_000;
 
-function save(name, blob) {
-  const address = URL.createObjectURL(blob);
+function save(name, parts, type) {
+  const address = URL.createObjectURL(new Blob(parts, { type }));
   html("a", { href: address, download: name }).click();
   setTimeout(() => URL.revokeObjectURL(address), KEPT);
-}
-
-function saveText(name, text, type) {
-  save(name, new Blob([text], { type }));
 }
 
 /** A picture as the text of a file of its own, with its styles and the page's ground. */
@@ -55,8 +52,20 @@ async function pixelsOf(picture) {
   return new Promise((resolve) => canvas.toBlob(resolve, "image/png"));
 }
 
-function csvText(columns, rows) {
-  return [columns, ...rows].map((cells) => cells.map(String).join(",")).join("\n").concat("\n");
+/** Columns and rows as the parts of a file, a slice of time after another: there may be a million rows. */
+async function csvParts(columns, rows) {
+  const parts = [];
+  const slice = new Slice();
+  let lines = [columns.join(",")];
+  for (const cells of rows) {
+    lines.push(cells.join(","));
+    if (slice.isOver()) {
+      parts.push(new Blob([`${lines.join("\n")}\n`]));
+      lines = [];
+      await slice.next();
+    }
+  }
+  return [...parts, ...lines.map((line) => `${line}\n`)];
 }
 
 /**
@@ -70,11 +79,11 @@ export function saveButtons(name, title, { picture, table }) {
     return made;
   };
   const ofPicture = picture ? [
-    button("PNG", async () => picture() && save(`${name}.png`, await pixelsOf(picture()))),
-    button("SVG", () => picture() && saveText(`${name}.svg`, pictureText(picture()), "image/svg+xml")),
+    button("PNG", async () => picture() && save(`${name}.png`, [await pixelsOf(picture())], "image/png")),
+    button("SVG", () => picture() && save(`${name}.svg`, [pictureText(picture())], "image/svg+xml")),
   ] : [];
   const ofTable = table ? [
-    button("CSV", () => table() && saveText(`${name}.csv`, csvText(...table()), "text/csv")),
+    button("CSV", async () => table() && save(`${name}.csv`, await csvParts(...table()), "text/csv")),
   ] : [];
   return html("span", { class: "saves" }, "Save as ", ...ofPicture, ...ofTable);
 }

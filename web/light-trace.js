@@ -1,6 +1,8 @@
 // What a plan needs of a trace: tick and page of each write. From them a light trace is made, with one byte for each
 // write, which plans as the whole does and is far shorter; and from them come standard errors.
 
+import { firstPlace } from "./search.js";
+
 const HEADER = 16;
 const RECORD = 16;
 const LIGHT_RECORD = 17;
@@ -17,10 +19,15 @@ export function writesIn(bytes, count) {
   return writes;
 }
 
+/** How many bytes the light trace of so many writes has. */
+export function lightLength({ writes }) {
+  return HEADER + writes * LIGHT_RECORD;
+}
+
 /** A trace of the same writes with a byte each: it has other memory, and the same plans. */
-export function lightTrace(writes, { pages, pageBytes }) {
-  const count = writes.ticks.length;
-  const bytes = new Uint8Array(HEADER + count * LIGHT_RECORD);
+export function lightTrace(writes, sizes) {
+  const { pages, pageBytes, writes: count } = sizes;
+  const bytes = new Uint8Array(lightLength(sizes));
   const view = new DataView(bytes.buffer);
   bytes.set([0x50, 0x43, 0x57, 0x54, 1, Math.log2(pageBytes)]);
   view.setUint32(8, pages, true);
@@ -35,24 +42,11 @@ export function lightTrace(writes, { pages, pageBytes }) {
   return bytes;
 }
 
-/** The place of the first write at a tick or later. */
-function firstAt(ticks, tick) {
-  let [low, high] = [0, ticks.length];
-  while (low < high) {
-    const middle = (low + high) >> 1;
-    if (ticks[middle] < tick) {
-      low = middle + 1;
-    } else {
-      high = middle;
-    }
-  }
-  return low;
-}
-
 /** The first tick from `from` on and before `to` at which each page is written, in the order of pages. */
 function firstWrites({ ticks, pages }, from, to) {
   const found = new Map();
-  for (let place = firstAt(ticks, from); place < ticks.length && ticks[place] < to; place += 1) {
+  const begin = firstPlace(ticks.length, (place) => ticks[place] >= from);
+  for (let place = begin; place < ticks.length && ticks[place] < to; place += 1) {
     if (!found.has(pages[place])) {
       found.set(pages[place], ticks[place]);
     }

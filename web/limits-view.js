@@ -1,16 +1,20 @@
 // What would keep the limit: the least link with this downtime limit, and the shortest downtime limit with this link.
-// Both are looked for over a grid and then between its steps; so each is the least of what was tried.
+// Both are looked for over a grid and then between its steps; so each is the least of what was tried. It is said in a
+// round number of the control's unit.
 
 import { byId, html } from "./elements.js";
 import { WorkerEnded } from "./planner-client.js";
 import { Refusal } from "./planner.js";
 import { costOf } from "./predictions.js";
-import { quantityWords } from "./quantities.js";
+import { inFittingUnit, quantityNear, quantityWords } from "./quantities.js";
 import { ControlRefusal, limitsOf, RATE_UNITS, scaleOf, settingsOf, TIME_UNITS } from "./units.js";
 
 /** How many steps of the grid a factor of ten has, and how often the last step is halved. */
 const STEPS_OF_TEN = 12;
 const HALVINGS = 6;
+
+/** How far above an amount round numbers are looked for. */
+const ROUNDINGS = [1, 1.02, 1.05, 1.1];
 
 /** What is looked for: a control, the ends of its grid, and what its amounts are multiples of. */
 const WANTED = [
@@ -73,12 +77,13 @@ export class LimitsView {
     try {
       const found = [];
       for (const wanted of WANTED) {
-        found.push([wanted, await this.least(wanted)]);
+        const amount = await this.least(wanted);
+        found.push([wanted, amount && await this.rounded(wanted, amount)]);
         if (question !== this.question) {
           return;
         }
       }
-      byId("limits-answer").replaceChildren(...found.map(([wanted, amount]) => this.answerPart(wanted, amount)));
+      byId("limits-answer").replaceChildren(...found.map(([wanted, value]) => this.answerPart(wanted, value)));
     } catch (error) {
       if (!(error instanceof Refusal) && !(error instanceof WorkerEnded)) {
         throw error;
@@ -104,6 +109,15 @@ export class LimitsView {
     return high;
   }
 
+  /** A round number, not far above an amount that keeps the limit, that keeps it too; else the amount. */
+  async rounded(wanted, amount) {
+    const { unit } = this.state[wanted.name];
+    const near = ROUNDINGS.map((factor) => quantityNear(amount * factor, unit, wanted.units));
+    const above = near.filter((value) => value.amount >= amount);
+    const kept = await this.areKept(wanted, above.map((value) => value.amount));
+    return above[kept.indexOf(true)] ?? this.shown(wanted, amount);
+  }
+
   /** Whether a plan with each amount ends because few pages are left, within the trace and the limit. */
   async areKept({ name }, amounts) {
     const { sizes } = this.trace;
@@ -122,12 +136,12 @@ export class LimitsView {
     });
   }
 
-  answerPart({ name, words, units }, amount) {
-    if (amount === null) {
-      return html("p", {}, `${words}: none from ${quantityWords(this.endOf(name, "low"), units)} to `
-        + `${quantityWords(this.endOf(name, "high"), units)}.`);
+  answerPart(wanted, value) {
+    const { name, words, units, low, high } = wanted;
+    if (value === null) {
+      return html("p", {}, `${words}: none from ${quantityWords(this.shown(wanted, low), units)} to `
+        + `${quantityWords(this.shown(wanted, high), units)}.`);
     }
-    const value = this.shown(name, amount);
     const said = quantityWords(value, units);
     const button = html("button", { type: "button", class: "small", "data-takes": name, "aria-label": `Take ${said}` },
       "Take it");
@@ -135,14 +149,8 @@ export class LimitsView {
     return html("p", {}, `${words}: `, html("b", {}, said), " ", button);
   }
 
-  endOf(name, end) {
-    return this.shown(name, WANTED.find((wanted) => wanted.name === name)[end]);
-  }
-
-  /** An amount in a unit that suits it. */
-  shown(name, amount) {
-    const family = name === "link" ? ["Gbit", "Mbit", "Kbit"] : ["s", "ms", "us"];
-    const units = name === "link" ? RATE_UNITS : TIME_UNITS;
-    return { amount, unit: family.find((unit) => amount >= Number(units[unit])) };
+  /** An amount in a unit that suits it, of the family of the control's. */
+  shown({ name, units }, amount) {
+    return inFittingUnit(amount, this.state[name].unit, units);
   }
 }

@@ -14,6 +14,11 @@ export function countOf(number, noun) {
   return `${counted(number)} ${noun}${number == 1 ? "" : "s"}`;
 }
 
+/** Pages of the trace in words: those of a sample are told from the guest's. */
+export function pagesText({ isSample }, pages) {
+  return `${countOf(pages, "page")}${isSample ? " of the sample" : ""}`;
+}
+
 /** A quotient of whole numbers as a decimal, with at most `digits` after the point, rounded down, without zeros. */
 export function decimalText(number, divisor, digits) {
   const whole = number / divisor;

@@ -2,15 +2,11 @@
 
 import { LABELS } from "./control-list.js";
 import { html } from "./elements.js";
-import { bytesText, counted, countOf, signed, timeText } from "./numbers.js";
+import { bytesText, counted, countOf, pagesText, signed, timeText } from "./numbers.js";
 import { endingOf, isGood, reasonWords, warningsOf } from "./predictions.js";
+import { WorkerEnded } from "./planner-client.js";
 import { ControlRefusal, guestPagesOf, microsOf } from "./units.js";
 import { refusalWords } from "./refusals.js";
-
-/** Pages of the trace in words: those of a sample are told from the guest's. */
-function pagesText(scale, pages) {
-  return `${countOf(pages, "page")}${scale.isSample ? " of the sample" : ""}`;
-}
 
 function sentText({ scale, plan }) {
   const pages = pagesText(scale, plan.total);
@@ -42,14 +38,19 @@ const ROWS = [
     text: (pages, { scale }) => pagesText(scale, pages),
     more: ({ settings }) => `fewer than ${counted(settings.threshold)} end pre-copy` },
   { name: "stop", title: "Stop at", number: ({ plan, scale }) => microsOf(scale, plan.stop), text: timeText,
-    more: (some) => tickWords(some, `tick ${some.plan.stop}`) },
+    more: (some) => tickWords(some, `tick ${counted(some.plan.stop)}`) },
 ];
+
+/** A time whose number and unit stay on one line. */
+function wholeTime(micros) {
+  return timeText(micros).replace(" ", "\u00a0");
+}
 
 /** The verdict on a prediction, in a line. */
 export function verdictOf(prediction) {
   const { cost, limits } = prediction;
-  return `${endingOf(prediction)} The guest stands still for ${timeText(cost.downtime)}; the limit of `
-    + `${timeText(limits.downtime)} ${cost.isKept ? "is kept" : "is not kept"}.`;
+  return `${endingOf(prediction)} The guest stands still for ${wholeTime(cost.downtime)}; the limit of `
+    + `${wholeTime(limits.downtime)} ${cost.isKept ? "is kept" : "is not kept"}.`;
 }
 
 /** The word for a prediction, and whether it is good, bad or neither. */
@@ -124,8 +125,8 @@ export function comparisonRows(predictions) {
 
 /** A table of numbers, row by row; the first column heads its row. */
 function numbersTable(caption, columns, rows) {
-  const cells = rows.map(([first, ...others]) => html("tr", {}, html("th", { scope: "row" }, counted(first)),
-    ...others.map((number) => html("td", {}, counted(number)))));
+  const cells = Array.from(rows, ([first, ...others]) => html("tr", {},
+    html("th", { scope: "row" }, counted(first)), ...others.map((number) => html("td", {}, counted(number)))));
   return html("table", { class: "numbers" }, html("caption", {}, caption),
     html("thead", {}, html("tr", {}, ...columns.map((name) => html("th", { scope: "col" }, name)))),
     html("tbody", {}, ...cells));
@@ -150,10 +151,11 @@ export const WINDOW_COLUMNS = ["window", "writes", "pages", "again", "fresh"];
 /** The most windows that a table has. */
 const MOST_ROWS = 1000;
 
-/** The first windows of a trace, at most so many, as rows of numbers. */
-export function windowRows(windows, most = windows.count) {
-  return Array.from({ length: Math.min(windows.count, most) }, (_, row) =>
-    [windows.number[row], ...WINDOW_COLUMNS.slice(1).map((name) => windows[name][row])]);
+/** The first windows of a trace, at most so many, as rows of numbers, one at a time: there may be a million. */
+export function* windowRows(windows, most = windows.count) {
+  for (let row = 0; row < Math.min(windows.count, most); row += 1) {
+    yield [windows.number[row], ...WINDOW_COLUMNS.slice(1).map((name) => windows[name][row])];
+  }
 }
 
 /** The windows of a trace as a table. */
@@ -164,6 +166,10 @@ export function windowsTable(windows) {
 
 /** What was refused, in words: a name, and a sentence. */
 export function refusedWords(error) {
+  if (error instanceof WorkerEnded) {
+    return { name: "the planner ended.", sentence: "It was started again, and ended again: change something to try it "
+      + "once more." };
+  }
   return error instanceof ControlRefusal ? { name: LABELS[error.control], sentence: error.message }
     : refusalWords(error);
 }

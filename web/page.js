@@ -98,7 +98,9 @@ class Page {
     if (example) {
       await this.desk.takeExample(example, { isGiven: this.isGiven });
     } else {
-      byId("trace-state").textContent = "This address has settings. Choose the trace that they are for, or an example.";
+      const { print } = this.state;
+      const whose = print ? `the trace whose SHA-256 begins with ${print}` : "a trace";
+      byId("trace-state").textContent = `This address has settings for ${whose}. Choose it, or an example.`;
     }
   }
 
@@ -323,12 +325,13 @@ class Page {
       const { min, max, increment, threshold } = prediction.settings;
       const { scale } = prediction;
       const limits = limitsOf(settings);
-      const pages = scale.isSample ? "pages of the sample" : "pages";
+      const noun = scale.isSample ? "sample page" : "page";
+      const pages = `${noun}s`;
       words.link = `${rateText(limits.link)}: ${counted(max)} ${pages} per 1,000 ticks`;
       words.first = `${rateText(limits.first)}: ${counted(min)} ${pages} per 1,000 ticks`;
       words.increase = `${counted(increment)} ${pages} per 1,000 ticks`;
       words.reserve = `${timeText(limits.downtime - limits.reserve)} for pages`;
-      words.downtime = `stops at fewer than ${counted(threshold)} ${pages}`;
+      words.downtime = `stops at fewer than ${countOf(threshold, noun)}`;
       words.sample = scale.isSample ? `${counted(scale.sampled)} of ${counted(scale.guest)} pages, `
         + bytesText(scale.guest * scale.page) : `itself: the trace has all ${countOf(sizes.pages, "page")}`;
     }

@@ -24,7 +24,7 @@ const WORDS = {
   first: (value) => `first round ${value} %`,
   increase: (value) => `increment ${value} %`,
   downtime: (value) => `downtime limit ${quantityWords(value, TIME_UNITS)}`,
-  reserve: (value) => `${quantityWords(value, TIME_UNITS)} for devices`,
+  reserve: (value) => `reserve ${quantityWords(value, TIME_UNITS)}`,
   start: (value, settings) => `start at ${timeOf(value, settings)}`,
   rounds: (value) => `at most ${value} rounds`,
   skip: (value) => (value ? "skips pages" : "skips no pages"),
@@ -103,6 +103,13 @@ export class PlanView {
       byId("verdict").replaceChildren(...this.refusedParts(found.refusal));
     }
     byId("summary").textContent = found.value ? this.summaryOf(found.value) : "No plan with these settings";
+    this.drawPlans(settings, kept);
+    for (const button of document.querySelectorAll("#outcome .saves button, #rounds .saves button")) {
+      button.disabled = !found.value;
+    }
+  }
+
+  drawPlans(settings, kept) {
     if (this.last) {
       const words = kept.map((some, place) => this.keptWords(settings, some, place));
       byId("comparison").replaceChildren(comparisonOf(this.last, kept), ...words);

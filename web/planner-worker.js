@@ -1,49 +1,52 @@
 // The planner's worker: it reads and tests a trace, keeps tick and page of each write, and plans. It runs the page's
 // own program.
 
-import { lightTrace, squaresSent, writesIn } from "./light-trace.js";
+import { lightLength, lightTrace, squaresSent, writesIn } from "./light-trace.js";
 import { Planner, Refusal } from "./planner.js";
 import { Sha256 } from "./sha256.js";
+import { Slice } from "./slices.js";
 import { piecesOf } from "./trace-source.js";
 
-/** For how long the worker makes plans until it looks for other questions, in milliseconds. */
-const SLICE = 20;
+/** What is refused if another worker could not read the trace of the first again. */
+const UNREAD = 17;
 
 /** The worker's own state: the module, the trace, and the kinds of many plans with the number that is asked for. */
 const held = { module: null, planner: null, writes: null, asked: new Map() };
 
-function pause() {
-  return new Promise((resume) => setTimeout(resume));
+/** The planner over the open trace. */
+function planner() {
+  if (held.planner === null) {
+    throw new Refusal(UNREAD);
+  }
+  return held.planner;
 }
 
-/** The pieces of a blob; each goes into a digest, and is told. */
-async function* digested(blob, digest) {
+/** The pieces of a blob; each goes into a digest, and the share that is read is told. */
+async function* digested(blob, digest, number) {
   let done = 0;
   for await (const piece of piecesOf(blob)) {
     digest.add(piece);
     done += piece.length;
-    postMessage({ read: done / blob.size });
+    postMessage({ number, share: done / blob.size });
     yield piece;
   }
 }
 
-/** Opens a trace, and keeps a light one in its place, if that is shorter. An open trace stays until then. */
-async function openTrace({ blob }) {
+/** Opens a trace; an open one stays until then. Answers a light one too, if that is shorter by far. */
+async function openTrace({ number, blob }) {
   const digest = new Sha256();
-  const planner = await Planner.open(held.module, blob.size, digested(blob, digest));
-  const bytes = planner.traceBytes();
-  const writes = writesIn(bytes, planner.sizes.writes);
-  const light = lightTrace(writes, planner.sizes);
-  const isShorter = 2 * light.length < bytes.length;
-  held.planner = isShorter ? await Planner.open(held.module, light.length, [light]) : planner;
-  held.writes = writes;
+  const opened = await Planner.open(held.module, blob.size, digested(blob, digest, number));
+  const { sizes } = opened;
+  held.planner = opened;
+  held.writes = writesIn(opened.traceBytes(), sizes.writes);
   held.asked.clear();
-  return { sizes: held.planner.sizes, digest: digest.digest() };
+  const isShorter = 2 * lightLength(sizes) < blob.size;
+  return { sizes, digest: digest.digest(), light: isShorter ? new Blob([lightTrace(held.writes, sizes)]) : null };
 }
 
 function plan({ settings, hasErrors }) {
-  const found = held.planner.plan(settings);
-  const squares = hasErrors ? squaresSent(held.writes, held.planner.sizes.pages, settings, found) : null;
+  const found = planner().plan(settings);
+  const squares = hasErrors ? squaresSent(held.writes, planner().sizes.pages, settings, found) : null;
   return { ...found, squares };
 }
 
@@ -53,16 +56,16 @@ function plan({ settings, hasErrors }) {
 async function manyPlans({ number, kind, settings }) {
   held.asked.set(kind, number);
   const plans = [];
-  while (plans.length < settings.length) {
-    const until = performance.now() + SLICE;
-    while (plans.length < settings.length && performance.now() < until) {
-      const { stop, down, total, rounds, reason } = held.planner.plan(settings[plans.length]);
-      plans.push({ stop, down, total, reason, rounds: rounds.length });
-    }
-    postMessage({ number, planned: plans.length / settings.length });
-    await pause();
-    if (held.asked.get(kind) !== number) {
-      return null;
+  const slice = new Slice();
+  for (const some of settings) {
+    const { stop, down, total, rounds, reason } = planner().plan(some);
+    plans.push({ stop, down, total, reason, rounds: rounds.length });
+    if (slice.isOver()) {
+      postMessage({ number, share: plans.length / settings.length });
+      await slice.next();
+      if (held.asked.get(kind) !== number) {
+        return null;
+      }
     }
   }
   return plans;
@@ -75,14 +78,20 @@ const ANSWERS = {
   },
   open: openTrace,
   plan,
-  windows: ({ settings }) => held.planner.windows(settings),
+  windows: ({ settings }) => planner().windows(settings),
   plans: manyPlans,
   cancel: ({ kind }) => held.asked.delete(kind),
 };
 
+/** Columns of numbers go to the page as they are. Anything else is copied. */
+function buffersIn(value) {
+  return Object.values(value ?? {}).filter(ArrayBuffer.isView).map(({ buffer }) => buffer);
+}
+
 async function answer({ number, name, asked }) {
   try {
-    postMessage({ number, value: await ANSWERS[name]({ ...asked, number }) });
+    const value = await ANSWERS[name]({ ...asked, number });
+    postMessage({ number, value }, buffersIn(value));
   } catch (error) {
     const refused = error instanceof Refusal ? { number: error.number, record: error.record } : null;
     postMessage({ number, refused, failed: refused ? null : String(error) });

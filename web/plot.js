@@ -9,7 +9,7 @@ const LEFT = 64;
 const RIGHT = 12;
 
 /** The least pixels between two labels of an axis, and the width of one of their letters. */
-const LABEL_ROOM = 104;
+const LABEL_ROOM = 84;
 const DIGIT_WIDTH = 7;
 
 /** An axis of ticks over a picture of some width: it has the ticks [first, last). */

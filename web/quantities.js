@@ -1,7 +1,7 @@
 // Rates and times as the controls say them: an amount in bytes a second or microseconds, and the unit that it is shown
 // in. A change of the unit keeps the amount. Sliders are logarithmic, in round numbers.
 
-import { decimalText } from "./numbers.js";
+import { counted, decimalText } from "./numbers.js";
 import { RATE_UNITS, TIME_UNITS } from "./units.js";
 
 /** How many places a slider has. */
@@ -125,11 +125,11 @@ export function unitName(unit, units) {
 
 /** A quantity in words. */
 export function quantityWords(quantity, units) {
-  return `${shownCount(quantity, units)} ${unitName(quantity.unit, units)}`;
+  return `${counted(shownCount(quantity, units))} ${unitName(quantity.unit, units)}`;
 }
 
-/** A quantity in the greatest unit of a family that it has one of. */
-export function inFittingUnit(amount, least, units) {
-  const family = [...familyOf(least)].reverse();
-  return { amount, unit: family.find((name) => amount >= units[name]) ?? least };
+/** An amount in the greatest unit that it has one of, of the family of this unit. */
+export function inFittingUnit(amount, unit, units) {
+  const family = [...familyOf(unit)].reverse();
+  return { amount, unit: family.find((name) => amount >= units[name]) ?? unit };
 }

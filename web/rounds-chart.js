@@ -1,7 +1,7 @@
 // The picture of a plan: the pages of each round and its rate, the stop and the downtime, by the time since the start.
 
 import { area, label } from "./elements.js";
-import { counted, countOf, timeText } from "./numbers.js";
+import { counted, pagesText, timeText } from "./numbers.js";
 import { axisOf, axisLabels, barOf, frameOf, panelOf, pictureOf } from "./plot.js";
 import { reasonWords } from "./predictions.js";
 import { microsOf } from "./units.js";
@@ -56,7 +56,7 @@ export function roundsPicture(width, { plan, settings, scale }, reach) {
   const stop = plan.stop - settings.start;
   const parts = [
     ...frameOf(axis, pages, scale.isSample ? "Sample pages of a round" : "Pages of a round"),
-    ...frameOf(axis, rates, "Rate, in pages per 1,000 ticks"),
+    ...frameOf(axis, rates, `${scale.isSample ? "Sample" : "Rate, in"} pages per 1,000 ticks`),
     ...plan.rounds.flatMap((round) => roundParts(axis, pages, rates, round, settings.start)),
     area("link", axis.place(0), rates.level(settings.max) - 0.5, axis.room, 1),
     ...stopParts(axis, pages, stop, plan.down), ...stopParts(axis, rates, stop, plan.down),
@@ -71,12 +71,12 @@ function wordsOf(prediction, at) {
   const { plan, settings, scale } = prediction;
   const since = (tick) => timeText(microsOf(scale, tick - settings.start));
   if (at === plan.rounds.length) {
-    return `Stop at ${since(plan.stop)}, since ${reasonWords(prediction)}: ${countOf(plan.left, "page")} left, `
+    return `Stop at ${since(plan.stop)}, since ${reasonWords(prediction)}: ${pagesText(scale, plan.left)} left, `
       + `sent in ${timeText(microsOf(scale, plan.down))}`;
   }
   const round = plan.rounds[at];
   return `Round ${at}, ${since(round.from)} to ${since(round.to)}, at ${counted(round.rate)} pages per 1,000 ticks: `
-    + `${countOf(round.pages, "page")}, ${counted(round.sent)} sent, ${counted(round.dirtied)} dirtied meanwhile`;
+    + `${pagesText(scale, round.pages)}, ${counted(round.sent)} sent, ${counted(round.dirtied)} dirtied meanwhile`;
 }
 
 /** How the rounds of a picture are looked at. */

@@ -109,9 +109,9 @@ function curveParts(axis, { name, number, unit, hasLimit }, place, asked) {
   return [
     ...latePart(axis, panel, asked.costs),
     ...frameOf(axis, panel, `${name} by start, in ${unitName}`, text),
+    ...startMark(axis, panel, "worst", asked.chosen.worst), ...startMark(axis, panel, "best", asked.chosen.best),
     ...(hasLimit ? [area("limit", axis.place(axis.first), panel.level(limit) - 1, axis.room, 2)] : []),
     ...known.map((stretch) => lineOf(axis, panel, stretch, number)),
-    ...startMark(axis, panel, "worst", asked.chosen.worst), ...startMark(axis, panel, "best", asked.chosen.best),
     ...cutStart(axis, panel, known.flat(), number, text),
   ];
 }
@@ -128,7 +128,7 @@ export function startsPicture(axis, asked) {
 /** What a migration from a start costs, in words. */
 export function startWords(asked, { start, cost }, hasTicks) {
   const mark = cost.isLate ? "ends after the trace" : cost.isKept ? "kept" : "not kept";
-  return `${timeText(microsOf(asked.scale, start))}${hasTicks ? `, tick ${start}` : ""}: time ${timeText(cost.time)}, `
+  return `${timeText(microsOf(asked.scale, start))}${hasTicks ? `, tick ${counted(start)}` : ""}: time ${timeText(cost.time)}, `
     + `sent ${bytesText(cost.bytes)}, downtime ${timeText(cost.downtime)}, ${mark}`;
 }
 

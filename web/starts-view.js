@@ -116,8 +116,7 @@ export class StartsView {
     this.busy(null);
     byId("starts-answer").hidden = false;
     byId("take-best").hidden = true;
-    byId("starts-choice").replaceChildren(error instanceof Refusal ? refusalPart(error, "Refused:")
-      : html("p", { class: "refusal" }, "The page's worker ended more than once."));
+    byId("starts-choice").replaceChildren(refusalPart(error, "Refused:"));
     this.changed();
   }
 

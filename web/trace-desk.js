@@ -57,7 +57,7 @@ class OpenTrace {
 export class TraceDesk {
   constructor(taken) {
     this.taken = taken;
-    this.client = new PlannerClient();
+    this.client = new PlannerClient((share) => this.reread(share));
     this.trace = null;
     this.loading = 0;
     this.early = null;
@@ -123,12 +123,17 @@ export class TraceDesk {
     performance.measure(ending, { start: 0, end: performance.now() });
   }
 
+  /** Says how much of the open trace another worker has read, and with null that it has ended. */
+  reread(share) {
+    this.busy(share === null ? null
+      : `The planner was started again, and reads ${this.trace.source.name}: ${Math.floor(100 * share)} %`);
+  }
+
   refuse(error, source, notes) {
     if (!(error instanceof Refusal) && !(error instanceof WorkerEnded)) {
       throw error;
     }
-    const said = error instanceof Refusal ? refusalPart(error, `${source.name} is refused:`)
-      : html("p", { class: "refusal" }, `${source.name} ended the page's worker more than once, and is not open.`);
+    const said = refusalPart(error, `${source.name} is refused:`);
     const open = this.trace ? [html("p", {}, `${this.trace.source.name} is still open.`)] : [];
     this.note([said, ...open, ...notes]);
   }

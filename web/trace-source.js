@@ -2,7 +2,7 @@
 
 /** The examples, as the page has them: gzipped, in base64, in elements of these names. */
 const EXAMPLES = {
-  gzip: { element: "example-gzip", name: "gzip.pcwt" },
+  gzip: { element: "example-gzip", name: "gzip.light.pcwt" },
   sqlite: { element: "example-sqlite", name: "sqlite.light.pcwt", record: "record-sqlite" },
 };
 

@@ -1,8 +1,9 @@
 // The picture of the working set: the pages of each window, and where a plan's rounds and its stop lie.
 
 import { area, box, label, svg } from "./elements.js";
-import { counted, countOf, timeText } from "./numbers.js";
+import { counted, countOf, pagesText, timeText } from "./numbers.js";
 import { axisOf, axisLabels, barOf, frameOf, panelOf, pictureOf } from "./plot.js";
+import { firstPlace } from "./search.js";
 import { microsOf } from "./units.js";
 
 const WINDOWS_TOP = 26;
@@ -14,25 +15,21 @@ export function traceAxis(width, sizes, length, range) {
   return range ? axisOf(width, range.first, Math.min(range.last, end)) : axisOf(width, 0, end);
 }
 
-/** The rows of the windows that lie in an axis, at least in part. */
+/** The rows of the windows that lie in an axis, at least in part: from the first to before the second. */
 function seenRows(axis, windows, length) {
-  const rows = [];
-  for (let row = 0; row < windows.count; row += 1) {
-    const from = windows.number[row] * length;
-    if (from < axis.last && from + length > axis.first) {
-      rows.push(row);
-    }
-  }
-  return rows;
+  return [
+    firstPlace(windows.count, (row) => (windows.number[row] + 1) * length > axis.first),
+    firstPlace(windows.count, (row) => windows.number[row] * length >= axis.last),
+  ];
 }
 
 /** A window with this many times the pages of all others is drawn cut off, so that the others can be seen. */
 const OUTLIER = 4;
 
 /** How many pages the panel reaches: those of the window with the most, or of the next if the first is an outlier. */
-function reachOfPages(windows, rows) {
+function reachOfPages(windows, [begin, end]) {
   let [most, next] = [1, 0];
-  for (const row of rows) {
+  for (let row = begin; row < end; row += 1) {
     const number = windows.pages[row];
     if (number > most) {
       [most, next] = [number, most];
@@ -52,18 +49,26 @@ function cutLabels(axis, drawn, windows, panel) {
   });
 }
 
-/** The windows that are drawn: of those that fall on one pixel, the one with the most pages. */
-function drawnWindows(axis, windows, rows, length) {
-  const drawn = [];
-  for (const row of rows) {
-    const [left, right] = barOf(axis, windows.number[row] * length, (windows.number[row] + 1) * length);
-    const before = drawn.at(-1);
-    if (before && left < before.right - 0.5) {
-      before.right = Math.max(before.right, right);
-      before.row = windows.pages[row] > windows.pages[before.row] ? row : before.row;
-    } else {
-      drawn.push({ row, left, right });
+/** Of some rows, the first with the most pages. */
+function fullestRow({ pages }, begin, end) {
+  let found = begin;
+  for (let row = begin + 1; row < end; row += 1) {
+    if (pages[row] > pages[found]) {
+      found = row;
     }
+  }
+  return found;
+}
+
+/** The windows that are drawn: of those that begin on one pixel, the one with the most pages. */
+function drawnWindows(axis, windows, [begin, end], length) {
+  const drawn = [];
+  for (let row = begin, next = begin; row < end; row = next) {
+    const [left, right] = barOf(axis, windows.number[row] * length, (windows.number[row] + 1) * length);
+    const isBeyond = (at) => axis.place(windows.number[row + at] * length) >= left + 1;
+    next = row + firstPlace(end - row, isBeyond);
+    const endOfAll = next > row + 1 ? axis.place((windows.number[next - 1] + 1) * length) : right;
+    drawn.push({ row: fullestRow(windows, row, next), left, right: Math.max(right, endOfAll) });
   }
   return drawn;
 }
@@ -123,7 +128,7 @@ export function planMarks(axis, panel, settings, plan) {
   }
   marks.push(...markAt(axis, panel, "stop", plan.stop));
   if (plan.stop > axis.last) {
-    marks.push(label("end past", axis.width - 14, panel.top - 9, "stop to the right \u2192"));
+    marks.push(label("end past", axis.width - 14, panel.top + 30, "stop to the right \u2192"));
   }
   return marks;
 }
@@ -139,21 +144,11 @@ export function windowWords(windows, row, length, scale) {
   const to = microsOf(scale, (windows.number[row] + 1) * length);
   const earlier = windows.pages[row] - windows.fresh[row] - windows.again[row];
   return `Window ${windows.number[row]}, ${timeText(from)} to ${timeText(to)}: `
-    + `${countOf(windows.writes[row], "write")}, ${countOf(windows.pages[row], "page")}; again ${windows.again[row]}, `
-    + `earlier ${earlier}, fresh ${windows.fresh[row]}`;
+    + `${countOf(windows.writes[row], "write")}, ${pagesText(scale, windows.pages[row])}; `
+    + `again ${counted(windows.again[row])}, earlier ${counted(earlier)}, fresh ${counted(windows.fresh[row])}`;
 }
 
-/** The item of `drawn` at a place in pixels, by binary search. */
+/** The item of `drawn` at a place in pixels. */
 export function drawnAt(drawn, place) {
-  let low = 0;
-  let high = drawn.length - 1;
-  while (low < high) {
-    const middle = Math.ceil((low + high) / 2);
-    if (drawn[middle].left <= place) {
-      low = middle;
-    } else {
-      high = middle - 1;
-    }
-  }
-  return low;
+  return Math.max(0, firstPlace(drawn.length, (at) => drawn[at].left > place) - 1);
 }

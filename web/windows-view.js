@@ -86,12 +86,13 @@ export class WindowsView {
     marks.replaceChildren(...(prediction ? planMarks(axis, panel, prediction.settings, prediction.plan) : []));
     byId("zoom-out").disabled = this.range === null;
     byId("zoom-plan").disabled = !prediction;
+    byId("base-key").hidden = settings.base === null;
     this.axis = axis;
   }
 
   lookAt(axis, windows, drawn, settings) {
     const { length } = this.counted;
-    const scale = { tick: amountOf(settings.tick) };
+    const scale = { tick: amountOf(settings.tick), isSample: this.isSample };
     const tickOf = (at) => Math.max(axis.first, windows.number[drawn[at].row] * length);
     return {
       count: drawn.length,
