@@ -41,16 +41,26 @@ class Client:
         self.path, self.seconds, self.rest = path, seconds, bytearray()
         self.socket = socket.socket(socket.AF_UNIX)
         try:
-            self.socket.settimeout(seconds)
-            self.socket.connect(path)
-            self._next("QMP")
-            self.ask("qmp_capabilities")
-        except (OSError, ValueError) as fault:
+            self._greet()
+        except TimeoutError as fault:
             self.socket.close()
-            raise Fault(f"{path}: {fault}") from fault
+            others = "QEMU serves one client at a time, and another one may have this socket"
+            raise Fault(f"{path}: {fault}; {others}") from fault
+        except ValueError as fault:
+            self.socket.close()
+            raise Fault(f"{path}: this is no monitor of QEMU's machine protocol, as -qmp makes one: {fault}") from fault
+        except OSError as fault:
+            self.socket.close()
+            raise Fault(f"{path}: {fault.strerror or fault}") from fault
         except Fault:
             self.socket.close()
             raise
+
+    def _greet(self):
+        self.socket.settimeout(self.seconds)
+        self.socket.connect(self.path)
+        self._next("QMP")
+        self.ask("qmp_capabilities")
 
     def _line(self, end):
         """The next line, if it is there before the time."""
@@ -88,7 +98,7 @@ class Client:
             self.socket.sendall(command_line(command, arguments).encode() + b"\n")
             answer = self._next("return", "error")
         except (OSError, ValueError) as fault:
-            raise Fault(f"{self.path}: {command}: {fault}") from fault
+            raise Fault(f"{self.path}: {command}: {getattr(fault, 'strerror', None) or fault}") from fault
         return returned(self.path, command, answer)
 
     def process(self):
