@@ -1,5 +1,7 @@
 """Cases of checks/recording: the words of tools/compare-qemu, and what it gives to QEMU; without QEMU."""
 
+import importlib.machinery
+import importlib.util
 import os
 import random
 import subprocess
@@ -59,14 +61,31 @@ def words_of_a_comparison(_, folder):
         (["mid", "--numa", "0", "--memory", "2G"], "whole number from 1"),
         (["mid", "--multifd", "x"], "whole number from 1"),
         (["slower"], "invalid choice"),
+        (["--workload", "none", "--memory", "2G"], "there is no file none"),
+        (["mid", "--add", "none"], "there is no file none"),
     ):
         command = [sys.executable, COMPARE, *words, "--program", "/bin/true", "--view", "/bin/true"]
         done = subprocess.run(command, cwd=folder, capture_output=True, text=True, timeout=4 * SECONDS)
         expect(done.returncode == 2 and said in done.stderr, f"{words}: {done.returncode}, {done.stderr!r}")
 
 
+def pages_that_were_sent(_, __):
+    """Pages are counted whole, compressed or not, and the bandwidth is that while the guest ran."""
+    loader = importlib.machinery.SourceFileLoader("compare_qemu", COMPARE)
+    compare = importlib.util.module_from_spec(importlib.util.spec_from_loader("compare_qemu", loader))
+    loader.exec_module(compare)
+    times = {"total-time": 2500, "downtime": 400, "setup-time": 100}
+    told = {"ram": {"normal": 3000, "downtime-bytes": 1000 * PAGE}, **times}
+    real = compare.Migration(told, 0, True)
+    expect((real.sent, real.last, real.milliseconds) == (3000, 1000, 2400), f"{vars(real)}")
+    expect(real.reached() == 1000 * PAGE, f"{real.reached()}")
+    real = compare.Migration({**told, "compression": {"pages": 500, "compressed-size": 7}}, 0, True)
+    expect(real.sent == 3500 and real.reached() == 1250 * PAGE, f"{vars(real)}")
+
+
 CASES = [
     nodes_of_any_size,
     added_to_a_guest,
     words_of_a_comparison,
+    pages_that_were_sent,
 ]

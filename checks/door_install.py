@@ -77,12 +77,13 @@ def find_large_pages(tally, prefix):
     for name, word in (("precopy", "image"), ("precopy-view", "show")):
         path, end = os.path.join(prefix, "bin", name), time.monotonic() + SECONDS
         started = subprocess.Popen([path, word], stdin=subprocess.PIPE, stdout=subprocess.DEVNULL, env={})
-        proper, runs = os.path.realpath(os.path.join(prefix, "lib", "precopy", name)), ""
-        while runs != proper and time.monotonic() < end and started.poll() is None:
+        proper, runs, found = os.path.realpath(os.path.join(prefix, "lib", "precopy", name)), "", ""
+        # A process that has just become another program has no variables for a moment.
+        while (runs != proper or not found) and time.monotonic() < end and started.poll() is None:
             runs = os.readlink(f"/proc/{started.pid}/exe")
-        # As the C library reads the variable, it may end each of its parts by a 0 in this memory.
-        with open(f"/proc/{started.pid}/environ", "rb") as file:
-            found = file.read().decode().rstrip("\0").replace("\0", ":")
+            # As the C library reads the variable, it may end each of its parts by a 0 in this memory.
+            with open(f"/proc/{started.pid}/environ", "rb") as file:
+                found = file.read().decode().rstrip("\0").replace("\0", ":")
         started.kill()
         started.communicate()
         good = runs == proper and found == f"GLIBC_TUNABLES={launcher.large_pages()}"

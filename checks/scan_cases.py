@@ -1,6 +1,6 @@
 """Cases of checks/recording: the recorder's loop of system calls in machine code, and without it."""
 
-import array
+import errno
 import os
 import random
 import shutil
@@ -13,7 +13,7 @@ from sample_cases import PAGE, PAGES, Pages, exact, mapped_anew
 sys.path.append(os.path.join(TOP, "packaging"))
 import contents  # noqa: E402
 import scans  # noqa: E402
-from pagemap import REQUEST, WrittenPages  # noqa: E402
+from pagemap import WrittenPages  # noqa: E402
 
 SEEDS = 20
 
@@ -71,7 +71,7 @@ def looks_with_a_bad_library(_, folder):
 
 
 def same_by_both(_, folder):
-    """The same requests have the same answers by the library and by single calls, whatever was written."""
+    """Looks with the library and without it tell the pages that were written, also after a look that failed."""
     library = built()
     if library is None:
         return
@@ -84,43 +84,43 @@ def same_by_both(_, folder):
     for seed in range(SEEDS):
         draws = random.Random(seed)
         with Pages(draws.choice(("private", "shared"))) as pages:
-            places = sorted(draws.sample(range(PAGES), draws.randrange(1, 400)))
-            whole = [(pages.address, pages.address + PAGES * PAGE)]
-            watched = WrittenPages(pages.process.pid, whole, [pages.address + page * PAGE for page in places])
+            drawn = sorted(draws.sample(range(PAGES), draws.randrange(2, 400)))
+            places = [pages.address + page * PAGE for page in drawn]
+            watched = WrittenPages(pages.process.pid, [(pages.address, pages.address + PAGES * PAGE)], places)
             try:
-                expect_same(call, watched, pages, places, draws)
+                for way in draws.sample((call, None, call, None), 4):
+                    expect_told(way, watched, pages, drawn, draws)
             finally:
                 watched.close()
 
 
-def expect_same(call, watched, pages, places, draws):
-    """Looks that protect nothing: both ways tell the pages that were written, in any order of numbers."""
-    written = set(draws.sample(range(PAGES), draws.randrange(PAGES)))
-    pages.write(written)
-    wanted = [number for number, page in enumerate(places) if page in written]
-    told = bytearray(24)
-    asked = [(REQUEST.size, 2, at, at + PAGE, 0, scans.address_of(told), 1, 0, 0, 2, 0, 2) for at in watched.places]
-    # One that fails: no address of a page.
-    asked.append((REQUEST.size, 2, 1, 2, 0, scans.address_of(told), 1, 0, 0, 2, 0, 2))
-    order = draws.sample(range(len(places)), len(places))
-    found = {}
-    for name, library in (("library", call), ("calls", None)):
-        scans.LIBRARY, before = library, scans.LIBRARY
-        try:
-            requests = scans.Requests([REQUEST.pack(*each) for each in asked], REQUEST.size)
-            numbers = array.array("I", order)
-            found[name] = requests.make(watched.pagemap, numbers)
-            numbers.insert(draws.randrange(1), len(places))
-            found[f"{name}, failing"] = requests.make(watched.pagemap, numbers)
-            found[f"{name}, none"] = requests.make(watched.pagemap, array.array("I"))
-        finally:
-            scans.LIBRARY = before
-    expect(found["library"] == found["calls"], "other answers by the library")
-    expect(found["library, failing"] == found["calls, failing"], "another fault by the library")
-    expect(found["library, none"] == found["calls, none"] == ([], 0, 0), "answers to nothing")
-    expect(sorted(found["calls"][0]) == wanted and found["calls"][1:] == (len(order), 0), "other pages than written")
-    expect(found["calls, failing"] == ([], 0, 22), f"{found['calls, failing']}")
-    expect(watched.look() == wanted, "other pages than written by a look")
+def looks_of(library, watched, places, groups):
+    """Looks by the library or by calls, at some places in some groups."""
+    scans.LIBRARY, before = library, scans.LIBRARY
+    try:
+        return (scans.CallsLook if library is None else scans.LibraryLook)(places, groups).look(watched.pagemap)
+    finally:
+        scans.LIBRARY = before
+
+
+def expect_told(library, watched, pages, drawn, draws):
+    """A look tells what was written, and the next one nothing. One that fails at a page that is none loses nothing."""
+    reach = draws.choice((0, 2, 9, 1 << 40)) * PAGE
+    groups = list(scans.groups_of(watched.ranges, watched.places, reach))
+    expect(groups[-1][1] == len(drawn) and all(high - low <= scans.PART for low, high in groups), f"{groups}")
+    for fails in (False, True):
+        written = set(draws.sample(range(PAGES), draws.randrange(PAGES)))
+        pages.write(written)
+        wanted, told = [number for number, page in enumerate(drawn) if page in written], []
+        if fails:
+            at = draws.randrange(len(drawn))
+            bad = watched.places[:at] + [watched.places[at] + 1] + watched.places[at + 1 :]
+            alone = [(number, number + 1) for number in range(len(drawn))]
+            told, fault = looks_of(library, watched, bad, alone)
+            expect(fault == errno.EINVAL, f"fault {fault}")
+        more, fault = looks_of(library, watched, watched.places, groups)
+        expect(not fault and sorted(told + more) == wanted, f"{len(told)} and {len(more)} told of {len(wanted)}")
+        expect(looks_of(library, watched, watched.places, groups) == ([], 0), "a write is told twice")
 
 
 NEED_WRITES = {looks_in_machine_code, looks_with_a_bad_library, same_by_both}

@@ -22,6 +22,7 @@ import traces
 NAME = "guest.light.pcwt"
 SEGMENT = re.compile(r"^segment (guest\.\d{8}T\d{6}Z\.light\.pcwt): [\d,]+ writes in [\d.]+ s, \d+ looks, \d+ late")
 STEPS, STEP = 14, 40
+PAUSES = 0.06, 0.5
 OTHERS = ("guest.light.json", "guest.20260101T000000Z.light.pcwt.old", "guest2.20260101T000000Z.light.pcwt",
           "xguest.20260101T000000Z.light.pcwt", "guest.2026.light.pcwt", ".guest.20260101T000000Z.light.pcwt.part")
 
@@ -65,9 +66,14 @@ def expect_no_parts(folder):
     expect(not left, f"left: {left}")
 
 
-def written_in(found):
+def filled_of(count):
+    """The pages that are not zero at first, of so many."""
+    return [page for page in range(count) if page % 3]
+
+
+def written_in(found, count):
     """How often each page was written in all segments. Pages that are not zero at first are numbered in their order."""
-    filled = [page for page in range(PAGES) if page % 3]
+    filled = filled_of(count)
     times = {}
     for _, _, written, _ in found:
         for tick, number in written:
@@ -77,26 +83,21 @@ def written_in(found):
     return times
 
 
-def steps_of(draws, most):
-    """Steps of pages that are not zero, each page once in all."""
-    pages = draws.sample([page for page in range(PAGES) if page % 3], most)
-    return [pages[at : at + STEP] for at in range(0, len(pages), STEP)]
-
-
-def exact_series(folder, draws, *words):
-    """Whenever a page is written, it is in exactly one segment, once."""
-    with Pages("private") as pages:
+def exact_series(folder, draws, *words, steps=STEPS, size=STEP, pauses=PAUSES, count=PAGES):
+    """Whenever a page is written, it is in exactly one segment, once. Each is written once, in one of the steps."""
+    with Pages("private", count) as pages:
         run = Segments(folder, pages.source, *words)
-        for step in steps_of(draws, STEPS * STEP):
-            pages.write(step)
-            time.sleep(draws.uniform(0.06, 0.5))
+        to_write = draws.sample(filled_of(count), steps * size)
+        for at in range(0, len(to_write), size):
+            pages.write(to_write[at : at + size])
+            time.sleep(draws.uniform(*pauses))
         time.sleep(0.2)
         run.end(signal.SIGINT)
         pages.expect_as_before()
     expect(run.status == 0, f"status {run.status}, {run.output!r}, {run.faults!r}")
     found = segments_in(folder)
-    times = written_in(found)
-    expect(len(times) == STEPS * STEP and set(times.values()) == {1}, f"{len(times)} pages, {set(times.values())}")
+    times = written_in(found, count)
+    expect(len(times) == steps * size and set(times.values()) == {1}, f"{len(times)} pages, {set(times.values())}")
     expect(run.told() == [os.path.basename(path) for path, *_ in found], run.output)
     expect_no_parts(folder)
     for (_, _, _, before), (_, _, _, after) in zip(found, found[1:]):
@@ -111,11 +112,16 @@ def nothing_lost(_, folder):
         with tempfile.TemporaryDirectory(dir=folder) as each:
             _, found = exact_series(each, random.Random(f"series {seed}"))
             expect(len(found) >= 3, f"{len(found)} segments")
+    # Also in the milliseconds in which one segment ends and the next one begins.
+    with tempfile.TemporaryDirectory(dir=folder) as each:
+        one_by_one = {"steps": 6000, "size": 1, "pauses": (0.0004, 0.0006), "count": 1 << 14}
+        _, found = exact_series(each, random.Random("one by one"), **one_by_one)
+        expect(len(found) >= 4, f"{len(found)} segments")
 
 
 def full_segments(_, folder):
     """A segment that is full is followed by the next one, which has what found no room."""
-    filled = sum(1 for page in range(PAGES) if page % 3)
+    filled = len(filled_of(PAGES))
     words = ["--segment", "60s", "--limit-writes", str(filled + 8 * STEP)]
     run, found = exact_series(folder, random.Random("full"), *words)
     expect(len(found) >= 2, f"{len(found)} segments")
@@ -124,7 +130,7 @@ def full_segments(_, folder):
 
 def full_from_the_first(_, folder):
     """If even one interval does not fit, the series ends by words, and what there is is whole."""
-    filled = sum(1 for page in range(PAGES) if page % 3)
+    filled = len(filled_of(PAGES))
     with Pages("private") as pages:
         run = Segments(folder, pages.source, "--limit-writes", str(filled + 5))
         for _ in range(8):

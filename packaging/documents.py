@@ -31,8 +31,8 @@ RENAMED = {
     "`make deb` makes `python3-precopy`": "the package `python3-precopy` has the module",
     "`./precopy` and installed programs add": "Programs add",
     "    $ examples/left_out.py": "    $ python3 examples/left_out.py",
-    "need the built `precopy-view`, up to 26 minutes of a processor after\n`./precopy`.": "need `precopy-view`.",
-    "machine code in the package, and in the sources after `make scan`, which needs a C compiler": "machine code",
+    "need the built `precopy-view`; `README.md` says how long that takes.": "need `precopy-view`.",
+    "machine code in the\npackage, and in the sources after `make scan`, which needs a C compiler": "machine code",
     "needs `precopy` on its path": "needs the package",
 }
 PROGRAM = re.compile(r"(?<![\w/.])\./(precopy(?:-view)?)(?![\w-])")

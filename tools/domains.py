@@ -27,7 +27,7 @@ def virsh(*words: str) -> str:
     except subprocess.TimeoutExpired as fault:
         raise qmp.Fault(f"virsh {words[0]}: no answer within {SECONDS} s") from fault
     if done.returncode:
-        told = done.stderr.strip().removeprefix("error: ") or f"status {done.returncode}"
+        told = done.stderr.strip().removeprefix("error: ").replace("\nerror: ", ": ") or f"status {done.returncode}"
         raise qmp.Fault(f"virsh {words[0]}: {told}")
     return done.stdout
 

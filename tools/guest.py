@@ -149,7 +149,7 @@ class Guest:
             if self.process.poll() is not None:
                 raise Failed(f"{self.name}: QEMU ended: {self._last_words()}")
             if time.monotonic() > end:
-                raise Failed(f"{self.name}: {what} after {seconds} s")
+                raise Failed(f"{self.name}: {what} after {seconds} s: {self._last_words()}")
             time.sleep(0.05)
 
     def _last_words(self):

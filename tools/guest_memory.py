@@ -164,7 +164,7 @@ def asked(monitor) -> Memory:
     if found != size or not blocks:
         raise qmp.Fault(
             f"QEMU says that the guest has {size_text(size)}, and the backends that it names for it sum to "
-            f"{size_text(found)} ({', '.join(names) or 'none'}): --mapping says which mappings are its memory"
+            f"{size_text(found)} ({', '.join(names) or 'none'}): say which memory is the guest's by --pid and --mapping"
         )
     others = [(plain(name), int(total, 16)) for name, total in RAM_BLOCK.findall(told_by(monitor, "info ramblock"))]
     return Memory(blocks, [(name, total) for name, total in others if name not in backends], summary)

@@ -1,6 +1,8 @@
 """Looks at a guest at equal intervals, until the time is over, a signal comes, the guest ends or a trace is full."""
 
 import contextlib
+import os
+import select
 import signal
 import sys
 import time
@@ -17,6 +19,8 @@ class Stopping:
 
     def __init__(self):
         self.by = None
+        self.woken, wakes = os.pipe2(os.O_CLOEXEC | os.O_NONBLOCK)
+        signal.set_wakeup_fd(wakes)
         for number in (signal.SIGINT, signal.SIGTERM):
             signal.signal(number, self._set)
 
@@ -24,8 +28,9 @@ class Stopping:
         self.by = signal.Signals(number).name
 
     def sleep(self, until):
+        """Until that time, or until a signal comes."""
         while self.by is None and (left := until - time.monotonic()) > 0:
-            time.sleep(min(left, 0.02))
+            select.select([self.woken], [], [], left)
 
 
 def show(recorder, begun):

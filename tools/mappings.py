@@ -129,7 +129,8 @@ def listed(mappings: Iterable[Mapping]) -> str:
     lines = [f"  {it.told()}" for it in by_size[:SHOWN]]
     left = by_size[SHOWN:]
     if left:
-        lines.append(f"  and {len(left)} smaller ones, {size_text(sum(it.size for it in left))} together")
+        count = f"{len(left)} smaller ones" if len(left) > 1 else "a smaller one"
+        lines.append(f"  and {count}, {size_text(sum(it.size for it in left))}{' together' if len(left) > 1 else ''}")
     return "\n".join(lines)
 
 

@@ -90,7 +90,9 @@ def limits(bandwidth: float, downtime: float, scale: Scale, start: int) -> list[
     """The words of precopy-view for limits in bytes a second and seconds."""
     rate = int(scale.rate(bandwidth))
     if not 1 <= rate <= MOST_RATE:
-        raise NoRate(f"the link is {scale.rate(bandwidth):.3g} pages of the sample in 1,000 ticks, which is no rate")
+        slow = "slow" if rate < 1 else "fast"
+        told = f"{scale.rate(bandwidth):.3g} pages of it in 1,000 ticks, and a plan has 1 to {MOST_RATE:,}"
+        raise NoRate(f"a link of {bandwidth:,.0f} bytes a second is too {slow} for this sample: {told}")
     # A threshold above all pages of a trace is refused, and one of all of them says the same.
     most = (1000 * MOST_THRESHOLD - 1) // rate * scale.tick
     words = ["--link", rate_word(bandwidth), "--downtime", f"{min(round(1e6 * downtime), most)}us"]

@@ -41,16 +41,27 @@ class Client:
         self.path, self.seconds, self.rest = path, seconds, bytearray()
         self.socket = socket.socket(socket.AF_UNIX)
         try:
-            self.socket.settimeout(seconds)
-            self.socket.connect(path)
-            self._next("QMP")
-            self.ask("qmp_capabilities")
-        except (OSError, ValueError) as fault:
+            self._greet()
+        except (OSError, ValueError, Fault) as fault:
             self.socket.close()
-            raise Fault(f"{path}: {fault}") from fault
-        except Fault:
-            self.socket.close()
-            raise
+            raise self._no_monitor(fault) from fault
+
+    def _no_monitor(self, fault):
+        """Why there is no connection to a monitor."""
+        if isinstance(fault, Fault):
+            return fault
+        told = getattr(fault, "strerror", None) or fault
+        if isinstance(fault, TimeoutError):
+            told = f"{fault}; QEMU serves one client at a time, and another one may have this socket"
+        elif isinstance(fault, ValueError):
+            told = f"this is no monitor of QEMU's machine protocol, as -qmp makes one: {fault}"
+        return Fault(f"{self.path}: {told}")
+
+    def _greet(self):
+        self.socket.settimeout(self.seconds)
+        self.socket.connect(self.path)
+        self._next("QMP")
+        self.ask("qmp_capabilities")
 
     def _line(self, end):
         """The next line, if it is there before the time."""
@@ -61,14 +72,20 @@ class Client:
                 raise Fault(f"{self.path}: an answer of more than {MOST_BYTES >> 20} MiB")
             if left <= 0:
                 raise TimeoutError(f"no answer within {self.seconds:g} s")
-            self.socket.settimeout(left)
-            data = self.socket.recv(1 << 16)
+            data = self._received(left)
             if not data:
                 raise Fault(f"{self.path}: the connection is closed")
             self.rest += data
         line = bytes(self.rest[:found])
         del self.rest[: found + 1]
         return line
+
+    def _received(self, seconds):
+        self.socket.settimeout(seconds)
+        try:
+            return self.socket.recv(1 << 16)
+        except TimeoutError as fault:
+            raise TimeoutError(f"no answer within {self.seconds:g} s") from fault
 
     def _next(self, *names):
         """The next message that has one of these names."""
@@ -88,7 +105,7 @@ class Client:
             self.socket.sendall(command_line(command, arguments).encode() + b"\n")
             answer = self._next("return", "error")
         except (OSError, ValueError) as fault:
-            raise Fault(f"{self.path}: {command}: {fault}") from fault
+            raise Fault(f"{self.path}: {command}: {getattr(fault, 'strerror', None) or fault}") from fault
         return returned(self.path, command, answer)
 
     def process(self):

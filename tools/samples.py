@@ -171,7 +171,8 @@ def read(trace_path: str, trace: traces.Trace, written: list[tuple[int, int]]) -
         with open(path, "rb") as file:
             text = file.read()
     except FileNotFoundError as fault:
-        raise Refused(f"there is no {path} beside the trace: {version.called('record')} writes one") from fault
+        told = f"{version.called('record')} writes one if it draws pages, and precopy-view predict plans without it"
+        raise Refused(f"{trace_path}: there is no {path} beside it: {told}") from fault
     sample = parsed(path, text)
     for rule, holds in rules_of(sample, trace, written):
         if not holds:

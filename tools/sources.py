@@ -117,4 +117,4 @@ def expect_size(options, source: Source) -> None:
     if total(ranges) != options.memory:
         known = source.told[0].partition(": ")[2]
         asked = f"{size_text(options.memory)} ({options.memory:,} bytes)"
-        raise ValueError(f"--memory {asked} is not what would be taken, which is {total(ranges):,} bytes: {known}")
+        raise ValueError(f"--memory {asked} does not fit: {total(ranges):,} bytes would be taken, which are {known}")

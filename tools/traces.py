@@ -164,7 +164,10 @@ class Pending:
             raise IsADirectoryError(errno.EISDIR, os.strerror(errno.EISDIR), path)
         self.path = path
         folder, name = os.path.split(os.path.abspath(path)) if path != "-" else (None, "trace")
-        self.descriptor, self.hidden = tempfile.mkstemp(prefix=f".{name}.", suffix=".part", dir=folder)
+        try:
+            self.descriptor, self.hidden = tempfile.mkstemp(prefix=f".{name}.", suffix=".part", dir=folder)
+        except OSError as fault:
+            raise OSError(fault.errno, fault.strerror, path) from fault
         # While it is locked, it is not left over.
         fcntl.flock(self.descriptor, fcntl.LOCK_EX | fcntl.LOCK_NB)
 
