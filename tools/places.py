@@ -13,3 +13,9 @@ def program(name: str = "precopy") -> str:
         return os.path.join(top, "crates", crate, "out", crate)
     installed = os.path.join(os.path.dirname(top), "bin", name)
     return installed if os.access(installed, os.X_OK) else shutil.which(name) or name
+
+
+def helper(name: str) -> str:
+    """The path of a program that only tools run: installed, it is beside them."""
+    beside = os.path.join(HERE, name)
+    return beside if os.access(beside, os.X_OK) else program(name)
