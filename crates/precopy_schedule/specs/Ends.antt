@@ -1,5 +1,5 @@
 -- How the program ends.
-use Rattle.std.specs.Prelude.{◌≡◌, ◌≢◌, ◌⊎◌, ◌^◌, ◌<◌, ◌++◌, ◌∷◌, [], ℕ, Bool, true, List, length, ⊤, Option}
+use Rattle.std.specs.Prelude.{◌≡◌, ◌≢◌, ◌⊎◌, ◌^◌, ◌<◌, ◌≤◌, ◌++◌, ◌∷◌, [], ℕ, Bool, true, List, length, ⊤, Option}
 use Rattle.std.specs.Prelude.{IfSome, codes}
 use Rattle.std.specs.Io.KnownBytes.{Appends}
 use Rattle.migration_jobs.specs.Sink.{AppendsPart}
@@ -24,15 +24,15 @@ pub record Answers (text bytes : List ℕ) : Type 0 where
   pub spelled : SpellsTable bytes plans
   pub told : IsAnswerText plans text
 
--- the bytes have no answer for this
+-- the bytes have no answer for this: they are too many, or not, and are no table
 abbrev pub RefusesBytes : List ℕ → TableError → Type 0
 RefusesBytes bytes errors.Memory = ⊤
 RefusesBytes bytes errors.Read = ⊤
 RefusesBytes bytes errors.Write = ⊤
 RefusesBytes bytes errors.TooLong = 2 ^ 28 < length bytes
-RefusesBytes bytes errors.NoText = RefusesTable bytes errors.NoText
-RefusesBytes bytes errors.NoPlans = SpellsTable bytes []
-RefusesBytes bytes (errors.Line number) = RefusesTable bytes (errors.Line number)
+RefusesBytes bytes errors.NoText = (length bytes ≤ 2 ^ 28) × RefusesTable bytes errors.NoText
+RefusesBytes bytes errors.NoPlans = (length bytes ≤ 2 ^ 28) × SpellsTable bytes []
+RefusesBytes bytes (errors.Line number) = (length bytes ≤ 2 ^ 28) × RefusesTable bytes (errors.Line number)
 
 -- the bytes of a source have no answer for this, if they are known
 abbrev pub IsRefused : Option (List ℕ) → TableError → Type 0
