@@ -1,10 +1,10 @@
 -- A schedule with one more move.
 use Rattle.std.proofs.Common.{◌≡◌, ℕ, ◌+◌, ◌*◌, ◌^◌, ◌≤◌, ◌<◌, List, [], ◌∷◌, ◌++◌, length, get_or, take, ap, ◌∙◌, sym}
 use Rattle.std.proofs.Common.{subst, refl, Option, Some, None, Bool, true, false, eqb, eq-eqb, inl, inr, arith}
-use Rattle.std.specs.Prelude.{◌≢◌, All, AllPairs, max, if◌then◌else◌}
+use Rattle.std.specs.Prelude.{◌≢◌, All, AllPairs, max, if◌then◌else◌, slice_set}
 use Rattle.std.specs.List.{slice_get}
 use Rattle.std.proofs.lemmas.Bool.{cases_lt, cases_eq, false_from_ne_true, eqb-true}
-use Rattle.std.proofs.lemmas.List.{get_or_append_left, get_or_push, length_push, take-append-le, take_at}
+use Rattle.std.proofs.lemmas.List.{get_or-set_other, get_or-set_same, get_or_append_left, get_or_push, length_push, take-append-le, take_at}
 use Rattle.std.proofs.lemmas.List.Elements.{All-push, All-weaker}
 use Rattle.std.proofs.lemmas.List.Quantifiers.{all_pairs_push}
 use Rattle.std.proofs.lemmas.Option.{get_or_from_slice_get, slice_get_read, slice_get_within}
@@ -13,7 +13,7 @@ use Rattle.host_schedules.specs.Schedules.{AreInTurn, EndsInTime, IsNext, IsSche
 use Rattle.host_schedules.specs.Schedules.{group_start, is_group, is_in_group, slot_free}
 use Rattle.host_schedules.specs.declared.moves.Move.{Move}
 use Rattle.host_schedules.specs.declared.moves.Placement.{Placement}
-use Rattle.host_schedules.proofs.GreatestLemmas.{greatest-le, greatest_push, le-greatest, picked, picked-le, unpicked}
+use Rattle.host_schedules.proofs.GreatestLemmas.{greatest-le, greatest_more, greatest_push, le-greatest, picked, picked-le, unpicked}
 
 -- an element of a list with one more: before that, and that
 get_front : {X : Type 0} (xs : List X) (y x : X) (k : ℕ) → k < length xs → slice_get (xs ++ y ∷ []) k ≡ Some x
@@ -122,3 +122,35 @@ pub start_in_time : (placed : List Placement) (count : ℕ) (group : Option ℕ)
     → group_start placed group ≤ count * 2 ^ 64
 start_in_time placed count None all = omega arith
 start_in_time placed count (Some group) all = group_in_time placed count group all
+
+-- the slots after one more move, if they were known before it
+pub free_after : (slots : ℕ) (free : List ℕ) (placed : List Placement) (move : Move) (p : Placement)
+    → IsNext slots placed move p → length free ≡ slots
+    → ((k : ℕ) → k < slots → get_or free k 0 ≡ slot_free placed k)
+    → (k : ℕ) → k < slots → get_or (slice_set free p.slot p.end) k 0 ≡ slot_free (placed ++ p ∷ []) k
+free_after slots free placed move p next wide same k low = elim (cases_eq k p.slot) [
+  | inl is ↦ subst (λ (j : ℕ). get_or (slice_set free p.slot p.end) j 0 ≡ slot_free (placed ++ p ∷ []) j) (sym is)
+      (get_or-set_same free p.slot p.end 0 (omega (arith, next.in_range, wide))
+      ∙ sym (slot_free-own slots placed move p next))
+  | inr other ↦ get_or-set_other free p.slot k p.end 0 other ∙ same k low
+      ∙ sym (slot_free-other slots placed move p next k other)
+]
+
+-- when a group is free after one more move: one of it, and another
+pub group_free-more_in : (placed : List Placement) (group i : ℕ) (d : Placement) → i < length placed
+    → is_in_group group (get_or placed i d) ≡ true
+    → group_free (take (i + 1) placed) group ≡ max (group_free (take i placed) group) (get_or placed i d).end
+group_free-more_in placed group i d low is = omega (
+  arith,
+  greatest_more (λ (x : Placement). if is_in_group group x then x.end else 0) placed i d low,
+  picked (is_in_group group (get_or placed i d)) (get_or placed i d).end is,
+)
+
+pub group_free-more_out : (placed : List Placement) (group i : ℕ) (d : Placement) → i < length placed
+    → is_in_group group (get_or placed i d) ≡ false
+    → group_free (take (i + 1) placed) group ≡ group_free (take i placed) group
+group_free-more_out placed group i d low is = omega (
+  arith,
+  greatest_more (λ (x : Placement). if is_in_group group x then x.end else 0) placed i d low,
+  unpicked (is_in_group group (get_or placed i d)) (get_or placed i d).end is,
+)
