@@ -4,7 +4,8 @@ use Rattle.std.proofs.Common.{subst, refl, Option, Some, None, Bool, true, false
 use Rattle.std.specs.Prelude.{◌≢◌, All, AllPairs, max, if◌then◌else◌, slice_set}
 use Rattle.std.specs.List.{slice_get}
 use Rattle.std.proofs.lemmas.Bool.{cases_lt, cases_eq, false_from_ne_true, eqb-true}
-use Rattle.std.proofs.lemmas.List.{get_or-set_other, get_or-set_same, get_or_append_left, get_or_push, length_push, take-append-le, take_at}
+use Rattle.std.proofs.lemmas.List.{get_or-set_other, get_or-set_same, get_or_append_left, get_or_push, length_push}
+use Rattle.std.proofs.lemmas.List.{take-append-le, take_at}
 use Rattle.std.proofs.lemmas.List.Elements.{All-push, All-weaker}
 use Rattle.std.proofs.lemmas.List.Quantifiers.{all_pairs_push}
 use Rattle.std.proofs.lemmas.Option.{get_or_from_slice_get, slice_get_read, slice_get_within}
@@ -13,7 +14,8 @@ use Rattle.host_schedules.specs.Schedules.{AreInTurn, EndsInTime, IsNext, IsSche
 use Rattle.host_schedules.specs.Schedules.{group_start, is_group, is_in_group, slot_free}
 use Rattle.host_schedules.specs.declared.moves.Move.{Move}
 use Rattle.host_schedules.specs.declared.moves.Placement.{Placement}
-use Rattle.host_schedules.proofs.GreatestLemmas.{greatest-le, greatest_more, greatest_push, le-greatest, picked, picked-le, unpicked}
+use Rattle.host_schedules.proofs.GreatestLemmas.{greatest-le, greatest_more, greatest_push, le-greatest, picked}
+use Rattle.host_schedules.proofs.GreatestLemmas.{picked-le, unpicked}
 
 -- an element of a list with one more: before that, and that
 get_front : {X : Type 0} (xs : List X) (y x : X) (k : ℕ) → k < length xs → slice_get (xs ++ y ∷ []) k ≡ Some x
