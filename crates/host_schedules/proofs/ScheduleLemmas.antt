@@ -17,6 +17,13 @@ use Rattle.host_schedules.specs.declared.moves.Placement.{Placement}
 use Rattle.host_schedules.proofs.GreatestLemmas.{greatest-le, greatest_more, greatest_push, le-greatest, picked}
 use Rattle.host_schedules.proofs.GreatestLemmas.{picked-le, unpicked}
 
+-- what an element is of which nothing is known
+abbrev pub no_placement : Placement
+no_placement = record { slot = 0; group = None; start = 0; end = 0 }
+
+abbrev pub no_move : Move
+no_move = record { time = 0; bytes = 0; downtime = 0; is_kept = false; group = None }
+
 -- an element of a list with one more: before that, and that
 get_front : {X : Type 0} (xs : List X) (y x : X) (k : ℕ) → k < length xs → slice_get (xs ++ y ∷ []) k ≡ Some x
     → slice_get xs k ≡ Some x

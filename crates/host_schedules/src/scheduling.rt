@@ -65,13 +65,14 @@ fn next_placement(free: &[u128], placed: &[Placement], of: &Move) -> Placement
     ensures next { IsNext (length free.now) placed.now of.now result }
     ensures in_time { EndsInTime (length placed.now + 1) result }
 {
+    let time = of.time as u128;
     let slot = first_least(free);
     let start = free[slot].max(group_start(placed, of.group));
     Placement {
         slot,
         group: of.group,
         start,
-        end: start + of.time as u128,
+        end: start + time,
     }
 }
 
