@@ -1,7 +1,6 @@
 -- Being better is an order.
 use Rattle.std.proofs.Common.{false}
 use Rattle.std.specs.Cmp.{IsStrictWeakOrder}
-use Rattle.std.specs.Ordering.{nat_cmp}
 use Rattle.std.proofs.lemmas.Cmp.{nat_cmp_total, on_total, then_total}
 use Rattle.std.proofs.lemmas.List.MinMax.{ranks_by}
 use Rattle.host_schedules.specs.Choices.{is_better_schedule, misses}

@@ -1,15 +1,14 @@
 -- A schedule with one more move.
 use Rattle.std.proofs.Common.{◌≡◌, ℕ, ◌+◌, ◌*◌, ◌^◌, ◌≤◌, ◌<◌, List, [], ◌∷◌, ◌++◌, length, get_or, take, ap, ◌∙◌, sym}
-use Rattle.std.proofs.Common.{subst, refl, Option, Some, None, Bool, true, false, eqb, eq-eqb, inl, inr, arith}
+use Rattle.std.proofs.Common.{subst, refl, Option, Some, None, true, false, eqb, eq-eqb, inl, inr, arith}
 use Rattle.std.specs.Prelude.{◌≢◌, All, AllPairs, max, if◌then◌else◌, slice_set}
 use Rattle.std.specs.List.{slice_get}
 use Rattle.std.proofs.lemmas.Bool.{cases_lt, cases_eq, false_from_ne_true, eqb-true}
 use Rattle.std.proofs.lemmas.List.{get_or-set_other, get_or-set_same, get_or_append_left, get_or_push, length_push}
 use Rattle.std.proofs.lemmas.List.{take-append-le, take_at}
-use Rattle.std.proofs.lemmas.List.Elements.{All-push, All-weaker}
+use Rattle.std.proofs.lemmas.List.Elements.{All-weaker}
 use Rattle.std.proofs.lemmas.List.Quantifiers.{all_pairs_push}
 use Rattle.std.proofs.lemmas.Option.{get_or_from_slice_get, slice_get_read, slice_get_within}
-use Rattle.host_schedules.specs.Greatest.{greatest}
 use Rattle.host_schedules.specs.Schedules.{AreInTurn, EndsInTime, IsNext, IsSchedule, TakeTurns, group_free}
 use Rattle.host_schedules.specs.Schedules.{group_start, is_group, is_in_group, slot_free}
 use Rattle.host_schedules.specs.declared.moves.Move.{Move}

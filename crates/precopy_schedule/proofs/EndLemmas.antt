@@ -1,11 +1,10 @@
 -- What is known of the bytes that a source had, from those that were read.
-use Rattle.std.proofs.Common.{◌≡◌, ℕ, ◌^◌, ◌<◌, ◌≤◌, List, [], ◌++◌, length, Option, Some, None, ap, sym, ◌∙◌, subst}
+use Rattle.std.proofs.Common.{ℕ, ◌^◌, ◌<◌, ◌≤◌, List, ◌++◌, length, Option, Some, None, ap, sym, ◌∙◌, subst}
 use Rattle.std.proofs.Common.{arith, length-append}
 use Rattle.std.specs.Prelude.{IfSome}
 use Rattle.std.proofs.lemmas.List.{append-nil}
 use Rattle.trace_codec.specs.Source.{ReadsWhole}
-use Rattle.precopy_schedule.specs.Answers.{IsAnswerText}
-use Rattle.precopy_schedule.specs.Ends.{Answers, IsRefused, RefusesBytes, RefusesPlans}
+use Rattle.precopy_schedule.specs.Ends.{IsRefused, RefusesBytes, RefusesPlans}
 use Rattle.precopy_schedule.specs.Tables.{HostPlan, RefusesTable, SpellsTable}
 use Rattle.precopy_schedule.specs.declared.error.TableError.{TableError}
 use Rattle.precopy_schedule.specs.declared.error.TableError.TheVariants as errors

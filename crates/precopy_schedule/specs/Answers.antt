@@ -1,7 +1,7 @@
 -- What is told of plans: a line on the schedule of each, which is the best, and a line on each move of that.
-use Rattle.std.specs.Prelude.{◌≡◌, ℕ, Bool, ◌∷◌, [], ◌++◌, if◌then◌else◌, List, AllZip, length, map, codes, Some}
+use Rattle.std.specs.Prelude.{◌≡◌, ℕ, Bool, ◌∷◌, [], ◌++◌, if◌then◌else◌, List, length, map, codes, Some}
 use Rattle.std.specs.Fmt.{decimal}
-use Rattle.std.specs.List.{IsFirstBest, flat_map, slice_get}
+use Rattle.std.specs.List.{AllZip, IsFirstBest, flat_map, slice_get}
 use Rattle.host_schedules.specs.Choices.{is_better_schedule}
 use Rattle.host_schedules.specs.Costs.{cost_of}
 use Rattle.host_schedules.specs.Schedules.{IsSchedule}

@@ -1,9 +1,9 @@
 -- Tables of plans: a line a plan. It has decimal numbers with a blank (32) between two: how many guests move at a time,
 -- a deadline, and for each guest its time, its bytes, its downtime, whether its limits are kept, and its group. 0 is no
 -- deadline, limits that are not kept, and no group. This project's own.
-use Rattle.std.specs.Prelude.{◌≡◌, ℕ, ◌+◌, ◌-◌, ◌*◌, ◌/◌, ◌%◌, ◌^◌, ◌<◌, ◌≤◌, ◌==◌, ◌&&◌, nat_le, not, Bool, false, true}
-use Rattle.std.specs.Prelude.{⊤, if◌then◌else◌, List, AllZip, length, map, slice_index, Option, Some, None}
-use Rattle.std.specs.List.{range_with_len, slice_get, slice_split}
+use Rattle.std.specs.Prelude.{◌≡◌, ℕ, ◌+◌, ◌-◌, ◌*◌, ◌/◌, ◌%◌, ◌^◌, ◌<◌, ◌==◌, ◌&&◌, nat_le, not, Bool, true}
+use Rattle.std.specs.Prelude.{⊤, if◌then◌else◌, List, length, map, slice_index, Option, Some, None}
+use Rattle.std.specs.List.{AllZip, range_with_len, slice_get, slice_split}
 use Rattle.std.specs.Str.{IsUtf8}
 use Rattle.std.specs.Str.Lines.{lines}
 use Rattle.std.specs.Str.Parse.{IsNumeral, digits_value, without_leading_plus}

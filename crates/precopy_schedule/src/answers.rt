@@ -1,7 +1,7 @@
 //! The schedule of each plan, and which is the best.
 
-ghost use Rattle.std.specs.Prelude.{◌≡◌, [], AllZip, IfOk, OnOk, length, map};
-ghost use Rattle.std.specs.List.{IsFirstBest};
+ghost use Rattle.std.specs.Prelude.{◌≡◌, [], IfOk, OnOk, length, map};
+ghost use Rattle.std.specs.List.{AllZip, IsFirstBest};
 ghost use Rattle.host_schedules.specs.Choices.{is_better_schedule};
 ghost use Rattle.precopy_schedule.specs.Answers.{IsAnswer, cost_in};
 

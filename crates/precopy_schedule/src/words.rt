@@ -1,7 +1,7 @@
 //! Numbers in a line.
 
-ghost use Rattle.std.specs.Prelude.{◌≡◌, ◌==◌, ℕ, AllZip, IfErr, IfNone, IfOk, IfSome, List, map};
-ghost use Rattle.std.specs.List.{slice_split};
+ghost use Rattle.std.specs.Prelude.{◌≡◌, ◌==◌, ℕ, IfErr, IfNone, IfOk, IfSome, List, map};
+ghost use Rattle.std.specs.List.{AllZip, slice_split};
 ghost use Rattle.std.specs.Str.Lines.{lines};
 ghost use Rattle.precopy_schedule.specs.Tables.{IsNumber, SpellsNumbers};
 

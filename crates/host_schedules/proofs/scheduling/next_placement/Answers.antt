@@ -1,4 +1,4 @@
-use Rattle.std.proofs.Common.{◌≡◌, ◌+◌, ◌*◌, ◌^◌, ◌≤◌, get_or, length, arith}
+use Rattle.std.proofs.Common.{◌≡◌, get_or, length, arith}
 use Rattle.host_schedules.specs.Schedules.{slot_free}
 use Rattle.host_schedules.proofs.ScheduleLemmas.{slot_in_time, start_in_time}
 use Rattle.host_schedules.proofs.scheduling.next_placement.Goals as goal

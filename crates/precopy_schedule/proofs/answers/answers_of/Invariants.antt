@@ -1,5 +1,5 @@
 use Rattle.std.proofs.Common.{take}
-use Rattle.std.specs.Prelude.{AllZip}
+use Rattle.std.specs.List.{AllZip}
 use Rattle.precopy_schedule.specs.Answers.{IsAnswer}
 use Rattle.precopy_schedule.proofs.answers.answers_of.Given as goal
 

@@ -1,5 +1,5 @@
-use Rattle.std.proofs.Common.{◌≡◌, ◌≤◌, length, map, take}
-use Rattle.std.specs.Prelude.{AllZip}
+use Rattle.std.proofs.Common.{◌≤◌, length, map, take}
+use Rattle.std.specs.List.{AllZip}
 use Rattle.precopy_schedule.specs.Tables.{SpellsPlan}
 use Rattle.precopy_schedule.proofs.plans.plans_in_lines.Given as goal
 

@@ -1,5 +1,5 @@
 use Rattle.std.proofs.Common.{map, take}
-use Rattle.std.specs.Prelude.{AllZip}
+use Rattle.std.specs.List.{AllZip}
 use Rattle.precopy_schedule.specs.Tables.{IsNumber}
 use Rattle.precopy_schedule.proofs.words.numbers_in.Given as goal
 
