@@ -25,6 +25,7 @@ WHERE = --prefix "$(PREFIX)" --destdir "$(DESTDIR)" --bindir "$(BINDIR)" --libdi
 all:
 	./precopy --help > /dev/null
 	./precopy-view --help > /dev/null
+	tools/build --if-needed precopy_schedule
 
 lib:
 	$(PACK) lib

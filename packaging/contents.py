@@ -25,6 +25,8 @@ sys.path.append(os.path.join(TOP, "tools"))
 import version  # noqa: E402
 
 PROGRAMS = {"precopy": "precopy", "precopy-view": "precopy_view"}
+# Programs that only tools run. They stand beside the tools, and on no path.
+HELPERS = {"precopy-schedule": "precopy_schedule"}
 # Scripts of tools/ that serve those who change precopy. All others there are tools for users, and are installed.
 OF_BUILDERS = {"build", "index", "join-page", "library", "measured", "page-module", "start"}
 # What a build or a run leaves among sources.
@@ -99,9 +101,10 @@ def read(path):
 
 
 def program_file(name):
-    path = os.path.join(TOP, "crates", PROGRAMS[name], "out", PROGRAMS[name])
+    crate = {**PROGRAMS, **HELPERS}[name]
+    path = os.path.join(TOP, "crates", crate, "out", crate)
     if not os.access(path, os.X_OK):
-        raise NotBuilt(f"{name} is not built: ./{name} --help builds it")
+        raise NotBuilt(f"{name} is not built: {f'./{name} --help' if name in PROGRAMS else 'make'} builds it")
     return path
 
 
@@ -156,6 +159,8 @@ def commands(places, python) -> Iterator[Entry]:
         program = os.path.join(places.lib, name)
         yield Entry(program, stripped(program_file(name)), 0o755)
         yield Entry(os.path.join(places.bin, name), launcher.launcher(os.path.relpath(program, places.bin)), 0o755)
+    for name in HELPERS:
+        yield Entry(os.path.join(places.lib, name), stripped(program_file(name)), 0o755)
     for name in TOOLS:
         yield Entry(os.path.join(places.lib, name), with_python(read(f"tools/{name}"), python), 0o755)
         link = os.path.relpath(os.path.join(places.lib, name), places.bin)

@@ -20,3 +20,9 @@ def page() -> str:
     top = os.path.dirname(HERE)
     folder = os.path.join(top, "out") if os.path.isdir(os.path.join(top, "crates")) else HERE
     return os.path.realpath(os.path.join(folder, "precopy.html"))
+
+
+def helper(name: str) -> str:
+    """The path of a program that only tools run: installed, it is beside them."""
+    beside = os.path.join(HERE, name)
+    return beside if os.access(beside, os.X_OK) else program(name)

@@ -1,0 +1,96 @@
+"""A plain model of an evacuation, for checks/evacuation: plans of one guest at one rate, and schedules of several."""
+
+import math
+from typing import NamedTuple
+
+
+class Move(NamedTuple):
+    """As a line of precopy-schedule has it."""
+
+    time: int
+    sent: int
+    downtime: int
+    kept: int
+    group: int
+
+
+def placed(slots: int, moves: list[Move]) -> list[tuple[int, int, int]]:
+    """The start, end and slot of each move: all that was placed is looked at for each."""
+    found: list[tuple[int, int, int]] = []
+    for move in moves:
+        free = {slot: max([end for _, end, taken in found if taken == slot], default=0) for slot in range(slots)}
+        slot = min(free, key=lambda each: (free[each], each))
+        others = [end for (_, end, _), other in zip(found, moves) if move.group and other.group == move.group]
+        start = max([free[slot], *others])
+        found.append((start, start + move.time, slot))
+    return found
+
+
+def cost(deadline: int, moves: list[Move], rows: list[tuple[int, int, int]]) -> tuple[int, int, int, int]:
+    """0 if all limits are kept and else 1, and then the time, the bytes and the longest downtime."""
+    time = max([end for _, end, _ in rows], default=0)
+    kept = all(move.kept for move in moves) and (not deadline or time <= deadline)
+    return int(not kept), time, sum(move.sent for move in moves), max([move.downtime for move in moves], default=0)
+
+
+def answer(plans: list[tuple[int, int, list[Move]]]) -> str:
+    """What precopy-schedule tells of some plans."""
+    rows = [placed(slots, moves) for slots, _, moves in plans]
+    costs = [cost(deadline, moves, each) for (_, deadline, moves), each in zip(plans, rows)]
+    best = min(range(len(plans)), key=lambda number: costs[number][:3])
+    lines = [f"time {time} bytes {sent} downtime {down} {'missed' if missed else 'kept'}\n"
+             for missed, time, sent, down in costs]
+    lines.append(f"best {best}\n")
+    return "".join([*lines, *(f"start {start} end {end} slot {slot}\n" for start, end, slot in rows[best])])
+
+
+def table(plans: list[tuple[int, int, list[Move]]]) -> str:
+    return "".join(" ".join(map(str, [slots, deadline, *(number for move in moves for number in move)])) + "\n"
+                   for slots, deadline, moves in plans)
+
+
+class Guest(NamedTuple):
+    """What a record says: the pages of the trace, of the sample and of the guest that these stand for, the first and
+    the last tick, and the writes from the first tick on. A tick is 1 ms, and a page has 4,096 bytes."""
+
+    pages: int
+    sampled: int
+    guest: int
+    first: int
+    last: int
+    writes: list[tuple[int, int]]
+
+
+def rate_in_words(bandwidth: float) -> float:
+    """A rate as a word of precopy-view: exact in KiB or KB a second, or else in Kbit, rounded."""
+    return bandwidth if bandwidth % 1024 == 0 or bandwidth % 1000 == 0 else round(bandwidth / 125) * 125
+
+
+def tick_factor(guest: Guest, bandwidth: float, downtime: int) -> int:
+    """By how much ticks are made longer: the least for a rate of 500, of those that divide the downtime."""
+    rate = bandwidth * 1000 * guest.sampled / (1000 * 4096 * guest.guest)
+    fitting = [factor for factor in (1, 2, 5, 10, 20) if downtime % (1000 * factor) == 0] or [1]
+    return next((factor for factor in fitting if rate * factor >= 500), fitting[-1])
+
+
+def planned(guest: Guest, bandwidth: float, downtime: int) -> tuple[int, int, int, bool, bool] | None:
+    """Time, bytes and downtime of a migration at bytes a second, with the limit of the downtime in microseconds;
+    whether the record lasts to its end; and whether the limit is kept. None if the rate is none."""
+    factor = tick_factor(guest, bandwidth, downtime)
+    tick, start = 1000 * factor, guest.first // factor
+    written = sorted({(at // factor, page) for at, page in guest.writes})
+    rate = int(rate_in_words(bandwidth) * tick * guest.sampled) // (1000 * 4096 * guest.guest)
+    if not 1 <= rate <= 1_000_000:
+        return None
+    limit = min(downtime, (1000 * 65_536 - 1) // rate * tick)
+    threshold, due, sent, at = limit // tick * rate // 1000 + 1, guest.pages, 0, start
+    for number in range(1, 65):
+        end = at + math.ceil(1000 * due / rate)
+        sent += due
+        length, due, at = end - at, len({page for when, page in written if at <= when < end}), end
+        is_few = due < threshold
+        if is_few or math.ceil(1000 * due / max(length, 1)) > rate or number == 64:
+            break
+    down = math.ceil(1000 * due / rate) * tick
+    size = (sent + due) * 4096 * guest.guest // guest.sampled
+    return (at - start) * tick + down, size, down, at <= guest.last // factor, down <= limit

@@ -1,0 +1,3 @@
+pub mod GreatestLemmas
+pub mod ScheduleLemmas
+pub mod Orders

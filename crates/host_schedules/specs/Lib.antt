@@ -1,0 +1,4 @@
+pub mod Greatest
+pub mod Schedules
+pub mod Costs
+pub mod Choices

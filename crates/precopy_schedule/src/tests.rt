@@ -1,0 +1,78 @@
+//! Tables and what is told of them, worked by hand.
+
+ghost use Rattle.std.specs.Prelude.{◌≡◌, false};
+
+use crate::starting::start;
+use migration_jobs::TestSink;
+use std::alloc::{AllocError, Global};
+use std::test::Fail;
+use trace_codec::TestSource;
+
+fn sink(alloc: Global) -> TestSink
+    ensures { result.has_failed ≡ false }
+{
+    TestSink::new(Vec::new(alloc), usize::MAX, None, false)
+}
+
+/// What the program does with a table: its status, output and faults.
+fn told(alloc: Global, table: &[u8]) -> Result<(u8, TestSink, TestSink), AllocError> {
+    let mut source = TestSource::new(Vec::from_slice(alloc, table)?, 7, None);
+    let mut output = sink(alloc);
+    let mut faults = sink(alloc);
+    let status = start(alloc, &mut source, &mut output, &mut faults);
+    Ok((status, output, faults))
+}
+
+/// Five moves in two slots take 7, in one slot 12; a deadline of 11 keeps the one, and the shorter is better. The last
+/// plan has a guest whose limits are not kept.
+#[test]
+fn tells_of_each_plan_and_of_the_best(rt: HostRuntime) -> Result<(), Fail> {
+    let table = "1 11 3 30 1 1 0 3 30 1 1 0 2 20 4 1 0 2 20 1 1 0 2 20 1 1 0\n\
+2 11 3 30 1 1 0 3 30 1 1 0 2 20 4 1 0 2 20 1 1 0 2 20 1 1 0\n\
+2 0 3 30 1 0 0\n";
+    let answer = "time 12 bytes 120 downtime 4 missed\n\
+time 7 bytes 120 downtime 4 kept\n\
+time 3 bytes 30 downtime 1 missed\n\
+best 1\n\
+start 0 end 3 slot 0\n\
+start 0 end 3 slot 1\n\
+start 3 end 5 slot 0\n\
+start 3 end 5 slot 1\n\
+start 5 end 7 slot 0\n";
+    let (status, output, faults) = told(rt.alloc(), table.as_bytes())?;
+    assert!(rt; status == 0 && faults.bytes().is_empty());
+    assert!(rt; output.bytes() == answer.as_bytes());
+    Ok(())
+}
+
+#[test]
+fn names_the_line_that_is_no_plan(rt: HostRuntime) -> Result<(), Fail> {
+    for wrong in [
+        "0 0\n",
+        "65537 0\n",
+        "1\n",
+        "1 0 2\n",
+        "1 0 2 3 4 5 x\n",
+        "1  0\n",
+        "\n",
+    ] {
+        let mut table = "1 0\n".to_string(rt.alloc())?;
+        table.push_str(wrong)?;
+        let (status, output, faults) = told(rt.alloc(), table.as_bytes())?;
+        let line =
+            "precopy-schedule: line 2 is no plan: slots, a deadline, and five numbers for each guest\n";
+        assert!(rt; status == 1 && output.bytes().is_empty() && faults.bytes() == line.as_bytes());
+    }
+    Ok(())
+}
+
+#[test]
+fn refuses_no_text_and_no_plans(rt: HostRuntime) -> Result<(), Fail> {
+    let (status, output, faults) = told(rt.alloc(), &[49, 32, 255])?;
+    assert!(rt; status == 1 && output.bytes().is_empty());
+    assert!(rt; faults.bytes() == "precopy-schedule: the table is no text\n".as_bytes());
+    let (status, output, faults) = told(rt.alloc(), &[])?;
+    assert!(rt; status == 1 && output.bytes().is_empty());
+    assert!(rt; faults.bytes() == "precopy-schedule: there is no plan\n".as_bytes());
+    Ok(())
+}

@@ -1,0 +1,246 @@
+"""What the migration of each of several guests costs at each share of a link: `precopy-view json when` of its record.
+
+A record is a trace that tools/record has made, with NAME.json beside it, or a whole trace without that, whose guest is
+named by the file. Times are whole microseconds, and sizes bytes.
+"""
+
+import concurrent.futures
+import json
+import os
+import re
+from typing import NamedTuple
+
+import plans
+import samples
+import traces
+from forecast import Forecast, Link, encoded
+
+FORMAT = "precopy costs 1"
+LIGHT = ".light.pcwt"
+STAMP = re.compile(r"\.\d{8}T\d{6}Z$")
+MOST_MICROS = 1 << 53
+
+
+class Wanted(NamedTuple):
+    """What one guest may take: its limits, and the tick of its copy at the destination, if there is one."""
+
+    downtime: float
+    link: float | None = None
+    time: float | None = None
+    base: int | None = None
+    domain: str | None = None
+
+
+class Cost(NamedTuple):
+    """What the migration of one guest costs at one share, if it begins where its recording does.
+
+    `least` and `most` are the shortest and the longest time over all starts whose migration ends within the recording,
+    and `quiet` is the least bytes of them. It is known if the recording lasts to its end, and kept if the guest's
+    limits are. `why` says what is not.
+    """
+
+    at_once: int
+    share: float
+    time: int
+    sent: int
+    downtime: int
+    least: int
+    most: int
+    quiet: int
+    known: bool
+    kept: bool
+    why: str
+
+
+class Guest(NamedTuple):
+    """A guest: its name, its record, what that was taken of, and its costs by the number at once.
+
+    At a share that no plan can have there is no cost, but a reason.
+    """
+
+    name: str
+    record: str
+    taken_of: str
+    digest: str
+    limits: Wanted
+    costs: dict[int, Cost]
+    unplanned: dict[int, str]
+
+
+class Asked(NamedTuple):
+    """What is asked of each record."""
+
+    program: str
+    link: float
+    numbers: tuple[int, ...]
+    starts: int
+    tick: float
+
+
+def name_of(path: str) -> str:
+    """The guest of a record: the name of the file, without the time of a segment."""
+    name = os.path.basename(path).removesuffix(".pcwt").removesuffix(".light")
+    return STAMP.sub("", name)
+
+
+def whole(path: str, trace: traces.Trace, written: list[tuple[int, int]], tick: float) -> samples.Sample:
+    """The sample of all pages of a trace that has no file beside it."""
+    last = written[-1][0] if written else 0
+    return samples.Sample(
+        format=samples.FORMAT, trace_sha256=samples.digest(trace.text), trace_pages=trace.pages,
+        trace_writes=trace.writes, first_tick=0, last_tick=last, tick_seconds=tick, interval_seconds=tick,
+        guest_pages=trace.pages, guest_nonzero=trace.pages, counted_pages=trace.pages, sampled_pages=trace.pages,
+        sampled_nonzero=trace.pages, seed=0, method="trace", samples=1, late=0, taken_at=samples.now(),
+        taken_of=f"trace {os.path.basename(path)}",
+    )
+
+
+class Planner:
+    """The plans of one record: its pages are encoded once for each length of a tick."""
+
+    def __init__(self, path: str, asked: Asked):
+        trace, records = traces.read_file(path)
+        written = [record[:2] for record in records]
+        if path.endswith(LIGHT) or os.path.exists(samples.path_beside(path)):
+            sample = samples.read(path, trace, written)
+        else:
+            sample = whole(path, trace, written, asked.tick)
+        self.forecast, self.texts = Forecast(asked.program, sample, trace.size, written), {}
+
+    def _asked(self, link: Link, base: int | None) -> tuple[int, bytes, list[str]]:
+        """By how much ticks are made longer, the trace in those, and the words of precopy-view."""
+        forecast = self.forecast
+        factor = forecast.factor(link)
+        if factor not in self.texts:
+            self.texts[factor] = encoded(forecast.coarse(factor), forecast.page_size)
+        words = forecast.limits(link, factor, forecast.sample.weight)
+        return factor, self.texts[factor], words + (["--base", str(base // factor)] if base is not None else [])
+
+    def starts(self, link: Link, most: int, base: int | None) -> list[dict]:
+        """What precopy-view tells of at most so many starts; the first is where the recording begins."""
+        factor, text, words = self._asked(link, base)
+        first = self.forecast.start // factor
+        last = max(first, self.forecast.sample.last_tick // factor)
+        every = -(-(last - first + 1) // most)
+        told = plans.starts(self.forecast.program, text, words, first, last, every)["starts"]
+        tick = self.forecast.sample.tick_seconds * factor
+        return [{**start, "known": stop_of(start, tick) <= last} for start in told]
+
+    def rounds(self, rate: float, limits: Wanted) -> list[int]:
+        """When the rounds of the plan end, in microseconds from its start on."""
+        factor, text, words = self._asked(Link(rate, limits.downtime), limits.base)
+        told = plans.document(self.forecast.program, ["report", *words, "--window", str(1 << 40)], text)
+        start, tick = self.forecast.start // factor, self.forecast.tick() * factor
+        return [(each["to"] - start) * tick for each in told["rounds"]]
+
+
+def stop_of(start: dict, tick: float) -> int:
+    """The tick at which a plan stops the guest. Up to the last look at it a recording tells what the guest writes, also
+    if that is nothing."""
+    return round((start["start_seconds"] + start["time_seconds"] - start["down_seconds"]) / tick)
+
+
+def micros(seconds: float) -> int:
+    return min(round(1e6 * seconds), MOST_MICROS)
+
+
+def missed(start: dict, limits: Wanted) -> str:
+    """Which of a guest's limits is not kept, and by what."""
+    if not start["known"]:
+        return "the recording ends before the migration"
+    if not start["kept"]:
+        return f"downtime {1000 * start['down_seconds']:.0f} ms over {1000 * limits.downtime:g} ms"
+    if limits.time is not None and start["time_seconds"] > limits.time:
+        return f"time {start['time_seconds']:.1f} s over {limits.time:g} s"
+    return ""
+
+
+def cost_of(planner: Planner, asked: Asked, limits: Wanted, at_once: int) -> Cost:
+    share = asked.link / at_once
+    rate = min(share, limits.link or share)
+    starts = planner.starts(Link(rate, limits.downtime), asked.starts, limits.base)
+    first, within = starts[0], [start for start in starts if start["known"]] or starts[:1]
+    times, why = [micros(start["time_seconds"]) for start in within], missed(first, limits)
+    return Cost(
+        at_once, rate, micros(first["time_seconds"]), first["sent_bytes"], micros(first["down_seconds"]),
+        min(times), max(times), min(start["sent_bytes"] for start in within), first["known"], not why, why,
+    )
+
+
+def guest_of(path: str, asked: Asked, limits: Wanted) -> Guest:
+    """The costs of one record."""
+    planner, costs, unplanned = Planner(path, asked), {}, {}
+    for at_once in asked.numbers:
+        try:
+            costs[at_once] = cost_of(planner, asked, limits, at_once)
+        except plans.NoRate as fault:
+            unplanned[at_once] = str(fault)
+    sample = planner.forecast.sample
+    return Guest(name_of(path), path, sample.taken_of, sample.trace_sha256, limits, costs, unplanned)
+
+
+def try_guest(path: str, asked: Asked, limits: Wanted) -> Guest | str:
+    """The costs of one record, or why it is refused."""
+    try:
+        return guest_of(path, asked, limits)
+    except (OSError, traces.Refused, samples.Refused, plans.Failed) as fault:
+        return traces.told(fault)
+
+
+def guests_of(paths: list[str], asked: Asked, limits_of) -> list[Guest | str]:
+    """The same of each record, by all processors."""
+    count = min(len(os.sched_getaffinity(0)), len(paths))
+    if count < 2:
+        return [try_guest(path, asked, limits_of(name_of(path))) for path in paths]
+    with concurrent.futures.ProcessPoolExecutor(count) as pool:
+        waiting = [pool.submit(try_guest, path, asked, limits_of(name_of(path))) for path in paths]
+        return [each.result() for each in waiting]
+
+
+def line(guest: Guest, asked: Asked) -> str:
+    """The costs of a guest as one line of JSON, for another run of the tool."""
+    fields = guest._asdict()
+    fields["limits"] = guest.limits._asdict()
+    fields["costs"] = [cost._asdict() for cost in guest.costs.values()]
+    return json.dumps({"format": FORMAT, "link": asked.link, "starts": asked.starts, **fields})
+
+
+class Refused(Exception):
+    """Records or a file of costs are refused; the text names them and the cause."""
+
+
+def lines_of(path: str, asked: Asked, limits_of) -> list[Guest]:
+    """The guests of a file of such lines. They must be of the same link, limits and numbers at once."""
+    found = []
+    with open(path, encoding="utf-8") as lines:
+        for number, text in enumerate(lines, 1):
+            try:
+                found.append(parsed(json.loads(text)))
+                fields = json.loads(text)
+                guest = found[-1]
+            except (ValueError, KeyError, TypeError, AttributeError) as fault:
+                raise Refused(f"{path}: line {number} has no costs of a guest: {fault}") from fault
+            expect_same(path, number, guest, fields, asked, limits_of)
+    return found
+
+
+def parsed(fields: dict) -> Guest:
+    if fields["format"] != FORMAT:
+        raise ValueError(f"format {fields['format']!r} is not {FORMAT!r}")
+    costs = {cost["at_once"]: Cost(**cost) for cost in fields["costs"]}
+    unplanned = {int(number): why for number, why in fields["unplanned"].items()}
+    texts = [fields[name] for name in ("name", "record", "taken_of", "digest")]
+    if not all(isinstance(text, str) for text in texts):
+        raise ValueError("a name is no text")
+    return Guest(*texts, Wanted(**fields["limits"]), costs, unplanned)
+
+
+def expect_same(path: str, number: int, guest: Guest, fields: dict, asked: Asked, limits_of) -> None:
+    where = f"{path}: line {number}"
+    if fields["link"] != asked.link:
+        raise Refused(f"{where}: its link is {fields['link']:g} bytes a second, and not {asked.link:g}")
+    if guest.limits != limits_of(guest.name):
+        raise Refused(f"{where}: the limits of {guest.name} were other ones")
+    left = [at_once for at_once in asked.numbers if at_once not in guest.costs and at_once not in guest.unplanned]
+    if left:
+        raise Refused(f"{where}: there are no costs with {left[0]} at once")
