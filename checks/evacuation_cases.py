@@ -4,6 +4,7 @@ import json
 import os
 import random
 import re
+import resource
 import subprocess
 import sys
 import time
@@ -356,18 +357,21 @@ def refused_words(programs: Programs, folder: str) -> None:
 
 
 def a_hundred_guests(programs: Programs, folder: str) -> None:
-    """The answer is there within 5 seconds. A run that was slow is tried twice more: other work may have been the
-    cause."""
+    """The answer is there within 5 seconds; or, if other work is in the way, within 5 seconds of a processor."""
     draw = random.Random("a hundred guests")
     guests = [steady_guest(draw.randrange(1000, 4000), draw.randrange(1, 50), 30) for _ in range(GUESTS)]
     records = [write_record(folder, f"guest{number:03}", guest) for number, guest in enumerate(guests)]
-    took = []
-    while len(took) < 3 and (not took or took[-1] > LIMIT):
-        began = time.monotonic()
-        text, _ = run_tool(programs, *records, "--link", "10Gbit")
-        took.append(time.monotonic() - began)
-    expect(f"{GUESTS} guests" in text and min(took) <= LIMIT, f"{GUESTS} guests took {min(took):.1f} s")
-    print(f"  {GUESTS} guests: {took[-1]:.1f} s", flush=True)
+    before, began = spent(), time.monotonic()
+    text, _ = run_tool(programs, *records, "--link", "10Gbit")
+    took, processor = time.monotonic() - began, spent() - before
+    print(f"  {GUESTS} guests: {took:.1f} s, {processor:.1f} s of a processor", flush=True)
+    expect(f"{GUESTS} guests" in text and min(took, processor) <= LIMIT, f"{GUESTS} guests took {took:.1f} s")
+
+
+def spent() -> float:
+    """Seconds of processors that all children have taken."""
+    used = resource.getrusage(resource.RUSAGE_CHILDREN)
+    return used.ru_utime + used.ru_stime
 
 
 CASES = (
