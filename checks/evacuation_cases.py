@@ -4,6 +4,7 @@ import json
 import os
 import random
 import re
+import resource
 import subprocess
 import sys
 import time
@@ -274,9 +275,9 @@ def refusals(programs: Programs, folder: str) -> None:
     os.unlink(f"{folder}/twin.light.json")
     _, fault = run_tool(programs, web, f"{folder}/twin.light.pcwt", *link, status=1)
     expect("there is no" in fault and "beside the trace" in fault, fault)
-    fast = model.Guest(2000, 2000, 2000, 1000, 21000, [(1000 + n // 4, n % 2000) for n in range(80_000)])
-    text, fault = run_tool(programs, web, write_record(folder, "fast", fast), "--link", "8MiB", status=3)
-    expect("fast keeps its limits at no share; with 0.0671 Gbit/s: downtime" in fault, fault)
+    fast = model.Guest(2000, 2000, 2000, 1000, 10_000, [(1000 + n // 20, n % 2000) for n in range(180_000)])
+    text, fault = run_tool(programs, web, write_record(folder, "fast", fast), *link, "--downtime", "50ms", status=3)
+    expect("fast keeps its limits at no share; with 0.537 Gbit/s: downtime" in fault, fault)
     expect("missed: fast" in text, text)
     short = write_record(folder, "short", model.Guest(9000, 9000, 9000, 1000, 1010, [(1005, 3)]))
     _, fault = run_tool(programs, web, short, *link, status=3)
@@ -356,18 +357,21 @@ def refused_words(programs: Programs, folder: str) -> None:
 
 
 def a_hundred_guests(programs: Programs, folder: str) -> None:
-    """The answer is there within 5 seconds. A run that was slow is tried twice more: other work may have been the
-    cause."""
+    """The answer is there within 5 seconds; or, if other work is in the way, within 5 seconds of a processor."""
     draw = random.Random("a hundred guests")
     guests = [steady_guest(draw.randrange(1000, 4000), draw.randrange(1, 50), 30) for _ in range(GUESTS)]
     records = [write_record(folder, f"guest{number:03}", guest) for number, guest in enumerate(guests)]
-    took = []
-    while len(took) < 3 and (not took or took[-1] > LIMIT):
-        began = time.monotonic()
-        text, _ = run_tool(programs, *records, "--link", "10Gbit")
-        took.append(time.monotonic() - began)
-    expect(f"{GUESTS} guests" in text and min(took) <= LIMIT, f"{GUESTS} guests took {min(took):.1f} s")
-    print(f"  {GUESTS} guests: {took[-1]:.1f} s", flush=True)
+    before, began = spent(), time.monotonic()
+    text, _ = run_tool(programs, *records, "--link", "10Gbit")
+    took, processor = time.monotonic() - began, spent() - before
+    print(f"  {GUESTS} guests: {took:.1f} s, {processor:.1f} s of a processor", flush=True)
+    expect(f"{GUESTS} guests" in text and min(took, processor) <= LIMIT, f"{GUESTS} guests took {took:.1f} s")
+
+
+def spent() -> float:
+    """Seconds of processors that all children have taken."""
+    used = resource.getrusage(resource.RUSAGE_CHILDREN)
+    return used.ru_utime + used.ru_stime
 
 
 CASES = (
