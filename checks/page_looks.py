@@ -16,7 +16,7 @@ WIDTHS = [360, 800, 1400, 1920]
 LEAST_CONTRAST = 4.5
 HEIGHT, SHAPES = 900, 24
 
-# Each text of the page with a contrast below a bound: the ratio of WCAG 2, section 1.4.3.
+# Each text of the page with a contrast below a bound: the ratio of WCAG 2, section 1.4.3. Opacity counts.
 CONTRAST = """
 (() => {
   const canvas = new OffscreenCanvas(1, 1).getContext("2d", { willReadFrequently: true });
@@ -48,7 +48,11 @@ CONTRAST = """
     const isShown = walk.currentNode.textContent.trim() && box.width >= 2;
     if (!isShown || element.closest("script, style, option, .hidden")) { continue; }
     const ink = colour(element instanceof SVGElement ? style.fill : style.color);
-    const [high, low] = [light(ink), light(ground(element))].sort((one, other) => other - one);
+    let opacity = 1;
+    for (let at = element; at; at = at.parentElement) { opacity *= Number(getComputedStyle(at).opacity); }
+    const paper = ground(element);
+    const seen = ink.map((part, place) => part * opacity + paper[place] * (1 - opacity));
+    const [high, low] = [light(seen), light(paper)].sort((one, other) => other - one);
     const ratio = (high + 0.05) / (low + 0.05);
     if (ratio < BOUND) { poor.push(`${walk.currentNode.textContent.trim().slice(0, 40)}: ${ratio.toFixed(2)}`); }
   }

@@ -103,9 +103,10 @@ function cutStart(axis, panel, known, number, text) {
 function curveParts(axis, { name, number, unit, hasLimit }, place, asked) {
   const limit = hasLimit ? Number(asked.limits.downtime) : 0;
   const known = stretchesOf(axis, asked.costs);
-  const panel = panelOf(CURVE_TOP + place * CURVE_STEP, CURVE_HEIGHT, levelFor(known.flat().map(number), limit));
-  const [size, unitName] = unit(panel.most);
-  const text = (amount) => shortNumber(amount / size);
+  const level = levelFor(known.flat().map(number), limit);
+  const panel = panelOf(CURVE_TOP + place * CURVE_STEP, CURVE_HEIGHT, level);
+  const [size, unitName] = unit(level);
+  const text = (amount) => (level > 0 || amount === 0 ? shortNumber(amount / size) : "");
   return [
     ...latePart(axis, panel, asked.costs),
     ...frameOf(axis, panel, `${name} by start, in ${unitName}`, text),
