@@ -215,12 +215,12 @@ def lines_of(path: str, asked: Asked, limits_of) -> list[Guest]:
     with open(path, encoding="utf-8") as lines:
         for number, text in enumerate(lines, 1):
             try:
-                found.append(parsed(json.loads(text)))
                 fields = json.loads(text)
-                guest = found[-1]
+                guest, rate = parsed(fields), float(fields["link"])
             except (ValueError, KeyError, TypeError, AttributeError) as fault:
                 raise Refused(f"{path}: line {number} has no costs of a guest: {fault}") from fault
-            expect_same(path, number, guest, fields, asked, limits_of)
+            expect_same(f"{path}: line {number}", guest, rate, asked, limits_of)
+            found.append(guest)
     return found
 
 
@@ -235,10 +235,9 @@ def parsed(fields: dict) -> Guest:
     return Guest(*texts, Wanted(**fields["limits"]), costs, unplanned)
 
 
-def expect_same(path: str, number: int, guest: Guest, fields: dict, asked: Asked, limits_of) -> None:
-    where = f"{path}: line {number}"
-    if fields["link"] != asked.link:
-        raise Refused(f"{where}: its link is {fields['link']:g} bytes a second, and not {asked.link:g}")
+def expect_same(where: str, guest: Guest, rate: float, asked: Asked, limits_of) -> None:
+    if rate != asked.link:
+        raise Refused(f"{where}: its link is {rate:g} bytes a second, and not {asked.link:g}")
     if guest.limits != limits_of(guest.name):
         raise Refused(f"{where}: the limits of {guest.name} were other ones")
     left = [at_once for at_once in asked.numbers if at_once not in guest.costs and at_once not in guest.unplanned]
