@@ -71,7 +71,7 @@ impl Receiver {
     }
 
     /// Takes the next frame from a worker's lane, and returns whether one had come. The part then has it, unless a
-    /// frame is or was refused. The part keeps the buffer of a page's first bytes. It copies later bytes over these,
+    /// frame is or was refused. The part keeps the first buffer with bytes of the page. It copies later bytes over these,
     /// and their buffer goes back on the lane.
     pub fn take(&mut self, worker: usize) -> bool
         requires { worker < length self.old.ends }

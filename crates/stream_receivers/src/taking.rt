@@ -22,7 +22,12 @@ fn has_bytes(part: &Part, page: u32) -> bool {
 }
 
 /// Takes one encoded frame with bytes into a part, which keeps them in the frame's buffer.
-fn keep_text(part: &mut Part, page: u32, stamp: u32, text: Vec<u8>) -> Result<(), ReceiverError>
+fn keep_text(
+    part: &mut Part,
+    page: u32,
+    stamp: u32,
+    text: Vec<u8>,
+) -> Result<(), ReceiverError>
     requires spells { SpellsFrame part.old.shape text.items (frame_with page stamp (Some (drop 9 text.items))) }
     requires long { 9 ≤ length text.items }
     ensures shape { part.new.shape ≡ part.old.shape }
@@ -35,8 +40,8 @@ fn keep_text(part: &mut Part, page: u32, stamp: u32, text: Vec<u8>) -> Result<()
     Ok(())
 }
 
-/// Takes one encoded frame into a part. If the part has bytes of the page, it copies the frame's over them. Returns the
-/// frame's buffer, unless the part keeps it, as it does with the first bytes of a page.
+/// Takes one encoded frame into a part. If it has no bytes, or the part has bytes of the page over which it copies them,
+/// it returns the frame's buffer; else the part keeps the buffer.
 fn accept_text(part: &mut Part, text: Vec<u8>) -> Result<Option<Vec<u8>>, ReceiverError>
     ensures shape { part.new.shape ≡ part.old.shape }
     ensures taken { OnOk result (TakesText part.old part.new text.items) }

@@ -257,7 +257,7 @@ fn pass(
 }
 
 #[test]
-fn texts_go_back_but_the_first(rt: HostRuntime) -> Result<(), Fail> {
+fn each_text_goes_back(rt: HostRuntime) -> Result<(), Fail> {
     let (mut out, mut receiver) = one_out(rt.alloc())?;
     let rooms = [
         pass(rt.alloc(), &mut out, &mut receiver, 2, 7),
@@ -266,26 +266,20 @@ fn texts_go_back_but_the_first(rt: HostRuntime) -> Result<(), Fail> {
         pass(rt.alloc(), &mut out, &mut receiver, 5, 0),
         pass(rt.alloc(), &mut out, &mut receiver, 5, 0),
     ];
-    assert_eq!(rt;
-        rooms,
-        [
-            Ok(None),
-            Ok(Some(true)),
-            Ok(Some(true)),
-            Ok(Some(true)),
-            Ok(Some(true))
-        ]
-    );
+    assert_eq!(rt; rooms, [Ok(Some(true)); 5]);
     Ok(())
 }
 
 #[test]
-fn no_text_goes_back_after_a_refusal(rt: HostRuntime) -> Result<(), Fail> {
+fn texts_go_back_after_a_refusal(rt: HostRuntime) -> Result<(), Fail> {
     let (mut out, mut receiver) = one_out(rt.alloc())?;
     let first = pass(rt.alloc(), &mut out, &mut receiver, 2, 7);
     let empty = pass_text(&mut out, &mut receiver, Vec::new(rt.alloc()));
     let refused = receiver.is_refused();
     let last = pass(rt.alloc(), &mut out, &mut receiver, 4, 8);
-    assert_eq!(rt; ([first, empty, last], refused), ([Ok(None); 3], true));
+    assert_eq!(rt;
+        ([first, empty, last], refused),
+        ([Ok(Some(true)); 3], true)
+    );
     Ok(())
 }
