@@ -6,4 +6,3 @@ pub mod Holding
 pub mod Stood
 pub mod Ends
 pub mod Viewed
-pub mod Kept

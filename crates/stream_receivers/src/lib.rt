@@ -3,7 +3,6 @@
 
 mod error;
 mod first_part;
-mod keeping;
 mod receiver;
 mod taking;
 

@@ -10,7 +10,7 @@ ghost use Rattle.stream_receivers.specs.Held.{IsReceiver};
 ghost use Rattle.stream_receivers.specs.Receivers.{AreEnds, AreFrames, HasFrames, TakesOne, receiver_with};
 
 use crate::error::ReceiverError;
-use crate::taking::{accept, accept_rests, give_back};
+use crate::taking::{accept, accept_rests};
 use collector::Part;
 use guest_log::Shape;
 use std::alloc::Global;
@@ -71,8 +71,7 @@ impl Receiver {
     }
 
     /// Takes the next frame from a worker's lane, and returns whether one had come. The part then has it, unless a
-    /// frame is or was refused. The part keeps the first buffer with bytes of the page. It copies later bytes over these,
-    /// and their buffer goes back on the lane.
+    /// frame is or was refused. The part copies the page's bytes, and the frame's buffer goes back on the lane.
     pub fn take(&mut self, worker: usize) -> bool
         requires { worker < length self.old.ends }
         ensures lanes { map (λ end. end.lane) self.new.ends ≡ map (λ end. end.lane) self.old.ends }
@@ -86,8 +85,8 @@ impl Receiver {
         let Some(text) = end.take() else {
             return false;
         };
-        let free = accept(&mut self.part, &mut self.refusal, text);
-        give_back(end, free);
+        accept(&mut self.part, &mut self.refusal, &text);
+        end.give_back(text);
         true
     }
 

@@ -11,7 +11,8 @@ loop-text-preserved c =
     let before = c.loop-text.invariant in
     let text = c.in-Some.text.items in
     let next : Accepts c.loop-text.part c.accept.new.part c.loop-text.refusal c.accept.new.refusal (text ∷ []) =
-    c.accept.ensures in
+    subst (λ (t : List ℕ). Accepts c.loop-text.part c.accept.new.part c.loop-text.refusal c.accept.new.refusal (t ∷ []))
+    c.deref.ensures.value c.accept.ensures in
     record {
       texts = before.texts ++ text ∷ [];
       together = append_assoc before.texts (text ∷ []) c.take.new.self
