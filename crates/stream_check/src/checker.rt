@@ -1,6 +1,7 @@
 //! The checker: what it knows of the streams that came, and how it takes more.
 
-ghost use Rattle.std.specs.Prelude.{◌≡◌, ◌≢◌, ◌<◌, ◌≤◌, [], List, IfErr, IfOk, OnErr, OnOk, Some, drop, length, slice_set};
+ghost use Rattle.std.specs.Prelude.{◌≡◌, ◌≢◌, ◌<◌, ◌≤◌, [], List, IfErr, IfOk, OnErr, OnOk, Some, drop, length};
+ghost use Rattle.std.specs.Prelude.{slice_set};
 ghost use Rattle.migration_model.specs.Final.{shape_of_trace};
 ghost use Rattle.page_message.specs.Shapes.{shape_of};
 ghost use Rattle.page_versions.specs.Index.{IsIndexOf};
