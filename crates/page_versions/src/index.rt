@@ -128,8 +128,8 @@ impl PageIndex {
         greatest_before(&self.touches, self.part(page), tick)
     }
 
-    /// Returns the page's version after the first `count` writes of the trace: the greatest place of a write to it among
-    /// them, or 0 if there is none. It does a binary search.
+    /// Returns the page's version after the first `count` writes of the trace: the greatest place of a write to it
+    /// among them, or 0 if there is none. It does a binary search.
     pub fn version_after(&self, page: u32, count: u32) -> u32
         requires { page < self.now.pages }
         ensures { (trace : GuestTrace) → IsIndexOf self.now trace → result ≡ version_at trace page count }

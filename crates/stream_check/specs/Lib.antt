@@ -1,0 +1,6 @@
+pub mod Stamps
+pub mod Faults
+pub mod Checked
+pub mod Ends
+pub mod Receivers
+pub mod Streams

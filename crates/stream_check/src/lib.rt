@@ -1,0 +1,25 @@
+//! A checker of migration streams: it names the first thing that is wrong in them, against the trace of the guest.
+//!
+//! A migration stops its guest after some number of writes, and sends frames of pages in one stream or several. The
+//! checker takes each stream in pieces, one stream after the other. A frame is right if it has a version of its page
+//! from before the stop, with the bytes that the trace gives, and if no frame of the page that came before it in its
+//! stream is newer. At the end each page must have come at its version at the stop.
+#![tactic(auto)]
+
+mod bytes;
+mod checker;
+mod ending;
+mod error;
+mod faults;
+mod laws;
+mod stamps;
+mod streams;
+mod taken;
+mod testing;
+
+pub use checker::StreamChecker;
+pub use error::{CheckError, StreamsError};
+pub use faults::{FrameCause, FrameFault, WrongFrame, WrongPage};
+pub use laws::{right_streams_make_memory, versions_are_as_at_the_stop};
+pub use streams::check_streams;
+pub use taken::Taken;

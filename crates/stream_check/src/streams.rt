@@ -1,0 +1,52 @@
+//! All streams of a migration, checked at once.
+
+ghost use Rattle.std.specs.Prelude.{◌≡◌, ◌≤◌, IfErr, OnOk, length, sum};
+ghost use Rattle.page_versions.specs.Index.{IsIndexOf};
+ghost use Rattle.stream_check.specs.Streams.{IsAllRight, IsErrorIn, IsFirstThing, cut_by};
+
+use crate::checker::StreamChecker;
+use crate::error::{CheckError, StreamsError};
+use guest_log::WriteLog;
+use page_versions::PageIndex;
+use std::alloc::Global;
+
+/// Returns the error of a check, of the stream with this number.
+fn error_in(stream: usize, error: CheckError) -> StreamsError
+    ensures { IsErrorIn stream error result }
+{
+    match error {
+        CheckError::Memory => StreamsError::Memory,
+        CheckError::Frame(found) => StreamsError::Frame(stream, found),
+    }
+}
+
+/// Checks the streams of a migration that stops its guest after the first `stop` writes of the trace. `bytes` are those
+/// of all streams, one after the other, and `sizes` is how many each has. The error is the first thing that is wrong,
+/// stream by stream, and then page by page.
+pub fn check_streams<W: WriteLog>(
+    alloc: Global,
+    trace: &W,
+    index: &PageIndex,
+    stop: u32,
+    bytes: &[u8],
+    sizes: &[usize],
+) -> Result<(), StreamsError>
+    requires of { IsIndexOf index.now (W.trace trace.now) }
+    requires sizes { sum sizes.now ≤ length bytes.now }
+    ensures right { OnOk result (IsAllRight (W.trace trace.now) stop (cut_by sizes.now bytes.now)) }
+    ensures wrong { IfErr result (IsFirstThing (W.trace trace.now) stop (cut_by sizes.now bytes.now)) }
+    ensures only { IsAllRight (W.trace trace.now) stop (cut_by sizes.now bytes.now)
+        → IfErr result (λ e. e ≡ StreamsError.Memory) }
+{
+    let mut checker = StreamChecker::new(alloc, trace.shape(), stop)?;
+    let mut rest = bytes;
+    for stream in 0..sizes.len() {
+        let (front, behind) = rest.split_at(sizes[stream]);
+        if let Err(error) = checker.take_last(alloc, trace, index, front) {
+            return Err(error_in(stream, error));
+        }
+        rest = behind;
+    }
+    checker.finish(trace, index)?;
+    Ok(())
+}
