@@ -134,6 +134,7 @@ def speed_over(page, folder, length):
     write_full(path, 32, length)
     print(f"2^20 writes in {os.path.getsize(path) / 1e6:.0f} MB:")
     page.open()
+    page.wait_for_plan()
     said, more_memory = opened(page, path)
     if "1,048,576 writes" not in said:
         raise Failure(said)
@@ -194,6 +195,7 @@ def check_many_windows(page, folder):
     path = os.path.join(folder, "apart.pcwt")
     write_full(path, 1, 1)
     page.open()
+    page.wait_for_plan()
     page.load(path)
     require_free(page, "2^20 windows", lambda: change(page, "window", "1"))
     bars, room = page.browser.value("""(() => {
