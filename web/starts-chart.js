@@ -129,8 +129,9 @@ export function startsPicture(axis, asked) {
 /** What a migration from a start costs, in words. */
 export function startWords(asked, { start, cost }, hasTicks) {
   const mark = cost.isLate ? "ends after the trace" : cost.isKept ? "kept" : "not kept";
-  return `${timeText(microsOf(asked.scale, start))}${hasTicks ? `, tick ${counted(start)}` : ""}: time ${timeText(cost.time)}, `
-    + `sent ${bytesText(cost.bytes)}, downtime ${timeText(cost.downtime)}, ${mark}`;
+  const place = `${timeText(microsOf(asked.scale, start))}${hasTicks ? `, tick ${counted(start)}` : ""}`;
+  return `${place}: time ${timeText(cost.time)}, sent ${bytesText(cost.bytes)}, downtime ${timeText(cost.downtime)}, `
+    + mark;
 }
 
 /** How the starts of a picture are looked at. */
