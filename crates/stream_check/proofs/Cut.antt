@@ -6,7 +6,7 @@ use Rattle.std.proofs.lemmas.List.Elements.{All-nil, All-cons, All-head, All-tai
 use Rattle.migration_model.specs.Trace.{GuestTrace, IsTrace}
 use Rattle.migration_model.specs.Touches.{touches_of}
 use Rattle.migration_model.specs.Versions.{page_at}
-use Rattle.page_versions.specs.Index.{GuestIndex, index_with, places_in, places_of, version_after}
+use Rattle.page_versions.specs.Index.{GuestIndex, index_with, places_of, version_after}
 use Rattle.page_versions.specs.Pages.{bytes_by}
 use Rattle.page_versions.proofs.Pages.{page_at_is}
 use Rattle.page_versions.proofs.Places.{same_places}

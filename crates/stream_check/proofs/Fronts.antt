@@ -1,7 +1,7 @@
 -- Frames that a checker takes from the front of bytes.
 use Rattle.std.proofs.Common.{◌≡◌, ◌≢◌, ℕ, ◌+◌, ◌-◌, ◌<◌, ◌≤◌, List, [], ◌∷◌, ◌++◌, length, take, drop, set, Option}
 use Rattle.std.proofs.Common.{Some, refl, sym, ap, subst, append_assoc, inl, inr, ◌∙◌, arith}
-use Rattle.std.specs.List.{All, flat_map}
+use Rattle.std.specs.List.{flat_map}
 use Rattle.std.proofs.lemmas.Grind.{flat_map-append}
 use Rattle.std.proofs.lemmas.List.{append-nil, drop_all, length-append, length-take, take-append-drop}
 use Rattle.std.proofs.lemmas.List.Elements.{All-append, All-nil, All-cons}
@@ -15,7 +15,7 @@ use Rattle.page_message.specs.Refusals.{frame_refusal}
 use Rattle.page_message.specs.declared.error.FrameError.{FrameError}
 use Rattle.page_message.specs.declared.error.FrameError.TheVariants.{Short}
 use Rattle.stream_check.specs.Stamps.{stamp_of, greater, keep_last, keep_greatest, last_stamps, greatest_stamps}
-use Rattle.stream_check.specs.Faults.{IsRight, AreRight, BeginsRight, BeginsWrong, IsFault, IsWrongFront, IsFrontError}
+use Rattle.stream_check.specs.Faults.{IsRight, AreRight, BeginsRight, IsFault, IsWrongFront, IsFrontError}
 use Rattle.stream_check.specs.Faults.{IsFirstWrong, IsPart, IsErrorAt, IsCheckError}
 use Rattle.stream_check.specs.Checked.{Checked, checked_with, after_frames, after_stream, TakesRight, TakesAll}
 use Rattle.stream_check.specs.Checked.{StopsAt}
@@ -27,7 +27,6 @@ use Rattle.stream_check.specs.declared.error.CheckError.TheVariants as checks
 use Rattle.stream_check.specs.declared.faults.WrongFrame.{WrongFrame}
 use Rattle.stream_check.specs.declared.faults.FrameCause.{FrameCause}
 use Rattle.stream_check.specs.declared.faults.FrameCause.TheVariants.{Refused}
-use Rattle.stream_check.specs.declared.faults.FrameFault.{FrameFault}
 
 -- a frame has some bytes
 pub some_size : (shape : GuestShape) (bytes : List ℕ) (size : ℕ) (frame : PageFrame)

@@ -1,15 +1,15 @@
 -- The memory that a part has whose pages are all at their versions.
-use Rattle.std.proofs.Common.{◌≡◌, ℕ, zero, suc, ◌+◌, ◌-◌, ◌*◌, ◌^◌, ◌<◌, ◌≤◌, List, [], ◌∷◌, length, take, drop}
-use Rattle.std.proofs.Common.{Option, Some, None, refl, sym, ap, subst, ◌∙◌, arith}
+use Rattle.std.proofs.Common.{◌≡◌, ℕ, zero, suc, ◌+◌, ◌-◌, ◌*◌, ◌^◌, ◌<◌, List, [], ◌∷◌, length, take, drop}
+use Rattle.std.proofs.Common.{Option, Some, sym, ap, subst, ◌∙◌, arith}
 use Rattle.std.specs.List.{All, flat_map, between, range_with_len}
 use Rattle.std.proofs.lemmas.List.{append-nil, length-append}
 use Rattle.std.proofs.lemmas.List.Elements.{All-head, All-take}
-use Rattle.migration_model.specs.Trace.{GuestTrace, GuestWrite, IsGuestWrite, IsTrace}
-use Rattle.migration_model.specs.Memory.{GuestMemory, image_after, page_of}
+use Rattle.migration_model.specs.Trace.{GuestTrace, IsGuestWrite, IsTrace}
+use Rattle.migration_model.specs.Memory.{image_after, page_of}
 use Rattle.migration_model.specs.Versions.{page_at}
 use Rattle.migration_model.specs.Frames.{GuestShape, PageFrame, IsFrame}
 use Rattle.migration_model.specs.Final.{shape_of_trace}
-use Rattle.migration_model.specs.Parts.{PageCopy, GuestPart, copy_at, empty_part, with_frames}
+use Rattle.migration_model.specs.Parts.{GuestPart, copy_at, empty_part, with_frames}
 use Rattle.migration_model.specs.Images.{bytes_of, bytes_of_first, memory_in}
 use Rattle.migration_model.proofs.Current.{piece_at}
 use Rattle.migration_model.proofs.Pages.{length-page_at, replay-from_pages}

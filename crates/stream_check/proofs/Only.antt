@@ -1,5 +1,5 @@
 -- Streams in which all is right have nothing that is wrong.
-use Rattle.std.proofs.Common.{◌≡◌, ◌≢◌, ℕ, ◌<◌, ◌≤◌, List, [], ◌∷◌, ◌++◌, length, take, drop, Option, Some, None}
+use Rattle.std.proofs.Common.{◌≡◌, ℕ, ◌<◌, ◌≤◌, List, [], ◌∷◌, ◌++◌, length, drop, Option, Some, None}
 use Rattle.std.proofs.Common.{IfSome, inl, inr, refl, sym, ap, subst, append_assoc, ◌∙◌, arith}
 use Rattle.std.specs.List.{All, flat_map}
 use Rattle.std.proofs.lemmas.List.{length-append, length-drop, take-append-drop}
@@ -10,12 +10,11 @@ use Rattle.migration_model.specs.Final.{shape_of_trace}
 use Rattle.migration_model.proofs.Frames.{same_front, one_stream_lem}
 use Rattle.page_message.proofs.Found.{never_refused}
 use Rattle.page_message.specs.Refusals.{frame_refusal}
-use Rattle.page_message.specs.declared.error.FrameError.{FrameError}
 use Rattle.stream_check.specs.Stamps.{no_stamps, stamp_of, keep_last, last_stamps, greatest_stamps}
-use Rattle.stream_check.specs.Faults.{IsRight, AreRight, BeginsWrong, IsFault, IsWrongFront, IsFirstWrong}
-use Rattle.stream_check.specs.Ends.{AreCurrentStamps, IsFirstBehind}
-use Rattle.stream_check.specs.Receivers.{AreRightStreams, all_frames}
-use Rattle.stream_check.specs.Streams.{IsAllRight, IsFirstThing, IsWrongAtEnd, IsWrongIn, texts_of}
+use Rattle.stream_check.specs.Faults.{IsRight, AreRight, IsFault, IsWrongFront, IsFirstWrong}
+use Rattle.stream_check.specs.Ends.{AreCurrentStamps}
+use Rattle.stream_check.specs.Receivers.{all_frames}
+use Rattle.stream_check.specs.Streams.{IsAllRight, IsFirstThing, texts_of}
 use Rattle.stream_check.specs.declared.error.StreamsError.{StreamsError}
 use Rattle.stream_check.specs.declared.error.StreamsError.TheVariants.{Memory, Frame, Page}
 use Rattle.stream_check.specs.declared.faults.FrameCause.{FrameCause}

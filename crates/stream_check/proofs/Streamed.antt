@@ -1,5 +1,5 @@
 -- Streams that a checker has taken, one after another.
-use Rattle.std.proofs.Common.{◌≡◌, ℕ, ◌+◌, ◌<◌, ◌≤◌, List, [], ◌∷◌, ◌++◌, length, take, drop, get_or, map, sum, suc}
+use Rattle.std.proofs.Common.{◌≡◌, ℕ, ◌+◌, ◌<◌, ◌≤◌, List, [], ◌∷◌, ◌++◌, length, take, drop, get_or, sum, suc}
 use Rattle.std.proofs.Common.{Option, refl, sym, ap, subst, append_assoc, ◌∙◌, arith}
 use Rattle.std.specs.List.{All, flat_map}
 use Rattle.std.proofs.Math.Seq.{drop-cons}
@@ -15,7 +15,7 @@ use Rattle.stream_check.specs.Faults.{AreRight, BeginsRight, IsCheckError, IsFir
 use Rattle.stream_check.specs.Checked.{Checked, checked_with, unchecked, after_frames, after_stream}
 use Rattle.stream_check.specs.Ends.{AreCurrentStamps, IsFirstBehind}
 use Rattle.stream_check.specs.Receivers.{all_frames}
-use Rattle.stream_check.specs.Streams.{AreStreams, IsAllRight, IsErrorIn, IsFirstThing, IsWrongAtEnd, cut_by, texts_of}
+use Rattle.stream_check.specs.Streams.{IsAllRight, IsErrorIn, IsFirstThing, IsWrongAtEnd, cut_by, texts_of}
 use Rattle.stream_check.specs.declared.error.CheckError.{CheckError}
 use Rattle.stream_check.specs.declared.error.CheckError.TheVariants as checks
 use Rattle.stream_check.specs.declared.error.StreamsError.{StreamsError}

@@ -6,7 +6,7 @@ use Rattle.migration_model.specs.Memory.{image_after}
 use Rattle.migration_model.specs.Frames.{PageFrame, IsFrame}
 use Rattle.migration_model.specs.Final.{shape_of_trace}
 use Rattle.migration_model.specs.Images.{memory_in}
-use Rattle.migration_model.specs.Parts.{GuestPart, copy_at, copy_in, empty_part, part_with, with_frames}
+use Rattle.migration_model.specs.Parts.{GuestPart, copy_at, copy_in, part_with}
 use Rattle.stream_check.specs.Stamps.{no_stamps, greatest_stamps}
 use Rattle.stream_check.specs.Faults.{AreRight}
 use Rattle.stream_check.specs.Ends.{AreCurrentStamps}

@@ -1,4 +1,4 @@
-use Rattle.std.proofs.Common.{get_or, arith}
+use Rattle.std.proofs.Common.{arith}
 use Rattle.stream_check.proofs.Missing.{first_none, first_over, first_within}
 use Rattle.stream_check.proofs.ending.first_to.Goals as goal
 

@@ -1,16 +1,9 @@
-use Rattle.std.proofs.Common.{◌≡◌, ◌≢◌, ◌≤◌, ◌-◌, length, refl, sym, subst, ◌∙◌, arith}
+use Rattle.std.proofs.Common.{◌≡◌, ◌≤◌, ◌-◌, length, refl, sym, subst, ◌∙◌, arith}
 use Rattle.std.proofs.lemmas.Bool.{eqb-false}
-use Rattle.std.proofs.lemmas.Result.{IfErr-weaker, IfOk-weaker}
-use Rattle.migration_model.specs.Final.{shape_of_trace}
-use Rattle.page_message.specs.declared.error.FrameError.TheVariants.{Short}
-use Rattle.stream_check.specs.Faults.{IsCheckError, IsErrorAt, IsFrontError, IsPart, IsWrongFront}
-use Rattle.stream_check.specs.Checked.{Checked, StopsAt, TakesAll, TakesRight}
-use Rattle.stream_check.specs.declared.error.CheckError.{CheckError}
-use Rattle.stream_check.specs.declared.error.FrontError.{FrontError}
-use Rattle.stream_check.specs.declared.faults.FrameCause.TheVariants.{Refused}
-use Rattle.stream_check.specs.declared.taken.Taken.{Taken}
-use Rattle.stream_check.proofs.Fronts.{Takes-more, Takes-nothing, nothing_left, shape_taken, short_front, stops_at}
-use Rattle.stream_check.proofs.Fronts.{takes_all, whole_at}
+use Rattle.std.proofs.lemmas.Result.{IfErr-weaker}
+use Rattle.stream_check.specs.Faults.{IsCheckError, IsErrorAt, IsFrontError, IsWrongFront}
+use Rattle.stream_check.specs.Checked.{Checked, StopsAt, TakesRight}
+use Rattle.stream_check.proofs.Fronts.{Takes-more, Takes-nothing, shape_taken, stops_at}
 use Rattle.stream_check.proofs.checker.StreamChecker.take.Goals as goal
 
 pub loop-rest-init : goal.loop-rest-init

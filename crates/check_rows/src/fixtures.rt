@@ -1,0 +1,74 @@
+//! Frames of the worked guest, which is stopped after its third write.
+
+use page_versions::PageIndex;
+use std::alloc::Global;
+use std::test::Fail;
+use stream_check::{StreamsError, check_streams};
+use trace_codec::decode;
+use worked_guest::TRACE;
+
+pub(crate) type Page = [u8; 16];
+
+/// A page and its stamp, with the bytes of a frame.
+pub(crate) type Sent<'a> = (u32, u32, &'a Page);
+
+/// After these many writes the guest is stopped, at tick 2500.
+pub(crate) const STOP: u32 = 3;
+
+pub(crate) const ZEROS: Page = [0; 16];
+
+/// The first page after its only write.
+pub(crate) const FIRST: Page = [1, 0, 0, 0, 0, 0, 0, 0, 0, 0, 0, 0, 0, 0, 0, 0];
+
+/// The second page after the second write of the trace, and after the fifth.
+pub(crate) const SECOND: Page = [0, 0, 0, 0, 0, 0, 0, 0, 0, 0, 0, 0, 0, 0, 0, 2];
+
+/// The second page after the third write of the trace.
+pub(crate) const THIRD: Page = [3, 0, 0, 0, 0, 0, 0, 0, 0, 0, 0, 0, 0, 0, 0, 2];
+
+/// A stream in which all is right. Its frames begin at bytes 0, 25, 50, 59 and 68, and it has 93.
+pub(crate) const RIGHT: [Sent<'static>; 5] = [
+    (0, 1, &FIRST),
+    (1, 2, &SECOND),
+    (2, 0, &ZEROS),
+    (3, 0, &ZEROS),
+    (1, 3, &THIRD),
+];
+
+/// Appends the encoding of a frame to a stream.
+fn add_frame(stream: &mut Vec<u8>, sent: &Sent<'_>) -> Result<(), Fail> {
+    let (page, stamp, bytes) = *sent;
+    stream.extend_from_slice(&page.to_le_bytes())?;
+    stream.extend_from_slice(&stamp.to_le_bytes())?;
+    if *bytes == ZEROS {
+        stream.push(0)?;
+        return Ok(());
+    }
+    stream.push(1)?;
+    stream.extend_from_slice(bytes)?;
+    Ok(())
+}
+
+/// Returns the stream of these frames.
+pub(crate) fn stream_of(alloc: Global, sent: &[Sent<'_>]) -> Result<Vec<u8>, Fail> {
+    let mut stream = Vec::new(alloc);
+    for one in sent {
+        add_frame(&mut stream, one)?;
+    }
+    Ok(stream)
+}
+
+/// Checks two streams of the worked guest.
+pub(crate) fn checked(
+    alloc: Global,
+    first: &[u8],
+    second: &[u8],
+) -> Result<Result<(), StreamsError>, Fail> {
+    let trace = decode(alloc, &TRACE)?;
+    let index = PageIndex::build_alone(alloc, &trace)?;
+    let mut bytes = Vec::new(alloc);
+    bytes.extend_from_slice(first)?;
+    bytes.extend_from_slice(second)?;
+    let sizes = [first.len(), second.len()];
+    Ok(check_streams(alloc, &trace, &index, STOP, &bytes, &sizes))
+}

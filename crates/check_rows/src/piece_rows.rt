@@ -1,0 +1,72 @@
+//! A stream that comes in pieces.
+
+use crate::fixtures::{RIGHT, SECOND, STOP, stream_of};
+use page_versions::PageIndex;
+use std::alloc::Global;
+use std::test::Fail;
+use stream_check::{CheckError, FrameCause, StreamChecker, Taken};
+use trace_codec::{WriteLog, decode};
+use worked_guest::TRACE;
+
+/// Takes the first bytes of a stream, then all behind what was taken, and returns both answers.
+fn in_two(
+    alloc: Global,
+    stream: &[u8],
+    first: usize,
+) -> Result<(Result<Taken, CheckError>, Result<Taken, CheckError>), Fail> {
+    let trace = decode(alloc, &TRACE)?;
+    let index = PageIndex::build_alone(alloc, &trace)?;
+    let mut checker = StreamChecker::new(alloc, trace.shape(), STOP)?;
+    let front = checker.take(alloc, &trace, &index, &stream[..first.min(stream.len())]);
+    let taken = front.map_or(0, |taken| taken.bytes);
+    let back = checker.take(alloc, &trace, &index, &stream[taken.min(stream.len())..]);
+    Ok((front, back))
+}
+
+#[test]
+fn frame_in_two_pieces(rt: HostRuntime) -> Result<(), Fail> {
+    let alloc = rt.alloc();
+    let stream = stream_of(alloc, &RIGHT)?;
+    let (front, back) = in_two(alloc, &stream, 58)?;
+    let two = Taken {
+        frames: 2,
+        bytes: 50,
+    };
+    let three = Taken {
+        frames: 3,
+        bytes: 43,
+    };
+    assert_eq!(rt; (front, back), (Ok(two), Ok(three)));
+    Ok(())
+}
+
+#[test]
+fn older_frame_in_a_later_piece(rt: HostRuntime) -> Result<(), Fail> {
+    let alloc = rt.alloc();
+    let [a, b, c, d, e] = RIGHT;
+    let stream = stream_of(alloc, &[a, b, c, d, e, (1, 2, &SECOND)])?;
+    let (_, back) = in_two(alloc, &stream, 93)?;
+    let found = back.err().and_then(|error| match error {
+        CheckError::Frame(found) => Some(found),
+        CheckError::Memory => None,
+    });
+    let place = found.map(|found| (found.number, found.offset, found.fault.cause));
+    assert_eq!(rt; place, Some((0, 0, FrameCause::Older)));
+    Ok(())
+}
+
+#[test]
+fn pages_of_ended_streams_are_current(rt: HostRuntime) -> Result<(), Fail> {
+    let alloc = rt.alloc();
+    let stream = stream_of(alloc, &RIGHT)?;
+    let trace = decode(alloc, &TRACE)?;
+    let index = PageIndex::build_alone(alloc, &trace)?;
+    let mut checker = StreamChecker::new(alloc, trace.shape(), STOP)?;
+    assert_eq!(rt;
+        checker.finish(&trace, &index).map_err(|found| found.page),
+        Err(0)
+    );
+    assert_eq!(rt; checker.take_last(alloc, &trace, &index, &stream), Ok(()));
+    assert_eq!(rt; checker.finish(&trace, &index), Ok(()));
+    Ok(())
+}
