@@ -8,7 +8,7 @@ from dataclasses import dataclass, field
 
 TOP = os.path.dirname(os.path.dirname(os.path.abspath(__file__)))
 # Crates that only tests use, and programs of tests: nobody builds on their calls.
-OF_TESTS = re.compile(r"\w+_rows|live_schedules|worked_guest|refused_calls")
+OF_TESTS = re.compile(r"\w+_rows|live_schedules|worked_guest|refused_calls|live_counts")
 CALL = re.compile(r"^ *(?P<pub>pub )?(?:const )?(?P<c>extern \"C\" )?fn (?P<name>\w+)", re.M)
 OWNER = re.compile(r"^(?P<pub>pub )?(?P<kind>impl|trait)\b(?P<head>[^{;]*)\{", re.M)
 DEFINITION = re.compile(
