@@ -8,7 +8,8 @@ use stream_check::{CheckError, FrameCause, StreamChecker, Taken};
 use trace_codec::{WriteLog, decode};
 use worked_guest::TRACE;
 
-/// Takes the first bytes of a stream, then all behind what was taken, and returns both answers.
+/// Takes the first bytes of a stream, then all behind what was taken, and returns both answers. If the first is an error,
+/// it stands for both.
 fn in_two(
     alloc: Global,
     stream: &[u8],
@@ -17,10 +18,13 @@ fn in_two(
     let trace = decode(alloc, &TRACE)?;
     let index = PageIndex::build_alone(alloc, &trace)?;
     let mut checker = StreamChecker::new(alloc, trace.shape(), STOP)?;
-    let front = checker.take(alloc, &trace, &index, &stream[..first.min(stream.len())]);
-    let taken = front.map_or(0, |taken| taken.bytes);
-    let back = checker.take(alloc, &trace, &index, &stream[taken.min(stream.len())..]);
-    Ok((front, back))
+    match checker.take(alloc, &trace, &index, &stream[..first.min(stream.len())]) {
+        Ok(front) => {
+            let behind = &stream[front.bytes.min(stream.len())..];
+            Ok((Ok(front), checker.take(alloc, &trace, &index, behind)))
+        }
+        Err(error) => Ok((Err(error), Err(error))),
+    }
 }
 
 #[test]
