@@ -274,7 +274,7 @@ def refusals(programs: Programs, folder: str) -> None:
     expect("none.light.pcwt: No such file" in fault and "no guest to schedule" in fault, fault)
     os.unlink(f"{folder}/twin.light.json")
     _, fault = run_tool(programs, web, f"{folder}/twin.light.pcwt", *link, status=1)
-    expect("there is no" in fault and "beside the trace" in fault, fault)
+    expect("there is no" in fault and "twin.light.json beside it" in fault, fault)
     fast = model.Guest(2000, 2000, 2000, 1000, 10_000, [(1000 + n // 20, n % 2000) for n in range(180_000)])
     text, fault = run_tool(programs, web, write_record(folder, "fast", fast), *link, "--downtime", "50ms", status=3)
     expect("fast keeps its limits at no share; with 0.537 Gbit/s: downtime" in fault, fault)
