@@ -1,22 +1,10 @@
 /*
  * Null pointers whose length is 0, and the order of refusals, in each function of the library for C that has them.
  */
+#include "library_row.h"
 #include "precopy.h"
 
-#include <stdio.h>
 #include <string.h>
-
-static int passed, failed;
-
-#define ROW(holds)                                                                                                     \
-    do {                                                                                                               \
-        if (holds) {                                                                                                   \
-            passed++;                                                                                                  \
-        } else {                                                                                                       \
-            failed++;                                                                                                  \
-            printf("FAILED line %d: %s\n", __LINE__, #holds);                                                          \
-        }                                                                                                              \
-    } while (0)
 
 /* Pages of 16 bytes, 1 page, and a write of a byte at tick 7. */
 static const uint8_t trace[33] = {0x50, 0x43, 0x57, 0x54, 1, 4, 0, 0, 1, 0, 0, 0, 1, 0, 0, 0, 7,

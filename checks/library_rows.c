@@ -1,22 +1,10 @@
 /*
  * Worked examples of each function of the library for C, whose values were worked out by hand.
  */
+#include "library_row.h"
 #include "precopy.h"
 
-#include <stdio.h>
 #include <string.h>
-
-static int passed, failed;
-
-#define ROW(holds)                                                                                                     \
-    do {                                                                                                               \
-        if (holds) {                                                                                                   \
-            passed++;                                                                                                  \
-        } else {                                                                                                       \
-            failed++;                                                                                                  \
-            printf("FAILED line %d: %s\n", __LINE__, #holds);                                                          \
-        }                                                                                                              \
-    } while (0)
 
 /* Pages of 16 bytes, 4 pages, 5 writes: of pages 0 and 1 at ticks 0 and 5, of page 1 at tick 1200, of pages 3 and 1 at
  * tick 2500. */
