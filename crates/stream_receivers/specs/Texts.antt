@@ -1,8 +1,12 @@
 -- Texts that come to a part, each the encoding of one frame.
-use Rattle.std.specs.Prelude.{◌≡◌, ℕ, List, map}
+use Rattle.std.specs.Prelude.{◌≡◌, ℕ, List, Some, map}
 use Rattle.std.specs.List.{All}
-use Rattle.migration_model.specs.Frames.{PageFrame, IsFrame, SpellsFrame, frame_text}
+use Rattle.migration_model.specs.Frames.{GuestShape, PageFrame, IsFrame, SpellsFrame, frame_text, frame_with}
 use Rattle.migration_model.specs.Parts.{GuestPart, with_frame, with_frames}
+
+-- the text encodes a frame with bytes of this page at this stamp
+abbrev pub HasBytes : GuestShape → List ℕ → ℕ → ℕ → Type 0
+HasBytes shape text page stamp = (bytes : List ℕ) × SpellsFrame shape text (frame_with page stamp (Some bytes))
 
 -- the part took the frame that this text encodes
 pub record TakesText (old new : GuestPart) (text : List ℕ) : Type 0 where

@@ -3,6 +3,7 @@
 
 mod error;
 mod first_part;
+mod keeping;
 mod receiver;
 mod taking;
 

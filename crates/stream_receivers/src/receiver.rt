@@ -10,7 +10,7 @@ ghost use Rattle.stream_receivers.specs.Held.{IsReceiver};
 ghost use Rattle.stream_receivers.specs.Receivers.{AreEnds, AreFrames, HasFrames, TakesOne, receiver_with};
 
 use crate::error::ReceiverError;
-use crate::taking::{accept, accept_rests};
+use crate::taking::{accept, accept_rests, give_back};
 use collector::Part;
 use guest_log::Shape;
 use std::alloc::Global;
@@ -71,7 +71,8 @@ impl Receiver {
     }
 
     /// Takes the next frame from a worker's lane, and returns whether one had come. The part then has it, unless a
-    /// frame is or was refused. The part copies the page's bytes, and the frame's buffer goes back on the lane.
+    /// frame is or was refused. The frame's buffer goes back on the lane, unless the part keeps it: for the first bytes
+    /// of a page.
     pub fn take(&mut self, worker: usize) -> bool
         requires { worker < length self.old.ends }
         ensures lanes { map (λ end. end.lane) self.new.ends ≡ map (λ end. end.lane) self.old.ends }
@@ -85,8 +86,8 @@ impl Receiver {
         let Some(text) = end.take() else {
             return false;
         };
-        accept(&mut self.part, &mut self.refusal, &text);
-        end.give_back(text);
+        let left = accept(&mut self.part, &mut self.refusal, text);
+        give_back(end, left);
         true
     }
 

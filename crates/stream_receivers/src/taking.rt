@@ -1,43 +1,97 @@
-//! Frames that come to a part, each in a buffer that then goes back.
+//! Frames that come to a part, each in a buffer that stays there or goes back.
 
-ghost use Rattle.std.specs.Prelude.{◌≡◌, ◌∷◌, IfErr, IfSome, OnOk, Some, []};
+ghost use Rattle.std.specs.Prelude.{◌≡◌, ◌∷◌, IfErr, IfSome, IsTrue, OnOk, Some, [], is_some, true};
 ghost use Rattle.migration_model.specs.Frames.{PageFrame, SpellsFrame};
 ghost use Rattle.stream_lanes.specs.Ends.{IsSentOn, IsTakenFrom};
 ghost use Rattle.stream_receivers.specs.Held.{Accepts, IsHeld};
 ghost use Rattle.stream_receivers.specs.Receivers.{AreEnds};
-ghost use Rattle.stream_receivers.specs.Texts.{TakesText};
+ghost use Rattle.stream_receivers.specs.Texts.{HasBytes, TakesText};
 
 use crate::error::ReceiverError;
+use crate::keeping::frame_behind_head;
 use collector::Part;
-use page_message::view_frame;
+use page_message::{Body, FrameView, view_frame};
 use stream_lanes::{LaneIn, LaneOut, Rest, drain};
 
-/// Takes one encoded frame into a part, which copies the page's bytes.
-fn accept_text(part: &mut Part, text: &[u8]) -> Result<(), ReceiverError>
+/// Returns whether a part has bytes of a page, not all of them 0.
+fn has_bytes(part: &Part, page: u32) -> bool {
+    match part.frame(page).map(|frame| &frame.body) {
+        Some(Body::Data(_)) => true,
+        Some(Body::Zero) | None => false,
+    }
+}
+
+/// Returns whether a frame has bytes of a page of which the part has none.
+fn brings_first_bytes(part: &Part, view: &FrameView<'_>) -> bool
+    ensures { IsTrue result → is_some view.now.body ≡ true }
+{
+    view.body.is_some() && !has_bytes(part, view.page)
+}
+
+/// Takes an encoded frame with bytes into a part, which keeps its buffer. These are its page and its stamp.
+fn keep_text(part: &mut Part, page: u32, stamp: u32, text: Vec<u8>) -> Result<(), ReceiverError>
+    requires { HasBytes part.old.shape text.items page stamp }
     ensures shape { part.new.shape ≡ part.old.shape }
-    ensures taken { OnOk result (TakesText part.old part.new text.now) }
-    ensures only { (frame : PageFrame) → SpellsFrame part.old.shape text.now frame
+    ensures taken { OnOk result (TakesText part.old part.new text.items) }
+    ensures error { IfErr result (λ e. e ≡ ReceiverError.Memory) }
+{
+    let frame = frame_behind_head(page, stamp, text);
+    match part.accept(frame) {
+        Ok(_) => Ok(()),
+        Err(_) => Err(ReceiverError::Memory),
+    }
+}
+
+/// Takes one encoded frame into a part. The first bytes of a page stay in the frame's buffer. Later ones are copied over
+/// them, and the buffer in which they came is returned.
+fn accept_text(part: &mut Part, text: Vec<u8>) -> Result<Option<Vec<u8>>, ReceiverError>
+    ensures shape { part.new.shape ≡ part.old.shape }
+    ensures taken { OnOk result (TakesText part.old part.new text.items) }
+    ensures only { (frame : PageFrame) → SpellsFrame part.old.shape text.items frame
         → IfErr result (λ e. e ≡ ReceiverError.Memory) }
 {
-    let Ok((view, size)) = view_frame(&part.shape(), text) else {
+    let Ok((view, size)) = view_frame(&part.shape(), &text) else {
         return Err(ReceiverError::Frame);
     };
     if size != text.len() {
         return Err(ReceiverError::Frame);
     }
-    part.accept_view(&view).or(Err(ReceiverError::Memory))
+    if brings_first_bytes(part, &view) {
+        let (page, stamp) = (view.page, view.stamp);
+        keep_text(part, page, stamp, text)?;
+        return Ok(None);
+    }
+    part.accept_view(&view).or(Err(ReceiverError::Memory))?;
+    Ok(Some(text))
 }
 
-/// Takes one encoded frame, unless something was refused before, and keeps the first refusal.
-pub(crate) fn accept(part: &mut Part, refusal: &mut Option<ReceiverError>, text: &[u8])
-    ensures { Accepts part.old part.new refusal.old refusal.new (text.now ∷ []) }
+/// Takes one encoded frame, unless something was refused before, and keeps the first refusal. Returns the frame's
+/// buffer, unless the part keeps it.
+pub(crate) fn accept(
+    part: &mut Part,
+    refusal: &mut Option<ReceiverError>,
+    text: Vec<u8>,
+) -> Option<Vec<u8>>
+    ensures { Accepts part.old part.new refusal.old refusal.new (text.items ∷ []) }
 {
     if refusal.is_some() {
-        return;
+        return Some(text);
     }
     match accept_text(part, text) {
-        Ok(()) => {}
-        Err(error) => *refusal = Some(error),
+        Ok(left) => left,
+        Err(error) => {
+            *refusal = Some(error);
+            None
+        }
+    }
+}
+
+/// Gives a buffer back to the worker of a lane, if there is one.
+pub(crate) fn give_back(end: &mut LaneIn, text: Option<Vec<u8>>)
+    ensures { end.new ≡ end.old }
+{
+    if let Some(text) = text {
+        end.give_back(text);
     }
 }
 
@@ -52,7 +106,7 @@ pub(crate) fn accept_rest(
     let mut refusal = refusal;
     let mut rest = rest;
     while let Some(text) = rest.take() {
-        accept(part, &mut refusal, &text);
+        drop(accept(part, &mut refusal, text));
     }
     refusal
 }

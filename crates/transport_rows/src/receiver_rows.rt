@@ -257,16 +257,25 @@ fn pass(
 }
 
 #[test]
-fn each_text_goes_back(rt: HostRuntime) -> Result<(), Fail> {
+fn a_page_keeps_its_first_buffer_and_others_go_back(rt: HostRuntime) -> Result<(), Fail> {
     let (mut out, mut receiver) = one_out(rt.alloc())?;
     let rooms = [
+        pass(rt.alloc(), &mut out, &mut receiver, 1, 0),
         pass(rt.alloc(), &mut out, &mut receiver, 2, 7),
         pass(rt.alloc(), &mut out, &mut receiver, 4, 8),
         pass(rt.alloc(), &mut out, &mut receiver, 3, 9),
         pass(rt.alloc(), &mut out, &mut receiver, 5, 0),
-        pass(rt.alloc(), &mut out, &mut receiver, 5, 0),
     ];
-    assert_eq!(rt; rooms, [Ok(Some(true)); 5]);
+    assert_eq!(rt;
+        rooms,
+        [
+            Ok(Some(true)),
+            Ok(None),
+            Ok(Some(true)),
+            Ok(Some(true)),
+            Ok(Some(true))
+        ]
+    );
     Ok(())
 }
 
@@ -279,7 +288,7 @@ fn texts_go_back_after_a_refusal(rt: HostRuntime) -> Result<(), Fail> {
     let last = pass(rt.alloc(), &mut out, &mut receiver, 4, 8);
     assert_eq!(rt;
         ([first, empty, last], refused),
-        ([Ok(Some(true)); 3], true)
+        ([Ok(None), Ok(None), Ok(Some(true))], true)
     );
     Ok(())
 }

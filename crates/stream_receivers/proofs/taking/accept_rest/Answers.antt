@@ -11,8 +11,7 @@ loop-text-preserved c =
     let before = c.loop-text.invariant in
     let text = c.in-Some.text.items in
     let next : Accepts c.loop-text.part c.accept.new.part c.loop-text.refusal c.accept.new.refusal (text ∷ []) =
-    subst (λ (t : List ℕ). Accepts c.loop-text.part c.accept.new.part c.loop-text.refusal c.accept.new.refusal (t ∷ []))
-    c.deref.ensures.value c.accept.ensures in
+    c.accept.ensures in
     record {
       texts = before.texts ++ text ∷ [];
       together = append_assoc before.texts (text ∷ []) c.take.new.self

@@ -1,4 +1,5 @@
-use Rattle.std.proofs.Common.{◌≡◌, ℕ, [], length, IfOk, refl, sym, ap, subst, ◌∙◌, append-nil, arith}
+use Rattle.std.proofs.Common.{◌≡◌, ℕ, [], length, IfOk, refl, sym, ap, subst, ◌∙◌, append-nil}
+use Rattle.std.proofs.Common.{arith}
 use Rattle.migration_model.specs.Frames.{GuestShape, PageFrame, IsFrame, frame_text}
 use Rattle.stream_receivers.proofs.Viewed.{never_both}
 use Rattle.stream_receivers.proofs.taking.accept_text.Goals as goal
@@ -8,15 +9,15 @@ returns-in_default-clause-only c frame spells =
     absurd (never_both c.view_frame.result (frame, length (frame_text frame)) c.in_default.field-0
     (c.view_frame.ensures.only frame []
     (subst (λ (s : GuestShape). IsFrame s frame) (sym c.shape.ensures.shape) spells.is_frame)
-    (spells.text ∙ sym (append-nil (frame_text frame)))) c.in_default.is)
+    (c.deref.ensures.value ∙ spells.text ∙ sym (append-nil (frame_text frame)))) c.in_default.is)
 
-pub returns-then-size-text-clause-only : goal.returns-then-size-text-clause-only
-returns-then-size-text-clause-only c frame spells =
+pub returns-then-size-len-clause-only : goal.returns-then-size-len-clause-only
+returns-then-size-len-clause-only c frame spells =
     let good = c.view_frame.ensures.only frame []
     (subst (λ (s : GuestShape). IsFrame s frame) (sym c.shape.ensures.shape) spells.is_frame)
-    (spells.text ∙ sym (append-nil (frame_text frame))) in
+    (c.deref.ensures.value ∙ spells.text ∙ sym (append-nil (frame_text frame))) in
     let size : c.in-Ok.size ≡ length (frame_text frame) =
     subst (λ r. IfOk r (λ (read : PageFrame × ℕ). read.1 ≡ length (frame_text frame))) (sym good ∙ c.in-Ok.is) refl in
-    let whole : length c.args.text.now ≡ length (frame_text frame) = ap length spells.text in
-    absurd (c.if-size-text.true (let same : c.in-Ok.size
-    ≡ length c.args.text.now = omega (arith, size, whole) in same))
+    let whole : length c.args.text.items ≡ length (frame_text frame) = ap length spells.text in
+    absurd (c.if-size-len.true (let same : c.in-Ok.size
+    ≡ c.len.result = omega (arith, size, whole, c.len.ensures) in same))

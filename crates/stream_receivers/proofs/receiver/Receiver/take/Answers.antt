@@ -1,4 +1,4 @@
-use Rattle.std.proofs.Common.{◌<◌, ℕ, inl, inr, List, [], ◌∷◌, length, map, set, refl, sym, ap, subst, ◌∙◌, arith}
+use Rattle.std.proofs.Common.{◌<◌, inl, inr, List, [], ◌∷◌, length, map, set, refl, sym, ap, subst, ◌∙◌, arith}
 use Rattle.std.specs.List.{slice_get}
 use Rattle.stream_lanes.specs.Ends.{InView, IsTakenFrom}
 use Rattle.stream_receivers.specs.Held.{IsHeld, Accepts}
@@ -52,11 +52,9 @@ invariant_of-self-2 c =
     let size = ap (λ (r : ReceiverView). length r.ends) c.self.view_is in
     let low : worker < length ends = omega (arith, size, c.requires) in
     let part = c.self.inside.part in
-    let new = c.accept.new.part in
-    let result = c.accept.new.refusal in
-    let accepts : Accepts part new c.self.inside.refusal result (text ∷ []) =
-    subst (λ (t : List ℕ). Accepts part new c.self.inside.refusal result (t ∷ [])) c.deref.ensures.value
-    c.accept.ensures in
+    let new = c.accept-left.new.part in
+    let result = c.accept-left.new.refusal in
+    let accepts : Accepts part new c.self.inside.refusal result (text ∷ []) = c.accept-left.ensures in
     let held = held_more part.shape (IsTakenFrom ends) (IsTakenFrom (set ends worker after)) part new
     c.self.inside.refusal result (text ∷ []) refl
     (taken_before ends worker before after text low there grown)
