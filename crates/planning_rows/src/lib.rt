@@ -6,6 +6,8 @@ mod plan_rows;
 #[cfg(test)]
 mod rate_rows;
 #[cfg(test)]
+mod redrawn_rows;
+#[cfg(test)]
 mod table_rows;
 #[cfg(test)]
 mod text_rows;

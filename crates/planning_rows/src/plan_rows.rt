@@ -9,7 +9,7 @@ use trace_codec::{Trace, Write};
 use worked_guest::{TOUCHES, asked};
 
 /// Returns a trace whose writes are of one byte, at these ticks and to these pages.
-fn guest(alloc: Global, pages: u32, touches: &[(u64, u32)]) -> Result<Trace, Fail> {
+pub(crate) fn guest(alloc: Global, pages: u32, touches: &[(u64, u32)]) -> Result<Trace, Fail> {
     let mut writes = Vec::new(alloc);
     for (tick, page) in touches {
         writes.push(Write {
@@ -58,14 +58,14 @@ fn numbers(alloc: Global, plan: &Plan) -> Result<Vec<u64>, AllocError> {
 }
 
 /// Rounds, reason, stop, downtime and total.
-type Told = (u64, Reason, u64, u64, u64);
+pub(crate) type Told = (u64, Reason, u64, u64, u64);
 
 fn told_of_plan(plan: &Plan) -> Told {
     let rounds = plan.rounds.len() as u64;
     (rounds, plan.reason, plan.stop, plan.down, plan.total())
 }
 
-fn told(outcome: &Outcome) -> Told {
+pub(crate) fn told(outcome: &Outcome) -> Told {
     (
         outcome.rounds,
         outcome.reason,

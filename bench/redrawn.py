@@ -1,0 +1,111 @@
+"""Plans of redrawn pages and their standard errors, as `crates/redrawn_pages/specs` defines them: page by page.
+
+It shares no code with the crate. The numbers in the crate's tests come from here.
+"""
+
+import bisect
+import math
+from typing import NamedTuple
+
+PLANS = 20
+MULTIPLIER, INCREMENT = 6364136223846793005, 1442695040888963407
+
+
+class Settings(NamedTuple):
+    """Rates in pages per 1,000 ticks, and the other settings of a plan."""
+
+    least: int
+    greatest: int
+    increment: int
+    threshold: int
+    rounds: int
+    start: int = 0
+    skip: bool = False
+    base: int | None = None
+
+
+class Outcome(NamedTuple):
+    rounds: int
+    reason: str
+    stop: int
+    down: int
+    total: int
+
+
+class Scale(NamedTuple):
+    """Microseconds of a tick, bytes of a page, and how many of the guest's pages were drawn."""
+
+    tick: int
+    page: int
+    sampled: int
+    guest: int
+
+
+def by_page(pages: int, touches: list[tuple[int, int]]) -> list[list[int]]:
+    """The ticks at which each page is written, in order."""
+    ticks: list[list[int]] = [[] for _ in range(pages)]
+    for tick, page in touches:
+        ticks[page].append(tick)
+    return ticks
+
+
+def is_written(ticks: list[int], first: int, end: int) -> bool:
+    place = bisect.bisect_left(ticks, first)
+    return place < len(ticks) and ticks[place] < end
+
+
+def planned(guest: list[list[int]], asked: Settings) -> Outcome:
+    """The plan of a guest, by the ticks at which each of its pages is written."""
+    tick, rate, total = asked.start, asked.least, 0
+    base = asked.base
+    pages = [n for n, ticks in enumerate(guest) if base is None or is_written(ticks, base, tick)]
+    for rounds in range(1, asked.rounds + 1):
+        sent = 0
+        for page in pages:
+            at = tick + 1000 * sent // rate
+            sent += not (asked.skip and rounds > 1 and is_written(guest[page], tick, at))
+        end = tick - -1000 * sent // rate if sent else tick
+        dirtied = [n for n, ticks in enumerate(guest) if is_written(ticks, tick, end)]
+        total += sent
+        following = -(-1000 * len(dirtied) // (end - tick)) + asked.increment if end > tick else 0
+        reason = "few" if len(dirtied) < asked.threshold else "fast" if following > asked.greatest else "rounds"
+        if reason != "rounds" or rounds == asked.rounds:
+            down = -(-1000 * len(dirtied) // asked.greatest)
+            return Outcome(rounds, reason, end, down, total + len(dirtied))
+        tick, rate, pages = end, max(following, asked.least), dirtied
+    raise AssertionError("a plan has a round")
+
+
+def draws(sampled: int, pages: int) -> list[list[int]]:
+    """The pages of each draw, of those that the trace has."""
+    state, found = 0, []
+    for _ in range(PLANS):
+        drawn = []
+        for _ in range(sampled):
+            state = (MULTIPLIER * state + INCREMENT) % 2**64
+            drawn.append((state >> 32) * sampled >> 32)
+        found.append([page for page in drawn if page < pages])
+    return found
+
+
+def root_above(upper: int, lower: int) -> int:
+    """The least number whose square is no less than this quotient."""
+    root = math.isqrt(-(-upper // lower))
+    return root + (root * root * lower < upper)
+
+
+def spread(numbers: list[int]) -> int:
+    return len(numbers) * sum(n * n for n in numbers) - sum(numbers) ** 2
+
+
+def errors(guest: list[list[int]], asked: Settings, scale: Scale) -> tuple[int, int, int]:
+    """The standard errors of bytes, time and downtime, in bytes and microseconds."""
+    outcomes = [planned([guest[page] for page in drawn], asked) for drawn in draws(scale.sampled, len(guest))]
+    weight, left = PLANS * (PLANS - 1), scale.guest - scale.sampled
+
+    def micros(ticks: list[int]) -> int:
+        return root_above(spread([scale.tick * n for n in ticks]) * left, weight * scale.guest)
+
+    sent = root_above(spread([o.total for o in outcomes]) * left * scale.guest, weight * scale.sampled**2)
+    time = micros([o.stop - asked.start + o.down for o in outcomes])
+    return sent * scale.page, time, micros([o.down for o in outcomes])

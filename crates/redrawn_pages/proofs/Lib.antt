@@ -1,0 +1,3 @@
+pub mod Drawn
+pub mod Ways
+pub mod Drawing
