@@ -1,10 +1,10 @@
 //! A stream that comes in pieces.
 
-use crate::fixtures::{RIGHT, SECOND, STOP, stream_of};
+use crate::fixtures::{RIGHT, SECOND, STOP, THIRD, stream_of};
 use page_versions::PageIndex;
 use std::alloc::Global;
 use std::test::Fail;
-use stream_check::{CheckError, FrameCause, StreamChecker, Taken};
+use stream_check::{FrameCause, StreamChecker, Taken, WrongFrame};
 use trace_codec::{WriteLog, decode};
 use worked_guest::TRACE;
 
@@ -14,14 +14,14 @@ fn in_two(
     alloc: Global,
     stream: &[u8],
     first: usize,
-) -> Result<(Result<Taken, CheckError>, Result<Taken, CheckError>), Fail> {
+) -> Result<(Result<Taken, WrongFrame>, Result<Taken, WrongFrame>), Fail> {
     let trace = decode(alloc, &TRACE)?;
     let index = PageIndex::build_alone(alloc, &trace)?;
     let mut checker = StreamChecker::new(alloc, trace.shape(), STOP)?;
-    match checker.take(alloc, &trace, &index, &stream[..first.min(stream.len())]) {
+    match checker.take(&trace, &index, &stream[..first.min(stream.len())]) {
         Ok(front) => {
             let behind = &stream[front.bytes.min(stream.len())..];
-            Ok((Ok(front), checker.take(alloc, &trace, &index, behind)))
+            Ok((Ok(front), checker.take(&trace, &index, behind)))
         }
         Err(error) => Ok((Err(error), Err(error))),
     }
@@ -50,11 +50,9 @@ fn older_frame_in_a_later_piece(rt: HostRuntime) -> Result<(), Fail> {
     let [a, b, c, d, e] = RIGHT;
     let stream = stream_of(alloc, &[a, b, c, d, e, (1, 2, &SECOND)])?;
     let (_, back) = in_two(alloc, &stream, 93)?;
-    let found = back.err().and_then(|error| match error {
-        CheckError::Frame(found) => Some(found),
-        CheckError::Memory => None,
-    });
-    let place = found.map(|found| (found.number, found.offset, found.fault.cause));
+    let place = back
+        .err()
+        .map(|found| (found.number, found.offset, found.fault.cause));
     assert_eq!(rt; place, Some((0, 0, FrameCause::Older)));
     Ok(())
 }
@@ -70,7 +68,25 @@ fn pages_of_ended_streams_are_current(rt: HostRuntime) -> Result<(), Fail> {
         checker.finish(&trace, &index).map_err(|found| found.page),
         Err(0)
     );
-    assert_eq!(rt; checker.take_last(alloc, &trace, &index, &stream), Ok(()));
+    assert_eq!(rt; checker.take_last(&trace, &index, &stream), Ok(()));
     assert_eq!(rt; checker.finish(&trace, &index), Ok(()));
+    Ok(())
+}
+
+#[test]
+fn frames_before_a_wrong_one_are_taken(rt: HostRuntime) -> Result<(), Fail> {
+    let alloc = rt.alloc();
+    let [a, b, c, d, e] = RIGHT;
+    let stream = stream_of(alloc, &[a, b, c, d, e, (1, 2, &SECOND)])?;
+    let trace = decode(alloc, &TRACE)?;
+    let index = PageIndex::build_alone(alloc, &trace)?;
+    let mut checker = StreamChecker::new(alloc, trace.shape(), STOP)?;
+    let found = checker.take_last(&trace, &index, &stream);
+    assert_eq!(rt; found.map_err(|found| found.number), Err(5));
+    assert_eq!(rt; checker.finish(&trace, &index), Ok(()));
+    let behind = stream_of(alloc, &[(1, 2, &SECOND)])?;
+    assert!(rt; checker.take(&trace, &index, &behind).is_err());
+    let mended = stream_of(alloc, &[(1, 3, &THIRD)])?;
+    assert_eq!(rt; checker.take_last(&trace, &index, &mended), Ok(()));
     Ok(())
 }

@@ -1,5 +1,5 @@
 -- Frames that a checker takes from the front of bytes.
-use Rattle.std.proofs.Common.{◌≡◌, ◌≢◌, ℕ, ◌+◌, ◌-◌, ◌<◌, ◌≤◌, List, [], ◌∷◌, ◌++◌, length, take, drop, set, Option}
+use Rattle.std.proofs.Common.{◌≡◌, ℕ, ◌+◌, ◌-◌, ◌<◌, ◌≤◌, List, [], ◌∷◌, ◌++◌, length, take, drop, set, Option}
 use Rattle.std.proofs.Common.{Some, refl, sym, ap, subst, append_assoc, inl, inr, ◌∙◌, arith}
 use Rattle.std.specs.List.{flat_map}
 use Rattle.std.proofs.lemmas.Grind.{flat_map-append}
@@ -15,17 +15,13 @@ use Rattle.page_message.specs.Refusals.{frame_refusal}
 use Rattle.page_message.specs.declared.error.FrameError.{FrameError}
 use Rattle.page_message.specs.declared.error.FrameError.TheVariants.{Short}
 use Rattle.stream_check.specs.Stamps.{stamp_of, greater, keep_last, keep_greatest, last_stamps, greatest_stamps}
-use Rattle.stream_check.specs.Faults.{IsRight, AreRight, BeginsRight, IsFault, IsWrongFront, IsFrontError}
-use Rattle.stream_check.specs.Faults.{IsFirstWrong, IsPart, IsErrorAt, IsCheckError}
+use Rattle.stream_check.specs.Faults.{IsRight, AreRight, BeginsRight, IsFault, IsWrongFront}
 use Rattle.stream_check.specs.Checked.{Checked, checked_with, after_frames, after_stream, TakesRight, TakesAll}
 use Rattle.stream_check.specs.Checked.{StopsAt}
-use Rattle.stream_check.specs.declared.error.FrontError.{FrontError}
-use Rattle.stream_check.specs.declared.error.FrontError.TheVariants as fronts
 use Rattle.stream_check.specs.declared.taken.Taken.{Taken}
-use Rattle.stream_check.specs.declared.error.CheckError.{CheckError}
-use Rattle.stream_check.specs.declared.error.CheckError.TheVariants as checks
 use Rattle.stream_check.specs.declared.faults.WrongFrame.{WrongFrame}
 use Rattle.stream_check.specs.declared.faults.FrameCause.{FrameCause}
+use Rattle.stream_check.specs.declared.faults.FrameFault.{FrameFault}
 use Rattle.stream_check.specs.declared.faults.FrameCause.TheVariants.{Refused}
 
 -- a frame has some bytes
@@ -156,45 +152,36 @@ same_cause : (e : FrameError) (cause : FrameCause) → cause ≡ Refused e → c
 same_cause e cause is short = cc (is, short)
 
 -- a front that is refused as too short
-pub short_front : (trace : GuestTrace) (stop : ℕ) (last : List (Option ℕ)) (rest : List ℕ) (error : FrontError)
-    → IsFrontError (IsWrongFront trace stop last rest) error → IsPart error
+pub short_front : (trace : GuestTrace) (stop : ℕ) (last : List (Option ℕ)) (rest : List ℕ) (fault : FrameFault)
+    → IsWrongFront trace stop last rest fault → fault.cause ≡ Refused Short
     → frame_refusal (shape_of_trace trace) rest ≡ Some Short
-short_front trace stop last rest fronts.Memory wrong part = absurd part
-short_front trace stop last rest (fronts.Wrong fault) wrong part = elim wrong [
+short_front trace stop last rest fault wrong part = elim wrong [
   | inl refused ↦ refused.2 ∙ ap (λ (e : FrameError). Some e) (same_cause refused.0 fault.cause refused.1 part)
   | inr begins ↦ absurd (subst (λ (c : FrameCause). IsFault trace stop (stamp_of last begins.frame.page) begins.frame c
       fault.wanted) part begins.wrong)
 ]
 
 pub stops_at : (trace : GuestTrace) (old new : Checked) (bytes rest : List ℕ) (number offset : ℕ)
-    (error : FrontError) (e : CheckError)
+    (fault : FrameFault) (found : WrongFrame)
     → TakesRight trace old new bytes number rest → offset ≡ length bytes - length rest → 1 ≤ length rest
-    → IsFrontError (IsWrongFront trace new.stop new.last rest) error → IsErrorAt error number offset e
-    → IsCheckError (StopsAt trace old new bytes) e
-stops_at trace old new bytes rest number offset fronts.Memory e takes is some wrong at =
-    subst (IsCheckError (StopsAt trace old new bytes)) (sym at) tt
-stops_at trace old new bytes rest number offset (fronts.Wrong fault) e takes is some wrong at =
-    let begins = rest_is trace old new bytes rest number offset takes is in
+    → IsWrongFront trace new.stop new.last rest fault → found.number ≡ number → found.offset ≡ offset
+    → found.fault ≡ fault → StopsAt trace old new bytes found
+stops_at trace old new bytes rest number offset fault found takes is some wrong number_is offset_is fault_is =
+    let begins = rest_is trace old new bytes rest number found.offset takes (offset_is ∙ is) in
     let front : List ℕ = flat_map frame_text takes.frames in
-    subst (IsCheckError (StopsAt trace old new bytes)) (sym at.1) (record {
+    record {
       first = record {
         frames = takes.frames;
-        number = takes.count_is;
+        number = takes.count_is ∙ sym number_is;
         begins = subst (λ (r : List ℕ). BeginsRight trace old.stop old.last bytes takes.frames r) (sym begins.0)
             takes.begins;
-        within = omega (arith, is, some, ap length takes.begins.text, length-append front rest);
-        wrong = subst (λ (r : List ℕ). IsWrongFront trace old.stop (last_stamps old.last takes.frames) r fault)
-            (sym begins.0) (subst (λ (c : Checked). IsWrongFront trace c.stop c.last rest fault) takes.after wrong);
+        within = omega (arith, is, offset_is, some, ap length takes.begins.text, length-append front rest);
+        wrong = subst (λ (r : List ℕ). IsWrongFront trace old.stop (last_stamps old.last takes.frames) r found.fault)
+            (sym begins.0) (subst (λ (f : FrameFault). IsWrongFront trace old.stop (last_stamps old.last takes.frames) rest f)
+            (sym fault_is) (subst (λ (c : Checked). IsWrongFront trace c.stop c.last rest fault) takes.after wrong));
       };
       after = takes.after;
-    })
-
-pub whole_at : (number offset : ℕ) (error : FrontError) (e : CheckError) → IsErrorAt error number offset e
-    → IsCheckError (λ found. found.fault.cause ≢ Refused Short) e
-whole_at number offset fronts.Memory e at =
-    subst (IsCheckError (λ found. found.fault.cause ≢ Refused Short)) (sym at) tt
-whole_at number offset (fronts.Wrong fault) e at =
-    subst (IsCheckError (λ found. found.fault.cause ≢ Refused Short)) (sym at.1) at.0
+    }
 
 -- ---- the last bytes of a stream
 
@@ -212,19 +199,16 @@ last_taken trace old mid new bytes taken all whole is = (
 pub cut_wrong : (trace : GuestTrace) (old mid : Checked) (bytes : List ℕ) (taken : Taken) (found : WrongFrame)
     → TakesAll trace old mid bytes taken → taken.bytes < length bytes → found.number ≡ taken.frames
     → found.offset ≡ taken.bytes → found.fault.cause ≡ Refused Short
-    → IsFirstWrong trace old.stop old.last bytes found
+    → StopsAt trace old mid bytes found
 cut_wrong trace old mid bytes taken found all cut number offset cause =
     let rest : drop taken.bytes bytes ≡ drop found.offset bytes = ap (λ (n : ℕ). drop n bytes) (sym offset) in
     record {
-      frames = all.takes.frames;
-      number = all.takes.count_is ∙ sym number;
-      begins = subst (BeginsRight trace old.stop old.last bytes all.takes.frames) rest all.takes.begins;
-      within = omega (arith, cut, offset);
-      wrong = inl (Short, cause, ap (frame_refusal (shape_of_trace trace)) (sym rest) ∙ all.part);
+      first = record {
+        frames = all.takes.frames;
+        number = all.takes.count_is ∙ sym number;
+        begins = subst (BeginsRight trace old.stop old.last bytes all.takes.frames) rest all.takes.begins;
+        within = omega (arith, cut, offset);
+        wrong = inl (Short, cause, ap (frame_refusal (shape_of_trace trace)) (sym rest) ∙ all.part);
+      };
+      after = all.takes.after;
     }
-
-pub wrong_in_stream : (trace : GuestTrace) (old new : Checked) (bytes : List ℕ) (e : CheckError)
-    → IsCheckError (StopsAt trace old new bytes) e
-    → IsCheckError (IsFirstWrong trace old.stop old.last bytes) e
-wrong_in_stream trace old new bytes checks.Memory stops = tt
-wrong_in_stream trace old new bytes (checks.Frame found) stops = stops.first

@@ -11,14 +11,12 @@ use Rattle.migration_model.specs.Trace.{GuestTrace}
 use Rattle.migration_model.specs.Frames.{PageFrame, IsFrame, frame_text}
 use Rattle.migration_model.specs.Final.{shape_of_trace}
 use Rattle.stream_check.specs.Stamps.{no_stamps, keep_greatest, greatest_stamps}
-use Rattle.stream_check.specs.Faults.{AreRight, BeginsRight, IsCheckError, IsFirstWrong}
-use Rattle.stream_check.specs.Checked.{Checked, checked_with, unchecked, after_frames, after_stream}
+use Rattle.stream_check.specs.Faults.{AreRight, BeginsRight, IsFirstWrong}
+use Rattle.stream_check.specs.Checked.{Checked, StopsAt, checked_with, unchecked, after_frames, after_stream}
 use Rattle.stream_check.specs.Ends.{AreCurrentStamps, IsFirstBehind}
 use Rattle.stream_check.specs.Receivers.{all_frames}
-use Rattle.stream_check.specs.Streams.{IsAllRight, IsErrorIn, IsFirstThing, IsWrongAtEnd, cut_by, texts_of}
-use Rattle.stream_check.specs.declared.error.CheckError.{CheckError}
-use Rattle.stream_check.specs.declared.error.CheckError.TheVariants as checks
-use Rattle.stream_check.specs.declared.error.StreamsError.{StreamsError}
+use Rattle.stream_check.specs.Streams.{IsAllRight, IsWrongAtEnd, IsWrongIn, cut_by, texts_of}
+use Rattle.stream_check.specs.declared.faults.WrongFrame.{WrongFrame}
 use Rattle.stream_check.specs.declared.faults.WrongPage.{WrongPage}
 
 -- `index` streams with these sizes are taken, and `rest` is behind them
@@ -116,25 +114,21 @@ HasTaken-more trace stop bytes sizes index rest front behind old new has low fro
           (sym (fold-append keep_greatest none (all_frames streams) frames) ∙ ap (greatest_stamps none) (sym all));
     }
 
-pub wrong_in : (trace : GuestTrace) (stop : ℕ) (bytes sizes : List ℕ) (index : ℕ) (rest front : List ℕ) (old : Checked)
-    (e : CheckError) (error : StreamsError) → HasTaken trace stop bytes sizes index rest old → index < length sizes
-    → front ≡ take (get_or sizes index 0) rest
-    → IsCheckError (IsFirstWrong trace old.stop old.last front) e → IsErrorIn index e error
-    → IsFirstThing trace stop (cut_by sizes bytes) error
-wrong_in trace stop bytes sizes index rest front old checks.Memory error has low front_is wrong is =
-    subst (IsFirstThing trace stop (cut_by sizes bytes)) (sym is) tt
-wrong_in trace stop bytes sizes index rest front old (checks.Frame found) error has low front_is wrong is =
-    subst (IsFirstThing trace stop (cut_by sizes bytes)) (sym is) (record {
-      streams = has.streams;
-      number = has.number;
-      bytes = take (get_or sizes index 0) rest;
-      more = cut_by (drop (index + 1) sizes) (drop (get_or sizes index 0) rest);
-      parts = parts_at trace stop bytes sizes index rest old has low;
-      are_frames = has.are_frames;
-      right = has.right;
-      first = subst (λ (b : List ℕ). IsFirstWrong trace stop (no_stamps trace.pages) b found) front_is
-          (subst (λ (c : Checked). IsFirstWrong trace c.stop c.last front found) has.checker_is wrong);
-    })
+pub wrong_in : (trace : GuestTrace) (stop : ℕ) (bytes sizes : List ℕ) (index : ℕ) (rest front : List ℕ)
+    (old new : Checked) (found : WrongFrame) → HasTaken trace stop bytes sizes index rest old → index < length sizes
+    → front ≡ take (get_or sizes index 0) rest → StopsAt trace old new front found
+    → IsWrongIn trace stop (cut_by sizes bytes) index found
+wrong_in trace stop bytes sizes index rest front old new found has low front_is wrong = record {
+  streams = has.streams;
+  number = has.number;
+  bytes = take (get_or sizes index 0) rest;
+  more = cut_by (drop (index + 1) sizes) (drop (get_or sizes index 0) rest);
+  parts = parts_at trace stop bytes sizes index rest old has low;
+  are_frames = has.are_frames;
+  right = has.right;
+  first = subst (λ (b : List ℕ). IsFirstWrong trace stop (no_stamps trace.pages) b found) front_is
+      (subst (λ (c : Checked). IsFirstWrong trace c.stop c.last front found) has.checker_is wrong.first);
+}
 
 all_at : (trace : GuestTrace) (stop : ℕ) (bytes sizes : List ℕ) (index : ℕ) (rest : List ℕ) (checker : Checked)
     → (has : HasTaken trace stop bytes sizes index rest checker) → length sizes ≤ index

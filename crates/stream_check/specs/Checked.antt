@@ -1,5 +1,5 @@
 -- What a checker knows of the streams that came to it, and what it makes of more bytes. This project's own.
-use Rattle.std.specs.Prelude.{◌≡◌, ◌≤◌, ℕ, List, Option, Some, drop, length}
+use Rattle.std.specs.Prelude.{◌≡◌, ◌≤◌, ◌^◌, ℕ, List, Option, Some, drop, length}
 use Rattle.migration_model.specs.Trace.{GuestTrace}
 use Rattle.migration_model.specs.Frames.{GuestShape, PageFrame}
 use Rattle.migration_model.specs.Final.{shape_of_trace}
@@ -20,10 +20,11 @@ pub record Checked : Type 0 where
 abbrev pub checked_with : GuestShape → ℕ → List (Option ℕ) → List (Option ℕ) → Checked
 checked_with shape stop last greatest = record { shape = shape; stop = stop; last = last; greatest = greatest }
 
--- there is a slot for each page
-pub record HasSlots (pages : ℕ) (last greatest : List (Option ℕ)) : Type 0 where
+-- there is a slot for each page, and room for the bytes of one
+pub record HasRoom (shift pages : ℕ) (last greatest : List (Option ℕ)) (room : List ℕ) : Type 0 where
   pub for_last : length last ≡ pages
   pub for_greatest : length greatest ≡ pages
+  pub for_page : length room ≡ 2 ^ shift
 
 -- before any frame
 abbrev pub unchecked : GuestShape → ℕ → Checked

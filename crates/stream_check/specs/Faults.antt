@@ -10,15 +10,10 @@ use Rattle.page_message.specs.Refusals.{frame_refusal}
 use Rattle.page_versions.specs.Index.{version_after}
 use Rattle.stream_check.specs.Stamps.{stamp_of, keep_last, last_stamps}
 use Rattle.page_message.specs.declared.error.FrameError.{FrameError}
-use Rattle.page_message.specs.declared.error.FrameError.TheVariants.{Short}
 use Rattle.stream_check.specs.declared.faults.FrameCause.{FrameCause}
 use Rattle.stream_check.specs.declared.faults.FrameCause.TheVariants.{Refused, NoVersion, AfterStop, Older, Bytes}
 use Rattle.stream_check.specs.declared.faults.FrameFault.{FrameFault}
 use Rattle.stream_check.specs.declared.faults.WrongFrame.{WrongFrame}
-use Rattle.stream_check.specs.declared.error.FrontError.{FrontError}
-use Rattle.stream_check.specs.declared.error.FrontError.TheVariants as fronts
-use Rattle.stream_check.specs.declared.error.CheckError.{CheckError}
-use Rattle.stream_check.specs.declared.error.CheckError.TheVariants as checks
 
 -- a stamp with which nothing is wrong: that of a version of its page, from before the stop, and not below the last one
 -- of the page in its stream
@@ -93,24 +88,3 @@ pub record IsFirstWrong (trace : GuestTrace) (stop : ℕ) (last : List (Option �
   pub begins : BeginsRight trace stop last bytes frames (drop found.offset bytes)
   pub within : found.offset < length bytes
   pub wrong : IsWrongFront trace stop (last_stamps last frames) (drop found.offset bytes) found.fault
-
--- a test of a frame did not end for want of memory, or with such a fault
-abbrev pub IsFrontError : (FrameFault → Type 0) → FrontError → Type 0
-IsFrontError IsOf fronts.Memory = Unit {0}
-IsFrontError IsOf (fronts.Wrong fault) = IsOf fault
-
--- more bytes may mend it: they end within a frame
-abbrev pub IsPart : FrontError → Type 0
-IsPart fronts.Memory = ⊥
-IsPart (fronts.Wrong fault) = fault.cause ≡ Refused Short
-
--- the error of a check, for what stopped it at this frame of its bytes
-abbrev pub IsErrorAt : FrontError → ℕ → ℕ → CheckError → Type 0
-IsErrorAt fronts.Memory number offset error = error ≡ checks.Memory
-IsErrorAt (fronts.Wrong fault) number offset error = (fault.cause ≢ Refused Short)
-    × (error ≡ checks.Frame (record { number = number; offset = offset; fault = fault }))
-
--- memory ran out, or that is the first frame that is wrong
-abbrev pub IsCheckError : (WrongFrame → Type 0) → CheckError → Type 0
-IsCheckError IsOf checks.Memory = Unit {0}
-IsCheckError IsOf (checks.Frame found) = IsOf found

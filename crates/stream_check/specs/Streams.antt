@@ -12,8 +12,6 @@ use Rattle.stream_check.specs.declared.faults.WrongFrame.{WrongFrame}
 use Rattle.stream_check.specs.declared.faults.WrongPage.{WrongPage}
 use Rattle.stream_check.specs.declared.error.StreamsError.{StreamsError}
 use Rattle.stream_check.specs.declared.error.StreamsError.TheVariants.{Memory, Frame, Page}
-use Rattle.stream_check.specs.declared.error.CheckError.{CheckError}
-use Rattle.stream_check.specs.declared.error.CheckError.TheVariants as checks
 
 -- bytes cut into streams of these lengths
 abbrev pub cut_by : List ℕ → List ℕ → List (List ℕ)
@@ -60,8 +58,3 @@ abbrev pub IsFirstThing : GuestTrace → ℕ → List (List ℕ) → StreamsErro
 IsFirstThing trace stop texts Memory = Unit {0}
 IsFirstThing trace stop texts (Frame stream found) = IsWrongIn trace stop texts stream found
 IsFirstThing trace stop texts (Page found) = IsWrongAtEnd trace stop texts found
-
--- the error of one stream, as that of all
-abbrev pub IsErrorIn : ℕ → CheckError → StreamsError → Type 0
-IsErrorIn stream checks.Memory error = error ≡ Memory
-IsErrorIn stream (checks.Frame found) error = error ≡ Frame stream found

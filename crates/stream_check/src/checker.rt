@@ -1,6 +1,6 @@
 //! The checker: what it knows of the streams that came, and how it takes more.
 
-ghost use Rattle.std.specs.Prelude.{◌≡◌, ◌≢◌, ◌<◌, ◌≤◌, [], List, IfErr, IfOk, OnErr, OnOk, Some, drop, length};
+ghost use Rattle.std.specs.Prelude.{◌≡◌, ◌≢◌, ◌<◌, ◌≤◌, ◌^◌, [], List, IfErr, IfOk, OnErr, OnOk, Some, drop, length};
 ghost use Rattle.std.specs.Prelude.{slice_set};
 ghost use Rattle.migration_model.specs.Final.{shape_of_trace};
 ghost use Rattle.page_message.specs.Shapes.{shape_of};
@@ -9,14 +9,12 @@ ghost use Rattle.stream_check.specs.Checked.{StopsAt, TakesAll, TakesRight, afte
 ghost use Rattle.stream_check.specs.Checked.{unchecked};
 ghost use Rattle.stream_check.specs.Ends.{AreCurrentStamps, IsFirstBehind};
 ghost use Rattle.migration_model.specs.Frames.{PageFrame};
-ghost use Rattle.stream_check.specs.Faults.{BeginsRight, IsCheckError, IsErrorAt, IsFirstWrong, IsFrontError, IsPart};
-ghost use Rattle.stream_check.specs.Faults.{IsWrongFront};
+ghost use Rattle.stream_check.specs.Faults.{BeginsRight, IsFirstWrong, IsWrongFront};
 ghost use Rattle.stream_check.specs.declared.faults.FrameCause.TheVariants.{Refused};
 ghost use Rattle.page_message.specs.declared.error.FrameError.TheVariants.{Short};
 ghost use Rattle.stream_check.specs.Stamps.{greater, no_stamps, stamp_of};
 
 use crate::ending::page_behind;
-use crate::error::{CheckError, FrontError};
 use crate::faults::{FrameCause, FrameFault, WrongFrame, WrongPage};
 use crate::stamps::greater_stamp;
 use crate::taken::Taken;
@@ -28,24 +26,25 @@ use std::alloc::{AllocError, Global};
 use std::marker::Model;
 
 /// What a check of a migration's streams knows: the last stamp of each page in the stream that comes now, and the
-/// greatest in all streams.
+/// greatest in all streams. All its memory is taken when it is made.
 #[derive(Debug, Drop)]
 pub struct StreamChecker {
     shape: Shape,
     stop: u32,
     last: Vec<Option<u32>>,
     greatest: Vec<Option<u32>>,
+    room: Vec<u8>,
 }
 
 impl Model for StreamChecker {
     ghost use Rattle.page_message.specs.Shapes.{shape_of};
-    ghost use Rattle.stream_check.specs.Checked.{Checked, HasSlots, checked_with};
+    ghost use Rattle.stream_check.specs.Checked.{Checked, HasRoom, checked_with};
 
     ghost Value = { Checked };
 
     ghost view = { λ c. checked_with (shape_of c.shape) c.stop c.last.items c.greatest.items };
 
-    ghost invariant = { λ c. HasSlots c.shape.pages c.last.items c.greatest.items };
+    ghost invariant = { λ c. HasRoom c.shape.shift c.shape.pages c.last.items c.greatest.items c.room.items };
 }
 
 /// Returns slots for the stamps of all pages, of which none came.
@@ -56,23 +55,22 @@ fn slots(alloc: Global, pages: usize) -> Result<Vec<Option<u32>>, AllocError>
 }
 
 /// Returns what ends a check of some bytes at this frame of them. If the bytes end within the frame, that is no error.
-fn end_at(error: FrontError, number: usize, offset: usize) -> Result<Taken, CheckError>
-    ensures part { IfOk result (λ taken. (taken.frames ≡ number) × (taken.bytes ≡ offset) × IsPart error) }
-    ensures wrong { IfErr result (IsErrorAt error number offset) }
+fn end_at(fault: FrameFault, number: usize, offset: usize) -> Result<Taken, WrongFrame>
+    ensures part { IfOk result (λ taken. (taken.frames ≡ number) × (taken.bytes ≡ offset)
+        × (fault.cause ≡ Refused Short)) }
+    ensures wrong { IfErr result (λ found. (fault.cause ≢ Refused Short) × (found.number ≡ number)
+        × (found.offset ≡ offset) × (found.fault ≡ fault)) }
 {
-    match error {
-        FrontError::Memory => Err(CheckError::Memory),
-        FrontError::Wrong(fault) => match fault.cause {
-            FrameCause::Refused(FrameError::Short) => Ok(Taken {
-                frames: number,
-                bytes: offset,
-            }),
-            _ => Err(CheckError::Frame(WrongFrame {
-                number,
-                offset,
-                fault,
-            })),
-        },
+    match fault.cause {
+        FrameCause::Refused(FrameError::Short) => Ok(Taken {
+            frames: number,
+            bytes: offset,
+        }),
+        _ => Err(WrongFrame {
+            number,
+            offset,
+            fault,
+        }),
     }
 }
 
@@ -102,11 +100,13 @@ impl StreamChecker {
     {
         let last = slots(alloc, shape.pages as usize)?;
         let greatest = slots(alloc, shape.pages as usize)?;
+        let room = vec![in alloc; 0; shape.page_size()]?;
         Ok(StreamChecker {
             shape,
             stop,
             last,
             greatest,
+            room,
         })
     }
 
@@ -133,54 +133,51 @@ impl StreamChecker {
     /// Takes the frame at the front of some bytes, if it is right. Returns how many bytes it has.
     fn take_front<W: WriteLog>(
         &mut self,
-        alloc: Global,
         trace: &W,
         index: &PageIndex,
         bytes: &[u8],
-    ) -> Result<usize, FrontError>
+    ) -> Result<usize, FrameFault>
         requires of { IsIndexOf index.now (W.trace trace.now) }
         requires shape { self.old.shape ≡ shape_of_trace (W.trace trace.now) }
         ensures taken { IfOk result (λ size. TakesRight (W.trace trace.now) self.old self.new bytes.now 1
             (drop size bytes.now)) }
         ensures some { IfOk result (λ size. 1 ≤ size) }
         ensures within { IfOk result (λ size. size ≤ length bytes.now) }
-        ensures wrong { IfErr result (IsFrontError
-            (IsWrongFront (W.trace trace.now) self.old.stop self.old.last bytes.now)) }
+        ensures wrong { IfErr result (IsWrongFront (W.trace trace.now) self.old.stop self.old.last bytes.now) }
         ensures unchanged { OnErr result (self.new ≡ self.old) }
     {
         let (view, size) = view_frame(&self.shape, bytes)?;
         let last = self.last_of(view.page);
-        test_frame(alloc, trace, index, self.stop, last, &view)?;
+        test_frame(trace, index, self.stop, last, &view, &mut self.room)?;
         self.note(view.page, view.stamp);
         Ok(size)
     }
 
     /// Takes all whole frames of the next bytes of a stream, up to the first that is wrong. What is behind them is the
     /// beginning of a frame, or nothing, and comes again at the front of the next bytes. After an error the frames
-    /// before the wrong one are taken.
+    /// before the wrong one are taken. It allocates nothing.
     pub fn take<W: WriteLog>(
         &mut self,
-        alloc: Global,
         trace: &W,
         index: &PageIndex,
         bytes: &[u8],
-    ) -> Result<Taken, CheckError>
+    ) -> Result<Taken, WrongFrame>
         requires of { IsIndexOf index.now (W.trace trace.now) }
         requires shape { self.old.shape ≡ shape_of_trace (W.trace trace.now) }
         ensures taken { IfOk result (TakesAll (W.trace trace.now) self.old self.new bytes.now) }
-        ensures wrong { IfErr result (IsCheckError (StopsAt (W.trace trace.now) self.old self.new bytes.now)) }
-        ensures whole { IfErr result (IsCheckError (λ found. found.fault.cause ≢ Refused Short)) }
+        ensures wrong { IfErr result (StopsAt (W.trace trace.now) self.old self.new bytes.now) }
+        ensures whole { IfErr result (λ found. found.fault.cause ≢ Refused Short) }
     {
         let mut rest = bytes;
         let mut number = 0usize;
         while !rest.is_empty() {
-            match self.take_front(alloc, trace, index, rest) {
+            match self.take_front(trace, index, rest) {
                 Ok(size) => {
                     let (_, behind) = rest.split_at(size);
                     rest = behind;
                     number += 1;
                 }
-                Err(error) => return end_at(error, number, bytes.len() - rest.len()),
+                Err(fault) => return end_at(fault, number, bytes.len() - rest.len()),
             }
         }
         Ok(Taken {
@@ -190,25 +187,23 @@ impl StreamChecker {
     }
 
     /// Takes the bytes of a stream, or all of them that are left, and ends it. Bytes that end within a frame are wrong.
-    /// After an error the frames before the wrong one are taken, and the stream has not ended.
+    /// After an error the frames before the wrong one are taken, and the stream has not ended. It allocates nothing.
     pub fn take_last<W: WriteLog>(
         &mut self,
-        alloc: Global,
         trace: &W,
         index: &PageIndex,
         bytes: &[u8],
-    ) -> Result<(), CheckError>
+    ) -> Result<(), WrongFrame>
         requires of { IsIndexOf index.now (W.trace trace.now) }
         requires shape { self.old.shape ≡ shape_of_trace (W.trace trace.now) }
         ensures taken { OnOk result ((frames : List PageFrame)
             × BeginsRight (W.trace trace.now) self.old.stop self.old.last bytes.now frames []
             × (self.new ≡ after_stream (after_frames self.old frames))) }
-        ensures wrong { IfErr result (IsCheckError
-            (IsFirstWrong (W.trace trace.now) self.old.stop self.old.last bytes.now)) }
+        ensures wrong { IfErr result (StopsAt (W.trace trace.now) self.old self.new bytes.now) }
     {
-        let taken = self.take(alloc, trace, index, bytes)?;
+        let taken = self.take(trace, index, bytes)?;
         if taken.bytes < bytes.len() {
-            return Err(CheckError::Frame(cut_off(taken)));
+            return Err(cut_off(taken));
         }
         self.end_stream();
         Ok(())

@@ -1,5 +1,8 @@
 //! What can be wrong in the streams of a migration.
 
+ghost use Rattle.std.specs.Prelude.{◌≡◌};
+ghost use Rattle.stream_check.specs.declared.faults.FrameCause.TheVariants.{Refused};
+
 use page_message::FrameError;
 
 /// Why a frame is wrong. If there are several causes, it is the first in this order.
@@ -29,6 +32,19 @@ pub struct FrameFault {
     /// What was to be: for `NoVersion` the page's version after `stamp` writes, for `AfterStop` its version at the
     /// stop, for `Older` the stamp that came before, and for `Bytes` the stamp itself. It is 0 if the frame is refused.
     pub wanted: u32,
+}
+
+impl From<FrameError> for FrameFault {
+    ghost from_gives = { λ error fault. fault ≡ record { cause = Refused error; page = 0; stamp = 0; wanted = 0 } };
+
+    fn from(error: FrameError) -> FrameFault {
+        FrameFault {
+            cause: FrameCause::Refused(error),
+            page: 0,
+            stamp: 0,
+            wanted: 0,
+        }
+    }
 }
 
 /// The first frame of some bytes that is wrong.

@@ -18,7 +18,7 @@ mod taken;
 mod testing;
 
 pub use checker::StreamChecker;
-pub use error::{CheckError, StreamsError};
+pub use error::StreamsError;
 pub use faults::{FrameCause, FrameFault, WrongFrame, WrongPage};
 pub use laws::{right_streams_make_memory, versions_are_as_at_the_stop};
 pub use streams::check_streams;

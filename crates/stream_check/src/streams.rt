@@ -2,23 +2,13 @@
 
 ghost use Rattle.std.specs.Prelude.{◌≡◌, ◌≤◌, IfErr, OnOk, length, sum};
 ghost use Rattle.page_versions.specs.Index.{IsIndexOf};
-ghost use Rattle.stream_check.specs.Streams.{IsAllRight, IsErrorIn, IsFirstThing, cut_by};
+ghost use Rattle.stream_check.specs.Streams.{IsAllRight, IsFirstThing, cut_by};
 
 use crate::checker::StreamChecker;
-use crate::error::{CheckError, StreamsError};
+use crate::error::StreamsError;
 use guest_log::WriteLog;
 use page_versions::PageIndex;
 use std::alloc::Global;
-
-/// Returns the error of a check, of the stream with this number.
-fn error_in(stream: usize, error: CheckError) -> StreamsError
-    ensures { IsErrorIn stream error result }
-{
-    match error {
-        CheckError::Memory => StreamsError::Memory,
-        CheckError::Frame(found) => StreamsError::Frame(stream, found),
-    }
-}
 
 /// Checks the streams of a migration that stops its guest after the first `stop` writes of the trace. `bytes` are those
 /// of all streams, one after the other, and `sizes` is how many each has. The error is the first thing that is wrong,
@@ -42,8 +32,8 @@ pub fn check_streams<W: WriteLog>(
     let mut rest = bytes;
     for stream in 0..sizes.len() {
         let (front, behind) = rest.split_at(sizes[stream]);
-        if let Err(error) = checker.take_last(alloc, trace, index, front) {
-            return Err(error_in(stream, error));
+        if let Err(found) = checker.take_last(trace, index, front) {
+            return Err(StreamsError::Frame(stream, found));
         }
         rest = behind;
     }

@@ -5,6 +5,7 @@ use Rattle.migration_model.specs.Final.{shape_of_trace}
 use Rattle.page_message.specs.Shapes.{shape_of}
 use Rattle.stream_check.specs.Checked.{unchecked}
 use Rattle.stream_check.specs.Streams.{IsFirstThing, cut_by}
+use Rattle.stream_check.specs.declared.error.StreamsError.TheVariants.{Frame}
 use Rattle.stream_check.proofs.Only.{only_memory}
 use Rattle.stream_check.proofs.Streamed.{HasTaken-more, HasTaken-none, all_right, wrong_in, wrong_at_end}
 use Rattle.stream_check.proofs.streams.check_streams.Goals as goal
@@ -28,15 +29,22 @@ loop-stream-preserved g c =
     c.take_last.new.self c.loop-stream.invariant low c.split_at.ensures.front c.split_at.ensures.back
     c.in_default.ensures.taken
 
+pub returns-in-Err-clause-wrong : goal.returns-in-Err-clause-wrong
+returns-in-Err-clause-wrong g c =
+    let low : c.loop-stream.stream < length c.args.sizes.now = omega (arith, c.loop-stream-test.true) in
+    wrong_in (g.W.WriteLog.trace c.args.trace.now) c.args.stop c.args.bytes.now c.args.sizes.now c.loop-stream.stream
+    c.loop-stream.rest.now c.split_at.result.0.now c.loop-stream.checker c.take_last.new.self c.in-Err.found
+    c.loop-stream.invariant low c.split_at.ensures.front c.in-Err.ensures.wrong
+
 pub returns-in-Err-clause-only : goal.returns-in-Err-clause-only
 returns-in-Err-clause-only g c = λ all.
     let trace = g.W.WriteLog.trace c.args.trace.now in
     let low : c.loop-stream.stream < length c.args.sizes.now = omega (arith, c.loop-stream-test.true) in
-    only_memory trace c.args.stop (cut_by c.args.sizes.now c.args.bytes.now) c.error_in.result
+    only_memory trace c.args.stop (cut_by c.args.sizes.now c.args.bytes.now) (Frame c.loop-stream.stream c.in-Err.found)
     c.shape.ensures.is_trace all
     (wrong_in trace c.args.stop c.args.bytes.now c.args.sizes.now c.loop-stream.stream c.loop-stream.rest.now
-    c.split_at.result.0.now c.loop-stream.checker c.in-Err.error c.error_in.result c.loop-stream.invariant low
-    c.split_at.ensures.front c.in-Err.ensures.wrong c.error_in.ensures)
+    c.split_at.result.0.now c.loop-stream.checker c.take_last.new.self c.in-Err.found c.loop-stream.invariant low
+    c.split_at.ensures.front c.in-Err.ensures.wrong)
 
 pub returns-in_err-finish-clause-only : goal.returns-in_err-finish-clause-only
 returns-in_err-finish-clause-only g c = λ all.

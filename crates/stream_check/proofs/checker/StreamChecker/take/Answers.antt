@@ -1,7 +1,9 @@
-use Rattle.std.proofs.Common.{◌≡◌, ◌≤◌, ◌-◌, length, refl, sym, subst, ◌∙◌, arith}
+use Rattle.std.proofs.Common.{◌≡◌, ◌≢◌, ◌≤◌, ◌-◌, length, refl, sym, subst, ◌∙◌, arith}
 use Rattle.std.proofs.lemmas.Bool.{eqb-false}
 use Rattle.std.proofs.lemmas.Result.{IfErr-weaker}
-use Rattle.stream_check.specs.Faults.{IsCheckError, IsErrorAt, IsFrontError, IsWrongFront}
+use Rattle.page_message.specs.declared.error.FrameError.TheVariants.{Short}
+use Rattle.stream_check.specs.declared.faults.FrameCause.TheVariants.{Refused}
+use Rattle.stream_check.specs.Faults.{IsWrongFront}
 use Rattle.stream_check.specs.Checked.{Checked, StopsAt, TakesRight}
 use Rattle.stream_check.proofs.Fronts.{Takes-more, Takes-nothing, shape_taken, stops_at}
 use Rattle.stream_check.proofs.checker.StreamChecker.take.Goals as goal
@@ -35,11 +37,13 @@ returns-in-Err-clause-wrong g c =
     let same = sym c.in-Err.ensures.unchanged in
     let filled : length rest ≡ 0 → ⊥ = eqb-false _ _ (sym c.is_empty.ensures ∙ c.loop-rest-test.true) in
     let some : 1 ≤ length rest = omega (arith, filled) in
-    IfErr-weaker c.end_at.result (IsErrorAt c.in-Err.error c.loop-rest.number offset)
-    (IsCheckError (StopsAt trace c.args.self.now c.take_front.new.self c.args.bytes.now))
-    (λ e at. stops_at trace c.args.self.now c.take_front.new.self c.args.bytes.now rest c.loop-rest.number offset
-    c.in-Err.error e
-    (subst (λ (k : Checked). TakesRight trace c.args.self.now k c.args.bytes.now c.loop-rest.number rest) same
-    c.loop-rest.invariant.takes) refl some
-    (subst (λ (k : Checked). IsFrontError (IsWrongFront trace k.stop k.last rest) c.in-Err.error) same
-    c.in-Err.ensures.wrong) at) c.end_at.ensures.wrong
+    let takes : TakesRight trace c.args.self.now c.take_front.new.self c.args.bytes.now c.loop-rest.number rest =
+    subst (λ (k : Checked). TakesRight trace c.args.self.now k c.args.bytes.now c.loop-rest.number rest) same
+    c.loop-rest.invariant.takes in
+    let wrong : IsWrongFront trace c.take_front.new.self.stop c.take_front.new.self.last rest c.in-Err.fault =
+    subst (λ (k : Checked). IsWrongFront trace k.stop k.last rest c.in-Err.fault) same c.in-Err.ensures.wrong in
+    IfErr-weaker c.end_at.result (λ found. (c.in-Err.fault.cause ≢ Refused Short)
+    × (found.number ≡ c.loop-rest.number) × (found.offset ≡ offset) × (found.fault ≡ c.in-Err.fault))
+    (StopsAt trace c.args.self.now c.take_front.new.self c.args.bytes.now)
+    (λ found at. stops_at trace c.args.self.now c.take_front.new.self c.args.bytes.now rest c.loop-rest.number offset
+    c.in-Err.fault found takes refl some wrong at.1 at.2 at.3) c.end_at.ensures.wrong

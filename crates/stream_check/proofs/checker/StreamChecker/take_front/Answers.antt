@@ -1,9 +1,9 @@
-use Rattle.std.proofs.Common.{◌≡◌, take, ap, subst, ◌∙◌}
+use Rattle.std.proofs.Common.{◌≡◌, Some, set, take, ap, subst, ◌∙◌}
 use Rattle.migration_model.specs.Frames.{GuestShape, PageFrame, SpellsFrame}
 use Rattle.migration_model.specs.Final.{shape_of_trace}
 use Rattle.page_message.specs.Shapes.{shape_of}
-use Rattle.stream_check.specs.Checked.{Checked}
-use Rattle.stream_check.specs.Stamps.{stamp_of}
+use Rattle.stream_check.specs.Checked.{Checked, checked_with}
+use Rattle.stream_check.specs.Stamps.{greater, stamp_of}
 use Rattle.stream_check.proofs.Fronts.{Takes-front, some_size}
 use Rattle.stream_check.proofs.checker.StreamChecker.take_front.Goals as goal
 
@@ -20,7 +20,11 @@ returns-clause-taken g c =
     (subst (λ (s : GuestShape). SpellsFrame s (take c.in_ok-view.size c.args.bytes.now) frame) shape
     c.in_ok-view.ensures.found)
     c.in_ok-test_frame.ensures.right (ap (λ (k : Checked). k.stop) c.self.view_is)
-    (c.last_of-last.ensures ∙ ap (stamp_of c.args.self.now.last) page) page stamp c.note.ensures
+    (c.last_of-last.ensures ∙ ap (stamp_of c.args.self.now.last) page) page stamp
+    (c.note.ensures ∙ ap (λ (k : Checked). checked_with k.shape k.stop
+    (set k.last c.view.inside.page (Some c.view.inside.stamp))
+    (set k.greatest c.view.inside.page (Some (greater (stamp_of k.greatest c.view.inside.page) c.view.inside.stamp))))
+    c.self.view_is)
 
 pub returns-clause-some : goal.returns-clause-some
 returns-clause-some g c =
