@@ -224,9 +224,25 @@ def whole_runs(programs: Programs, folder: str) -> None:
     expect(rows == expected[best][1], f"{rows} in place of {expected[best][1]}")
     expect({schedule["at_once"] for schedule in told["schedules"]} == {1, 2, 4}, "other numbers at once")
     expect(text.count("<- best") == 1 and "virsh migrate-setmaxdowntime 'db one' 200\n" in text, text)
+    expect_waits(text, told)
     lines = [line for line in text.splitlines() if line.startswith("virsh migrate --live")]
     expect(len(lines) == 4 and all(line.endswith("qemu+ssh://b/system") for line in lines), f"{lines}")
     expect_picture(f"{folder}/host.svg", told)
+
+
+def expect_waits(text: str, told: dict) -> None:
+    """Each guest begins at once, or when one has moved that ends just then: that of its slot, if it does."""
+    moves = {move["guest"]: move for move in told["best"]["moves"]}
+    waits = re.findall(r"^# (\w+): (?:at once|when (\w+) has moved, after about ([\d.]+) s)$", text, re.M)
+    expect(sorted(name for name, _, _ in waits) == sorted(moves), f"{waits}")
+    for name, before, after in waits:
+        start = moves[name]["start_seconds"]
+        expect(bool(before) == bool(start), f"{name} begins at {start}, after {before!r}")
+        if before:
+            slot_ends = [move["end_seconds"] for move in moves.values() if move["slot"] == moves[name]["slot"]]
+            is_of_slot = moves[before]["slot"] == moves[name]["slot"]
+            expect(moves[before]["end_seconds"] == start and after == f"{start:.1f}", f"{name} after {before}")
+            expect(is_of_slot or start not in slot_ends, f"{name} waits for its slot, and not for {before}")
 
 
 def expect_picture(path: str, told: dict) -> None:
@@ -266,6 +282,7 @@ def refusals(programs: Programs, folder: str) -> None:
                 new.write(old.read())
     text, fault = run_tool(programs, web, f"{folder}/old.light.pcwt", db, *link, status=1)
     expect("old.light.pcwt: E2: it does not begin as a trace" in fault and "2 guests" in text, f"{fault!r} {text!r}")
+    expect(not re.search(r"^ +3  ", text, re.M), f"three at once of two guests: {text!r}")
     twice = "two records of one guest"
     for second, told in (("web.20261127T030000Z", f"{twice}: web"), ("twin", twice)):
         _, fault = run_tool(programs, web, f"{folder}/{second}.light.pcwt", *link, status=1)
@@ -298,7 +315,8 @@ def settings(programs: Programs, folder: str) -> None:
                         status=status)
 
     for fields, told in (
-        ("{", "is no JSON"), ("[]", "is no JSON object"), ({"reserv": "1Gbit"}, "there is no setting reserv"),
+        ("{", "is no JSON"), ("[" * 100_000, "is no JSON"), ("[]", "is no JSON object"),
+        ({"reserv": "1Gbit"}, "there is no setting reserv"),
         ({"reserve": "1Gbit"}, "the reserve leaves nothing of the link"),
         ({"apart": [["web"]]}, "apart is no list of lists"), ({"apart": [["web", "web"]]}, "web stands there twice"),
         ({"apart": [["web", "mail"]]}, "there is no record of the guest mail"), ({"guests": []}, "guests is no JSON"),
@@ -342,10 +360,30 @@ def costs_of_other_hosts(programs: Programs, folder: str) -> None:
     ):
         _, fault = run_tool(programs, *files, *others, status=1)
         expect(told in fault, fault)
-    with open(files[0], "w", encoding="utf-8") as file:
-        file.write('{"format": "precopy costs 2"}\n')
-    text, fault = run_tool(programs, *files, *words, status=1)
-    expect("line 1 has no costs of a guest" in fault and "3 guests" in text, fault)
+    damaged_lines(programs, folder, records, words)
+
+
+def damaged_lines(programs: Programs, folder: str, records: list[str], words: list[str]) -> None:
+    """A line that is damaged is named, and the guests of all others are planned."""
+    lines, _ = run_tool(programs, *records, *words, "--jobs", "1", "--costs")
+    good, *others = lines.splitlines()
+    fields = json.loads(good)
+
+    def with_cost(**changed: object) -> str:
+        first, *rest = fields["costs"]
+        return json.dumps({**fields, "costs": [{**first, **changed}, *rest]})
+
+    for wrong, told in (
+        ('{"format": "precopy costs 2"}', "has no costs of a guest"), (good[: len(good) // 2], "is no JSON"),
+        ("[" * 100_000, "is no JSON"), ("[]", "has no costs"), (with_cost(time="1"), "time is '1'"),
+        (with_cost(sent=-1), "sent is -1"), (with_cost(known=1), "known is 1"), (with_cost(more=1), "more"),
+        (with_cost(share=1e999), "share is inf"), (with_cost(downtime=1 << 64), "downtime is"),
+        (json.dumps({**fields, "name": 1}), "name"),
+    ):
+        with open(f"{folder}/some.jsonl", "w", encoding="utf-8") as file:
+            file.write("\n".join([others[0], wrong, *others[1:], ""]))
+        text, fault = run_tool(programs, f"{folder}/some.jsonl", *words, status=1)
+        expect("some.jsonl: line 2 " in fault and told in fault and "3 guests" in text, f"{wrong[:80]}: {fault!r}")
 
 
 def refused_words(programs: Programs, folder: str) -> None:

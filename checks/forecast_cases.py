@@ -17,6 +17,7 @@ import day_chart
 import forecast
 import places
 import plans
+import refusals
 import samples
 import traces
 
@@ -105,7 +106,7 @@ def damaged_fields(_, folder):
             file.write(text)
         try:
             samples.read(path, trace, written)
-        except samples.Refused as refused:
+        except refusals.Refused as refused:
             return str(refused)
         return ""
 
@@ -117,7 +118,7 @@ def damaged_fields(_, folder):
     for name in fields:
         said = refusal(json.dumps({other: fields[other] for other in fields if other != name}))
         expect(f"{name} is missing" in said, f"without {name}: {said!r}")
-    for text, said in (("", "no JSON"), ("[1]", "no JSON object"), ('{"a": 1}', "no field a"), ("{", "no JSON")):
+    for text, said in (("", "no JSON"), ("[1]", "no JSON object"), ('{"a": 1}', "no field a"), ("{", "no JSON"), ("[" * 100_000, "no JSON")):
         expect(said in refusal(text), f"{text!r} is not refused")
     expect(count > 180, f"{count} damages")
 

@@ -6,14 +6,17 @@ named by the file. Times are whole microseconds, and sizes bytes.
 
 import concurrent.futures
 import json
+import math
 import os
 import re
 from typing import NamedTuple
 
 import plans
+import refusals
 import samples
 import traces
 from forecast import Forecast, Link, encoded
+from refusals import Refused
 
 FORMAT = "precopy costs 1"
 LIGHT = ".light.pcwt"
@@ -183,18 +186,27 @@ def try_guest(path: str, asked: Asked, limits: Wanted) -> Guest | str:
     """The costs of one record, or why it is refused."""
     try:
         return guest_of(path, asked, limits)
-    except (OSError, traces.Refused, samples.Refused, plans.Failed) as fault:
+    except (OSError, Refused, plans.Failed) as fault:
         return traces.told(fault)
 
 
-def guests_of(paths: list[str], asked: Asked, limits_of) -> list[Guest | str]:
-    """The same of each record, by all processors."""
-    count = min(len(os.sched_getaffinity(0)), len(paths))
-    if count < 2:
-        return [try_guest(path, asked, limits_of(name_of(path))) for path in paths]
-    with concurrent.futures.ProcessPoolExecutor(count) as pool:
-        waiting = [pool.submit(try_guest, path, asked, limits_of(name_of(path))) for path in paths]
+def side_by_side(jobs: int, function, rows: list[tuple]) -> list:
+    """What a function makes of each row, by this many processes."""
+    if min(jobs, len(rows)) < 2:
+        return [function(*row) for row in rows]
+    with concurrent.futures.ProcessPoolExecutor(min(jobs, len(rows))) as pool:
+        waiting = [pool.submit(function, *row) for row in rows]
         return [each.result() for each in waiting]
+
+
+def guests_of(paths: list[str], asked: Asked, limits_of, jobs: int) -> list[Guest | str]:
+    """The costs of each record, or why it is refused."""
+    return side_by_side(jobs, try_guest, [(path, asked, limits_of(name_of(path))) for path in paths])
+
+
+def rounds_of(path: str, asked: Asked, share: float, limits: Wanted) -> list[int]:
+    """When the rounds of one guest end, in microseconds from its start on. A record that is elsewhere has none."""
+    return Planner(path, asked).rounds(share, limits) if os.path.exists(path) else []
 
 
 def line(guest: Guest, asked: Asked) -> str:
@@ -205,34 +217,47 @@ def line(guest: Guest, asked: Asked) -> str:
     return json.dumps({"format": FORMAT, "link": asked.link, "starts": asked.starts, **fields})
 
 
-class Refused(Exception):
-    """Records or a file of costs are refused; the text names them and the cause."""
-
-
-def lines_of(path: str, asked: Asked, limits_of) -> list[Guest]:
-    """The guests of a file of such lines. They must be of the same link, limits and numbers at once."""
+def lines_of(path: str, asked: Asked, limits_of) -> list[Guest | str]:
+    """The guest of each line of such a file, or why the line is refused. All must be of the same link, limits and
+    numbers at once, or the file is refused."""
     found = []
-    with open(path, encoding="utf-8") as lines:
+    with open(path, "rb") as lines:
         for number, text in enumerate(lines, 1):
+            where = f"{path}: line {number}"
             try:
-                fields = json.loads(text)
-                guest, rate = parsed(fields), float(fields["link"])
+                guest, rate = parsed(refusals.json_of(where, text))
+            except Refused as fault:
+                found.append(str(fault))
             except (ValueError, KeyError, TypeError, AttributeError) as fault:
-                raise Refused(f"{path}: line {number} has no costs of a guest: {fault}") from fault
-            expect_same(f"{path}: line {number}", guest, rate, asked, limits_of)
-            found.append(guest)
+                found.append(f"{where} has no costs of a guest: {fault}")
+            else:
+                expect_same(where, guest, rate, asked, limits_of)
+                found.append(guest)
     return found
 
 
-def parsed(fields: dict) -> Guest:
+def parsed(fields: dict) -> tuple[Guest, float]:
+    """A guest and the link of its costs; or a ValueError or another one that says what is wrong."""
     if fields["format"] != FORMAT:
         raise ValueError(f"format {fields['format']!r} is not {FORMAT!r}")
-    costs = {cost["at_once"]: Cost(**cost) for cost in fields["costs"]}
-    unplanned = {int(number): why for number, why in fields["unplanned"].items()}
+    costs = {cost.at_once: cost for cost in (Cost(**each) for each in fields["costs"])}
+    unplanned = {int(number): str(why) for number, why in fields["unplanned"].items()}
     texts = [fields[name] for name in ("name", "record", "taken_of", "digest")]
     if not all(isinstance(text, str) for text in texts):
         raise ValueError("a name is no text")
-    return Guest(*texts, Wanted(**fields["limits"]), costs, unplanned)
+    for cost in costs.values():
+        expect_kinds(cost)
+    return Guest(*texts, Wanted(**fields["limits"]), costs, unplanned), float(fields["link"])
+
+
+def expect_kinds(cost: Cost) -> None:
+    """The fields of costs from elsewhere are of their kinds, and whole numbers are such as precopy-schedule reads."""
+    for name, kind in Cost.__annotations__.items():
+        value = getattr(cost, name)
+        if type(value) is not kind or kind is int and not 0 <= value < 1 << 64:
+            raise ValueError(f"{name} is {value!r}")
+    if not 0 < cost.share < math.inf:
+        raise ValueError(f"share is {cost.share!r}")
 
 
 def expect_same(where: str, guest: Guest, rate: float, asked: Asked, limits_of) -> None:

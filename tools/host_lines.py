@@ -33,17 +33,22 @@ def qmp(move: Placed, to: str) -> list[str]:
 KINDS = {"virsh": virsh, "qmp": qmp}
 
 
-def waits_for(moves: list[Placed], number: int) -> str:
-    """The guest whose end a move waits for: that of its slot or of its group; none at the beginning."""
-    move = moves[number]
-    return next((other.guest.name for other in moves if other.end == move.start and other is not move), "")
+def waited_for(moves: list[Placed]) -> list[str]:
+    """For each move the guest whose end it waits for: that of its slot, or else of its group; none at the beginning."""
+    found, of_slot, of_end = [], {}, {}
+    for move in moves:
+        before = of_slot.get(move.slot)
+        found.append(before.guest.name if before and before.end == move.start else of_end.get(move.start, ""))
+        of_slot[move.slot] = move
+        of_end.setdefault(move.end, move.guest.name)
+    return found
 
 
 def lines(kind: str, moves: list[Placed], to: str) -> list[str]:
     """What starts each guest, with when that is as a comment. The order of equal starts is that of the schedule."""
-    found = []
+    found, before_of = [], waited_for(moves)
     for number in sorted(range(len(moves)), key=lambda number: moves[number].start):
-        move, before = moves[number], waits_for(moves, number)
+        move, before = moves[number], before_of[number]
         when = f"when {before} has moved, after about {move.start / 1e6:.1f} s" if move.start else "at once"
         found += [f"# {move.guest.name}: {when}", *KINDS[kind](move, to)]
     return found

@@ -7,13 +7,8 @@ leaves out.
 import subprocess
 from typing import NamedTuple
 
+import plans
 from host_costs import Cost, Guest
-
-MISSED_RECORD = "the recording ends before the migration"
-
-
-class Failed(Exception):
-    """precopy-schedule does not answer."""
 
 
 class Placed(NamedTuple):
@@ -70,11 +65,11 @@ def orders_of(guests: list[Guest], at_once: int) -> list[Schedule]:
     return found
 
 
-def line(schedule: Schedule, deadline: int, group_of) -> str:
+def line(schedule: Schedule, deadline: int, groups: dict[str, int]) -> str:
     """A plan as precopy-schedule reads it."""
     numbers = [schedule.at_once, deadline]
     for guest, cost in zip(schedule.guests, schedule.costs()):
-        numbers += [cost.time, cost.sent, cost.downtime, int(cost.kept), group_of(guest.name)]
+        numbers += [cost.time, cost.sent, cost.downtime, int(cost.kept), groups.get(guest.name, 0)]
     return " ".join(map(str, numbers)) + "\n"
 
 
@@ -94,13 +89,13 @@ def parsed(schedules: list[Schedule], text: str) -> Answer:
     return Answer(told, best, moves)
 
 
-def answered(program: str, schedules: list[Schedule], deadline: int, group_of) -> Answer:
-    """What all of them cost, and which is the best. A deadline of 0 is none."""
-    table = "".join(line(schedule, deadline, group_of) for schedule in schedules)
+def answered(program: str, schedules: list[Schedule], deadline: int, groups: dict[str, int]) -> Answer:
+    """What all of them cost, and which is the best. A deadline of 0 is none; a guest without a group is in none."""
+    table = "".join(line(schedule, deadline, groups) for schedule in schedules)
     done = subprocess.run([program], input=table, capture_output=True, text=True)
     if done.returncode:
-        raise Failed(f"{program}: {done.stderr.strip()}")
+        raise plans.Failed(f"{program}: {done.stderr.strip()}")
     try:
         return parsed(schedules, done.stdout)
     except (ValueError, IndexError) as fault:
-        raise Failed(f"{program} answers no schedules: {done.stdout[:80]!r}") from fault
+        raise plans.Failed(f"{program} answers no schedules: {done.stdout[:80]!r}") from fault

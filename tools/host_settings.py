@@ -8,18 +8,16 @@ own limits, a copy at the destination by the tick from which its memory differs,
 """
 
 import argparse
-import json
 from collections.abc import Callable
 from typing import NamedTuple
 
+import refusals
 import words
 from host_costs import Wanted
+from refusals import Refused
 
+WHOLE = {"reserve", "apart", "guests"}
 GUEST = {"downtime", "time", "link", "copy", "domain"}
-
-
-class Refused(Exception):
-    """A file of settings is refused; the text names the file and the cause."""
 
 
 class Settings(NamedTuple):
@@ -30,9 +28,9 @@ class Settings(NamedTuple):
     def limits_of(self, downtime: float) -> Callable[[str], Wanted]:
         return lambda name: Wanted(**{"downtime": downtime, **self.guests.get(name, {})})
 
-    def group_of(self, name: str) -> int:
-        """The number of the list in which a guest is, from 1 on, or 0."""
-        return next((number for number, names in enumerate(self.apart, 1) if name in names), 0)
+    def groups(self) -> dict[str, int]:
+        """The numbers, from 1 on, of the lists in which guests are."""
+        return {name: number for number, names in enumerate(self.apart, 1) for name in names}
 
 
 def quantity(path: str, name: str, value: object, parse: Callable[[str], float]) -> float:
@@ -42,11 +40,8 @@ def quantity(path: str, name: str, value: object, parse: Callable[[str], float])
         raise Refused(f"{path}: {name}: {fault}") from fault
 
 
-def guest_of(path: str, name: str, fields: object) -> dict:
-    if not isinstance(fields, dict):
-        raise Refused(f"{path}: guests: {name} is no JSON object")
-    for field in fields.keys() - GUEST:
-        raise Refused(f"{path}: guests: {name}: there is no setting {field}")
+def guest_of(path: str, name: str, value: object) -> dict:
+    fields = refusals.expect_object(f"{path}: guests: {name}", value, GUEST, "setting")
     found = {}
     for field, parse in (("downtime", words.seconds), ("time", words.seconds), ("link", words.link)):
         if field in fields:
@@ -77,16 +72,7 @@ def apart_of(path: str, lists: object) -> tuple[tuple[str, ...], ...]:
 
 
 def read(path: str) -> Settings:
-    with open(path, "rb") as file:
-        text = file.read()
-    try:
-        fields = json.loads(text)
-    except ValueError as fault:
-        raise Refused(f"{path} is no JSON: {fault}") from fault
-    if not isinstance(fields, dict):
-        raise Refused(f"{path} is no JSON object")
-    for name in fields.keys() - {"reserve", "apart", "guests"}:
-        raise Refused(f"{path}: there is no setting {name}")
+    fields = refusals.object_in(path, WHOLE, "setting")
     guests = fields.get("guests", {})
     if not isinstance(guests, dict):
         raise Refused(f"{path}: guests is no JSON object")

@@ -11,8 +11,10 @@ import json
 import os
 import random
 
+import refusals
 import traces
 import version
+from refusals import Refused
 
 FORMAT = "precopy sample 1"
 MOST_PAGES = traces.Limits().pages
@@ -22,10 +24,6 @@ MOST_COUNTED = 1 << 18
 MOST = 1 << 53
 MOST_TEXT = 4096
 METHODS = ("writes", "values", "trace")
-
-
-class Refused(Exception):
-    """A file beside a trace is refused; the text names the file, the field and the cause."""
 
 
 def draw(pages: int, wanted: int, seed: int) -> list[int]:
@@ -146,16 +144,9 @@ def rules_of(sample: Sample, trace: traces.Trace, written: list[tuple[int, int]]
     ]
 
 
-def parsed(path: str, text: bytes) -> Sample:
+def parsed(path: str) -> Sample:
     """The fields of a file, each tested by itself."""
-    try:
-        fields = json.loads(text)
-    except ValueError as fault:
-        raise Refused(f"{path} is no JSON: {fault}") from fault
-    if not isinstance(fields, dict):
-        raise Refused(f"{path} is no JSON object")
-    for name in fields.keys() - FIELDS.keys():
-        raise Refused(f"{path}: there is no field {name}")
+    fields = refusals.object_in(path, FIELDS, "field")
     for name, (wanted, holds) in FIELDS.items():
         if name not in fields:
             raise Refused(f"{path}: the field {name} is missing")
@@ -168,12 +159,10 @@ def read(trace_path: str, trace: traces.Trace, written: list[tuple[int, int]]) -
     """The sample in the file beside a trace, whose writes are these ticks and pages."""
     path = path_beside(trace_path)
     try:
-        with open(path, "rb") as file:
-            text = file.read()
+        sample = parsed(path)
     except FileNotFoundError as fault:
         told = f"{version.called('record')} writes one if it draws pages, and precopy-view predict plans without it"
         raise Refused(f"{trace_path}: there is no {path} beside it: {told}") from fault
-    sample = parsed(path, text)
     for rule, holds in rules_of(sample, trace, written):
         if not holds:
             named = [f"{name} = {getattr(sample, name)!r}" for name in FIELDS if name in rule.split(" ")]

@@ -12,6 +12,8 @@ import sys
 import tempfile
 from typing import NamedTuple
 
+from refusals import Refused
+
 MAGIC = b"PCWT"
 PLAIN, WITH_RELEASES = 1, 2
 HEADER = 16
@@ -46,10 +48,6 @@ class Limits(NamedTuple):
     writes: int = 1 << 20
     bytes: int = 1 << 28
     pages: int = 1 << 16
-
-
-class Refused(Exception):
-    """A trace is refused; the text is the name of the cause, as the program prints it."""
 
 
 class Full(Exception):

@@ -1,0 +1,32 @@
+"""What a tool is given and refuses: one exception for all of it, and the tests that every file of JSON has."""
+
+import json
+from collections.abc import Collection
+
+
+class Refused(Exception):
+    """A file is refused; the text says which and why. Of a trace it is the name of the cause, as the program prints
+    it."""
+
+
+def json_of(where: str, text: bytes | str) -> object:
+    """What a text of JSON says."""
+    try:
+        return json.loads(text)
+    except (ValueError, RecursionError) as fault:
+        raise Refused(f"{where} is no JSON: {fault}") from fault
+
+
+def expect_object(where: str, value: object, names: Collection[str], kind: str) -> dict:
+    """A value that is a JSON object, and has fields of these names and no others; `kind` is what they are called."""
+    if not isinstance(value, dict):
+        raise Refused(f"{where} is no JSON object")
+    for name in value.keys() - set(names):
+        raise Refused(f"{where}: there is no {kind} {name}")
+    return value
+
+
+def object_in(path: str, names: Collection[str], kind: str) -> dict:
+    """The JSON object in a file, with fields of these names and no others."""
+    with open(path, "rb") as file:
+        return expect_object(path, json_of(path, file.read()), names, kind)
