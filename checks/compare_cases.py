@@ -1,7 +1,5 @@
 """Cases of checks/recording: the words of tools/compare-qemu, and what it gives to QEMU; without QEMU."""
 
-import importlib.machinery
-import importlib.util
 import os
 import random
 import subprocess
@@ -10,6 +8,7 @@ import sys
 from recorder_runs import SECONDS, TOP, expect
 
 import guest
+import migration
 
 COMPARE = os.path.join(TOP, "tools", "compare-qemu")
 PAGE = 4096
@@ -71,15 +70,12 @@ def words_of_a_comparison(_, folder):
 
 def pages_that_were_sent(_, __):
     """Pages are counted whole, compressed or not, and the bandwidth is that while the guest ran."""
-    loader = importlib.machinery.SourceFileLoader("compare_qemu", COMPARE)
-    compare = importlib.util.module_from_spec(importlib.util.spec_from_loader("compare_qemu", loader))
-    loader.exec_module(compare)
     times = {"total-time": 2500, "downtime": 400, "setup-time": 100}
     told = {"ram": {"normal": 3000, "downtime-bytes": 1000 * PAGE}, **times}
-    real = compare.Migration(told, 0, True)
+    real = migration.Migration(told, 0, True)
     expect((real.sent, real.last, real.milliseconds) == (3000, 1000, 2400), f"{vars(real)}")
     expect(real.reached() == 1000 * PAGE, f"{real.reached()}")
-    real = compare.Migration({**told, "compression": {"pages": 500, "compressed-size": 7}}, 0, True)
+    real = migration.Migration({**told, "compression": {"pages": 500, "compressed-size": 7}}, 0, True)
     expect(real.sent == 3500 and real.reached() == 1250 * PAGE, f"{vars(real)}")
 
 
