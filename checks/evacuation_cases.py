@@ -289,6 +289,12 @@ def refusals(programs: Programs, folder: str) -> None:
         expect(told in fault, fault)
     _, fault = run_tool(programs, f"{folder}/none.light.pcwt", *link, status=1)
     expect("none.light.pcwt: No such file" in fault and "no guest to schedule" in fault, fault)
+    for name in b"a\nb.light.pcwt", b"\xff.light.pcwt", b".light.pcwt":
+        path = os.path.join(os.fsencode(folder), name)
+        with open(path, "wb") as new, open(db, "rb") as old:
+            new.write(old.read())
+        text, fault = run_tool(programs, web, os.fsdecode(path), *link, status=1)
+        expect("the name of its guest is empty, or cannot be printed" in fault and "1 guest;" in text, f"{fault!r}")
     os.unlink(f"{folder}/twin.light.json")
     _, fault = run_tool(programs, web, f"{folder}/twin.light.pcwt", *link, status=1)
     expect("there is no" in fault and "twin.light.json beside it" in fault, fault)
@@ -378,7 +384,7 @@ def damaged_lines(programs: Programs, folder: str, records: list[str], words: li
         ("[" * 100_000, "is no JSON"), ("[]", "has no costs"), (with_cost(time="1"), "time is '1'"),
         (with_cost(sent=-1), "sent is -1"), (with_cost(known=1), "known is 1"), (with_cost(more=1), "more"),
         (with_cost(share=1e999), "share is inf"), (with_cost(downtime=1 << 64), "downtime is"),
-        (json.dumps({**fields, "name": 1}), "name"),
+        (json.dumps({**fields, "name": 1}), "name"), (json.dumps({**fields, "name": "a\nb"}), "name"),
     ):
         with open(f"{folder}/some.jsonl", "w", encoding="utf-8") as file:
             file.write("\n".join([others[0], wrong, *others[1:], ""]))

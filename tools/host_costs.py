@@ -86,6 +86,11 @@ def name_of(path: str) -> str:
     return STAMP.sub("", name)
 
 
+def is_name(name: object) -> bool:
+    """Whether this can be the name of a guest, also in a comment between commands."""
+    return isinstance(name, str) and name != "" and name.isprintable()
+
+
 def whole(path: str, trace: traces.Trace, written: list[tuple[int, int]], tick: float) -> samples.Sample:
     """The sample of all pages of a trace that has no file beside it."""
     last = written[-1][0] if written else 0
@@ -172,6 +177,9 @@ def cost_of(planner: Planner, asked: Asked, limits: Wanted, at_once: int) -> Cos
 
 def guest_of(path: str, asked: Asked, limits: Wanted) -> Guest:
     """The costs of one record."""
+    name = name_of(path)
+    if not is_name(name):
+        raise Refused(f"{path!r}: the name of its guest is empty, or cannot be printed in a line")
     planner, costs, unplanned = Planner(path, asked), {}, {}
     for at_once in asked.numbers:
         try:
@@ -179,7 +187,7 @@ def guest_of(path: str, asked: Asked, limits: Wanted) -> Guest:
         except plans.NoRate as fault:
             unplanned[at_once] = str(fault)
     sample = planner.forecast.sample
-    return Guest(name_of(path), path, sample.taken_of, sample.trace_sha256, limits, costs, unplanned)
+    return Guest(name, path, sample.taken_of, sample.trace_sha256, limits, costs, unplanned)
 
 
 def try_guest(path: str, asked: Asked, limits: Wanted) -> Guest | str:
@@ -243,8 +251,8 @@ def parsed(fields: dict) -> tuple[Guest, float]:
     costs = {cost.at_once: cost for cost in (Cost(**each) for each in fields["costs"])}
     unplanned = {int(number): str(why) for number, why in fields["unplanned"].items()}
     texts = [fields[name] for name in ("name", "record", "taken_of", "digest")]
-    if not all(isinstance(text, str) for text in texts):
-        raise ValueError("a name is no text")
+    if not all(isinstance(text, str) for text in texts) or not is_name(texts[0]):
+        raise ValueError("a name is none")
     for cost in costs.values():
         expect_kinds(cost)
     return Guest(*texts, Wanted(**fields["limits"]), costs, unplanned), float(fields["link"])
