@@ -124,7 +124,7 @@ static int is_untouched(const struct room *room, size_t from) {
 /* ---- the calls, each over the inputs of a guest and three buffers */
 
 struct guest {
-    struct room trace, settings, cases, sizes, page, stream;
+    struct room trace, settings, cases, sizes, page, stream, streams, lengths;
     uint64_t tick;
 };
 
@@ -167,6 +167,15 @@ static uint32_t memory(const struct guest *g, struct outputs *out) {
 static uint32_t memory_before(const struct guest *g, struct outputs *out) {
     return precopy_memory_before(g->trace.at, g->trace.length, g->tick, out->room.at, out->room.length,
                                  (void *)out->told.at);
+}
+
+static uint32_t writes_before(const struct guest *g, struct outputs *out) {
+    return precopy_writes_before(g->trace.at, g->trace.length, g->tick, (void *)out->told.at);
+}
+
+static uint32_t check_streams(const struct guest *g, struct outputs *out) {
+    return precopy_check_streams(g->trace.at, g->trace.length, UINT32_MAX, g->streams.at, g->streams.length,
+                                 (void *)g->lengths.at, g->lengths.length / sizeof(size_t), (void *)out->told.at);
 }
 
 static uint32_t encode(const struct guest *g, struct outputs *out) {
@@ -308,6 +317,38 @@ static size_t append_frames(uint8_t *stream, size_t length, const struct precopy
     return length;
 }
 
+/* Notes the place of the last write to each page of a trace. */
+static void last_places(const struct room *trace, uint32_t writes, uint32_t *places) {
+    size_t at = 16;
+    for (uint32_t place = 1; place <= writes; place++) {
+        uint32_t page;
+        memcpy(&page, trace->at + at + 8, sizeof page);
+        places[page] = place;
+        at += 16 + trace->at[at + 14] + ((size_t)trace->at[at + 15] << 8);
+    }
+}
+
+/* Makes two streams of a guest's last memory, in which all is right. */
+static void make_streams(struct guest *guest, const struct precopy_sizes *sizes, const uint8_t *whole) {
+    size_t size = (size_t)1 << sizes->shift, lengths[2] = {0, 0}, length = 0;
+    uint8_t *stream = __real_malloc(sizes->pages * (size + 9));
+    uint32_t *places = __real_malloc(sizes->pages * sizeof *places);
+    memset(places, 0, sizes->pages * sizeof *places);
+    last_places(&guest->trace, sizes->writes, places);
+    for (uint32_t page = 0; page < sizes->pages; page++) {
+        size_t needed = 0;
+        uint32_t status = precopy_encode_frame(sizes, page, places[page], whole + page * size, size, stream + length,
+                                               size + 9, &needed);
+        expect(status == PRECOPY_OK, "encode_frame", "of a page of a stream");
+        lengths[page > sizes->pages / 2] += needed;
+        length += needed;
+    }
+    guest->streams = input_of(stream, length);
+    guest->lengths = input_of(lengths, sizeof lengths);
+    __real_free(stream);
+    __real_free(places);
+}
+
 /* Takes a stream that is cut at a place, from two inputs that end there, into flat memory with a fence. */
 static void take_cut(const struct precopy_sizes *sizes, const uint8_t *stream, size_t length, size_t cut,
                      const uint8_t *whole) {
@@ -358,7 +399,7 @@ static struct precopy_settings settings_of(uint64_t min, uint64_t max, uint64_t 
 
 /* Each call over a trace that is refused: the same number, and nothing written. */
 static void try_refused(const struct guest *guest, uint32_t status) {
-    call_of *calls[] = {plan, rounds, report, sweep, memory, memory_before};
+    call_of *calls[] = {plan, rounds, report, sweep, memory, memory_before, writes_before, check_streams};
     for (size_t i = 0; i < sizeof calls / sizeof *calls; i++) {
         struct outputs out = outputs_of(1920, 40);
         uint32_t told = calls[i](guest, &out);
@@ -377,6 +418,7 @@ static void try_all(struct guest *guest, const struct precopy_sizes *sizes) {
     uint32_t status = precopy_encode_frame(sizes, 0, 0, guest->page.at, size, frame, sizeof frame, &needed);
     expect(status == PRECOPY_OK, "encode_frame", "of page 0");
     guest->stream = input_of(frame, needed);
+    make_streams(guest, sizes, whole.room.at);
     struct outputs none = outputs_of(0, sizeof(size_t));
     report(guest, &none);
     memcpy(&text, none.told.at, sizeof text);
@@ -390,6 +432,8 @@ static void try_all(struct guest *guest, const struct precopy_sizes *sizes) {
         {"sweep", sweep, 3 * sizeof(struct precopy_sums), sizeof(size_t), sizeof(struct precopy_sums)},
         {"memory", memory, bytes, sizeof(size_t), 1},
         {"memory_before", memory_before, bytes, sizeof(size_t), 1},
+        {"writes_before", writes_before, 0, sizeof(uint32_t), 1},
+        {"check_streams", check_streams, 0, sizeof(struct precopy_finding), 1},
         {"encode_frame", encode, needed, sizeof(size_t), 1},
         {"decode_frame", decode, size, sizeof(struct precopy_frame), 1},
     };

@@ -31,6 +31,7 @@ static void nulls_of_traces(void) {
     ROW(precopy_sweep(trace, sizeof trace, NULL, 0, NULL, 0, &count) == PRECOPY_OK && count == 0);
     ROW(precopy_sweep(trace, sizeof trace, &good, 1, NULL, 0, &count) == PRECOPY_SHORT_BUFFER && count == 0);
     ROW(precopy_sweep(trace, sizeof trace, NULL, 0, &sums, 1, &count) == PRECOPY_OK && count == 0);
+    ROW(precopy_writes_before(NULL, 0, 1, &record) == PRECOPY_SHORT_HEADER);
     ROW(precopy_memory(NULL, 0, NULL, 0, &count) == PRECOPY_SHORT_HEADER && count == 0);
     ROW(precopy_memory(trace, sizeof trace, NULL, 0, &count) == PRECOPY_SHORT_BUFFER && count == 16);
     ROW(precopy_memory_before(NULL, 0, 8, NULL, 0, &count) == PRECOPY_SHORT_HEADER && count == 16);
@@ -41,6 +42,7 @@ static void nulls_of_frames(void) {
     struct precopy_frame head;
     struct precopy_taken taken = {9, 9};
     struct precopy_page state = {0, 0};
+    struct precopy_finding found = {9, 9, 9, 9, 9, 9, 9, 9};
     uint8_t memory[16] = {0};
     size_t needed = 9;
     ROW(precopy_encode_frame(&sizes, 0, 1, NULL, 0, NULL, 0, &needed) == PRECOPY_PAGE_LENGTH && needed == 9);
@@ -50,6 +52,9 @@ static void nulls_of_frames(void) {
     ROW(precopy_accept(&sizes, NULL, 0, NULL, 0, NULL, 0, &taken) == PRECOPY_MEMORY_LENGTH && taken.frames == 9);
     ROW(precopy_accept(&sizes, NULL, 0, memory, 16, NULL, 0, &taken) == PRECOPY_PAGE_COUNT && taken.frames == 9);
     ROW(precopy_accept(&sizes, NULL, 0, memory, 16, &state, 1, &taken) == PRECOPY_OK && taken.frames == 0);
+    ROW(precopy_check_streams(NULL, 0, 1, NULL, 0, NULL, 0, &found) == PRECOPY_SHORT_HEADER && found.offset == 9);
+    ROW(precopy_check_streams(trace, sizeof trace, 1, NULL, 0, NULL, 0, &found) == PRECOPY_PAGE_MISSING);
+    ROW(found.missing == 1 && found.tick == 7);
     ROW(precopy_missing(NULL, 0, &needed) == PRECOPY_OK && needed == 25);
     ROW(precopy_is_zero(NULL, 0));
 }
@@ -71,6 +76,8 @@ static void order_of_traces(void) {
 }
 
 static void order_of_frames(void) {
+    static const size_t whole[] = {25};
+    struct precopy_finding found = {9, 9, 9, 9, 9, 9, 9, 9};
     struct precopy_frame head;
     struct precopy_taken taken;
     struct precopy_page states[2] = {{0, 0}, {0, 0}};
@@ -82,6 +89,9 @@ static void order_of_frames(void) {
     ROW(precopy_encode_frame(&sizes, 0, 1, page, 15, NULL, 0, &needed) == PRECOPY_PAGE_LENGTH);
     ROW(precopy_decode_frame(&no_sizes, frame, 24, &head, NULL, 0) == PRECOPY_BAD_PAGES);
     ROW(precopy_decode_frame(&sizes, frame, 24, &head, NULL, 0) == PRECOPY_FRAME_SHORT);
+    ROW(precopy_check_streams(trace, 5, 1, frame, 24, whole, 1, &found) == PRECOPY_STREAM_SIZES && found.page == 9);
+    ROW(precopy_check_streams(trace, 32, 1, frame, 25, whole, 1, &found) == PRECOPY_SHORT_RECORD && found.page == 9);
+    ROW(precopy_check_streams(trace, sizeof trace, 1, frame, 25, whole, 1, &found) == PRECOPY_OK && found.page == 9);
     ROW(precopy_accept(&no_sizes, frame, 24, memory, 17, states, 2, &taken) == PRECOPY_BAD_PAGES);
     ROW(precopy_accept(&sizes, frame, 24, memory, 17, states, 2, &taken) == PRECOPY_MEMORY_LENGTH);
     ROW(precopy_accept(&sizes, frame, 24, memory, 16, states, 2, &taken) == PRECOPY_PAGE_COUNT);

@@ -42,6 +42,8 @@ def taking_numbers(trace):
     yield "memory_before, tick", lambda it: precopy.memory_before(trace, it), (0, (1 << 64) - 1)
     for name, ends in (("shift", (4, 12)), ("pages", (1, 1 << 16)), ("writes", (0, 1 << 20))):
         yield f"Sizes, {name}", lambda it, n=name: precopy.Sizes(**{"shift": 4, "pages": 1, "writes": 0, n: it}), ends
+    yield "writes_before, tick", lambda it: precopy.writes_before(trace, it), (0, (1 << 64) - 1)
+    yield "check_streams, stop", lambda it: precopy.check_streams(trace, it, []), (0, (1 << 32) - 1)
     yield "encode_frame, page", lambda it: precopy.encode_frame(SIZES, it, 0, PAGE), (0, 2)
     yield "encode_frame, stamp", lambda it: precopy.encode_frame(SIZES, 0, it, PAGE), (0, 20)
     yield "stamp, page", precopy.FlatMemory(SIZES).stamp, (0, 2)
@@ -102,6 +104,8 @@ def taking_bytes(trace, stream):
     for call in (precopy.check_trace, precopy.memory, precopy.is_zero):
         yield call.__name__, trace, call
     yield "memory_before", trace, lambda it: precopy.memory_before(it, 700)
+    yield "writes_before", trace, lambda it: precopy.writes_before(it, 700)
+    yield "check_streams, trace", trace, lambda it: precopy.check_streams(it, 9, [b""])
     yield "encode_frame", PAGE, lambda it: precopy.encode_frame(SIZES, 2, 3, it)
     yield "decode_frame", stream, lambda it: precopy.decode_frame(SIZES, it)
     yield "accept", stream, lambda it: (lambda flat: (flat.accept(it), traces.state(flat)))(precopy.FlatMemory(SIZES))

@@ -140,7 +140,62 @@ static void frames(void) {
     ROW(precopy_missing(pages + 1, 1, &missing) == PRECOPY_OK);
 }
 
+/* Frames of pages 0 to 3 and of page 1 again, which make the memory before tick 2500, after three writes. They begin at
+ * bytes 0, 25, 50, 59 and 68. After them comes the older frame of page 1 once more. */
+static const uint8_t sent[118] = {
+    0, 0, 0, 0, 1, 0, 0, 0, 1, 1, 0, 0, 0, 0, 0, 0, 0, 0, 0, 0, 0, 0, 0, 0, 0, /* */
+    1, 0, 0, 0, 2, 0, 0, 0, 1, 0, 0, 0, 0, 0, 0, 0, 0, 0, 0, 0, 0, 0, 0, 0, 2, /* */
+    2, 0, 0, 0, 0, 0, 0, 0, 0, 3, 0, 0, 0, 0, 0, 0, 0, 0,                      /* */
+    1, 0, 0, 0, 3, 0, 0, 0, 1, 3, 0, 0, 0, 0, 0, 0, 0, 0, 0, 0, 0, 0, 0, 0, 2, /* */
+    1, 0, 0, 0, 2, 0, 0, 0, 1, 0, 0, 0, 0, 0, 0, 0, 0, 0, 0, 0, 0, 0, 0, 0, 2,
+};
+
+static int is_frame(const struct precopy_finding *found, size_t stream, size_t frame, size_t offset, uint32_t page,
+                    uint32_t stamp, uint32_t wanted) {
+    return found->stream == stream && found->frame == frame && found->offset == offset && found->page == page
+           && found->stamp == stamp && found->wanted == wanted && found->missing == 0 && found->tick == 0;
+}
+
+static int is_page(const struct precopy_finding *found, uint32_t page, uint32_t stamp, uint32_t wanted,
+                   uint32_t missing, uint64_t tick) {
+    return found->stream == 0 && found->frame == 0 && found->offset == 0 && found->page == page && found->stamp == stamp
+           && found->wanted == wanted && found->missing == missing && found->tick == tick;
+}
+
+static void streams(void) {
+    static const size_t right[] = {93}, two[] = {93, 25}, late[] = {118}, cut[] = {92}, four[] = {68}, few[] = {0, 68};
+    struct precopy_finding found = {9, 9, 9, 9, 9, 9, 9, 9};
+    uint32_t count = 9;
+    uint8_t other[93];
+    ROW(precopy_writes_before(trace, sizeof trace, 2500, &count) == PRECOPY_OK && count == 3);
+    ROW(precopy_writes_before(trace, sizeof trace, 5, &count) == PRECOPY_OK && count == 1);
+    ROW(precopy_writes_before(trace, sizeof trace, 1ull << 40, &count) == PRECOPY_OK && count == 5);
+    ROW(precopy_check_streams(trace, sizeof trace, 3, sent, 93, right, 1, &found) == PRECOPY_OK);
+    ROW(precopy_check_streams(trace, sizeof trace, 3, sent, 118, two, 2, &found) == PRECOPY_OK && found.offset == 9);
+    ROW(precopy_check_streams(trace, sizeof trace, 3, sent, 92, right, 1, &found) == PRECOPY_STREAM_SIZES);
+    ROW(precopy_check_streams(trace, sizeof trace, 3, sent, 93, cut, 1, &found) == PRECOPY_STREAM_SIZES);
+    ROW(found.stream == 9 && found.tick == 9);
+    ROW(precopy_check_streams(trace, sizeof trace, 3, sent, 118, late, 1, &found) == PRECOPY_OLDER);
+    ROW(is_frame(&found, 0, 5, 93, 1, 2, 3));
+    ROW(precopy_check_streams(trace, sizeof trace, 3, sent, 92, cut, 1, &found) == PRECOPY_FRAME_SHORT);
+    ROW(is_frame(&found, 0, 4, 68, 0, 0, 0));
+    ROW(precopy_check_streams(trace, sizeof trace, 2, sent, 93, right, 1, &found) == PRECOPY_AFTER_STOP);
+    ROW(is_frame(&found, 0, 4, 68, 1, 3, 2));
+    memcpy(other, sent, sizeof other);
+    other[92] = 7;
+    ROW(precopy_check_streams(trace, sizeof trace, 3, other, 93, right, 1, &found) == PRECOPY_OTHER_BYTES);
+    ROW(is_frame(&found, 0, 4, 68, 1, 3, 3));
+    other[72] = 4;
+    ROW(precopy_check_streams(trace, sizeof trace, 3, other, 93, right, 1, &found) == PRECOPY_NO_VERSION);
+    ROW(is_frame(&found, 0, 4, 68, 1, 4, 3));
+    ROW(precopy_check_streams(trace, sizeof trace, 3, sent, 68, four, 1, &found) == PRECOPY_PAGE_BEHIND);
+    ROW(is_page(&found, 1, 2, 3, 3, 1200));
+    ROW(precopy_check_streams(trace, sizeof trace, 3, sent + 25, 68, few, 2, &found) == PRECOPY_PAGE_MISSING);
+    ROW(is_page(&found, 0, 0, 1, 1, 0));
+}
+
 int main(void) {
+    streams();
     plans();
     reports();
     sweeps();

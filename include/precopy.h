@@ -111,7 +111,15 @@ enum precopy_status {
     PRECOPY_PAGE_LENGTH = 62,   /* the number of bytes is not that of a page */
     PRECOPY_MEMORY_LENGTH = 63, /* the length of memory is not that of all pages */
     PRECOPY_PAGE_COUNT = 64,    /* there is not a struct precopy_page for each page */
-    PRECOPY_PAGE_MISSING = 65   /* a page did not come */
+    PRECOPY_PAGE_MISSING = 65,  /* a page did not come */
+    PRECOPY_STREAM_SIZES = 66,  /* the streams do not have as many bytes as their sizes say */
+
+    /* Streams are not what they must be. */
+    PRECOPY_NO_VERSION = 71,  /* a stamp is not 0, and no write to the page has that place */
+    PRECOPY_AFTER_STOP = 72,  /* a stamp is of a write after the stop */
+    PRECOPY_OLDER = 73,       /* a frame of the page with a greater stamp came before in the stream */
+    PRECOPY_OTHER_BYTES = 74, /* the bytes are not those of the page at the stamp */
+    PRECOPY_PAGE_BEHIND = 75  /* a page is not at its version at the stop */
 };
 
 /* A line about a status, in English. It never returns null, and the text stays. */
@@ -137,6 +145,10 @@ struct precopy_sizes {
  */
 PRECOPY_ANSWERS PRECOPY_NOT_NULL(3, 4)
 uint32_t precopy_check_trace(const uint8_t *trace, size_t trace_length, struct precopy_sizes *sizes, uint32_t *record);
+
+/* Sets *count to the number of writes before a tick: those with a lower tick. It takes no memory. */
+PRECOPY_ANSWERS PRECOPY_NOT_NULL(4)
+uint32_t precopy_writes_before(const uint8_t *trace, size_t trace_length, uint64_t tick, uint32_t *count);
 
 /* ---- plans */
 
@@ -317,6 +329,44 @@ uint32_t precopy_accept(const struct precopy_sizes *sizes, const uint8_t *stream
  */
 PRECOPY_ANSWERS PRECOPY_NOT_NULL(3)
 uint32_t precopy_missing(const struct precopy_page *pages, size_t pages_length, size_t *page);
+
+/* What is wrong in streams. What does not apply is 0. */
+struct precopy_finding {
+    size_t stream;    /* the stream of a frame, from 0 */
+    size_t frame;     /* the number of the frame in its stream, from 0 */
+    size_t offset;    /* the byte of its stream at which the frame begins */
+    uint64_t tick;    /* the tick of the missing write */
+    uint32_t page;    /* the page, unless the bytes are no frame */
+    uint32_t stamp;   /* the stamp of the frame, or the greatest with which the page came */
+    uint32_t wanted;  /* the stamp that was to be */
+    uint32_t missing; /* the place of the first write that the page lacks */
+};
+
+/*
+ * Checks the streams of a migration that stops its guest after the first `stop` writes of a trace. For a tick,
+ * precopy_writes_before says how many these are. `bytes` are those of all streams, one after the other, and sizes[i] is
+ * how many stream i has.
+ *
+ * It returns PRECOPY_OK if each frame is right, and each page comes at its version at the stop. Then a receiver that
+ * keeps the frame of a page with the greatest stamp has the memory at the stop, and if there is one stream, so has a
+ * receiver that keeps the last frame. Otherwise it returns what is wrong first, stream by stream, and sets *found:
+ *
+ * - PRECOPY_FRAME_SHORT to PRECOPY_FRAME_ZEROS: the bytes there are no frame.
+ * - PRECOPY_NO_VERSION: `wanted` is the page's version after `stamp` writes.
+ * - PRECOPY_AFTER_STOP: `wanted` is the page's version at the stop.
+ * - PRECOPY_OLDER: `wanted` is the stamp that came before it. Frames are compared within a stream, since the order of
+ *   two streams is not known.
+ * - PRECOPY_OTHER_BYTES: the frame has the right stamp and other bytes.
+ * - PRECOPY_PAGE_BEHIND and PRECOPY_PAGE_MISSING: after all streams, the first page that is not at its version at the
+ *   stop, `wanted`, or that never came. If it lacks a write, `missing` and `tick` are those of the first.
+ *
+ * Any other status leaves *found as it was. The sizes are tested first, with PRECOPY_STREAM_SIZES. It takes memory for
+ * a copy of the trace, and some 50 bytes for each write and 30 for each page.
+ */
+PRECOPY_ANSWERS PRECOPY_NOT_NULL(8)
+uint32_t precopy_check_streams(const uint8_t *trace, size_t trace_length, uint32_t stop, const uint8_t *bytes,
+                               size_t bytes_length, const size_t *sizes, size_t sizes_length,
+                               struct precopy_finding *found);
 
 /* Returns whether each byte is 0; with no bytes it is true. It takes no memory. */
 PRECOPY_ANSWERS

@@ -83,6 +83,18 @@ const char *precopy_strerror(uint32_t status) {
         return "there is not a struct precopy_page for each page";
     case PRECOPY_PAGE_MISSING:
         return "a page did not come";
+    case PRECOPY_STREAM_SIZES:
+        return "the streams do not have as many bytes as their sizes say";
+    case PRECOPY_NO_VERSION:
+        return "no write to the page has the place of the stamp";
+    case PRECOPY_AFTER_STOP:
+        return "the stamp is of a write after the stop";
+    case PRECOPY_OLDER:
+        return "a frame of the page with a greater stamp came before in the stream";
+    case PRECOPY_OTHER_BYTES:
+        return "the bytes are not those of the page at the stamp";
+    case PRECOPY_PAGE_BEHIND:
+        return "a page is not at its version at the stop";
     default:
         return "no status of this library";
     }

@@ -32,9 +32,10 @@ from ._calls import lent as _lent
 from ._calls import number as _number
 
 __all__ = [
-    "BufferRefused", "FlatMemory", "Frame", "FrameRefused", "NoMemory", "Reason", "Refused", "Round", "Settings",
-    "SettingsRefused", "Sizes", "Sums", "Taken", "TraceRefused", "check_settings", "check_trace", "decode_frame",
-    "encode_frame", "is_zero", "memory", "memory_before", "plan", "report", "rounds", "sweep", "version",
+    "BufferRefused", "Finding", "FlatMemory", "Frame", "FrameRefused", "NoMemory", "Reason", "Refused", "Round",
+    "Settings", "SettingsRefused", "Sizes", "Sums", "Taken", "TraceRefused", "check_settings", "check_streams",
+    "check_trace", "decode_frame", "encode_frame", "is_zero", "memory", "memory_before", "plan", "report", "rounds",
+    "sweep", "version", "writes_before",
 ]  # fmt: skip
 
 Bytes = Union[bytes, bytearray, memoryview, mmap.mmap]
@@ -208,6 +209,35 @@ class Taken:
     bytes: int
 
 
+@dataclass(frozen=True)
+class Finding:
+    """What is wrong first in streams, as include/precopy.h says for its status. What does not apply is 0."""
+
+    status: int
+    stream: int
+    frame: int
+    offset: int
+    tick: int
+    page: int
+    stamp: int
+    wanted: int
+    missing: int
+
+    @property
+    def place(self) -> str:
+        """Where it is in the streams."""
+        if self.status in (_calls.PAGE_MISSING, _calls.PAGE_BEHIND):
+            return "at the stop"
+        return f"stream {self.stream}, frame {self.frame}, byte {self.offset}"
+
+    def __str__(self) -> str:
+        text = _LIBRARY.precopy_strerror(self.status).decode()
+        if self.status in _calls.NO_FRAME:
+            return text
+        lacks = f"; it lacks write {self.missing}, at tick {self.tick}" if self.missing else ""
+        return f"page {self.page} at {self.stamp} for {self.wanted}, {text}{lacks}"
+
+
 def version() -> str:
     """Returns the version of the library."""
     return str(_LIBRARY.precopy_version().decode())
@@ -289,6 +319,28 @@ def memory(trace: Bytes) -> bytearray:
 def memory_before(trace: Bytes, tick: int) -> bytearray:
     """Returns the memory before a tick: what a migration that stops the guest there must leave."""
     return _memory(_LIBRARY.precopy_memory_before, trace, _number("tick", tick, 64))
+
+
+def writes_before(trace: Bytes, tick: int) -> int:
+    """Returns how many writes of a trace are before a tick."""
+    count = ctypes.c_uint32()
+    _call_over(_LIBRARY.precopy_writes_before, trace, _number("tick", tick, 64), count)
+    return count.value
+
+
+def check_streams(trace: Bytes, stop: int, streams: Sequence[Bytes]) -> Optional[Finding]:
+    """Returns what is wrong first in the streams of a migration that stops its guest after the first `stop` writes of a
+    trace, or None. It takes memory for a copy of the streams."""
+    sizes, found = (ctypes.c_size_t * len(streams))(*(memoryview(it).nbytes for it in streams)), _calls.Finding()
+    where = _number("stop", stop, 32)
+    with _lent(trace) as (start, length), _lent(b"".join(streams)) as (bytes_at, total):
+        status = _LIBRARY.precopy_check_streams(start, length, where, bytes_at, total, sizes, len(sizes), found)
+        if status in _KINDS[0][0]:
+            _check_trace(start, length)
+    if status not in _calls.WRONG:
+        _check(status)
+        return None
+    return Finding(status, *(getattr(found, name) for name, _ in _calls.Finding._fields_))
 
 
 def encode_frame(sizes: Sizes, page: int, stamp: int, content: Bytes) -> bytes:

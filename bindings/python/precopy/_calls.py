@@ -10,6 +10,10 @@ from typing import Any, Iterator, Tuple
 
 ABI = "libprecopy.so.1"
 NO_MEMORY, FRAME_PAGE, MEMORY_LENGTH, PAGE_MISSING = 16, 42, 63, 65
+# The statuses of what is wrong in streams.
+NO_VERSION, PAGE_BEHIND = 71, 75
+NO_FRAME = range(41, 46)
+WRONG = (*NO_FRAME, PAGE_MISSING, *range(NO_VERSION, PAGE_BEHIND + 1))
 MOST_ROUNDS = 64
 WRITABLE = 1  # CPython's PyBUF_WRITABLE
 
@@ -46,6 +50,14 @@ class Taken(ctypes.Structure):
     _fields_ = [("frames", ctypes.c_size_t), ("bytes", ctypes.c_size_t)]
 
 
+class Finding(ctypes.Structure):
+    _fields_ = [
+        *((name, ctypes.c_size_t) for name in "stream frame offset".split()),
+        ("tick", ctypes.c_uint64),
+        *((name, ctypes.c_uint32) for name in "page stamp wanted missing".split()),
+    ]
+
+
 _BYTES, _LENGTH, _NUMBER = ctypes.c_void_p, ctypes.c_size_t, ctypes.c_uint32
 _COUNT = ctypes.POINTER(ctypes.c_size_t)
 _pointer = ctypes.POINTER
@@ -59,6 +71,8 @@ _CALLS = {
     "sweep": [_BYTES, _LENGTH, _pointer(Settings), _LENGTH, _pointer(Sums), _LENGTH, _COUNT],
     "memory": [_BYTES, _LENGTH, _BYTES, _LENGTH, _COUNT],
     "memory_before": [_BYTES, _LENGTH, ctypes.c_uint64, _BYTES, _LENGTH, _COUNT],
+    "writes_before": [_BYTES, _LENGTH, ctypes.c_uint64, _pointer(_NUMBER)],
+    "check_streams": [_BYTES, _LENGTH, _NUMBER, _BYTES, _LENGTH, _COUNT, _LENGTH, _pointer(Finding)],
     "encode_frame": [_pointer(Sizes), _NUMBER, _NUMBER, _BYTES, _LENGTH, _BYTES, _LENGTH, _COUNT],
     "decode_frame": [_pointer(Sizes), _BYTES, _LENGTH, _pointer(Frame), _BYTES, _LENGTH],
     "accept": [_pointer(Sizes), _BYTES, _LENGTH, _BYTES, _LENGTH, _pointer(Page), _LENGTH, _pointer(Taken)],

@@ -45,6 +45,19 @@ pub struct Frame {
     pub size: usize,
 }
 
+#[repr(C)]
+#[derive(Clone, Copy, Default)]
+pub struct Finding {
+    pub stream: usize,
+    pub frame: usize,
+    pub offset: usize,
+    pub tick: u64,
+    pub page: u32,
+    pub stamp: u32,
+    pub wanted: u32,
+    pub missing: u32,
+}
+
 extern "C" {
     pub fn precopy_strerror(status: u32) -> *const c_char;
     pub fn precopy_version() -> *const c_char;
@@ -90,6 +103,17 @@ extern "C" {
         memory: *mut u8,
         memory_length: usize,
         needed: *mut usize,
+    ) -> u32;
+    pub fn precopy_writes_before(trace: *const u8, trace_length: usize, tick: u64, count: *mut u32) -> u32;
+    pub fn precopy_check_streams(
+        trace: *const u8,
+        trace_length: usize,
+        stop: u32,
+        bytes: *const u8,
+        bytes_length: usize,
+        sizes: *const usize,
+        sizes_length: usize,
+        found: *mut Finding,
     ) -> u32;
     pub fn precopy_encode_frame(
         sizes: *const Sizes,

@@ -5,11 +5,13 @@ mod calls;
 mod flat;
 mod refusals;
 mod room;
+mod streams;
 
 pub use flat::{
     accept, decode_frame, decode_frame_into, encode_frame, encode_frame_into, missing, FlatMemory, Frame, Page, Taken,
 };
 pub use refusals::{status, Refused};
+pub use streams::{check_streams, writes_before, Finding, FramePlace};
 
 use refusals::{checked, checked_buffer};
 use std::ffi::CStr;

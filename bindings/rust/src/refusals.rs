@@ -44,6 +44,12 @@ pub mod status {
     pub const MEMORY_LENGTH: u32 = 63;
     pub const PAGE_COUNT: u32 = 64;
     pub const PAGE_MISSING: u32 = 65;
+    pub const STREAM_SIZES: u32 = 66;
+    pub const NO_VERSION: u32 = 71;
+    pub const AFTER_STOP: u32 = 72;
+    pub const OLDER: u32 = 73;
+    pub const OTHER_BYTES: u32 = 74;
+    pub const PAGE_BEHIND: u32 = 75;
 }
 
 /// A call refused, with its status: a number of the module [`status`]. Its text says what the status means.
@@ -62,7 +68,7 @@ pub enum Refused {
     /// A slice has fewer elements than `needed`, and nothing was written into it.
     #[allow(missing_docs)]
     ShortBuffer { needed: usize },
-    /// The length of a slice is not that of a page, of the memory, or of the table of pages.
+    /// The length of a slice is not that of a page, of the memory, of the table of pages, or of all streams.
     #[allow(missing_docs)]
     Length { status: u32 },
     /// Memory ran out.

@@ -1,6 +1,6 @@
 //! Worked examples of each call, whose values were worked out by hand; those of checks/library_rows.c.
 
-use precopy::{status, Reason, Refused, Settings, Sizes, Sums, Taken};
+use precopy::{status, Finding, FramePlace, Reason, Refused, Settings, Sizes, Sums, Taken};
 
 /// Pages of 16 bytes, 4 pages, 5 writes: of pages 0 and 1 at ticks 0 and 5, of page 1 at tick 1200, of pages 3 and 1 at
 /// tick 2500.
@@ -209,4 +209,59 @@ fn flat_memory() {
         Err(count)
     );
     assert_eq!((precopy::missing(&pages), precopy::missing(&[])), (None, None));
+}
+
+/// Frames of pages 0 to 3 and of page 1 again, which begin at bytes 0, 25, 50, 59 and 68. After them comes the older
+/// frame of page 1 once more.
+#[rustfmt::skip]
+const SENT: [u8; 118] = [
+    0, 0, 0, 0, 1, 0, 0, 0, 1, 1, 0, 0, 0, 0, 0, 0, 0, 0, 0, 0, 0, 0, 0, 0, 0,
+    1, 0, 0, 0, 2, 0, 0, 0, 1, 0, 0, 0, 0, 0, 0, 0, 0, 0, 0, 0, 0, 0, 0, 0, 2,
+    2, 0, 0, 0, 0, 0, 0, 0, 0, 3, 0, 0, 0, 0, 0, 0, 0, 0,
+    1, 0, 0, 0, 3, 0, 0, 0, 1, 3, 0, 0, 0, 0, 0, 0, 0, 0, 0, 0, 0, 0, 0, 0, 2,
+    1, 0, 0, 0, 2, 0, 0, 0, 1, 0, 0, 0, 0, 0, 0, 0, 0, 0, 0, 0, 0, 0, 0, 0, 2,
+];
+
+#[test]
+fn streams() {
+    let check = |bytes: &[u8], sizes: &[usize]| precopy::check_streams(&TRACE, 3, bytes, sizes);
+    assert_eq!(precopy::writes_before(&TRACE, 2500), Ok(3));
+    assert_eq!(check(&SENT[..93], &[93]), Ok(None));
+    assert_eq!(check(&SENT, &[93, 25]), Ok(None));
+    let older = Finding::Frame {
+        status: status::OLDER,
+        place: FramePlace {
+            stream: 0,
+            frame: 5,
+            offset: 93,
+        },
+        page: 1,
+        stamp: 2,
+        wanted: 3,
+    };
+    assert_eq!(check(&SENT, &[118]), Ok(Some(older)));
+    let behind = Finding::Page {
+        page: 1,
+        stamp: Some(2),
+        wanted: 3,
+        missing: Some((3, 1200)),
+    };
+    assert_eq!(check(&SENT[..68], &[68]), Ok(Some(behind)));
+    let never = Finding::Page {
+        page: 0,
+        stamp: None,
+        wanted: 1,
+        missing: Some((1, 0)),
+    };
+    assert_eq!(check(&SENT[25..93], &[0, 68]), Ok(Some(never)));
+    let sizes = check(&SENT, &[93]).map_err(|refused| refused.status());
+    assert_eq!(sizes, Err(status::STREAM_SIZES));
+    let refused = precopy::check_streams(&TRACE[..101], 3, &[], &[]);
+    assert_eq!(
+        refused,
+        Err(Refused::Trace {
+            status: status::SHORT_RECORD,
+            record: Some(4)
+        })
+    );
 }

@@ -1,10 +1,13 @@
 -- Memory on the way through the writes, of which those before a tick count.
-use Rattle.std.proofs.Common.{◌≡◌, ℕ, ◌+◌, ◌*◌, ◌^◌, ◌<◌, ◌≤◌, ltb, List, [], ◌∷◌, refl, ap}
-use Rattle.std.proofs.Common.{subst, ◌∙◌, arith}
+use Rattle.std.proofs.Common.{◌≡◌, ℕ, suc, ◌+◌, ◌*◌, ◌^◌, ◌<◌, ◌≤◌, ltb, List, [], ◌∷◌, length, take, refl, sym, ap}
+use Rattle.std.proofs.Common.{subst, inl, inr, ◌∙◌, arith}
 use Rattle.std.specs.List.{All, filter}
-use Rattle.std.proofs.lemmas.Bool.{cond-true, cond-false, lt-ltb, le-ltb}
+use Rattle.std.specs.List.Sorted.{IsNonDecreasingBy}
+use Rattle.std.proofs.lemmas.Bool.{cond-true, cond-false, cases_lt, lt-ltb, le-ltb}
+use Rattle.std.proofs.Math.Seq.{take-nil}
+use Rattle.page_versions.proofs.Places.{filter_none}
 use Rattle.std.proofs.lemmas.List.Elements.{All-head, All-tail}
-use Rattle.migration_model.specs.Memory.{GuestMemory, bytes_put, image_before, image_of, put, replay}
+use Rattle.migration_model.specs.Memory.{GuestMemory, bytes_put, image_after, image_before, image_of, put, replay}
 use Rattle.migration_model.specs.Trace.{GuestTrace, GuestWrite, IsGuestWrite, IsTrace}
 use Rattle.image_build.proofs.Replays.{Becomes, Becomes-next}
 
@@ -58,3 +61,43 @@ pub image_before_end : (trace : GuestTrace) (tick : ℕ) → IsTrace trace → 2
 image_before_end trace tick is high =
     ap (replay trace.shift trace.pages) (all_before trace.version trace.shift trace.pages tick trace.writes
     is.writes.each high)
+
+-- how many of these writes are before a tick, with one more
+pub count_low : (tick : ℕ) (write : GuestWrite) (left : List GuestWrite) → write.tick < tick
+    → length (before_tick tick (write ∷ left)) ≡ suc (length (before_tick tick left))
+count_low tick write left low =
+    ap length (cond-true (ltb write.tick tick) (write ∷ before_tick tick left) (before_tick tick left)
+    (lt-ltb write.tick tick low))
+
+pub count_high : (tick : ℕ) (write : GuestWrite) (left : List GuestWrite) → tick ≤ write.tick
+    → length (before_tick tick (write ∷ left)) ≡ length (before_tick tick left)
+count_high tick write left high =
+    ap length (cond-false (ltb write.tick tick) (write ∷ before_tick tick left) (before_tick tick left)
+    (le-ltb write.tick tick high))
+
+-- writes in order begin with those before a tick
+front_before : (tick : ℕ) (writes : List GuestWrite) → IsNonDecreasingBy (λ write. write.tick) writes
+    → take (length (before_tick tick writes)) writes ≡ before_tick tick writes
+front_before tick [] order = take-nil (length (before_tick tick []))
+front_before tick (write ∷ writes) order = elim (cases_lt write.tick tick) [
+  | inl low ↦
+      let is : before_tick tick (write ∷ writes) ≡ write ∷ before_tick tick writes =
+      cond-true (ltb write.tick tick) (write ∷ before_tick tick writes) (before_tick tick writes)
+      (lt-ltb write.tick tick low) in
+      ap (λ (n : ℕ). take n (write ∷ writes)) (ap length is)
+      ∙ ap (λ (l : List GuestWrite). write ∷ l) (front_before tick writes
+      (λ i j d le inside. order (suc i) (suc j) d (omega (arith, le)) (omega (arith, inside))))
+      ∙ sym is
+  | inr high ↦
+      let none : before_tick tick (write ∷ writes) ≡ [] =
+      filter_none (λ w. ltb w.tick tick) (write ∷ writes) (λ k d inside. le-ltb _ tick
+      (omega (arith, high, order 0 k d (omega arith) inside))) in
+      ap (λ (l : List GuestWrite). take (length l) (write ∷ writes)) none ∙ sym none
+]
+
+-- so memory after them is that before the tick
+pub image_after_count : (trace : GuestTrace) (tick count : ℕ) → IsTrace trace
+    → count ≡ length (before_tick tick trace.writes) → image_after trace count ≡ image_before trace tick
+image_after_count trace tick count is same =
+    ap (image_after trace) same
+    ∙ ap (replay trace.shift trace.pages) (front_before tick trace.writes is.writes.in_order)

@@ -6,3 +6,4 @@ pub mod Sweeps
 pub mod Memories
 pub mod Frames
 pub mod FlatMemory
+pub mod StreamChecks

@@ -6,6 +6,7 @@
 
 mod answers;
 mod buffers;
+mod checking;
 mod flat_memory;
 mod frames;
 mod memories;

@@ -1,14 +1,14 @@
 //! Memory as the writes of a trace leave it, in the caller's buffer.
 
 ghost use Rattle.std.specs.Prelude.{◌≡◌, ◌≢◌, ◌+◌, ◌*◌, ◌^◌, ◌<◌, ◌≤◌, ◌⊎◌, IfErr, OnErr, OnOk, length};
-ghost use Rattle.migration_model.specs.Memory.{bytes_put, image_before, image_of, put};
+ghost use Rattle.migration_model.specs.Memory.{bytes_put, image_after, image_before, image_of, put};
 ghost use Rattle.migration_model.specs.Trace.{GuestTrace, Spells};
 ghost use Rattle.guest_log.specs.Writes.{shown};
 ghost use Rattle.trace_codec.specs.Refusals.{Refuses};
 ghost use Rattle.trace_codec.specs.declared.error.TraceError.{TraceError};
 ghost use Rattle.precopy_c.specs.Answers.{number_of_trace};
 ghost use Rattle.precopy_c.specs.Buffers.{over};
-ghost use Rattle.precopy_c.specs.Memories.{memory_length};
+ghost use Rattle.precopy_c.specs.Memories.{memory_length, writes_before};
 
 use crate::answers::Refusal;
 use guest_log::{Shape, WriteView};
@@ -121,4 +121,38 @@ pub extern "C" fn precopy_memory_before(
     ensures unchanged { result ≢ 0 → memory.new ≡ memory.old }
 {
     answer_before(trace, tick, memory, needed)
+}
+
+/// Returns how many writes have a tick below this one.
+fn count_before(trace: &TraceView<'_>, tick: u64) -> u32
+    ensures count { result ≡ writes_before trace.now tick }
+    ensures memory { image_after trace.now result ≡ image_before trace.now tick }
+{
+    // For the proof: a trace has at most 2^20 writes, in the order of their ticks.
+    let _ = trace.shape();
+    let mut count = 0u32;
+    for record in trace.records() {
+        if record.tick < tick {
+            count += 1;
+        }
+    }
+    count
+}
+
+/// Sets `count` to the number of writes before a tick: after so many writes memory is as before the tick.
+#[unsafe(no_mangle)]
+pub extern "C" fn precopy_writes_before(trace: &[u8], tick: u64, count: &mut u32) -> u32
+    ensures found { result ≡ 0 → (t : GuestTrace) × Spells trace.now t × (count.new ≡ writes_before t tick)
+        × (image_after t count.new ≡ image_before t tick) }
+    ensures refused { result ≢ 0 → (e : TraceError) × Refuses trace.now e × (result ≡ number_of_trace e)
+        × (count.new ≡ count.old) }
+    ensures only { (t : GuestTrace) → Spells trace.now t → result ≡ 0 }
+{
+    match TraceView::parse(trace) {
+        Ok(view) => {
+            *count = count_before(&view, tick);
+            0
+        }
+        Err(error) => Refusal::Trace(error).number(),
+    }
 }

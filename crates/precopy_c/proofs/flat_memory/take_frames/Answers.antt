@@ -1,8 +1,7 @@
-use Rattle.std.proofs.Common.{◌∙◌, ◌≤◌, length, arith}
+use Rattle.std.proofs.Common.{◌∙◌, arith}
 use Rattle.page_message.specs.Shapes.{shape_of}
-use Rattle.precopy_c.specs.FlatMemory.{TakesFlat}
 use Rattle.collector.proofs.Taken.{some_size}
-use Rattle.precopy_c.proofs.Flat.{TakesFlat-more, taken_with}
+use Rattle.precopy_c.proofs.Flat.{TakesFlat-more}
 use Rattle.precopy_c.proofs.flat_memory.take_frames.Goals as goal
 
 pub loop-rest-smaller : goal.loop-rest-smaller

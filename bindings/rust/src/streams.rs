@@ -1,0 +1,97 @@
+//! Streams of a migration, checked against a trace.
+
+use crate::refusals::{checked, status, Refused};
+use crate::{calls, with_record};
+
+/// A frame of some streams.
+#[derive(Clone, Copy, Debug, PartialEq, Eq)]
+pub struct FramePlace {
+    /// The stream, from 0.
+    pub stream: usize,
+    /// The number of the frame in its stream, from 0.
+    pub frame: usize,
+    /// The byte of its stream at which it begins.
+    pub offset: usize,
+}
+
+/// What is wrong first in some streams.
+#[derive(Clone, Copy, Debug, PartialEq, Eq)]
+pub enum Finding {
+    /// A frame is wrong. `status` is the cause, `wanted` the stamp that was to be. If the bytes are no frame, `page`,
+    /// `stamp` and `wanted` are 0.
+    #[allow(missing_docs)]
+    Frame {
+        status: u32,
+        place: FramePlace,
+        page: u32,
+        stamp: u32,
+        wanted: u32,
+    },
+    /// A page is not at its version at the stop, `wanted`, or never came. `missing` is the place and the tick of the
+    /// first write that it lacks.
+    #[allow(missing_docs)]
+    Page {
+        page: u32,
+        stamp: Option<u32>,
+        wanted: u32,
+        missing: Option<(u32, u64)>,
+    },
+}
+
+impl Finding {
+    fn of(status: u32, found: &calls::Finding) -> Option<Finding> {
+        match status {
+            status::PAGE_MISSING | status::PAGE_BEHIND => Some(Finding::Page {
+                page: found.page,
+                stamp: (status == status::PAGE_BEHIND).then_some(found.stamp),
+                wanted: found.wanted,
+                missing: (found.missing != 0).then_some((found.missing, found.tick)),
+            }),
+            status::FRAME_SHORT..=status::FRAME_ZEROS | status::NO_VERSION..=status::OTHER_BYTES => {
+                Some(Finding::Frame {
+                    status,
+                    place: FramePlace {
+                        stream: found.stream,
+                        frame: found.frame,
+                        offset: found.offset,
+                    },
+                    page: found.page,
+                    stamp: found.stamp,
+                    wanted: found.wanted,
+                })
+            }
+            _ => None,
+        }
+    }
+}
+
+/// Returns how many writes of a trace are before a tick.
+pub fn writes_before(trace: &[u8], tick: u64) -> Result<u32, Refused> {
+    let mut count = 0;
+    // SAFETY: the slice is there for its length; what is written is this function's.
+    let status = unsafe { calls::precopy_writes_before(trace.as_ptr(), trace.len(), tick, &mut count) };
+    with_record(trace, checked(status).map(|()| count))
+}
+
+/// Returns what is wrong first in the streams of a migration that stops its guest after the first `stop` writes of a
+/// trace, or `None`. `bytes` are those of all streams, one after the other, and `sizes` is how many each has.
+pub fn check_streams(trace: &[u8], stop: u32, bytes: &[u8], sizes: &[usize]) -> Result<Option<Finding>, Refused> {
+    let mut found = calls::Finding::default();
+    // SAFETY: as in `writes_before`.
+    let status = unsafe {
+        calls::precopy_check_streams(
+            trace.as_ptr(),
+            trace.len(),
+            stop,
+            bytes.as_ptr(),
+            bytes.len(),
+            sizes.as_ptr(),
+            sizes.len(),
+            &mut found,
+        )
+    };
+    match Finding::of(status, &found) {
+        Some(finding) => Ok(Some(finding)),
+        None => with_record(trace, checked(status).map(|()| None)),
+    }
+}
