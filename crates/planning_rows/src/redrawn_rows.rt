@@ -6,7 +6,7 @@ use guest_log::Timeline;
 use guest_units::Scale;
 use page_bitmap::word_count;
 use rate_limit::{Asked, Reason, Settings};
-use redrawn_pages::{Errors, are_drawn, redrawn_outcome};
+use redrawn_pages::{Errors, are_drawn, has_errors, redrawn_outcome, sample_errors};
 use std::alloc::Global;
 use std::test::Fail;
 use trace_codec::Trace;
@@ -133,16 +133,41 @@ fn plans_of_redrawn_pages(rt: HostRuntime) -> Result<(), Fail> {
     Ok(())
 }
 
-/// Returns the standard errors of the plan of a trace, of bytes and in microseconds of time and downtime.
+/// Standard errors of bytes, and in microseconds of time and downtime.
+type Numbers = (u128, u128, u128);
+
+fn numbers(errors: Errors) -> Numbers {
+    (errors.bytes, errors.time, errors.downtime)
+}
+
+/// Returns the standard errors of the plan of a trace.
 fn errors(
     alloc: Global,
     trace: &Trace,
     asked: Asked,
     scale: &Scale,
-) -> Result<Option<(u128, u128, u128)>, Fail> {
+) -> Result<Option<Numbers>, Fail> {
     let settings = Settings::new(asked)?;
-    let errors = Errors::of_trace(alloc, trace, &settings, scale)?;
-    Ok(errors.map(|errors| (errors.bytes, errors.time, errors.downtime)))
+    Ok(Errors::of_trace(alloc, trace, &settings, scale)?.map(numbers))
+}
+
+/// Returns the same, in memory that is lent and not empty.
+fn lent_errors(
+    alloc: Global,
+    trace: &Trace,
+    asked: Asked,
+    scale: &Scale,
+) -> Result<Option<Numbers>, Fail> {
+    if !has_errors(scale) {
+        return Ok(None);
+    }
+    let settings = Settings::new(asked)?;
+    let words = word_count(trace.page_count() as usize);
+    let mut room = Vec::from_elem(alloc, u32::MAX, scale.sampled() as usize)?;
+    let mut listed = Vec::from_elem(alloc, u64::MAX, words)?;
+    let mut marks = Vec::from_elem(alloc, u64::MAX, words)?;
+    let errors = sample_errors(trace, &settings, scale, &mut room, &mut listed, &mut marks);
+    Ok(Some(numbers(errors)))
 }
 
 #[test]
@@ -163,9 +188,11 @@ fn errors_of_samples(rt: HostRuntime) -> Result<(), Fail> {
     ];
     for (asked, scale, expected) in cases {
         assert_eq!(rt; errors(alloc, &trace, asked, &scale)?, Some(expected));
+        assert_eq!(rt; lent_errors(alloc, &trace, asked, &scale)?, Some(expected));
     }
     let all = Scale::new(1000, 4096, 6, 6)?;
     assert_eq!(rt; errors(alloc, &trace, slow(), &all)?, None);
+    assert_eq!(rt; lent_errors(alloc, &trace, slow(), &all)?, None);
     Ok(())
 }
 

@@ -47,7 +47,7 @@ impl Model for Errors {
 }
 
 /// Returns whether standard errors are given for a trace of this scale.
-fn has_errors(scale: &Scale) -> bool
+pub fn has_errors(scale: &Scale) -> bool
     ensures told { IsTrue result ↔ HasErrors scale.now }
     ensures in_range { IsScale scale.now }
 {

@@ -12,5 +12,5 @@ mod spread;
 mod sums;
 mod walk;
 
-pub use errors::{Errors, sample_errors};
+pub use errors::{Errors, has_errors, sample_errors};
 pub use plans::{are_drawn, redrawn_outcome};
