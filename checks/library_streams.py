@@ -1,12 +1,18 @@
-"""Random traces and streams with a mistake planted in a random frame: the library's check of streams must name it."""
+"""Random traces and streams with a mistake planted in a random frame: the library's check of streams must name it. The
+tool over it, tools/check, tells worked examples."""
 
 import collections
 import itertools
+import os
 import random
+import sys
+import tempfile
 import time
 
 import precopy
 import stream_model
+import stream_rows
+from library_runs import TOP, run
 from library_traces import generated
 
 TRIALS = 2000
@@ -164,6 +170,42 @@ def trial(chosen, tally, number):
     return mistake.__name__
 
 
+def told_by_tool(folder, streams, *words):
+    """The status of tools/check over the streams of the guest of examples/a.pcwt, and what it prints."""
+    paths = [os.path.join(folder, f"stream{number}") for number in range(len(streams))]
+    for path, stream in zip(paths, streams):
+        with open(path, "wb") as file:
+            file.write(stream)
+    done = run(sys.executable, f"{TOP}/tools/check", f"{TOP}/examples/a.pcwt", *paths, *words)
+    return done.returncode, (done.stdout + done.stderr).decode()
+
+
+def check_tool(tally, folder):
+    right = stream_rows.stream(stream_rows.RIGHT)
+    late = stream_rows.frame(1, 2, stream_rows.OLD)
+    older = "page 1 at 2 for 3, a frame of the page with a greater stamp came before in the stream"
+    lacks = "page 1 at 3 for 5, a page is not at its version at the stop; it lacks write 5, at tick 2500"
+    rows = [
+        ([right], ["--tick", "2000"], 0, "all is right at the stop, after 3 of 5 writes\n"),
+        ([right, late], ["--after", "3"], 0, "all is right at the stop, after 3 of 5 writes\n"),
+        ([late, right + late], ["--tick", "2500"], 3, f"stream 1, frame 5, byte 93: {older}\n"),
+        ([right[:-1]], ["--after", "3"], 3, "stream 0, frame 4, byte 68: frame F1: a frame is cut off\n"),
+        ([right], [], 3, f"at the stop: {lacks}\n"),
+        ([right], ["--after", "9"], 3, f"at the stop: {lacks}\n"),
+    ]
+    for streams, words, status, text in rows:
+        found = told_by_tool(folder, streams, *words)
+        tally.add(found == (status, text), f"tools/check {' '.join(words)} tells {found}, not {status} and {text}")
+    for words, status in (([], 2), (["--tick", "-1"], 2), (["--tick", "1", "--after", "1"], 2)):
+        found = told_by_tool(folder, [right][: len(words)], *words)
+        tally.add(found[0] == status, f"tools/check {' '.join(words)} has status {found}")
+    done = run(sys.executable, f"{TOP}/tools/check", f"{TOP}/README.md", f"{TOP}/README.md")
+    tally.add(done.returncode == 1 and b"trace E2" in done.stderr, f"tools/check of no trace: {done}")
+    environment = {**os.environ, "PRECOPY_LIBRARY": "/there/is/none"}
+    done = run(sys.executable, f"{TOP}/tools/check", f"{TOP}/examples/a.pcwt", "none", env=environment)
+    tally.add(done.returncode == 2 and b"is not there" in done.stderr, f"tools/check without the library: {done}")
+
+
 def check_speed(tally):
     """The check beside `accept`, over streams of a guest that was written all over."""
     chosen, shift, pages, writes = random.Random(54), 12, 4096, 20000
@@ -200,4 +242,6 @@ def check(tally):
             break
     tally.add(len(planted) == len(MISTAKES), f"of the mistakes only {sorted(planted)} were planted")
     print(f"mistakes in streams of {number + 1} traces: {dict(planted)}", flush=True)
+    with tempfile.TemporaryDirectory() as folder:
+        check_tool(tally, folder)
     check_speed(tally)

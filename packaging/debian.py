@@ -73,7 +73,7 @@ PACKAGES = [
         name="precopy",
         section="utils",
         depends=needed_by_programs,
-        suggests="busybox-static, gcc, libc6-dev, linux-image-amd64, parallel, qemu-system-x86, valgrind",
+        suggests="busybox-static, gcc, libc6-dev, linux-image-amd64, parallel, python3-precopy, qemu-system-x86, valgrind",
         summary="plan and perform pre-copy live migrations of recorded guests",
         text="""\
  precopy reads a trace of the writes of a guest. It tells the writable
