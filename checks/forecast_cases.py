@@ -362,7 +362,7 @@ def predicted_series(_, folder):
             value = re.search(rf"^{said}: ([^,;\n]+)", alone, re.M)[1]
             expect(f"  {value}  " in line, f"{value!r} is not in {line!r}")
         told = starts_of(path, "16MiB", "2ms")
-        within += sum(start["within_trace"] for start in told["starts"])
+        within += sum(start["kept"] != "unknown" for start in told["starts"])
         for which in ("best", "worst"):
             start = told[which]
             at = moment + datetime.timedelta(seconds=start["start_seconds"] - 1)

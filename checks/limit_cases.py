@@ -92,8 +92,12 @@ def costs_of(limits, start, plan):
 
 
 def predicted_lines(limits, report, start, last):
-    """Returns the first lines of a prediction and its status, from the facts of a report."""
+    """Returns the first lines of a prediction, the number of warnings, and its status, from the facts of a report."""
     stop = report["stop"]
+    if stop["at"] > last:
+        recorded = max(0, last - start) * limits.tick
+        return ["converges: unknown, the trace ends before the migration does; record longer",
+                f"total time: more than {seconds(recorded)}"], 0, 4
     time, down, sent = costs_of(limits, start, stop)
     kept = down <= limits.downtime
     ends = {"few": "yes", "fast": "no, the guest writes faster than the link sends",
@@ -104,7 +108,7 @@ def predicted_lines(limits, report, start, last):
     lines = [f"converges: {ends}{separator} rounds: {len(report['rounds'])}", f"total time: {seconds(time)}",
              f"sent: {size_text(sent)}",
              f"downtime: {seconds(down)}, limit: {seconds(limits.downtime)}, {'kept' if kept else 'not kept'}"]
-    warnings = [stop["at"] > last, stop["pages"] < 100, stop["why"] != "few"]
+    warnings = [stop["pages"] < 100, stop["why"] != "few"]
     return lines, sum(warnings), 0 if kept else 3
 
 
@@ -128,15 +132,43 @@ def pages_sent(report, known):
     return lists
 
 
-def error_lines(limits, lists):
-    """Returns the line on standard errors, if there is one."""
+def errors_of(limits, lists):
+    """Returns the standard errors of what is sent, in bytes, and of the downtime, in microseconds, if there are any."""
     if not 2 <= limits.sampled <= 65_536 or limits.sampled >= limits.guest:
-        return []
+        return None
     times = collections.Counter(page for some in lists for page in some)
     sent = error_of(limits, sum(times.values()), sum(count * count for count in times.values()))
     left = error_of(limits, len(lists[-1]), len(lists[-1]))
     time = -(-left * limits.sampled * limits.tick * 1_000 // (limits.guest * limits.rate(limits.link[1])))
-    return [f"standard errors: sent {size_text(sent * limits.page)}, downtime {seconds(time)}"]
+    return sent * limits.page, time
+
+
+def predicted_document(limits, report, start, last, errors):
+    """Returns the document of a prediction, from the facts of a report."""
+    stop = report["stop"]
+    time, down, sent = costs_of(limits, start, stop)
+    settings = {name: int(value) for name, value in (word[2:].split("=") for word in limits.settings())}
+    first = {"first_bytes": limits.first[1]} if limits.first else {}
+    migration = {"why": stop["why"], "rounds": len(report["rounds"]), "time_seconds": time / 1e6, "sent_bytes": sent,
+                 "down_seconds": down / 1e6, "left_pages": stop["pages"]}
+    if errors:
+        migration["errors"] = {"sent_bytes": errors[0], "down_seconds": errors[1] / 1e6}
+    is_known = stop["at"] <= last
+
+    def answer(holds):
+        return "unknown" if not is_known else "yes" if holds else "no"
+
+    return {
+        "units": {"tick_seconds": limits.tick / 1e6, "page_bytes": limits.page, "sampled_pages": limits.sampled,
+                  "guest_pages": limits.guest},
+        "limits": {"link_bytes": limits.link[1], **first, "down_seconds": limits.downtime / 1e6,
+                   "reserve_seconds": limits.reserve / 1e6},
+        "settings": {**settings, "limit": 30, "skip": False, "start": start},
+        "converges": answer(stop["why"] == "few"), "kept": answer(down <= limits.downtime),
+        "recorded_seconds": max(0, last - start) * limits.tick / 1e6, **({"migration": migration} if is_known else {}),
+        "hosts": {"bandwidth_bytes": limits.link[1], "bandwidth_mib": max(1, limits.link[1] >> 20),
+                  "down_milliseconds": (limits.downtime - limits.reserve) // 1_000},
+    }
 
 
 def ran_in_range(view, command, words, limits, known):
@@ -158,7 +190,9 @@ def check_prediction(view, precopy, limits, start, known):
     settings = limits.settings()
     report = report_facts(told(precopy, ["report", *settings, f"--start={start}"], known.path))
     lines, warnings, wanted = predicted_lines(limits, report, start, known.last)
-    lines += error_lines(limits, pages_sent(report, known))
+    errors = errors_of(limits, pages_sent(report, known))
+    if errors and wanted != 4:
+        lines.append(f"standard errors: sent {size_text(errors[0])}, downtime {seconds(errors[1])}")
     found = text.splitlines()
     told_warnings = [line for line in found if line.startswith("warning: ")]
     if status != wanted or found[: len(lines)] != lines or len(told_warnings) != warnings:
@@ -172,6 +206,10 @@ def check_prediction(view, precopy, limits, start, known):
     rest = found[len(lines) + warnings:]
     if rest != [live, *hosts]:
         raise Failure(f"{words}: {rest} in place of {[live, *hosts]}")
+    status, text, _ = ran(view, ["json", "predict", *words], known.path)
+    document = predicted_document(limits, report, start, known.last, errors)
+    if status != wanted or document_of("predict", text) != document:
+        raise Failure(f"{words}: status {status}, {text} in place of {document}")
 
 
 # ---- Reports in times and bytes.
@@ -237,7 +275,7 @@ def preference(cost):
 
 
 def row_of(limits, cost):
-    mark = "ends after the trace" if not cost["known"] else "kept" if cost["kept"] else "not kept"
+    mark = "unknown" if not cost["known"] else "kept" if cost["kept"] else "not kept"
     cells = [str(cost["start"]), seconds(cost["start"] * limits.tick), seconds(cost["time"]), size_text(cost["sent"]),
              seconds(cost["down"])]
     return "".join(cell.rjust(14) for cell in cells) + f"  {mark}"
@@ -254,7 +292,7 @@ def choice_of(limits, name, cost):
 def object_of(limits, cost):
     return {"start": cost["start"], "start_seconds": cost["start"] * limits.tick / 1e6, "rounds": cost["rounds"],
             "time_seconds": cost["time"] / 1e6, "sent_bytes": cost["sent"], "down_seconds": cost["down"] / 1e6,
-            "kept": cost["kept"], "within_trace": cost["known"]}
+            "kept": "unknown" if not cost["known"] else "yes" if cost["kept"] else "no"}
 
 
 def start_ticks(draw, last):
@@ -283,7 +321,7 @@ def check_starts(view, precopy, limits, starts, workers, known):
     heading = "".join(name.rjust(14) for name in ("tick", "start", "time", "sent", "downtime"))
     lines = [heading, *(row_of(limits, cost) for cost in costs), choice_of(limits, "best: ", best),
              choice_of(limits, "worst:", worst)]
-    wanted = 0 if best and best["kept"] else 3
+    wanted = 4 if best is None else 0 if best["kept"] else 3
     if status != wanted or text.splitlines() != lines:
         raise Failure(f"{words}: status {status}, {text.splitlines()} in place of {lines}")
     status, text, _ = ran(view, ["json", "when", *words], known.path)

@@ -258,7 +258,7 @@ def read_starts(picture, axis, document, limit):
         least = limit if number == 0 else 1
         expect(panel.most == max([1, least, *map(number_of, starts)]), f"{panel.most} at the top of panel {number}")
         for name, within in (("late", False), ("known", True)):
-            some = [at for at in starts if at["within_trace"] == within]
+            some = [at for at in starts if (at["kept"] != "unknown") == within]
             read_curve(panel, axis, picture.lines[name][number], some, number_of)
         for name in ("best", "worst"):
             wanted = [document[name]["start"]] if name in document else []

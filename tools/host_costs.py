@@ -156,7 +156,7 @@ def missed(start: dict, limits: Wanted) -> str:
     """Which of a guest's limits is not kept, and by what."""
     if not start["known"]:
         return "the recording ends before the migration"
-    if not start["kept"]:
+    if start["down_seconds"] > limits.downtime:
         return f"downtime {1000 * start['down_seconds']:.0f} ms over {1000 * limits.downtime:g} ms"
     if limits.time is not None and start["time_seconds"] > limits.time:
         return f"time {start['time_seconds']:.1f} s over {limits.time:g} s"

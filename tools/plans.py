@@ -127,12 +127,12 @@ def starts(program: str, trace: bytes, words: list[str], first: int, last: int, 
     """What the same migration costs from many starts, by the words of limits()."""
     at = words.index("--start")
     words = words[:at] + words[at + 2 :] + ["--from", str(first), "--to", str(last), "--every", str(every)]
-    return document(program, ["when", *words], trace, (0, 3))
+    return document(program, ["when", *words], trace, (0, 3, 4))
 
 
 def host_words(program: str, trace: bytes, words: list[str]) -> list[str]:
     """The lines that give QEMU and libvirt the same limits."""
-    lines = answer(program, ["predict", *words], trace, (0, 3)).split("\n")
+    lines = answer(program, ["predict", *words], trace, (0, 3, 4)).split("\n")
     return [line for line in lines if line.startswith(("QEMU: ", "libvirt: "))]
 
 

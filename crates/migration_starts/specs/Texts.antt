@@ -1,28 +1,30 @@
 -- The starts as a table, and the best and the worst of them. This project's own.
-use Rattle.std.specs.Prelude.{ℕ, ◌-◌, if◌then◌else◌, List, [], ◌∷◌, ◌++◌, length, replicate, codes}
+use Rattle.std.specs.Prelude.{ℕ, ◌-◌, List, [], ◌∷◌, ◌++◌, length, replicate, codes}
 use Rattle.std.specs.Prelude.{Option, None, Some}
 use Rattle.std.specs.Fmt.{decimal}
 use Rattle.std.specs.List.{flat_map}
 use Rattle.guest_units.specs.Scales.{TraceScale, micros_of}
 use Rattle.migration_starts.specs.Costs.{CostAtStart}
-use Rattle.predictions.specs.Predictions.{MigrationCost}
+use Rattle.predictions.specs.Predictions.{MigrationCost, kept_of}
 use Rattle.predictions.specs.Quantities.{bytes_text, seconds_text}
+use Rattle.predictions.specs.declared.verdict.Verdict.{Verdict}
+use Rattle.predictions.specs.declared.verdict.Verdict.TheVariants as verdicts
 use Rattle.sweep_report.specs.Lines.{field}
 
 -- words at the right end of a column of this width (32 is a blank)
 abbrev pub right_in : ℕ → List ℕ → List ℕ
 right_in width words = replicate (width - length words) 32 ++ words
 
--- whether the limit is kept, if that is known
-abbrev pub mark_of : MigrationCost → List ℕ
-mark_of cost =
-    if cost.is_late then codes "ends after the trace"
-    else (if cost.is_kept then codes "kept" else codes "not kept")
+-- whether the limit is kept, in words
+abbrev pub mark_of : Verdict → List ℕ
+mark_of verdicts.Yes = codes "kept"
+mark_of verdicts.No = codes "not kept"
+mark_of verdicts.Unknown = codes "unknown"
 
 -- what a migration costs, as columns
 unfoldable pub cost_cells : MigrationCost → List ℕ
 cost_cells cost = right_in 14 (seconds_text cost.time) ++ (right_in 14 (bytes_text cost.bytes)
-    ++ (right_in 14 (seconds_text cost.downtime) ++ (codes "  " ++ mark_of cost)))
+    ++ (right_in 14 (seconds_text cost.downtime) ++ (codes "  " ++ mark_of (kept_of cost))))
 
 -- a start, and what the migration costs from there
 abbrev pub start_row : TraceScale → CostAtStart → List ℕ
@@ -39,7 +41,7 @@ heading = codes "          tick         start          time          sent      d
 -- what a migration costs from a chosen start
 unfoldable pub chosen_cost : MigrationCost → List ℕ
 chosen_cost cost = codes ": time " ++ (seconds_text cost.time ++ (codes ", sent " ++ (bytes_text cost.bytes
-    ++ (codes ", downtime " ++ (seconds_text cost.downtime ++ (codes ", " ++ (mark_of cost ++ 10 ∷ [])))))))
+    ++ (codes ", downtime " ++ (seconds_text cost.downtime ++ (codes ", " ++ (mark_of (kept_of cost) ++ 10 ∷ [])))))))
 
 -- a chosen start
 unfoldable pub chosen_text : TraceScale → CostAtStart → List ℕ

@@ -2,13 +2,14 @@
 
 ghost use Rattle.std.specs.Prelude.{◌≡◌, ◌++◌, ◌<◌, ◌^◌, IfOk, OnOk};
 ghost use Rattle.std.specs.Fmt.{decimal};
+ghost use Rattle.predictions.specs.Predictions.{kept_of};
 ghost use Rattle.predictions.specs.Quantities.{bytes_text, seconds_text};
 ghost use Rattle.migration_starts.specs.Texts.{choice_line, chosen_cost, chosen_text, cost_cells, mark_of, right_in};
 ghost use Rattle.migration_starts.specs.Texts.{start_row, start_rows, starts_text_of};
 
 use crate::starting::StartCost;
 use guest_units::Scale;
-use predictions::{Cost, push_bytes, push_seconds, push_wide};
+use predictions::{Cost, Verdict, push_bytes, push_seconds, push_wide};
 use std::alloc::{AllocError, Global};
 use sweep_report::{end_line, push_field};
 
@@ -57,16 +58,14 @@ fn push_size_cell(alloc: Global, text: &mut Vec<u8>, bytes: u128) -> Result<(), 
     push_right(text, &words)
 }
 
-/// Returns whether the limit is kept, if that is known, in words.
+/// Returns whether the limit is kept, in words.
 fn mark_words(cost: &Cost) -> &'static str
-    ensures { result.now ≡ mark_of cost.now }
+    ensures { result.now ≡ mark_of (kept_of cost.now) }
 {
-    if cost.is_late {
-        "ends after the trace"
-    } else if cost.is_kept {
-        "kept"
-    } else {
-        "not kept"
+    match cost.kept() {
+        Verdict::Yes => "kept",
+        Verdict::No => "not kept",
+        Verdict::Unknown => "unknown",
     }
 }
 

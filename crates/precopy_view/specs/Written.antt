@@ -5,6 +5,7 @@ use Rattle.migration_jobs.specs.Sink.{AppendsPart}
 use Rattle.migration_jobs.specs.declared.error.RunError.{RunError}
 use Rattle.migration_jobs.specs.declared.error.RunError.TheVariants as runs
 use Rattle.migration_model.specs.Touches.{GuestTouches}
+use Rattle.predictions.specs.declared.verdict.Verdict.{Verdict}
 use Rattle.precopy_view.specs.Fitting.{FitsScale, IsMisfit}
 use Rattle.precopy_view.specs.declared.faults.ShowError.{ShowError}
 use Rattle.precopy_view.specs.declared.faults.ShowError.TheVariants as errors
@@ -16,23 +17,23 @@ use Rattle.trace_views.specs.declared.error.ViewError.{ViewError}
 use Rattle.view_words.specs.declared.command.AskedView.{AskedView}
 
 -- a view of the trace that a source held, and whether its limit is kept
-pub record MakesView (known : Option (List ℕ)) (asked : AskedView) (output : List ℕ) (is_kept : Bool) : Type 0 where
+pub record MakesView (known : Option (List ℕ)) (asked : AskedView) (output : List ℕ) (kept : Verdict) : Type 0 where
   pub log : GuestTouches
   pub is_log : IsLogOf known log
   pub fits : FitsScale asked.scale log.shift log.pages
-  pub is_view : IsView log asked.view output is_kept
+  pub is_view : IsView log asked.view output kept
 
 -- the view, or a prefix of it, was added to what a sink held
-pub record WritesView (known : Option (List ℕ)) (asked : AskedView) (is_kept : Bool)
+pub record WritesView (known : Option (List ℕ)) (asked : AskedView) (kept : Verdict)
     (old new : Option (List ℕ)) : Type 0 where
   pub output : List ℕ
-  pub is_shown : MakesView known asked output is_kept
+  pub is_shown : MakesView known asked output kept
   pub added : Appends old new output
 
 pub record WritesViewPart (known : Option (List ℕ)) (asked : AskedView) (old new : Option (List ℕ)) : Type 0 where
   pub output : List ℕ
-  pub is_kept : Bool
-  pub is_shown : MakesView known asked output is_kept
+  pub kept : Verdict
+  pub is_shown : MakesView known asked output kept
   pub added : AppendsPart old new output
 
 -- the trace does not have the requested scale

@@ -12,6 +12,7 @@ ghost use Rattle.view_words.specs.Views.{WordsAsk};
 
 use crate::faults::{ShowError, check_scale, fault, refuse};
 use migration_jobs::{RunError, Sink, write_out};
+use predictions::Verdict;
 use program_edge::Program;
 use std::alloc::Global;
 use std::thread::Threads;
@@ -28,7 +29,7 @@ fn text_of<R: Threads + Sync, S: Source>(
     source: &mut S,
 ) -> Result<ViewText, ShowError>
     requires { S.has_failed source.old ≡ false }
-    ensures made { IfOk result (λ v. MakesView (S.remaining source.old) asked.now v.text.items v.is_kept) }
+    ensures made { IfOk result (λ v. MakesView (S.remaining source.old) asked.now v.text.items v.kept) }
     ensures refused { IfErr result (RefusesAskedView (S.remaining source.old) asked.now) }
     ensures unwritten { IfErr result (λ e. e ≢ ShowError.Run RunError.Write) }
     ensures read_failed { (result ≡ Err (ShowError.Run (RunError.Trace ReadFault)))
@@ -54,7 +55,7 @@ fn run_view<R: Threads + Sync, S: Source, K: Sink>(
     asked: &AskedView,
     source: &mut S,
     sink: &mut K,
-) -> Result<bool, ShowError>
+) -> Result<Verdict, ShowError>
     requires unread { S.has_failed source.old ≡ false }
     requires unwritten { K.has_failed sink.old ≡ false }
     ensures written { IfOk result (λ kept. WritesView (S.remaining source.old) asked.now kept (K.contents sink.old)
@@ -70,7 +71,7 @@ fn run_view<R: Threads + Sync, S: Source, K: Sink>(
 {
     let shown = text_of(rt, alloc, asked, source)?;
     match write_out(sink, &shown.text) {
-        Ok(()) => Ok(shown.is_kept),
+        Ok(()) => Ok(shown.kept),
         Err(error) => Err(ShowError::Run(error)),
     }
 }
@@ -87,20 +88,23 @@ fn show<R: Threads + Sync, S: Source, K: Sink, E: Sink>(
     requires unread { S.has_failed source.old ≡ false }
     requires unwritten { K.has_failed sink.old ≡ false }
     requires untold { E.has_failed faults.old ≡ false }
-    ensures status { (result ≡ 0) ⊎ ((result ≡ 1) ⊎ (result ≡ 3)) }
-    ensures flushed { (result ≡ 0) ⊎ (result ≡ 3) → K.is_flushed sink.new ≡ true }
-    ensures written { result ≡ 0 → WritesView (S.remaining source.old) asked.now true (K.contents sink.old)
+    ensures status { (result ≡ 0) ⊎ ((result ≡ 1) ⊎ ((result ≡ 3) ⊎ (result ≡ 4))) }
+    ensures flushed { (result ≡ 0) ⊎ (3 ≤ result) → K.is_flushed sink.new ≡ true }
+    ensures written { result ≡ 0 → WritesView (S.remaining source.old) asked.now Verdict.Yes (K.contents sink.old)
         (K.contents sink.new) }
-    ensures missed { result ≡ 3 → WritesView (S.remaining source.old) asked.now false (K.contents sink.old)
+    ensures missed { result ≡ 3 → WritesView (S.remaining source.old) asked.now Verdict.No (K.contents sink.old)
         (K.contents sink.new) }
+    ensures unknown { result ≡ 4 → WritesView (S.remaining source.old) asked.now Verdict.Unknown
+        (K.contents sink.old) (K.contents sink.new) }
     ensures failed { result ≡ 1 → HasFailed (S.remaining source.old) asked.now (S.has_failed source.new)
         (K.has_failed sink.new) (K.contents sink.old) (K.contents sink.new) (sink.new ≡ sink.old)
         (λ e. TellsShow e (E.contents faults.old) (E.contents faults.new) (E.has_failed faults.new)) }
-    ensures untold { (result ≡ 0) ⊎ (result ≡ 3) → faults.new ≡ faults.old }
+    ensures untold { (result ≡ 0) ⊎ (3 ≤ result) → faults.new ≡ faults.old }
 {
     match run_view(rt, alloc, asked, source, sink) {
-        Ok(true) => 0,
-        Ok(false) => 3,
+        Ok(Verdict::Yes) => 0,
+        Ok(Verdict::No) => 3,
+        Ok(Verdict::Unknown) => 4,
         Err(error) => fault(faults, &error),
     }
 }
@@ -108,8 +112,8 @@ fn show<R: Threads + Sync, S: Source, K: Sink, E: Sink>(
 /// Runs the program: `words` are its name and its arguments, and the trace comes from `source`. The view and a request
 /// for help go to `sink`, and the line of a fault or the text of a refused command line to `faults`.
 ///
-/// Returns the program's status: 0 is success, 1 a run that failed, 2 a refused command line, and 3 a prediction whose
-/// downtime is over its limit. A failure of `faults` is ignored.
+/// Returns the program's status: 0 is success, 1 a run that failed, 2 a refused command line, 3 a prediction whose
+/// downtime is over its limit, and 4 one of a migration that ends after the trace. A failure of `faults` is ignored.
 pub fn start<R: Threads + Sync, S: Source, K: Sink, E: Sink>(
     rt: &R,
     alloc: Global,
@@ -121,18 +125,21 @@ pub fn start<R: Threads + Sync, S: Source, K: Sink, E: Sink>(
     requires unread { S.has_failed source.old ≡ false }
     requires unwritten { K.has_failed sink.old ≡ false }
     requires untold { E.has_failed faults.old ≡ false }
-    ensures status { result ≤ 3 }
+    ensures status { result ≤ 4 }
     // Nothing that was written is held back.
-    ensures flushed { (result ≡ 0) ⊎ (result ≡ 3) → K.is_flushed sink.new ≡ true }
+    ensures flushed { (result ≡ 0) ⊎ (3 ≤ result) → K.is_flushed sink.new ≡ true }
     // What was written is the view of what was read that the words ask for, and its limit is kept; or else they ask for
     // help, and nothing was read.
     ensures written { result ≡ 0 → ((asked : AskedView) × WordsAsk (map string_bytes words.items) asked
-        × WritesView (S.remaining source.old) asked true (K.contents sink.old) (K.contents sink.new))
+        × WritesView (S.remaining source.old) asked Verdict.Yes (K.contents sink.old) (K.contents sink.new))
         ⊎ (FailsAs IsHelp (map string_bytes words.items) × (source.new ≡ source.old)
         × (text : List ℕ) × Appends (K.contents sink.old) (K.contents sink.new) text) }
     // What was written is the view of what was read that the words ask for, and its limit is not kept.
     ensures missed { result ≡ 3 → (asked : AskedView) × WordsAsk (map string_bytes words.items) asked
-        × WritesView (S.remaining source.old) asked false (K.contents sink.old) (K.contents sink.new) }
+        × WritesView (S.remaining source.old) asked Verdict.No (K.contents sink.old) (K.contents sink.new) }
+    // What was written is the view of what was read that the words ask for, and the trace ends before its migration.
+    ensures unknown { result ≡ 4 → (asked : AskedView) × WordsAsk (map string_bytes words.items) asked
+        × WritesView (S.remaining source.old) asked Verdict.Unknown (K.contents sink.old) (K.contents sink.new) }
     // Words are refused before any byte of the trace is read, and nothing is written then.
     ensures refused { result ≡ 2 → FailsAs IsRefusal (map string_bytes words.items) × (source.new ≡ source.old)
         × (sink.new ≡ sink.old) }
@@ -151,7 +158,7 @@ pub fn start<R: Threads + Sync, S: Source, K: Sink, E: Sink>(
     ensures told { result ≡ 2 → TellsRefusal (map string_bytes words.items) (E.contents faults.old)
         (E.contents faults.new) (E.has_failed faults.new) }
     // A view or help that was written is not told.
-    ensures untold { (result ≡ 0) ⊎ (result ≡ 3) → faults.new ≡ faults.old }
+    ensures untold { (result ≡ 0) ⊎ (3 ≤ result) → faults.new ≡ faults.old }
 {
     match view_of(alloc, &words) {
         Ok(asked) => show(rt, alloc, &asked, source, sink, faults),

@@ -243,6 +243,32 @@ fn predicts_a_migration(rt: HostRuntime) -> Result<(), Fail> {
     Ok(())
 }
 
+/// From tick 2400 on the trace has 100 ticks, and the first round takes 250.
+static UNKNOWN: &str = "converges: unknown, the trace ends before the migration does; record longer
+total time: more than 0.100 s
+precopy live --min 16 --max 16 --inc 0 --threshold 4 --rounds 30 --start 2400
+QEMU: migrate_set_parameter max-bandwidth 1024B
+QEMU: migrate_set_parameter downtime-limit 190
+libvirt: virsh migrate-setspeed DOMAIN 1
+libvirt: virsh migrate-setmaxdowntime DOMAIN 190
+";
+
+#[test]
+fn a_trace_that_ends_first_has_a_status(rt: HostRuntime) -> Result<(), Fail> {
+    let words = [
+        "predict",
+        "--link=1KiB",
+        "--downtime=200ms",
+        "--reserve=10ms",
+        "--page=16",
+        "--sampled=4/16",
+        "--start=2400",
+    ];
+    let (status, output, _) = told(&rt, rt.alloc(), 102, &words)?;
+    assert!(rt; status == 4 && output.bytes() == UNKNOWN.as_bytes());
+    Ok(())
+}
+
 #[test]
 fn a_missed_limit_has_a_status(rt: HostRuntime) -> Result<(), Fail> {
     let words = [

@@ -148,6 +148,47 @@ fn writes_times_and_bytes(rt: HostRuntime) -> Result<(), Fail> {
     Ok(())
 }
 
+/// The prediction of `tests` as a document.
+static PREDICTED: &str =
+    "{\"units\":{\"tick_seconds\":0.001000,\"page_bytes\":16,\"sampled_pages\":4,\
+\"guest_pages\":16},\"limits\":{\"link_bytes\":1024,\"down_seconds\":0.200000,\"reserve_seconds\":0.010000},\
+\"settings\":{\"min\":16,\"max\":16,\"inc\":0,\"threshold\":4,\"limit\":30,\"skip\":false,\"start\":0},\
+\"converges\":\"yes\",\"kept\":\"yes\",\"recorded_seconds\":2.500000,\
+\"migration\":{\"why\":\"few\",\"rounds\":1,\"time_seconds\":0.385000,\"sent_bytes\":384,\
+\"down_seconds\":0.135000,\"left_pages\":2,\"errors\":{\"sent_bytes\":64,\"down_seconds\":0.062500}},\
+\"hosts\":{\"bandwidth_bytes\":1024,\"bandwidth_mib\":1,\"down_milliseconds\":190}}\n";
+
+/// The same from a tick from which the trace ends before the migration does.
+static UNKNOWN: &str =
+    "{\"units\":{\"tick_seconds\":0.001000,\"page_bytes\":16,\"sampled_pages\":4,\
+\"guest_pages\":16},\"limits\":{\"link_bytes\":1024,\"down_seconds\":0.200000,\"reserve_seconds\":0.010000},\
+\"settings\":{\"min\":16,\"max\":16,\"inc\":0,\"threshold\":4,\"limit\":30,\"skip\":false,\"start\":2400},\
+\"converges\":\"unknown\",\"kept\":\"unknown\",\"recorded_seconds\":0.100000,\
+\"hosts\":{\"bandwidth_bytes\":1024,\"bandwidth_mib\":1,\"down_milliseconds\":190}}\n";
+
+#[test]
+fn predicts_as_a_document(rt: HostRuntime) -> Result<(), Fail> {
+    let cases = [("--start=0", 0, PREDICTED), ("--start=2400", 4, UNKNOWN)];
+    for (start, expected, document) in cases {
+        let words = [
+            "json",
+            "predict",
+            "--link=1KiB",
+            "--downtime=200ms",
+            "--reserve=10ms",
+            "--page=16",
+            "--sampled=4/16",
+            start,
+        ];
+        let (status, output, _) = told(&rt, rt.alloc(), 102, &words)?;
+        assert!(rt;
+            status == expected && output.bytes() == document.as_bytes(),
+            "{start}"
+        );
+    }
+    Ok(())
+}
+
 /// Starts at every 800th tick up to 2400. Only from 0 and from 2400 on are pages written in the 250 ticks of the
 /// first round: 2 of them, which take another 125 ticks. The migration from 2400 on ends after the last tick of the
 /// trace, 2500.
@@ -155,7 +196,7 @@ static STARTS: &str = "          tick         start          time          sent 
              0       0.000 s       0.385 s      0.00 MiB       0.135 s  kept
            800       0.800 s       0.260 s      0.00 MiB       0.010 s  kept
           1600       1.600 s       0.260 s      0.00 MiB       0.010 s  kept
-          2400       2.400 s       0.385 s      0.00 MiB       0.135 s  ends after the trace
+          2400       2.400 s       0.385 s      0.00 MiB       0.135 s  unknown
 best:  0.800 s, --start 800: time 0.260 s, sent 0.00 MiB, downtime 0.010 s, kept
 worst: 0.000 s, --start 0: time 0.385 s, sent 0.00 MiB, downtime 0.135 s, kept
 ";
@@ -180,13 +221,13 @@ fn tells_when_to_migrate(rt: HostRuntime) -> Result<(), Fail> {
 /// Two starts as a document.
 static DOCUMENT: &str = "{\"limit_seconds\":0.100000,\"starts\":[\
 {\"start\":0,\"start_seconds\":0.000000,\"rounds\":1,\"time_seconds\":0.385000,\"sent_bytes\":384,\
-\"down_seconds\":0.135000,\"kept\":false,\"within_trace\":true},\
+\"down_seconds\":0.135000,\"kept\":\"no\"},\
 {\"start\":2400,\"start_seconds\":2.400000,\"rounds\":1,\"time_seconds\":0.385000,\"sent_bytes\":384,\
-\"down_seconds\":0.135000,\"kept\":false,\"within_trace\":false}],\
+\"down_seconds\":0.135000,\"kept\":\"unknown\"}],\
 \"best\":{\"start\":0,\"start_seconds\":0.000000,\"rounds\":1,\"time_seconds\":0.385000,\"sent_bytes\":384,\
-\"down_seconds\":0.135000,\"kept\":false,\"within_trace\":true},\
+\"down_seconds\":0.135000,\"kept\":\"no\"},\
 \"worst\":{\"start\":0,\"start_seconds\":0.000000,\"rounds\":1,\"time_seconds\":0.385000,\"sent_bytes\":384,\
-\"down_seconds\":0.135000,\"kept\":false,\"within_trace\":true}}\n";
+\"down_seconds\":0.135000,\"kept\":\"no\"}}\n";
 
 #[test]
 fn a_limit_that_no_start_keeps_has_a_status(rt: HostRuntime) -> Result<(), Fail> {
@@ -203,6 +244,27 @@ fn a_limit_that_no_start_keeps_has_a_status(rt: HostRuntime) -> Result<(), Fail>
     ];
     let (status, output, _) = told(&rt, rt.alloc(), 102, &words)?;
     assert!(rt; status == 3 && output.bytes() == DOCUMENT.as_bytes());
+    Ok(())
+}
+
+#[test]
+fn no_known_start_has_a_status(rt: HostRuntime) -> Result<(), Fail> {
+    let words = [
+        "when",
+        "--link=1KiB",
+        "--downtime=200ms",
+        "--reserve=10ms",
+        "--page=16",
+        "--sampled=4/16",
+        "--from=2400",
+    ];
+    let (status, output, _) = told(&rt, rt.alloc(), 102, &words)?;
+    assert!(rt;
+        status == 4
+            && output.bytes().ends_with(
+                b"worst: none, since no migration ends within the trace; record longer\n",
+            )
+    );
     Ok(())
 }
 

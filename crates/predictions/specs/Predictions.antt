@@ -1,12 +1,14 @@
 -- What a migration will be, in time and bytes, by its plan. This project's own.
-use Rattle.std.specs.Prelude.{ℕ, ◌+◌, ◌-◌, nat_le, nat_lt, Bool, List, length}
+use Rattle.std.specs.Prelude.{ℕ, ◌+◌, ◌-◌, nat_le, nat_lt, Bool, true, false, if◌then◌else◌, List, length, codes}
 use Rattle.guest_units.specs.Scales.{TraceScale, bytes_of, micros_of}
 use Rattle.guest_units.specs.declared.limits.Limits.{Limits}
-use Rattle.migration_model.specs.Rates.{StopReason}
+use Rattle.migration_model.specs.Rates.{StopReason, few_remain, rounds_done, too_fast}
 use Rattle.migration_model.specs.Rounds.{MigrationPlan}
 use Rattle.migration_model.specs.Sweeps.{PlanOutcome, outcome_of}
 use Rattle.migration_model.specs.Touches.{GuestTouch}
 use Rattle.migration_model.specs.Trace.{last_by}
+use Rattle.predictions.specs.declared.verdict.Verdict.{Verdict}
+use Rattle.predictions.specs.declared.verdict.Verdict.TheVariants as verdicts
 
 -- What a migration costs. Times are in microseconds: from the start of the first round until the guest runs again, and
 -- without the guest running. Bytes are of the guest. Whether the downtime is within its limit, and whether the stop
@@ -19,11 +21,13 @@ pub record MigrationCost : Type 0 where
   pub is_kept : Bool
   pub is_late : Bool
 
--- what a migration will be: why it ends, what it costs, and how many pages of the trace are sent after the stop
+-- what a migration will be: why it ends, what it costs, how many pages of the trace are sent after the stop, and for how
+-- many microseconds the trace goes on after the start
 pub record GuestPrediction : Type 0 where
   pub reason : StopReason
   pub cost : MigrationCost
   pub left : ℕ
+  pub recorded : ℕ
 
 -- how long the guest does not run: for the pages that are left, and what is reserved
 abbrev pub downtime_of : TraceScale → Limits → ℕ → ℕ
@@ -50,4 +54,28 @@ prediction_of scale limits start plan last_tick = record {
   reason = plan.reason;
   cost = cost_of scale limits start (outcome_of plan) last_tick;
   left = length plan.last;
+  recorded = micros_of scale (last_tick - start);
 }
+
+-- The answer to a question about a migration. Nothing is known if the trace ends before the migration does: writes that
+-- it lacks could change any answer.
+abbrev pub answer : Bool → Bool → Verdict
+answer is_late holds = if is_late then verdicts.Unknown else (if holds then verdicts.Yes else verdicts.No)
+
+abbrev pub verdict_word : Verdict → List ℕ
+verdict_word verdicts.Yes = codes "yes"
+verdict_word verdicts.No = codes "no"
+verdict_word verdicts.Unknown = codes "unknown"
+
+-- whether a plan ends since few pages are left
+abbrev pub ends_with_few : StopReason → Bool
+ends_with_few few_remain = true
+ends_with_few too_fast = false
+ends_with_few rounds_done = false
+
+-- whether a migration converges, and whether it keeps its limit
+abbrev pub verdict_of : GuestPrediction → Verdict
+verdict_of p = answer p.cost.is_late (ends_with_few p.reason)
+
+abbrev pub kept_of : MigrationCost → Verdict
+kept_of cost = answer cost.is_late cost.is_kept

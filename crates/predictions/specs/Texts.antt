@@ -49,9 +49,8 @@ reason_words rounds_done = codes
 
 -- what speaks against the prediction
 abbrev pub warnings : GuestPrediction → List ℕ
-warnings p = line_if p.cost.is_late (codes "warning: the stop lies after the end of the trace; record longer")
-    ++ (line_if (nat_lt p.left 100) (codes "warning: fewer than 100 pages decided the stop; chance moves it")
-    ++ line_if (ends_early p.reason) (reason_words p.reason))
+warnings p = line_if (nat_lt p.left 100) (codes "warning: fewer than 100 pages decided the stop; chance moves it")
+    ++ line_if (ends_early p.reason) (reason_words p.reason)
 
 -- how far chance moves the prediction, if pages were sampled
 abbrev pub errors_line : Option GuestErrors → List ℕ
@@ -59,5 +58,14 @@ errors_line None = []
 errors_line (Some errors) = line (codes "standard errors: sent " ∷ bytes_text errors.bytes ∷ codes ", downtime "
     ∷ seconds_text errors.downtime ∷ [])
 
+-- a prediction of a migration that ends within the trace
+abbrev pub known_text : ℕ → GuestPrediction → Option GuestErrors → List ℕ
+known_text limit p errors = facts_text limit p ++ (errors_line errors ++ warnings p)
+
+-- all that is known of a migration if the trace, which goes on for so many microseconds, ends before it
+abbrev pub unknown_text : ℕ → List ℕ
+unknown_text recorded = codes "converges: unknown, the trace ends before the migration does; record longer\n"
+    ++ line (codes "total time: more than " ∷ seconds_text recorded ∷ [])
+
 abbrev pub prediction_text : ℕ → GuestPrediction → Option GuestErrors → List ℕ
-prediction_text limit p errors = facts_text limit p ++ (errors_line errors ++ warnings p)
+prediction_text limit p errors = if p.cost.is_late then unknown_text p.recorded else known_text limit p errors

@@ -1,5 +1,6 @@
 //! What a migration costs, in time and bytes.
 
+use crate::verdict::Verdict;
 use guest_units::{Limits, Scale};
 use round_planner::Outcome;
 use std::marker::Model;
@@ -16,7 +17,7 @@ pub struct Cost {
     pub bytes: u128,
     /// How long the guest does not run, in microseconds.
     pub downtime: u128,
-    /// Whether the downtime is within its limit.
+    /// Whether the plan's downtime is within its limit.
     pub is_kept: bool,
     /// Whether the stop comes after the trace's last tick.
     pub is_late: bool,
@@ -51,7 +52,7 @@ impl Model for Cost {
 
 impl Cost {
     ghost use Rattle.std.specs.Prelude.{◌≡◌};
-    ghost use Rattle.predictions.specs.Predictions.{cost_of};
+    ghost use Rattle.predictions.specs.Predictions.{cost_of, kept_of};
 
     /// Returns what a migration costs that begins at a tick and whose plan has these sums, over a trace of this scale
     /// and with this last tick.
@@ -73,6 +74,13 @@ impl Cost {
             is_kept: downtime <= limits.downtime as u128,
             is_late: last_tick < outcome.stop,
         }
+    }
+
+    /// Returns whether the migration keeps its limit.
+    pub fn kept(&self) -> Verdict
+        ensures { result ≡ kept_of self.now }
+    {
+        Verdict::new(self.is_late, self.is_kept)
     }
 
     /// Returns what the migration of a line of a sweep costs.

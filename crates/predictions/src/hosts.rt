@@ -8,15 +8,15 @@ use guest_units::Limits;
 use std::alloc::AllocError;
 use sweep_report::{end_line, push_field};
 
-/// Returns the downtime for pages, in milliseconds.
-fn millis_of(limits: &Limits) -> u64
+/// Returns the downtime that the limits leave for pages, in milliseconds.
+pub fn millis_for_pages(limits: &Limits) -> u64
     ensures { result ≡ millis_for_pages limits.now }
 {
     limits.downtime.saturating_sub(limits.reserve) / 1000
 }
 
 /// Returns the link in MiB a second, at least 1.
-fn mib_of(limits: &Limits) -> u64
+pub fn link_in_mib(limits: &Limits) -> u64
     ensures { result ≡ link_in_mib limits.now }
 {
     (limits.link / (1 << 20)).max(1)
@@ -43,7 +43,7 @@ fn push_bandwidth(text: &mut Vec<u8>, link: u64) -> Result<(), AllocError>
 fn push_qemu(text: &mut Vec<u8>, limits: &Limits) -> Result<(), AllocError>
     ensures { OnOk result (text.new.items ≡ text.old.items ++ qemu_text limits.now) }
 {
-    let millis = millis_of(limits);
+    let millis = millis_for_pages(limits);
     push_bandwidth(text, limits.link)?;
     push_number(text, "QEMU: migrate_set_parameter downtime-limit ", millis)?;
     Ok(())
@@ -53,11 +53,11 @@ fn push_qemu(text: &mut Vec<u8>, limits: &Limits) -> Result<(), AllocError>
 fn push_libvirt(text: &mut Vec<u8>, limits: &Limits) -> Result<(), AllocError>
     ensures { OnOk result (text.new.items ≡ text.old.items ++ libvirt_text limits.now) }
 {
-    let millis = millis_of(limits);
+    let millis = millis_for_pages(limits);
     push_number(
         text,
         "libvirt: virsh migrate-setspeed DOMAIN ",
-        mib_of(limits),
+        link_in_mib(limits),
     )?;
     push_number(
         text,

@@ -10,10 +10,12 @@ mod prediction_text;
 mod quantities;
 mod roots;
 mod tally;
+mod verdict;
 
 pub use cost::Cost;
 pub use errors::Errors;
-pub use hosts::push_hosts;
+pub use hosts::{link_in_mib, millis_for_pages, push_hosts};
 pub use prediction::Prediction;
 pub use prediction_text::push_prediction;
 pub use quantities::{push_bytes, push_seconds, push_wide};
+pub use verdict::Verdict;

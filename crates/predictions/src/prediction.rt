@@ -1,6 +1,7 @@
 //! What a plan predicts.
 
 use crate::cost::Cost;
+use crate::verdict::Verdict;
 use guest_units::{Limits, Scale};
 use rate_limit::Reason;
 use round_planner::Plan;
@@ -15,6 +16,8 @@ pub struct Prediction {
     pub cost: Cost,
     /// How many pages of the trace are sent after the stop.
     pub left: u64,
+    /// How long the trace goes on after the start, in microseconds.
+    pub recorded: u128,
 }
 
 impl Model for Prediction {
@@ -23,12 +26,17 @@ impl Model for Prediction {
 
     ghost Value = { GuestPrediction };
 
-    ghost view = { λ p. record { reason = reason_of p.reason; cost = p.cost; left = p.left } };
+    ghost view = { λ p. record {
+      reason = reason_of p.reason;
+      cost = p.cost;
+      left = p.left;
+      recorded = p.recorded;
+    } };
 }
 
 impl Prediction {
     ghost use Rattle.std.specs.Prelude.{◌≡◌};
-    ghost use Rattle.predictions.specs.Predictions.{prediction_of};
+    ghost use Rattle.predictions.specs.Predictions.{prediction_of, verdict_of};
 
     /// Returns what a plan predicts that begins at a tick, over a trace of this scale and with this last tick.
     pub fn new(
@@ -44,6 +52,14 @@ impl Prediction {
             reason: plan.reason,
             cost: Cost::new(scale, limits, start, &plan.outcome(), last_tick),
             left: plan.last.len() as u64,
+            recorded: scale.micros(last_tick.saturating_sub(start)),
         }
+    }
+
+    /// Returns whether the migration converges.
+    pub fn verdict(&self) -> Verdict
+        ensures { result ≡ verdict_of self.now }
+    {
+        Verdict::new(self.cost.is_late, matches!(self.reason, Reason::Few))
     }
 }

@@ -2,8 +2,8 @@
 
 ghost use Rattle.std.specs.Prelude.{◌≡◌, ◌++◌, ◌∷◌, ◌<◌, ◌^◌, [], OnOk, codes};
 ghost use Rattle.predictions.specs.Quantities.{bytes_text, seconds_text};
-ghost use Rattle.predictions.specs.Texts.{ending, ends_early, errors_line, facts_text, line_if};
-ghost use Rattle.predictions.specs.Texts.{prediction_text, reason_words, time_line, verdict, warnings};
+ghost use Rattle.predictions.specs.Texts.{ending, ends_early, errors_line, facts_text, known_text, line_if};
+ghost use Rattle.predictions.specs.Texts.{prediction_text, reason_words, time_line, unknown_text, verdict, warnings};
 ghost use Rattle.rate_limit.specs.Pacing.{reason_of};
 ghost use Rattle.sweep_report.specs.Lines.{field, line};
 
@@ -16,6 +16,10 @@ use sweep_report::{end_line, push_field};
 
 /// How many pages must be left for chance to move the downtime by less than a tenth.
 const MANY_PAGES: u64 = 100;
+
+/// What is printed if the trace ends before the migration does.
+const UNKNOWN: &str =
+    "converges: unknown, the trace ends before the migration does; record longer\n";
 
 /// Returns what a reason says of convergence.
 fn ending_of(reason: &Reason) -> &'static str
@@ -137,11 +141,6 @@ fn push_warnings(text: &mut Vec<u8>, prediction: &Prediction) -> Result<(), Allo
 {
     push_if(
         text,
-        prediction.cost.is_late,
-        "warning: the stop lies after the end of the trace; record longer",
-    )?;
-    push_if(
-        text,
         prediction.left < MANY_PAGES,
         "warning: fewer than 100 pages decided the stop; chance moves it",
     )?;
@@ -174,8 +173,34 @@ fn push_errors(text: &mut Vec<u8>, errors: &Option<Errors>) -> Result<(), AllocE
     }
 }
 
+/// Appends what is known of a migration that ends within the trace.
+fn push_known(
+    text: &mut Vec<u8>,
+    limit: u64,
+    prediction: &Prediction,
+    errors: &Option<Errors>,
+) -> Result<(), AllocError>
+    ensures { OnOk result (text.new.items ≡ text.old.items ++ known_text limit prediction.now errors.now) }
+{
+    push_facts(text, limit, prediction)?;
+    push_errors(text, errors)?;
+    push_warnings(text, prediction)
+}
+
+/// Appends what is known of a migration if the trace ends before it.
+fn push_unknown(text: &mut Vec<u8>, recorded: u128) -> Result<(), AllocError>
+    ensures { OnOk result (text.new.items ≡ text.old.items ++ unknown_text recorded) }
+{
+    text.extend_from_slice(UNKNOWN.as_bytes())?;
+    text.extend_from_slice("total time: more than ".as_bytes())?;
+    push_seconds(text, recorded)?;
+    end_line(text)?;
+    Ok(())
+}
+
 /// Appends a prediction as lines, in ASCII: how the migration ends, its time, what it sends, its downtime beside the
-/// limit, in microseconds, how far chance moves these, and what speaks against the prediction.
+/// limit, in microseconds, how far chance moves these, and what speaks against the prediction. If the trace ends before
+/// the migration does, the lines say so, and nothing else but the least time.
 pub fn push_prediction(
     text: &mut Vec<u8>,
     limit: u64,
@@ -184,7 +209,9 @@ pub fn push_prediction(
 ) -> Result<(), AllocError>
     ensures { OnOk result (text.new.items ≡ text.old.items ++ prediction_text limit prediction.now errors.now) }
 {
-    push_facts(text, limit, prediction)?;
-    push_errors(text, errors)?;
-    push_warnings(text, prediction)
+    if prediction.cost.is_late {
+        push_unknown(text, prediction.recorded)
+    } else {
+        push_known(text, limit, prediction, errors)
+    }
 }

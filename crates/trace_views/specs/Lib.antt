@@ -2,6 +2,7 @@ pub mod Json
 pub mod Advice
 pub mod AdviceText
 pub mod Views
+pub mod PredictionJson
 pub mod PredictionViews
 pub mod StartsJson
 pub mod StartViews

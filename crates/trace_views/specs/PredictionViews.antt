@@ -1,5 +1,5 @@
 -- What a migration will be, as a text.
-use Rattle.std.specs.Prelude.{◌≡◌, ℕ, Bool, List, ◌++◌, Option}
+use Rattle.std.specs.Prelude.{◌≡◌, ℕ, List, ◌++◌, Option}
 use Rattle.guest_units.specs.Scales.{TraceScale}
 use Rattle.guest_units.specs.declared.limits.Limits.{Limits}
 use Rattle.migration_model.specs.Rates.{MigrationSettings}
@@ -7,22 +7,38 @@ use Rattle.migration_model.specs.Rounds.{IsPlan, MigrationPlan}
 use Rattle.migration_model.specs.Touches.{GuestTouches}
 use Rattle.predictions.specs.Errors.{AreErrors, GuestErrors}
 use Rattle.predictions.specs.Hosts.{hosts_text}
-use Rattle.predictions.specs.Predictions.{GuestPrediction, last_tick_of, prediction_of}
+use Rattle.predictions.specs.Predictions.{GuestPrediction, kept_of, last_tick_of, prediction_of}
 use Rattle.predictions.specs.Texts.{prediction_text}
+use Rattle.predictions.specs.declared.verdict.Verdict.{Verdict}
 use Rattle.trace_views.specs.AdviceText.{live_line}
+use Rattle.trace_views.specs.Json.{line_of}
+use Rattle.trace_views.specs.PredictionJson.{prediction_object}
+use Rattle.trace_views.specs.declared.view.AskedPrediction.{AskedPrediction}
+use Rattle.trace_views.specs.declared.view.PredictionForm.{PredictionForm}
+use Rattle.trace_views.specs.declared.view.PredictionForm.TheVariants as forms
 
 -- a prediction, and the words that set the same limits
 abbrev pub predicted_text : MigrationSettings → Limits → GuestPrediction → Option GuestErrors → List ℕ
 predicted_text settings limits p errors = prediction_text limits.downtime p errors
     ++ (live_line settings ++ hosts_text limits)
 
--- what the plan of a log predicts, as a text, and whether the limit is kept
-pub record IsPredictionView (log : GuestTouches) (settings : MigrationSettings) (scale : TraceScale) (limits : Limits)
-    (text : List ℕ) (is_kept : Bool) : Type 0 where
+-- a prediction in some form
+abbrev pub prediction_in : PredictionForm → MigrationSettings → TraceScale → Limits → GuestPrediction
+    → Option GuestErrors → List ℕ
+prediction_in forms.Lines settings scale limits p errors = predicted_text settings limits p errors
+prediction_in forms.Json settings scale limits p errors = line_of (prediction_object settings scale limits p errors)
+
+-- what the plan of a log predicts
+abbrev pub foretold : GuestTouches → AskedPrediction → MigrationPlan → GuestPrediction
+foretold log asked plan =
+    prediction_of asked.scale asked.limits asked.settings.start plan (last_tick_of log.touches)
+
+-- what the plan of a log predicts, in some form, and whether the limit is kept
+pub record IsPredictionView (log : GuestTouches) (asked : AskedPrediction) (text : List ℕ) (kept : Verdict) : Type
+    0 where
   pub plan : MigrationPlan
-  pub is_plan : IsPlan log.pages log.touches settings plan
+  pub is_plan : IsPlan log.pages log.touches asked.settings plan
   pub errors : Option GuestErrors
-  pub are_errors : AreErrors scale settings.max log.pages plan errors
-  pub text_is : text ≡ predicted_text settings limits
-      (prediction_of scale limits settings.start plan (last_tick_of log.touches)) errors
-  pub kept : is_kept ≡ (prediction_of scale limits settings.start plan (last_tick_of log.touches)).cost.is_kept
+  pub are_errors : AreErrors asked.scale asked.settings.max log.pages plan errors
+  pub text_is : text ≡ prediction_in asked.form asked.settings asked.scale asked.limits (foretold log asked plan) errors
+  pub kept_is : kept ≡ kept_of (foretold log asked plan).cost

@@ -1,5 +1,5 @@
 -- What the same migration costs from each of some starts.
-use Rattle.std.specs.Prelude.{◌≡◌, ℕ, ◌≤◌, Bool, false, List, Option, None, Some, ⊤}
+use Rattle.std.specs.Prelude.{◌≡◌, ℕ, ◌≤◌, List, Option, None, Some, ⊤}
 use Rattle.guest_units.specs.Scales.{TraceScale}
 use Rattle.guest_units.specs.declared.limits.Limits.{Limits}
 use Rattle.migration_model.specs.Sweeps.{SweepLine, AreLines}
@@ -9,7 +9,9 @@ use Rattle.migration_starts.specs.Costs.{CostAtStart, costs_at_starts}
 use Rattle.migration_starts.specs.Starts.{RefusesStarts, cases_from, count_of}
 use Rattle.migration_starts.specs.Texts.{starts_text_of}
 use Rattle.migration_starts.specs.declared.error.StartsError.TheVariants as refusals
-use Rattle.predictions.specs.Predictions.{last_tick_of}
+use Rattle.predictions.specs.Predictions.{kept_of, last_tick_of}
+use Rattle.predictions.specs.declared.verdict.Verdict.{Verdict}
+use Rattle.predictions.specs.declared.verdict.Verdict.TheVariants.{Unknown}
 use Rattle.trace_views.specs.Json.{line_of}
 use Rattle.trace_views.specs.StartsJson.{starts_object}
 use Rattle.trace_views.specs.declared.error.ViewError.{ViewError}
@@ -37,19 +39,19 @@ IsStartsText forms.Json scale limits costs best worst text =
     text ≡ line_of (starts_object scale limits.downtime costs best worst)
 IsStartsText forms.Chart scale limits costs best worst text = ⊤
 
--- whether the best start keeps the limit
-abbrev pub is_limit_kept : Option CostAtStart → Bool
-is_limit_kept None = false
-is_limit_kept (Some at) = at.cost.is_kept
+-- whether the best start keeps the limit, if a migration ends within the trace
+abbrev pub kept_from : Option CostAtStart → Verdict
+kept_from None = Unknown
+kept_from (Some at) = kept_of at.cost
 
 -- the costs of the starts in some form, and whether the best of them keeps the limit
-pub record IsStartsView (log : GuestTouches) (asked : AskedStarts) (text : List ℕ) (is_kept : Bool) : Type 0 where
+pub record IsStartsView (log : GuestTouches) (asked : AskedStarts) (text : List ℕ) (kept : Verdict) : Type 0 where
   pub costs : List CostAtStart
   pub best : Option CostAtStart
   pub worst : Option CostAtStart
   pub are_starts : AreStartsOf log asked costs best worst
   pub text_is : IsStartsText asked.form asked.scale asked.limits costs best worst text
-  pub kept : is_kept ≡ is_limit_kept best
+  pub kept_is : kept ≡ kept_from best
 
 -- why the starts cannot be shown: memory ran out, or the starts are refused
 abbrev pub RefusesStartsView : GuestTouches → AskedStarts → ViewError → Type 0

@@ -1,18 +1,20 @@
 -- The costs of starts as a JSON document: its tokens.
-use Rattle.std.specs.Prelude.{ℕ, not, List, [], ◌∷◌, Option, None, Some, codes}
+use Rattle.std.specs.Prelude.{ℕ, List, [], ◌∷◌, ◌++◌, Option, None, Some, codes}
 use Rattle.std.specs.List.{flat_map}
 use Rattle.guest_units.specs.Scales.{TraceScale, micros_of}
 use Rattle.json.specs.Token.{Token}
 use Rattle.migration_starts.specs.Costs.{CostAtStart}
-use Rattle.predictions.specs.Predictions.{MigrationCost}
-use Rattle.trace_views.specs.Json.{array_of, flag_member, member_of, number_member, object_of, seconds_member}
+use Rattle.predictions.specs.Predictions.{MigrationCost, kept_of, verdict_word}
+use Rattle.trace_views.specs.Json.{array_of, member_of, number_member, object_of, seconds_member, text_member}
 
--- what a migration costs
-abbrev pub cost_members : MigrationCost → List (List Token)
-cost_members cost =
+-- what a migration costs, and whether the limit is kept
+abbrev pub cost_numbers : MigrationCost → List (List Token)
+cost_numbers cost =
     number_member (codes "rounds") cost.rounds ∷ seconds_member (codes "time_seconds") cost.time
-    ∷ number_member (codes "sent_bytes") cost.bytes ∷ seconds_member (codes "down_seconds") cost.downtime
-    ∷ flag_member (codes "kept") cost.is_kept ∷ flag_member (codes "within_trace") (not cost.is_late) ∷ []
+    ∷ number_member (codes "sent_bytes") cost.bytes ∷ seconds_member (codes "down_seconds") cost.downtime ∷ []
+
+abbrev pub cost_members : MigrationCost → List (List Token)
+cost_members cost = cost_numbers cost ++ text_member (codes "kept") (verdict_word (kept_of cost)) ∷ []
 
 -- a start, and what the migration costs from there
 abbrev pub start_object : TraceScale → CostAtStart → List Token

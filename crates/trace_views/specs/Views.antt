@@ -1,5 +1,5 @@
 -- What a view of a trace shows.
-use Rattle.std.specs.Prelude.{◌≡◌, ℕ, Bool, true, List, ◌++◌, length, slice_index_or, Option}
+use Rattle.std.specs.Prelude.{◌≡◌, ℕ, List, ◌++◌, length, slice_index_or, Option}
 use Rattle.guest_units.specs.Scales.{TraceScale}
 use Rattle.migration_model.specs.Rates.{MigrationSettings}
 use Rattle.migration_model.specs.Rounds.{IsPlan, MigrationPlan}
@@ -7,6 +7,8 @@ use Rattle.migration_model.specs.Sweeps.{SweepLine, AreLines}
 use Rattle.migration_model.specs.Touches.{GuestTouches}
 use Rattle.migration_model.specs.Windows.{working_sets_of}
 use Rattle.predictions.specs.Predictions.{last_tick_of}
+use Rattle.predictions.specs.declared.verdict.Verdict.{Verdict}
+use Rattle.predictions.specs.declared.verdict.Verdict.TheVariants.{Yes}
 use Rattle.trace_views.specs.Advice.{IsAdvice}
 use Rattle.trace_views.specs.AdviceText.{advice_head, case_of, choice_text, known_cost}
 use Rattle.trace_views.specs.Grid.{cases_for, grid_of}
@@ -53,18 +55,17 @@ pub record IsAdviceView (log : GuestTouches) (settings : MigrationSettings) (bud
       ≡ advice_head budget settings (grid_of settings budget) (length lines) advice
       ++ choice_text (case_of advice) chosen (known_cost measured chosen (last_tick_of log.touches))
 
--- What a view shows about a trace, and whether a limit is kept. Nothing is said about pictures and terminal reports.
-abbrev pub IsView : GuestTouches → View → List ℕ → Bool → Type 0
-IsView log (views.JsonReport settings scale) text is_kept = IsReportView log settings scale text × (is_kept ≡ true)
-IsView log (views.JsonSweep cases workers scale) text is_kept =
-    IsSweepView log cases.items scale text × (is_kept ≡ true)
-IsView log (views.Advise budget settings measured) text is_kept =
-    IsAdviceView log settings budget measured text × (is_kept ≡ true)
-IsView log (views.Show settings scale style) text is_kept = is_kept ≡ true
-IsView log (views.Chart settings scale) text is_kept = is_kept ≡ true
-IsView log (views.When asked) text is_kept = IsStartsView log asked text is_kept
-IsView log (views.Predict settings scale limits) text is_kept =
-    IsPredictionView log settings scale limits text is_kept
+-- What a view shows about a trace, and whether its limit is kept, if it has one. Nothing is said about pictures and terminal reports.
+abbrev pub IsView : GuestTouches → View → List ℕ → Verdict → Type 0
+IsView log (views.JsonReport settings scale) text kept = IsReportView log settings scale text × (kept ≡ Yes)
+IsView log (views.JsonSweep cases workers scale) text kept =
+    IsSweepView log cases.items scale text × (kept ≡ Yes)
+IsView log (views.Advise budget settings measured) text kept =
+    IsAdviceView log settings budget measured text × (kept ≡ Yes)
+IsView log (views.Show settings scale style) text kept = kept ≡ Yes
+IsView log (views.Chart settings scale) text kept = kept ≡ Yes
+IsView log (views.When asked) text kept = IsStartsView log asked text kept
+IsView log (views.Predict asked) text kept = IsPredictionView log asked text kept
 
 -- why a view cannot be made: memory ran out, or its starts are refused
 abbrev pub RefusesView : GuestTouches → View → ViewError → Type 0
@@ -73,5 +74,5 @@ RefusesView log (views.JsonSweep cases workers scale) e = e ≡ Memory
 RefusesView log (views.Advise budget settings measured) e = e ≡ Memory
 RefusesView log (views.Show settings scale style) e = e ≡ Memory
 RefusesView log (views.Chart settings scale) e = e ≡ Memory
-RefusesView log (views.Predict settings scale limits) e = e ≡ Memory
+RefusesView log (views.Predict asked) e = e ≡ Memory
 RefusesView log (views.When asked) e = RefusesStartsView log asked e

@@ -10,6 +10,7 @@ mod error;
 mod grid;
 mod numbers;
 mod predicting;
+mod prediction_document;
 mod report_document;
 mod starting;
 mod starts_document;
@@ -22,8 +23,11 @@ pub use budget::{Advice, Budget};
 pub use choosing::advise;
 pub use error::ViewError;
 pub use grid::Grid;
+pub use prediction_document::json_prediction;
 pub use report_document::json_report;
 pub use starts_document::json_starts;
 pub use sweep_document::json_sweep;
-pub use view::{AskedStarts, Measured, StartsForm, View, ViewText};
+pub use view::{
+    AskedPrediction, AskedStarts, Measured, PredictionForm, StartsForm, View, ViewText,
+};
 pub use viewing::view_text;

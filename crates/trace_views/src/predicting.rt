@@ -1,15 +1,16 @@
 //! Predictions of a log of touches.
 
 ghost use Rattle.std.specs.Prelude.{◌≡◌, IfErr, IfOk};
-ghost use Rattle.predictions.specs.Predictions.{last_tick_of};
-ghost use Rattle.trace_views.specs.PredictionViews.{IsPredictionView, predicted_text};
+ghost use Rattle.predictions.specs.Predictions.{kept_of, last_tick_of};
+ghost use Rattle.trace_views.specs.PredictionViews.{IsPredictionView, predicted_text, prediction_in};
 
 use crate::advice_writing::push_live;
 use crate::error::ViewError;
-use crate::view::ViewText;
+use crate::prediction_document::json_prediction;
+use crate::view::{AskedPrediction, PredictionForm, ViewText};
 use guest_log::Timeline;
-use guest_units::{Limits, Scale};
-use predictions::{Errors, Prediction, push_hosts, push_prediction};
+use guest_units::Limits;
+use predictions::{Errors, Prediction, Verdict, push_hosts, push_prediction};
 use rate_limit::Settings;
 use round_planner::plan;
 use std::alloc::{AllocError, Global};
@@ -42,31 +43,52 @@ fn predicted(
     Ok(text)
 }
 
-/// Returns whether a prediction is within its limit.
-fn is_kept(prediction: &Prediction) -> bool
-    ensures { result ≡ prediction.now.cost.is_kept }
+/// Returns whether a migration keeps its limit.
+fn kept(prediction: &Prediction) -> Verdict
+    ensures { result ≡ kept_of prediction.now.cost }
 {
-    prediction.cost.is_kept
+    prediction.cost.kept()
 }
 
-/// Returns what a migration over a log will be, as a text.
+/// Returns a prediction in the requested form.
+fn written(
+    alloc: Global,
+    asked: &AskedPrediction,
+    prediction: &Prediction,
+    errors: &Option<Errors>,
+) -> Result<Vec<u8>, AllocError>
+    ensures { IfOk result (λ text. text.items ≡ prediction_in asked.now.form asked.now.settings asked.now.scale
+        asked.now.limits prediction.now errors.now) }
+{
+    let AskedPrediction {
+        settings,
+        scale,
+        limits,
+        form,
+    } = asked;
+    match form {
+        PredictionForm::Lines => predicted(alloc, settings, limits, prediction, errors),
+        PredictionForm::Json => json_prediction(alloc, settings, scale, limits, prediction, errors),
+    }
+}
+
+/// Returns what a migration over a log will be, in the requested form, and whether it keeps its limit.
 pub(crate) fn prediction_view(
     alloc: Global,
-    settings: &Settings,
-    scale: &Scale,
-    limits: &Limits,
+    asked: &AskedPrediction,
     log: &TouchLog,
 ) -> Result<ViewText, ViewError>
-    ensures made { IfOk result (λ shown. IsPredictionView log.now settings.now scale.now limits.now shown.text.items
-        shown.is_kept) }
+    ensures made { IfOk result (λ shown. IsPredictionView log.now asked.now shown.text.items shown.kept) }
     ensures refused { IfErr result (λ e. e ≡ ViewError.Memory) }
 {
-    let plan = plan(alloc, log, settings).or(Err(ViewError::Memory))?;
-    let asked = settings.asked();
-    let prediction = Prediction::new(scale, limits, asked.start, &plan, last_tick(log));
-    let errors = Errors::of_plan(alloc, scale, asked.max, log.page_count(), &plan)?;
+    let scale = &asked.scale;
+    let numbers = asked.settings.asked();
+    let plan = plan(alloc, log, &asked.settings).or(Err(ViewError::Memory))?;
+    let start = numbers.start;
+    let prediction = Prediction::new(scale, &asked.limits, start, &plan, last_tick(log));
+    let errors = Errors::of_plan(alloc, scale, numbers.max, log.page_count(), &plan)?;
     Ok(ViewText {
-        text: predicted(alloc, settings, limits, &prediction, &errors)?,
-        is_kept: is_kept(&prediction),
+        text: written(alloc, asked, &prediction, &errors)?,
+        kept: kept(&prediction),
     })
 }

@@ -2,7 +2,7 @@
 
 ghost use Rattle.std.specs.Prelude.{◌≡◌, IfErr, IfOk};
 ghost use Rattle.trace_views.specs.StartViews.{AreStartsOf, IsStartsText, IsStartsView, RefusesStartsView};
-ghost use Rattle.trace_views.specs.StartViews.{is_limit_kept};
+ghost use Rattle.trace_views.specs.StartViews.{kept_from};
 
 use crate::error::ViewError;
 use crate::predicting::last_tick;
@@ -12,6 +12,7 @@ use crate::view::{AskedStarts, StartsForm, ViewText};
 use migration_starts::{
     StartCost, best_start, known_starts, start_costs, starts_text, worst_start,
 };
+use predictions::Verdict;
 use report_pictures::starts_chart;
 use std::alloc::Global;
 use std::thread::Threads;
@@ -26,13 +27,13 @@ struct Found {
     worst: Option<StartCost>,
 }
 
-/// Returns whether the best start keeps the limit.
-fn is_kept(best: &Option<StartCost>) -> bool
-    ensures { result ≡ is_limit_kept best.now }
+/// Returns whether the best start keeps the limit, if a migration ends within the trace.
+fn kept_by(best: &Option<StartCost>) -> Verdict
+    ensures { result ≡ kept_from best.now }
 {
     match best {
-        Some(at) => at.cost.is_kept,
-        None => false,
+        Some(at) => at.cost.kept(),
+        None => Verdict::Unknown,
     }
 }
 
@@ -115,13 +116,13 @@ pub(crate) fn starts_view<R: Threads + Sync>(
     asked: &AskedStarts,
     log: &TouchLog,
 ) -> Result<ViewText, ViewError>
-    ensures made { IfOk result (λ shown. IsStartsView log.now asked.now shown.text.items shown.is_kept) }
+    ensures made { IfOk result (λ shown. IsStartsView log.now asked.now shown.text.items shown.kept) }
     ensures refused { IfErr result (RefusesStartsView log.now asked.now) }
 {
     let found = starts_found(rt, alloc, asked, log)?;
     let text = formed(alloc, asked, &found, log)?;
     Ok(ViewText {
         text,
-        is_kept: is_kept(&found.best),
+        kept: kept_by(&found.best),
     })
 }

@@ -3,7 +3,7 @@
 ghost use Rattle.std.specs.Prelude.{◌≡◌, ◌<◌, ◌++◌, IfOk, OnOk};
 ghost use Rattle.std.specs.List.{flat_map};
 ghost use Rattle.trace_views.specs.Json.{line_of};
-ghost use Rattle.trace_views.specs.StartsJson.{chosen_member, cost_members, start_object, starts_object};
+ghost use Rattle.trace_views.specs.StartsJson.{chosen_member, cost_members, cost_numbers, start_object, starts_object};
 
 use crate::document::Document;
 use guest_units::Scale;
@@ -12,15 +12,26 @@ use predictions::Cost;
 use std::alloc::{AllocError, Global};
 
 /// Writes what a migration costs as members.
-fn write_cost(alloc: Global, out: &mut Document, cost: &Cost) -> Result<(), AllocError>
-    ensures { OnOk result (out.new ≡ out.old ++ flat_map (λ m. m) (cost_members cost.now)) }
+pub(crate) fn write_cost_numbers(
+    alloc: Global,
+    out: &mut Document,
+    cost: &Cost,
+) -> Result<(), AllocError>
+    ensures { OnOk result (out.new ≡ out.old ++ flat_map (λ m. m) (cost_numbers cost.now)) }
 {
     out.number_member("rounds", cost.rounds)?;
     out.seconds_member(alloc, "time_seconds", cost.time)?;
     out.wide_member("sent_bytes", cost.bytes)?;
     out.seconds_member(alloc, "down_seconds", cost.downtime)?;
-    out.flag_member("kept", cost.is_kept)?;
-    out.flag_member("within_trace", !cost.is_late)?;
+    Ok(())
+}
+
+/// Writes what a migration costs, and whether the limit is kept, as members.
+fn write_cost(alloc: Global, out: &mut Document, cost: &Cost) -> Result<(), AllocError>
+    ensures { OnOk result (out.new ≡ out.old ++ flat_map (λ m. m) (cost_members cost.now)) }
+{
+    write_cost_numbers(alloc, out, cost)?;
+    out.text_member("kept", cost.kept().word())?;
     Ok(())
 }
 

@@ -13,7 +13,7 @@ use std::alloc::{AllocError, Global};
 use sweep_report::{Line, best_case};
 
 /// Writes the settings of a case as members.
-fn write_settings(out: &mut Document, settings: &Settings) -> Result<(), AllocError>
+pub(crate) fn write_settings(out: &mut Document, settings: &Settings) -> Result<(), AllocError>
     ensures { OnOk result (out.new ≡ out.old ++ flat_map (λ m. m) (settings_members settings.now)) }
 {
     let asked = settings.asked();
@@ -103,7 +103,11 @@ fn write_cases(
 }
 
 /// Writes what ticks and pages stand for.
-fn write_scale(alloc: Global, out: &mut Document, scale: &Scale) -> Result<(), AllocError>
+pub(crate) fn write_scale(
+    alloc: Global,
+    out: &mut Document,
+    scale: &Scale,
+) -> Result<(), AllocError>
     ensures { OnOk result (out.new ≡ out.old ++ scale_object scale.now) }
 {
     out.begin_object()?;

@@ -3,6 +3,7 @@
 use crate::budget::Budget;
 use guest_units::{Limits, Scale};
 use migration_starts::Starts;
+use predictions::Verdict;
 use rate_limit::Settings;
 use report_pictures::Style;
 
@@ -30,6 +31,28 @@ pub struct AskedStarts {
     pub starts: Starts,
     /// How the starts are shown.
     pub form: StartsForm,
+}
+
+/// How a prediction is written.
+#[derive(Clone, Copy, Debug, PartialEq, Eq)]
+pub enum PredictionForm {
+    /// As lines.
+    Lines,
+    /// As a JSON document.
+    Json,
+}
+
+/// Which migration is predicted, and how that is written.
+#[derive(Clone, Copy, Debug)]
+pub struct AskedPrediction {
+    /// The settings of the plan.
+    pub settings: Settings,
+    /// What ticks and pages stand for.
+    pub scale: Scale,
+    /// What the migration may take.
+    pub limits: Limits,
+    /// How the prediction is written.
+    pub form: PredictionForm,
 }
 
 /// What ticks and pages of a trace stand for, and what the migration may take.
@@ -74,11 +97,7 @@ pub enum View {
         scale: Option<Scale>,
     },
     /// What a migration will be, in time and bytes, and whether it keeps its limit.
-    Predict {
-        settings: Settings,
-        scale: Scale,
-        limits: Limits,
-    },
+    Predict(AskedPrediction),
     /// What the same migration costs from each of some starts, and which is the best.
     When(AskedStarts),
 }
@@ -88,6 +107,6 @@ pub enum View {
 pub struct ViewText {
     /// The text.
     pub text: Vec<u8>,
-    /// Whether the limit is kept: that of a prediction, or from the best of some starts. Of any other view it is true.
-    pub is_kept: bool,
+    /// Whether the limit is kept: that of a prediction, or from the best of some starts. A view without limit keeps it.
+    pub kept: Verdict,
 }

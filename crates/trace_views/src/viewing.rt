@@ -1,6 +1,6 @@
 //! Views of a log of touches.
 
-ghost use Rattle.std.specs.Prelude.{◌≡◌, Err, IfErr, IfOk, Ok, true};
+ghost use Rattle.std.specs.Prelude.{◌≡◌, Err, IfErr, IfOk, Ok};
 ghost use Rattle.trace_views.specs.AdviceText.{known_cost};
 ghost use Rattle.trace_views.specs.Views.{IsAdviceView, IsReportView, IsSweepView, IsView, RefusesView};
 
@@ -16,7 +16,7 @@ use crate::sweep_document::json_sweep;
 use crate::sweeping::planned;
 use crate::view::{Measured, View, ViewText};
 use guest_units::Scale;
-use predictions::Cost;
+use predictions::{Cost, Verdict};
 use rate_limit::Settings;
 use report_pictures::{Style, measured_screen, report_chart, report_screen};
 use round_planner::plan;
@@ -127,12 +127,12 @@ fn advice_view<R: Threads + Sync>(
 
 /// Returns the view with this text, without a limit to keep.
 fn shown(text: Result<Vec<u8>, ViewError>) -> Result<ViewText, ViewError>
-    ensures made { IfOk result (λ shown. (shown.is_kept ≡ true) × (text ≡ Ok shown.text)) }
+    ensures made { IfOk result (λ shown. (shown.kept ≡ Verdict.Yes) × (text ≡ Ok shown.text)) }
     ensures refused { IfErr result (λ e. text ≡ Err e) }
 {
     Ok(ViewText {
         text: text?,
-        is_kept: true,
+        kept: Verdict::Yes,
     })
 }
 
@@ -143,7 +143,7 @@ pub fn view_text<R: Threads + Sync>(
     view: &View,
     log: &TouchLog,
 ) -> Result<ViewText, ViewError>
-    ensures made { IfOk result (λ shown. IsView log.now view.now shown.text.items shown.is_kept) }
+    ensures made { IfOk result (λ shown. IsView log.now view.now shown.text.items shown.kept) }
     ensures refused { IfErr result (RefusesView log.now view.now) }
 {
     match view {
@@ -165,10 +165,6 @@ pub fn view_text<R: Threads + Sync>(
             style,
         } => shown(screen_view(alloc, settings, scale, style, log)),
         View::When(asked) => starts_view(rt, alloc, asked, log),
-        View::Predict {
-            settings,
-            scale,
-            limits,
-        } => prediction_view(alloc, settings, scale, limits, log),
+        View::Predict(asked) => prediction_view(alloc, asked, log),
     }
 }

@@ -43,9 +43,10 @@ pub view_line_is : with_subcommand (with_subcommand (with_subcommand
 unfolding view_line
 view_line_is = refl
 
-pub json_line_is : with_subcommand (with_subcommand (with_subcommand (requiring (bare (codes "json")))
-    (leaf (codes "report") (report_rules ++ unit_rules)))
-    (leaf (codes "sweep") ((sweep_rules ++ case_rule ∷ []) ++ scale_rules))) (leaf (codes "when") start_rules)
+pub json_line_is : with_subcommand (with_subcommand (with_subcommand
+    (with_subcommand (requiring (bare (codes "json"))) (leaf (codes "report") (report_rules ++ unit_rules)))
+    (leaf (codes "sweep") ((sweep_rules ++ case_rule ∷ []) ++ scale_rules)))
+    (leaf (codes "predict") (report_rules ++ unit_rules))) (leaf (codes "when") start_rules)
     ≡ json_line
 unfolding json_line
 json_line_is = refl
@@ -108,7 +109,15 @@ json_requires = refl
 
 pub json_is_named : AreNamed IsDocument (built json_line).subs
 unfolding json_line clap_on_literals
-json_is_named = (refl, inr (inl refl), (refl, inr (inr (inl refl)), (refl, inr (inr (inr refl)), (refl, inl refl, tt))))
+json_is_named = (
+  refl,
+  inr (inl refl),
+  (
+    refl,
+    inr (inr (inl refl)),
+    (refl, inr (inr (inr (inl refl))), (refl, inr (inr (inr (inr refl))), (refl, inl refl, tt))),
+  ),
+)
 
 pub json_has_help : (built json_line).top.disable_help_subcommand ≡ false
 unfolding json_line clap_on_literals

@@ -42,7 +42,7 @@ json_line = record {
   top = record (new_shape (codes "json")) { is_leaf = false; subcommand_required = true };
   subs = leaf (codes "report") (report_rules ++ unit_rules) ∷ leaf
       (codes "sweep") ((sweep_rules ++ case_rule ∷ []) ++ scale_rules)
-      ∷ leaf (codes "when") start_rules ∷ [];
+      ∷ leaf (codes "predict") (report_rules ++ unit_rules) ∷ leaf (codes "when") start_rules ∷ [];
 }
 
 -- the words from `json` on, if it follows the program's name
@@ -57,4 +57,5 @@ IsCommand name = (name ≡ codes "predict") ⊎ ((name ≡ codes "when") ⊎ ((n
     ⊎ ((name ≡ codes "advise") ⊎ ((name ≡ codes "show") ⊎ (name ≡ codes "chart")))))
 
 abbrev pub IsDocument : Text → Type 0
-IsDocument name = (name ≡ codes "report") ⊎ ((name ≡ codes "sweep") ⊎ (name ≡ codes "when"))
+IsDocument name = (name ≡ codes "report") ⊎ ((name ≡ codes "sweep")
+    ⊎ ((name ≡ codes "predict") ⊎ (name ≡ codes "when")))

@@ -11,6 +11,9 @@ use Rattle.job_words.specs.declared.command.WordsError.TheVariants as errors
 use Rattle.job_words.specs.declared.command.WordsRefusal.TheVariants as refusals
 use Rattle.guest_units.specs.Scales.{TraceScale}
 use Rattle.guest_units.specs.declared.limits.Limits.{Limits}
+use Rattle.trace_views.specs.declared.view.AskedPrediction.{AskedPrediction}
+use Rattle.trace_views.specs.declared.view.PredictionForm.{PredictionForm}
+use Rattle.trace_views.specs.declared.view.PredictionForm.TheVariants as predictions
 use Rattle.trace_views.specs.declared.view.StartsForm.TheVariants as forms
 use Rattle.trace_views.specs.declared.view.View.{View}
 use Rattle.trace_views.specs.declared.view.View.TheVariants as views
@@ -29,6 +32,11 @@ use Rattle.view_words.specs.declared.command.ViewWordsError.TheVariants as asked
 abbrev pub AsksToMeasure : List Row → MigrationSettings → Option TraceScale → Type 0
 AsksToMeasure rows settings scale = (limits : Option Limits) × AsksForMeasure rows settings scale limits
 
+-- the options ask for a prediction of a migration with limits, in this form
+pub record AsksForPrediction (rows : List Row) (form : PredictionForm) (asked : AskedPrediction) : Type 0 where
+  pub measured : AsksForMeasure rows asked.settings (Some asked.scale) (Some asked.limits)
+  pub form_is : asked.form ≡ form
+
 -- A command of this name, with what clap found after it, asks for this view, and for this scale if it has units.
 abbrev pub AsksForView : Text → List Row → View → Option TraceScale → Type 0
 AsksForView name rows (views.JsonReport settings shown) scale = ⊥
@@ -39,8 +47,8 @@ AsksForView name rows (views.Show settings shown style) scale =
     (name ≡ codes "show") × AsksToMeasure rows settings scale × AsksForStyle rows style × (shown ≡ scale)
 AsksForView name rows (views.Chart settings shown) scale =
     (name ≡ codes "chart") × AsksToMeasure rows settings scale × (shown ≡ scale)
-AsksForView name rows (views.Predict settings known limits) scale =
-    (name ≡ codes "predict") × AsksForMeasure rows settings (Some known) (Some limits) × (scale ≡ Some known)
+AsksForView name rows (views.Predict asked) scale =
+    (name ≡ codes "predict") × AsksForPrediction rows predictions.Lines asked × (scale ≡ Some asked.scale)
 AsksForView name rows (views.When asked) scale =
     (name ≡ codes "when") × AsksForStarts rows asked.form asked × AsksForForm rows asked.form
     × (scale ≡ Some asked.scale)
@@ -54,7 +62,8 @@ AsksForDocument name rows (views.JsonSweep cases workers shown) scale =
 AsksForDocument name rows (views.Advise budget settings known) scale = ⊥
 AsksForDocument name rows (views.Show settings shown style) scale = ⊥
 AsksForDocument name rows (views.Chart settings shown) scale = ⊥
-AsksForDocument name rows (views.Predict settings known limits) scale = ⊥
+AsksForDocument name rows (views.Predict asked) scale =
+    (name ≡ codes "predict") × AsksForPrediction rows predictions.Json asked × (scale ≡ Some asked.scale)
 AsksForDocument name rows (views.When asked) scale =
     (name ≡ codes "when") × AsksForStarts rows forms.Json asked × (scale ≡ Some asked.scale)
 
@@ -75,6 +84,10 @@ RefusesSettings rows (asked.Limits e) = RefusesMeasure rows e
 abbrev pub AreMissing : List Row → ViewWordsError → Type 0
 AreMissing rows e = (e ≡ asked.Limits refused.Missing) × LacksLimits rows
 
+-- the options of a prediction are refused for this
+abbrev pub RefusesPrediction : List Row → ViewWordsError → Type 0
+RefusesPrediction rows e = RefusesSettings rows e ⊎ AreMissing rows e
+
 -- the cases of a sweep are refused for this, or its scale, or memory ran out
 abbrev pub RefusesCases : List Row → WordsError → Type 0
 RefusesCases rows errors.Memory = ⊤
@@ -91,13 +104,14 @@ abbrev pub RefusesView : Text → List Row → ViewWordsError → Type 0
 RefusesView name rows e = ((name ≡ codes "advise") × RefusesAdvice rows e)
     ⊎ (((name ≡ codes "show") × (RefusesSettings rows e ⊎ (IsUsage e × IsWidthRefused rows)))
     ⊎ (((name ≡ codes "chart") × RefusesSettings rows e)
-    ⊎ (((name ≡ codes "predict") × (RefusesSettings rows e ⊎ AreMissing rows e))
+    ⊎ (((name ≡ codes "predict") × RefusesPrediction rows e)
     ⊎ (((name ≡ codes "when") × RefusesStarts rows e) ⊎ ((name ≡ codes "json") × IsUsage e)))))
 
 -- a command of this name below `json` is refused for this
 abbrev pub RefusesDocument : Text → List Row → ViewWordsError → Type 0
 RefusesDocument name rows e = ((name ≡ codes "report") × RefusesSettings rows e)
-    ⊎ (((name ≡ codes "sweep") × RefusesSweepWords rows e) ⊎ ((name ≡ codes "when") × RefusesStarts rows e))
+    ⊎ (((name ≡ codes "sweep") × RefusesSweepWords rows e)
+    ⊎ (((name ≡ codes "predict") × RefusesPrediction rows e) ⊎ ((name ≡ codes "when") × RefusesStarts rows e)))
 
 -- ---- whole command lines
 

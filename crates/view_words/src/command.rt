@@ -12,9 +12,10 @@ ghost use Rattle.view_words.specs.Views.{IsOutOfMemory};
 ghost use Rattle.job_words.specs.declared.command.WordsError.TheVariants.{Memory};
 ghost use Rattle.view_words.specs.Commands.{IsCommand, IsDocument, json_line, json_words, start_rules, view_line};
 ghost use Rattle.view_words.specs.Starts.{RefusesStarts};
-ghost use Rattle.view_words.specs.Views.{AreMissing, AsksForDocument, AsksForView, FailsOn, IsUsage, Names};
+ghost use Rattle.view_words.specs.Views.{AsksForDocument, AsksForPrediction, AsksForView, FailsOn, IsUsage, Names};
 ghost use Rattle.view_words.specs.Views.{RefusesCases};
-ghost use Rattle.view_words.specs.Views.{RefusesDocument, RefusesSettings, RefusesSweepWords, RefusesView, WordsAsk};
+ghost use Rattle.view_words.specs.Views.{RefusesDocument, RefusesPrediction, RefusesSettings, RefusesSweepWords};
+ghost use Rattle.view_words.specs.Views.{RefusesView, WordsAsk};
 ghost use Rattle.view_words.specs.Views.{WordsFail};
 ghost use Rattle.view_words.specs.declared.command.ViewWordsError.TheVariants.{Words};
 
@@ -27,7 +28,7 @@ use job_words::{
     WordsError, cases_of, leaf_command, refusal_of, sweep_options, with_cases, with_report,
 };
 use std::alloc::{AllocError, Global};
-use trace_views::{AskedStarts, StartsForm, View};
+use trace_views::{AskedPrediction, AskedStarts, PredictionForm, StartsForm, View};
 use unit_words::{LimitsRefusal, Measure, measure_of, scale_said, with_scale, with_units};
 
 /// Why words make no view.
@@ -63,7 +64,8 @@ const NO_COMMAND: &str = "error: a command is required\n";
 const VERSION: &str = "(precopy) 0.6.0";
 
 /// What follows the help of `json`, on the commands below it.
-const JSON_COMMANDS: &str = "Commands: report, sweep, when. `precopy-view json --help` tells more.";
+const JSON_COMMANDS: &str =
+    "Commands: report, sweep, predict, when. `precopy-view json --help` tells more.";
 
 /// Returns the command with the options of a report, in either kind of words.
 fn with_either<'a>(alloc: Global, command: Command<'a>) -> Result<Command<'a>, AllocError>
@@ -87,6 +89,11 @@ fn json_commands<'a>(alloc: Global) -> Result<Command<'a>, AllocError>
 {
     let report = leaf_command(alloc, "report", "Writes what `precopy report` writes");
     let sweep = leaf_command(alloc, "sweep", "Writes what `precopy sweep` writes");
+    let predict = leaf_command(
+        alloc,
+        "predict",
+        "Writes what `precopy-view predict` writes",
+    );
     let when = leaf_command(alloc, "when", "Writes what `precopy-view when` writes");
     leaf_command(
         alloc,
@@ -97,6 +104,7 @@ fn json_commands<'a>(alloc: Global) -> Result<Command<'a>, AllocError>
     .subcommand_required(true)
     .subcommand(with_either(alloc, report)?)?
     .subcommand(with_scaled_cases(alloc, sweep)?)?
+    .subcommand(with_either(alloc, predict)?)?
     .subcommand(with_starts(alloc, when)?)
 }
 
@@ -107,7 +115,7 @@ fn when_command<'a>(alloc: Global) -> Result<Command<'a>, AllocError>
     let when = leaf_command(
         alloc,
         "when",
-        "Writes what it costs to migrate at many times, and which is the best; status 3 if none keeps the limit",
+        "Writes what it costs to migrate at many times, and which is the best; statuses as predict",
     );
     with_chart(alloc, with_starts(alloc, when)?)
 }
@@ -131,7 +139,7 @@ fn commands<'a>(alloc: Global) -> Result<Command<'a>, AllocError>
     let predict = leaf_command(
         alloc,
         "predict",
-        "Predicts a migration, in time and bytes; status 3 if it misses its limit",
+        "Predicts a migration, in time and bytes; status 3 if it misses its limit, 4 if the trace is too short",
     );
     let json = json_command(alloc);
     let advise = leaf_command(
@@ -315,28 +323,58 @@ pub(crate) fn limited(measure: &Measure) -> Option<(Scale, Limits)>
     Some((scale, limits))
 }
 
-/// Returns the prediction that its options ask for. It needs limits.
-fn prediction_of(options: &ArgMatches) -> Result<AskedView, ViewWordsError>
-    ensures made { IfOk result (λ asked. AsksForView (codes "predict") (rows_of (found_of options.now)) asked.view
-        asked.scale) }
-    ensures refused { IfErr result (λ e. RefusesSettings (rows_of (found_of options.now)) e
-        ⊎ AreMissing (rows_of (found_of options.now)) e) }
+/// Returns the prediction that options ask for, in this form. It needs limits.
+fn prediction_of(
+    options: &ArgMatches,
+    form: PredictionForm,
+) -> Result<AskedPrediction, ViewWordsError>
+    ensures made { IfOk result (AsksForPrediction (rows_of (found_of options.now)) form) }
+    ensures refused { IfErr result (RefusesPrediction (rows_of (found_of options.now))) }
 {
     let measure = match measure_of(options) {
         Ok(measure) => measure,
         Err(refusal) => return Err(ViewWordsError::Limits(refusal)),
     };
     match limited(&measure) {
-        Some((scale, limits)) => Ok(AskedView {
-            view: View::Predict {
-                settings: measure.settings,
-                scale,
-                limits,
-            },
-            scale: Some(scale),
+        Some((scale, limits)) => Ok(AskedPrediction {
+            settings: measure.settings,
+            scale,
+            limits,
+            form,
         }),
         None => Err(ViewWordsError::Limits(LimitsRefusal::Missing)),
     }
+}
+
+/// Returns the view of a prediction.
+fn predicted(asked: AskedPrediction) -> AskedView
+    ensures { (result.view ≡ View.Predict asked) × (result.scale ≡ Some asked.scale) }
+{
+    let scale = Some(asked.scale);
+    AskedView {
+        view: View::Predict(asked),
+        scale,
+    }
+}
+
+/// Returns the prediction that its options ask for, for people.
+fn predict_of(options: &ArgMatches) -> Result<AskedView, ViewWordsError>
+    ensures made { IfOk result (λ asked. AsksForView (codes "predict") (rows_of (found_of options.now)) asked.view
+        asked.scale) }
+    ensures refused { IfErr result (RefusesPrediction (rows_of (found_of options.now))) }
+{
+    let asked = prediction_of(options, PredictionForm::Lines)?;
+    Ok(predicted(asked))
+}
+
+/// Returns the JSON document of a prediction that its options ask for.
+fn json_predict_of(options: &ArgMatches) -> Result<AskedView, ViewWordsError>
+    ensures made { IfOk result (λ asked. AsksForDocument (codes "predict") (rows_of (found_of options.now)) asked.view
+        asked.scale) }
+    ensures refused { IfErr result (RefusesPrediction (rows_of (found_of options.now))) }
+{
+    let asked = prediction_of(options, PredictionForm::Json)?;
+    Ok(predicted(asked))
 }
 
 /// Returns the starts that their options ask for, for people.
@@ -361,7 +399,7 @@ fn command_view(
     ensures refused { IfErr result (RefusesView name.now (rows_of (found_of options.now))) }
 {
     match name {
-        "predict" => prediction_of(options),
+        "predict" => predict_of(options),
         "when" => when_of(alloc, options),
         "advise" => advice_of(options),
         "show" => show_of(alloc, options),
@@ -384,6 +422,7 @@ fn command_document(
     match name {
         "report" => json_report_of(options),
         "sweep" => json_sweep_of(alloc, options),
+        "predict" => json_predict_of(options),
         _ => json_when_of(alloc, options),
     }
 }

@@ -5,6 +5,6 @@ pub returns : goal.returns
 returns c = rw (
   c.in_ok-push_number-2.ensures,
   c.in_ok-push_number.ensures,
-  c.mib_of.ensures,
-  c.millis_of-millis.ensures,
+  c.link_in_mib.ensures,
+  c.millis_for_pages-millis.ensures,
 ) (simp append_assoc)

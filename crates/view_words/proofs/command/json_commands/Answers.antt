@@ -21,7 +21,10 @@ returns c =
     ((sweep_rules ++ case_rule ∷ []) ++ scale_rules) report
     (leaf_with c.leaf_command-sweep.result c.in_ok-with_scaled_cases.field-0 _ _ c.leaf_command-sweep.ensures
     c.in_ok-with_scaled_cases.ensures) c.in_ok-subcommand-2.ensures in
+    let predict = adds_leaf _ _ c.in_ok-subcommand-3.field-0 _ (codes "predict") (report_rules ++ unit_rules) sweep
+    (leaf_with c.leaf_command-predict.result c.in_ok-with_either-2.field-0 _ _ c.leaf_command-predict.ensures
+    c.in_ok-with_either-2.ensures) c.in_ok-subcommand-3.ensures in
     let when = leaf_with c.leaf_command-when.result c.in_ok-with_starts.field-0 _ _ c.leaf_command-when.ensures
     c.in_ok-with_starts.ensures in
-    IfOk-weaker c.subcommand-3.result _ _ (λ line added. adds_leaf _ _ line _ (codes "when") start_rules sweep when
-    added ∙ json_line_is) c.subcommand-3.ensures
+    IfOk-weaker c.subcommand-4.result _ _ (λ line added. adds_leaf _ _ line _ (codes "when") start_rules predict when
+    added ∙ json_line_is) c.subcommand-4.ensures

@@ -1,0 +1,80 @@
+-- A prediction as a JSON document: its tokens.
+use Rattle.std.specs.Prelude.{ℕ, if◌then◌else◌, List, [], ◌∷◌, ◌++◌, Option, None, Some, codes}
+use Rattle.guest_units.specs.Scales.{TraceScale}
+use Rattle.guest_units.specs.declared.limits.Limits.{Limits}
+use Rattle.json.specs.Token.{Token}
+use Rattle.migration_model.specs.Rates.{MigrationSettings, word_of}
+use Rattle.predictions.specs.Errors.{GuestErrors}
+use Rattle.predictions.specs.Hosts.{link_in_mib, millis_for_pages}
+use Rattle.predictions.specs.Predictions.{GuestPrediction, kept_of, verdict_of, verdict_word}
+use Rattle.trace_views.specs.Json.{member_of, number_member, object_of, scale_object, seconds_member, settings_members}
+use Rattle.trace_views.specs.Json.{text_member}
+use Rattle.trace_views.specs.StartsJson.{cost_numbers}
+
+-- what a migration may take
+abbrev pub first_member : Option ℕ → List Token
+first_member None = []
+first_member (Some first) = number_member (codes "first_bytes") first
+
+abbrev pub limits_object : Limits → List Token
+limits_object limits =
+    object_of (number_member (codes "link_bytes") limits.link ∷ first_member limits.first ∷ seconds_member
+    (codes "down_seconds") limits.downtime
+    ∷ seconds_member (codes "reserve_seconds") limits.reserve ∷ [])
+
+-- the settings of its plan, the tick at which it begins, and that of the copy at the destination, if there is one
+abbrev pub base_member : Option ℕ → List Token
+base_member None = []
+base_member (Some base) = number_member (codes "base") base
+
+abbrev pub settings_object : MigrationSettings → List Token
+settings_object s =
+    object_of (settings_members s ++ number_member (codes "start") s.start ∷ base_member s.base ∷ [])
+
+-- the same limits for QEMU and for libvirt
+abbrev pub hosts_object : Limits → List Token
+hosts_object limits =
+    object_of (number_member (codes "bandwidth_bytes") limits.link ∷ number_member (codes "bandwidth_mib")
+    (link_in_mib limits)
+    ∷ number_member (codes "down_milliseconds") (millis_for_pages limits) ∷ [])
+
+-- one standard error of what is sent, and of the downtime
+abbrev pub errors_object : ℕ → ℕ → List Token
+errors_object bytes downtime =
+    object_of (number_member (codes "sent_bytes") bytes ∷ seconds_member (codes "down_seconds") downtime ∷ [])
+
+abbrev pub errors_member : Option GuestErrors → List Token
+errors_member None = []
+errors_member (Some errors) = member_of (codes "errors") (errors_object errors.bytes errors.downtime)
+
+-- the migration of a plan: why it stops, what it costs, how many pages of the trace are sent after the stop, and the
+-- errors
+abbrev pub migration_object : GuestPrediction → Option GuestErrors → List Token
+migration_object p errors = object_of (text_member (codes "why") (word_of p.reason) ∷
+    (cost_numbers p.cost ++ number_member (codes "left_pages") p.left ∷ errors_member errors ∷ []))
+
+-- it is left out if the trace ends before it
+abbrev pub migration_member : GuestPrediction → Option GuestErrors → List Token
+migration_member p errors =
+    if p.cost.is_late then [] else member_of (codes "migration") (migration_object p errors)
+
+-- the answers: whether the migration converges, whether it keeps its limit, and how long the trace goes on from its
+-- start
+abbrev pub answer_members : GuestPrediction → List (List Token)
+answer_members p =
+    text_member (codes "converges") (verdict_word (verdict_of p)) ∷ text_member
+    (codes "kept") (verdict_word (kept_of p.cost))
+    ∷ seconds_member (codes "recorded_seconds") p.recorded ∷ []
+
+-- what was asked: what ticks and pages stand for, the limits, and the settings that they make
+abbrev pub asked_members : MigrationSettings → TraceScale → Limits → List (List Token)
+asked_members settings scale limits =
+    member_of (codes "units") (scale_object scale) ∷ member_of (codes "limits") (limits_object limits) ∷ member_of
+    (codes "settings") (settings_object settings)
+    ∷ []
+
+-- what was asked, the answers, the migration if it is known, and the same limits for others
+abbrev pub prediction_object : MigrationSettings → TraceScale → Limits → GuestPrediction → Option GuestErrors
+    → List Token
+prediction_object settings scale limits p errors = object_of (asked_members settings scale limits
+    ++ (answer_members p ++ migration_member p errors ∷ member_of (codes "hosts") (hosts_object limits) ∷ []))

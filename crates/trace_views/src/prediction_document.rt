@@ -1,0 +1,230 @@
+//! A prediction as a JSON document.
+
+ghost use Rattle.std.specs.Prelude.{◌≡◌, ◌++◌, IfOk, OnOk, codes};
+ghost use Rattle.std.specs.List.{flat_map};
+ghost use Rattle.trace_views.specs.Json.{line_of, member_of};
+ghost use Rattle.trace_views.specs.PredictionJson.{answer_members, asked_members, base_member, errors_member};
+ghost use Rattle.trace_views.specs.PredictionJson.{errors_object, first_member, hosts_object, limits_object, migration_member};
+ghost use Rattle.trace_views.specs.PredictionJson.{migration_object, prediction_object, settings_object};
+
+use crate::document::Document;
+use crate::starts_document::write_cost_numbers;
+use crate::sweep_document::{write_scale, write_settings};
+use guest_units::{Limits, Scale};
+use predictions::{Errors, Prediction, link_in_mib, millis_for_pages};
+use rate_limit::Settings;
+use std::alloc::{AllocError, Global};
+
+/// Writes what the first round may use of the link as a member, if that is given.
+fn write_first(out: &mut Document, first: Option<u64>) -> Result<(), AllocError>
+    ensures { OnOk result (out.new ≡ out.old ++ first_member first) }
+{
+    match first {
+        Some(first) => out.number_member("first_bytes", first),
+        None => Ok(()),
+    }
+}
+
+/// Writes what a migration may take.
+fn write_limits(alloc: Global, out: &mut Document, limits: &Limits) -> Result<(), AllocError>
+    ensures { OnOk result (out.new ≡ out.old ++ limits_object limits.now) }
+{
+    out.begin_object()?;
+    out.number_member("link_bytes", limits.link)?;
+    write_first(out, limits.first)?;
+    out.seconds_member(alloc, "down_seconds", limits.downtime as u128)?;
+    out.seconds_member(alloc, "reserve_seconds", limits.reserve as u128)?;
+    out.end_object()?;
+    Ok(())
+}
+
+/// Writes the tick of the copy at the destination as a member, if there is one.
+fn write_base(out: &mut Document, base: Option<u64>) -> Result<(), AllocError>
+    ensures { OnOk result (out.new ≡ out.old ++ base_member base) }
+{
+    match base {
+        Some(base) => out.number_member("base", base),
+        None => Ok(()),
+    }
+}
+
+/// Writes the settings of a plan, and the tick at which it begins.
+fn write_plan_settings(out: &mut Document, settings: &Settings) -> Result<(), AllocError>
+    ensures { OnOk result (out.new ≡ out.old ++ settings_object settings.now) }
+{
+    let asked = settings.asked();
+    out.begin_object()?;
+    write_settings(out, settings)?;
+    out.number_member("start", asked.start)?;
+    write_base(out, asked.base)?;
+    out.end_object()?;
+    Ok(())
+}
+
+/// Writes the same limits for QEMU and libvirt.
+fn write_hosts(out: &mut Document, limits: &Limits) -> Result<(), AllocError>
+    ensures { OnOk result (out.new ≡ out.old ++ hosts_object limits.now) }
+{
+    out.begin_object()?;
+    out.number_member("bandwidth_bytes", limits.link)?;
+    out.number_member("bandwidth_mib", link_in_mib(limits))?;
+    out.number_member("down_milliseconds", millis_for_pages(limits))?;
+    out.end_object()?;
+    Ok(())
+}
+
+/// Writes one standard error of the bytes and of the downtime, in microseconds.
+fn write_both(
+    alloc: Global,
+    out: &mut Document,
+    bytes: u128,
+    downtime: u128,
+) -> Result<(), AllocError>
+    ensures { OnOk result (out.new ≡ out.old ++ errors_object bytes downtime) }
+{
+    out.begin_object()?;
+    out.wide_member("sent_bytes", bytes)?;
+    out.seconds_member(alloc, "down_seconds", downtime)?;
+    out.end_object()?;
+    Ok(())
+}
+
+/// Writes standard errors as a member, if they are given.
+fn write_errors(
+    alloc: Global,
+    out: &mut Document,
+    errors: &Option<Errors>,
+) -> Result<(), AllocError>
+    ensures { OnOk result (out.new ≡ out.old ++ errors_member errors.now) }
+{
+    match errors {
+        Some(errors) => {
+            out.key("errors")?;
+            write_both(alloc, out, errors.bytes, errors.downtime)
+        }
+        None => Ok(()),
+    }
+}
+
+/// Writes the migration of a plan: why it stops, what it costs, and how many pages of the trace are left then.
+fn write_foretold(
+    alloc: Global,
+    out: &mut Document,
+    prediction: &Prediction,
+    errors: &Option<Errors>,
+) -> Result<(), AllocError>
+    ensures { OnOk result (out.new ≡ out.old ++ migration_object prediction.now errors.now) }
+{
+    out.begin_object()?;
+    out.text_member("why", prediction.reason.word())?;
+    write_cost_numbers(alloc, out, &prediction.cost)?;
+    out.number_member("left_pages", prediction.left)?;
+    write_errors(alloc, out, errors)?;
+    out.end_object()?;
+    Ok(())
+}
+
+/// Writes the migration of a plan as a member.
+fn write_known(
+    alloc: Global,
+    out: &mut Document,
+    prediction: &Prediction,
+    errors: &Option<Errors>,
+) -> Result<(), AllocError>
+    ensures { OnOk result (out.new ≡ out.old
+        ++ member_of (codes "migration") (migration_object prediction.now errors.now)) }
+{
+    out.key("migration")?;
+    write_foretold(alloc, out, prediction, errors)?;
+    Ok(())
+}
+
+/// Writes the migration as a member, if the trace does not end before it.
+fn write_migration(
+    alloc: Global,
+    out: &mut Document,
+    prediction: &Prediction,
+    errors: &Option<Errors>,
+) -> Result<(), AllocError>
+    ensures { OnOk result (out.new ≡ out.old ++ migration_member prediction.now errors.now) }
+{
+    if prediction.cost.is_late {
+        Ok(())
+    } else {
+        write_known(alloc, out, prediction, errors)
+    }
+}
+
+/// Writes whether a migration converges and keeps its limit, and how long the trace goes on, as members.
+fn write_answers(
+    alloc: Global,
+    out: &mut Document,
+    prediction: &Prediction,
+) -> Result<(), AllocError>
+    ensures { OnOk result (out.new ≡ out.old ++ flat_map (λ m. m) (answer_members prediction.now)) }
+{
+    out.text_member("converges", prediction.verdict().word())?;
+    out.text_member("kept", prediction.cost.kept().word())?;
+    out.seconds_member(alloc, "recorded_seconds", prediction.recorded)?;
+    Ok(())
+}
+
+/// Writes what was asked of a migration: what ticks and pages stand for, its limits, and the settings that these make.
+fn write_asked(
+    alloc: Global,
+    out: &mut Document,
+    settings: &Settings,
+    scale: &Scale,
+    limits: &Limits,
+) -> Result<(), AllocError>
+    ensures { OnOk result (out.new ≡ out.old ++ flat_map (λ m. m) (asked_members settings.now scale.now limits.now)) }
+{
+    out.key("units")?;
+    write_scale(alloc, out, scale)?;
+    out.key("limits")?;
+    write_limits(alloc, out, limits)?;
+    out.key("settings")?;
+    write_plan_settings(out, settings)?;
+    Ok(())
+}
+
+/// Writes a prediction.
+fn write_prediction(
+    alloc: Global,
+    out: &mut Document,
+    settings: &Settings,
+    scale: &Scale,
+    limits: &Limits,
+    prediction: &Prediction,
+    errors: &Option<Errors>,
+) -> Result<(), AllocError>
+    ensures { OnOk result (out.new ≡ out.old
+        ++ prediction_object settings.now scale.now limits.now prediction.now errors.now) }
+{
+    out.begin_object()?;
+    write_asked(alloc, out, settings, scale, limits)?;
+    write_answers(alloc, out, prediction)?;
+    write_migration(alloc, out, prediction, errors)?;
+    out.key("hosts")?;
+    write_hosts(out, limits)?;
+    out.end_object()?;
+    Ok(())
+}
+
+/// Returns a prediction as a JSON document, in one line: what was asked, the answers, the migration if the trace does
+/// not end before it, and the same limits for QEMU and libvirt.
+pub fn json_prediction(
+    alloc: Global,
+    settings: &Settings,
+    scale: &Scale,
+    limits: &Limits,
+    prediction: &Prediction,
+    errors: &Option<Errors>,
+) -> Result<Vec<u8>, AllocError>
+    ensures { IfOk result (λ text. text.items
+        ≡ line_of (prediction_object settings.now scale.now limits.now prediction.now errors.now)) }
+{
+    let mut out = Document::new(alloc);
+    write_prediction(alloc, &mut out, settings, scale, limits, prediction, errors)?;
+    out.into_line()
+}
