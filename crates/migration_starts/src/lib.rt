@@ -11,4 +11,4 @@ pub use choosing::{best_start, known_starts, worst_start};
 pub use error::StartsError;
 pub use starting::{StartCost, start_costs};
 pub use starts::Starts;
-pub use table::starts_text;
+pub use table::{push_right, starts_text};

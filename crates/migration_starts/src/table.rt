@@ -19,11 +19,11 @@ const HEADING: &str = "          tick         start          time          sent 
 /// How wide a column is.
 const WIDTH: usize = 14;
 
-/// Appends words at the right end of a column.
-fn push_right(text: &mut Vec<u8>, words: &[u8]) -> Result<(), AllocError>
-    ensures { OnOk result (text.new.items ≡ text.old.items ++ right_in 14 words.now) }
+/// Appends words at the right end of a column of this width.
+pub fn push_right(text: &mut Vec<u8>, width: usize, words: &[u8]) -> Result<(), AllocError>
+    ensures { OnOk result (text.new.items ≡ text.old.items ++ right_in width words.now) }
 {
-    for _column in words.len()..WIDTH {
+    for _column in words.len()..width {
         text.push(b' ')?;
     }
     text.extend_from_slice(words)?;
@@ -36,7 +36,7 @@ fn push_number_cell(alloc: Global, text: &mut Vec<u8>, number: u64) -> Result<()
 {
     let mut words = Vec::new(alloc);
     push_wide(&mut words, number as u128)?;
-    push_right(text, &words)
+    push_right(text, WIDTH, &words)
 }
 
 /// Appends a time, given in microseconds, as a column.
@@ -45,7 +45,7 @@ fn push_time_cell(alloc: Global, text: &mut Vec<u8>, micros: u128) -> Result<(),
 {
     let mut words = Vec::new(alloc);
     push_seconds(&mut words, micros)?;
-    push_right(text, &words)
+    push_right(text, WIDTH, &words)
 }
 
 /// Appends a size as a column.
@@ -55,7 +55,7 @@ fn push_size_cell(alloc: Global, text: &mut Vec<u8>, bytes: u128) -> Result<(), 
 {
     let mut words = Vec::new(alloc);
     push_bytes(&mut words, bytes)?;
-    push_right(text, &words)
+    push_right(text, WIDTH, &words)
 }
 
 /// Returns whether the limit is kept, in words.

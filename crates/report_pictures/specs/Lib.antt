@@ -1,1 +1,5 @@
 pub mod Axes
+pub mod Bars
+pub mod Columns
+pub mod Screens
+pub mod MeasuredScreens

@@ -3,7 +3,8 @@
 ghost use Rattle.std.specs.Prelude.{◌≡◌, ◌≤◌, ◌-◌};
 ghost use Rattle.report_pictures.specs.Axes.{IsStep, place_of, share_of};
 
-use crate::svg::{Area, begin_text, end_text, push_rect, push_text, push_words};
+use crate::svg::{Area, begin_text, end_text, push_rect, push_text};
+use crate::words::push_words;
 use guest_units::Scale;
 use predictions::push_wide;
 use rate_limit::Settings;

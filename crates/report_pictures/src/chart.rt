@@ -3,8 +3,9 @@
 use crate::axis::{Axis, LEFT};
 use crate::panel::Panel;
 use crate::round_panels::{panels_of_rounds, push_rounds};
-use crate::svg::{begin_picture, begin_text, end_picture, end_text, push_words};
+use crate::svg::{begin_picture, begin_text, end_picture, end_text};
 use crate::window_panel::{panel_of_windows, push_windows};
+use crate::words::push_words;
 use guest_log::Shape;
 use guest_units::Scale;
 use predictions::{push_bytes, push_seconds};

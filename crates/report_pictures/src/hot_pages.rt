@@ -1,9 +1,13 @@
 //! Hot pages as runs, and a strip that shows where in the guest they lie.
 
-use crate::table::{Style, push_blank, push_words};
+ghost use Rattle.std.specs.Prelude.{◌≡◌, ℕ, List, ◌++◌, OnOk, length};
+ghost use Rattle.report_pictures.specs.Screens.{hot_count, hot_text};
+
+use crate::table::Style;
+use crate::words::push_words;
 use predictions::push_wide;
 use std::alloc::{AllocError, Global};
-use sweep_report::push_field;
+use sweep_report::{end_line, push_field};
 
 /// The most lines of runs.
 const MOST_LINES: usize = 8;
@@ -77,7 +81,7 @@ fn push_runs(
             if lines == MOST_LINES {
                 break;
             }
-            push_blank(text)?;
+            end_line(text)?;
             lines = lines.saturating_add(1);
             column = 0;
         }
@@ -87,7 +91,7 @@ fn push_runs(
         let more = run.last.saturating_sub(run.first) as u64;
         shown = shown.saturating_add(more).saturating_add(1);
     }
-    push_blank(text)?;
+    end_line(text)?;
     Ok(shown)
 }
 
@@ -143,7 +147,40 @@ fn push_strip(
     push_words(text, "|\n")
 }
 
-/// Appends the hot pages of a guest of `count` pages: how many there are, their runs, and where they lie.
+/// Returns where the hot pages of a guest of `count` pages lie: their runs, and a strip. Of no pages it is empty.
+fn spots_of(
+    alloc: Global,
+    style: &Style,
+    count: u64,
+    pages: &[u32],
+) -> Result<Vec<u8>, AllocError> {
+    let mut text = Vec::new(alloc);
+    if pages.is_empty() {
+        return Ok(text);
+    }
+    let runs = runs_of(alloc, pages)?;
+    let shown = push_runs(alloc, &mut text, style, &runs)?;
+    let more = (pages.len() as u64).saturating_sub(shown);
+    if more > 0 {
+        push_field(&mut text, " and ", more)?;
+        push_words(&mut text, " more\n")?;
+    }
+    push_strip(alloc, &mut text, style, count, pages)?;
+    Ok(text)
+}
+
+/// Appends how many pages are hot, in how many windows or more.
+#[tactic(auto, unfolding(crate::specs::Screens::hot_count))]
+fn push_count(text: &mut Vec<u8>, windows: u64, count: u64) -> Result<(), AllocError>
+    ensures { OnOk result (text.new.items ≡ text.old.items ++ hot_count windows count) }
+{
+    push_field(text, "hot pages, in ", windows)?;
+    push_field(text, " windows or more: ", count)?;
+    end_line(text)?;
+    Ok(())
+}
+
+/// Appends the hot pages of a guest of `count` pages: how many there are, and where they lie.
 pub(crate) fn push_hot(
     alloc: Global,
     text: &mut Vec<u8>,
@@ -151,19 +188,13 @@ pub(crate) fn push_hot(
     windows: u64,
     count: u64,
     pages: &[u32],
-) -> Result<(), AllocError> {
-    push_field(text, "hot pages, in ", windows)?;
-    push_field(text, " windows or more: ", pages.len() as u64)?;
-    push_blank(text)?;
-    if !pages.is_empty() {
-        let runs = runs_of(alloc, pages)?;
-        let shown = push_runs(alloc, text, style, &runs)?;
-        let more = (pages.len() as u64).saturating_sub(shown);
-        if more > 0 {
-            push_field(text, " and ", more)?;
-            push_words(text, " more\n")?;
-        }
-        push_strip(alloc, text, style, count, pages)?;
-    }
-    push_blank(text)
+) -> Result<(), AllocError>
+    ensures { OnOk result ((spots : List ℕ)
+        × (text.new.items ≡ text.old.items ++ hot_text windows (length pages.now) spots)) }
+{
+    let spots = spots_of(alloc, style, count, pages)?;
+    push_count(text, windows, pages.len() as u64)?;
+    text.extend_from_slice(&spots)?;
+    end_line(text)?;
+    Ok(())
 }

@@ -2,6 +2,7 @@
 #![tactic(auto)]
 
 mod axis;
+mod bar;
 mod chart;
 mod hot_pages;
 mod panel;
@@ -12,6 +13,7 @@ mod svg;
 mod table;
 mod units_screen;
 mod window_panel;
+mod words;
 
 pub use chart::report_chart;
 pub use screen::{measured_screen, report_screen};

@@ -1,15 +1,24 @@
 //! A report for a terminal: aligned tables, with bars beside them.
 
+ghost use Rattle.std.specs.Prelude.{◌≡◌, ◌++◌, ◌^◌, IfOk, OnOk, length};
+ghost use Rattle.report_pictures.specs.Bars.{round_parts, window_parts};
+ghost use Rattle.report_pictures.specs.MeasuredScreens.{IsMeasuredScreen};
+ghost use Rattle.report_pictures.specs.Screens.{IsScreen, left_words, reason_words, round_mosts, round_numbers};
+ghost use Rattle.report_pictures.specs.Screens.{round_rows, rounds_table, rounds_text, rounds_with, stop_words};
+ghost use Rattle.report_pictures.specs.Screens.{trace_words, window_mosts, window_numbers, window_rows, windows_table};
+ghost use Rattle.report_pictures.specs.Screens.{windows_text, windows_with};
+
+use crate::bar::{Part, dark, full, light, push_round_key, push_window_key};
 use crate::hot_pages::push_hot;
-use crate::table::{Part, Style, Table, push_blank, push_part, push_words};
+use crate::table::{Style, column_widths, push_names, push_row};
 use crate::units_screen;
+use crate::words::push_words;
 use guest_log::Shape;
 use guest_units::Scale;
-use predictions::push_seconds;
 use rate_limit::Settings;
 use round_planner::{Plan, Round};
 use std::alloc::{AllocError, Global};
-use sweep_report::push_field;
+use sweep_report::{end_line, push_field};
 use working_sets::{Tables, Window};
 
 /// The columns of the table of windows.
@@ -18,64 +27,22 @@ const WINDOW: [&str; 5] = ["window", "writes", "pages", "again", "fresh"];
 /// The columns of the table of rounds.
 const ROUND: [&str; 7] = ["round", "from", "to", "rate", "pages", "sent", "dirtied"];
 
-/// Blue, cyan and yellow on a terminal.
-const BLUE: &str = "\x1b[34m";
-
-const CYAN: &str = "\x1b[36m";
-
-const YELLOW: &str = "\x1b[33m";
-
-/// Appends the names of the parts of a bar, each after its character.
-fn push_legend(
-    text: &mut Vec<u8>,
-    style: &Style,
-    names: &[(Part, &str)],
-) -> Result<(), AllocError> {
-    for (part, name) in names {
-        push_words(text, " ")?;
-        push_part(text, part, 1, style.colors)?;
-        push_words(text, name)?;
-    }
-    push_blank(text)
-}
-
 /// Appends the line on a trace.
-fn push_trace(text: &mut Vec<u8>, shape: &Shape) -> Result<(), AllocError> {
+#[tactic(auto, unfolding(crate::specs::Screens::trace_words))]
+fn push_trace(text: &mut Vec<u8>, shape: &Shape) -> Result<(), AllocError>
+    ensures { OnOk result (text.new.items
+        ≡ text.old.items ++ trace_words shape.now.pages (2 ^ shape.now.shift) shape.now.writes) }
+{
     push_field(text, "trace: ", shape.pages as u64)?;
     push_field(text, " pages of ", shape.page_size() as u64)?;
     push_field(text, " bytes, ", shape.writes as u64)?;
     push_words(text, " writes\n")
 }
 
-/// Returns the part of a bar for pages that were also written in the previous window.
-fn again(count: u64) -> Part {
-    Part {
-        block: "█",
-        color: BLUE,
-        count,
-    }
-}
-
-/// Returns the part of a bar for pages that were written earlier.
-fn earlier(count: u64) -> Part {
-    Part {
-        block: "▓",
-        color: CYAN,
-        count,
-    }
-}
-
-/// Returns the part of a bar for pages that were never written before or are not sent.
-fn fresh(count: u64) -> Part {
-    Part {
-        block: "░",
-        color: YELLOW,
-        count,
-    }
-}
-
 /// Returns the numbers of a window, by column.
-fn window_numbers(window: &Window) -> [u64; 5] {
+fn numbers_of_window(window: &Window) -> [u64; 5]
+    ensures { result ≡ window_numbers window.now }
+{
     [
         window.number,
         window.writes as u64,
@@ -86,82 +53,109 @@ fn window_numbers(window: &Window) -> [u64; 5] {
 }
 
 /// Returns the bar of a window: its pages, by when they were written before.
-fn window_bar(window: &Window) -> [Part; 3] {
+pub(crate) fn window_bar(window: &Window) -> [Part; 3]
+    ensures { result ≡ window_parts window.now }
+{
     let old = window.pages.saturating_sub(window.fresh);
     [
-        again(window.again as u64),
-        earlier(old.saturating_sub(window.again) as u64),
-        fresh(window.fresh as u64),
+        full(window.again as u64),
+        dark(old.saturating_sub(window.again) as u64),
+        light(window.fresh as u64),
     ]
 }
 
 /// Returns the greatest number of each column of windows.
-fn window_mosts(windows: &[Window]) -> [u64; 5] {
-    let mut mosts = [0; 5];
+pub(crate) fn greatest_of_windows(windows: &[Window]) -> [u64; 5]
+    ensures { result ≡ window_mosts windows.now }
+{
+    let mut mosts = Window {
+        number: 0,
+        writes: 0,
+        pages: 0,
+        again: 0,
+        fresh: 0,
+    };
     for window in windows {
-        let numbers = window_numbers(window);
-        for column in 0..5 {
-            mosts[column] = numbers[column].max(mosts[column]);
-        }
+        mosts.number = window.number.max(mosts.number);
+        mosts.writes = window.writes.max(mosts.writes);
+        mosts.pages = window.pages.max(mosts.pages);
+        mosts.again = window.again.max(mosts.again);
+        mosts.fresh = window.fresh.max(mosts.fresh);
     }
-    mosts
+    numbers_of_window(&mosts)
 }
 
-/// Appends what the parts of a window's bar mean.
-fn push_window_legend(text: &mut Vec<u8>, style: &Style) -> Result<(), AllocError> {
-    let parts = [
-        (again(0), " again"),
-        (earlier(0), " earlier"),
-        (fresh(0), " fresh"),
-    ];
-    push_legend(text, style, &parts)
+/// Appends the rows of windows.
+fn push_window_rows(
+    text: &mut Vec<u8>,
+    style: &Style,
+    widths: &[usize],
+    most: u64,
+    windows: &[Window],
+) -> Result<(), AllocError>
+    requires wide { length widths.now ≡ 5 }
+    ensures { OnOk result (text.new.items ≡ text.old.items ++ window_rows style.now widths.now most windows.now) }
+{
+    for window in windows {
+        let numbers = numbers_of_window(window);
+        push_row(text, style, widths, most, &numbers, &window_bar(window))?;
+    }
+    Ok(())
+}
+
+/// Appends the table of windows with columns of these widths.
+fn push_windows_with(
+    text: &mut Vec<u8>,
+    style: &Style,
+    widths: &[usize],
+    most: u64,
+    windows: &[Window],
+) -> Result<(), AllocError>
+    requires wide { length widths.now ≡ 5 }
+    ensures { OnOk result (text.new.items ≡ text.old.items ++ windows_with style.now widths.now most windows.now) }
+{
+    push_names(text, widths, &WINDOW)?;
+    push_window_rows(text, style, widths, most, windows)?;
+    end_line(text)
 }
 
 /// Appends the table of windows.
+#[tactic(auto, unfolding(crate::specs::Screens::windows_table))]
+fn push_windows_table(
+    alloc: Global,
+    text: &mut Vec<u8>,
+    style: &Style,
+    windows: &[Window],
+) -> Result<(), AllocError>
+    ensures { OnOk result (text.new.items ≡ text.old.items ++ windows_table style.now windows.now) }
+{
+    let mosts = greatest_of_windows(windows);
+    let widths = column_widths(alloc, &WINDOW, &mosts)?;
+    push_windows_with(text, style, &widths, mosts[2], windows)
+}
+
+/// Appends the windows: what the parts of their bars mean, and their table.
+#[tactic(auto, unfolding(crate::specs::Screens::windows_text))]
 fn push_windows(
     alloc: Global,
     text: &mut Vec<u8>,
     style: &Style,
     length: u64,
     windows: &[Window],
-) -> Result<(), AllocError> {
+) -> Result<(), AllocError>
+    ensures { OnOk result (text.new.items ≡ text.old.items ++ windows_text style.now length windows.now) }
+{
     push_field(text, "windows of ", length)?;
     push_words(text, " ticks; pages:")?;
-    push_window_legend(text, style)?;
-    let mosts = window_mosts(windows);
-    let table = Table::new(alloc, style, &WINDOW, &mosts, mosts[2])?;
-    table.push_names(text, &WINDOW)?;
-    for window in windows {
-        table.push_row(text, &window_numbers(window), &window_bar(window))?;
-    }
-    push_blank(text)
-}
-
-/// Appends the windows in times and bytes of the guest.
-fn push_measured_windows(
-    alloc: Global,
-    text: &mut Vec<u8>,
-    style: &Style,
-    scale: &Scale,
-    length: u64,
-    windows: &[Window],
-) -> Result<(), AllocError> {
-    push_words(text, "windows of ")?;
-    push_seconds(text, scale.micros(length))?;
-    push_words(text, "; written:")?;
-    push_window_legend(text, style)?;
-    units_screen::push_window_names(text)?;
-    let most = window_mosts(windows)[2];
-    for window in windows {
-        let from = window.number.saturating_mul(length);
-        let parts = window_bar(window);
-        units_screen::push_window(alloc, text, style, scale, from, window, (&parts, most))?;
-    }
-    push_blank(text)
+    push_window_key(text, style.colors)?;
+    push_windows_table(alloc, text, style, windows)?;
+    Ok(())
 }
 
 /// Returns the numbers of a round, by column.
-fn round_numbers(number: usize, round: &Round) -> [u64; 7] {
+fn numbers_of_round(number: usize, round: &Round) -> [u64; 7]
+    ensures { result ≡ round_numbers number round.now }
+{
     [
         number as u64,
         round.from,
@@ -174,78 +168,127 @@ fn round_numbers(number: usize, round: &Round) -> [u64; 7] {
 }
 
 /// Returns the bar of a round: its pages, by whether they are sent.
-fn round_bar(round: &Round) -> [Part; 2] {
+fn round_bar(round: &Round) -> [Part; 2]
+    ensures { result ≡ round_parts round.now }
+{
     let sent = round.sent.len() as u64;
     [
-        again(sent),
-        fresh((round.pages.len() as u64).saturating_sub(sent)),
+        full(sent),
+        light((round.pages.len() as u64).saturating_sub(sent)),
     ]
 }
 
 /// Returns the greatest number of each column of rounds.
-fn round_mosts(rounds: &[Round]) -> [u64; 7] {
-    let mut mosts = [0; 7];
-    for (number, round) in rounds.iter().enumerate() {
-        let numbers = round_numbers(number, round);
-        for column in 0..7 {
-            mosts[column] = numbers[column].max(mosts[column]);
-        }
+fn greatest_of_rounds(rounds: &[Round]) -> [u64; 7]
+    ensures { result ≡ round_mosts rounds.now }
+{
+    let (mut from, mut to, mut rate) = (0, 0, 0);
+    let (mut pages, mut sent, mut dirtied) = (0, 0, 0);
+    for round in rounds {
+        from = round.from.max(from);
+        to = round.to.max(to);
+        rate = round.rate.max(rate);
+        pages = (round.pages.len() as u64).max(pages);
+        sent = (round.sent.len() as u64).max(sent);
+        dirtied = (round.dirtied as u64).max(dirtied);
     }
-    mosts
+    let last = (rounds.len() as u64).saturating_sub(1);
+    [last, from, to, rate, pages, sent, dirtied]
+}
+
+/// Appends the rows of rounds.
+fn push_round_rows(
+    text: &mut Vec<u8>,
+    style: &Style,
+    widths: &[usize],
+    most: u64,
+    rounds: &[Round],
+) -> Result<(), AllocError>
+    requires wide { length widths.now ≡ 7 }
+    ensures { OnOk result (text.new.items ≡ text.old.items ++ round_rows style.now widths.now most rounds.now) }
+{
+    for (number, round) in rounds.iter().enumerate() {
+        let numbers = numbers_of_round(number, round);
+        push_row(text, style, widths, most, &numbers, &round_bar(round))?;
+    }
+    Ok(())
+}
+
+/// Appends the table of rounds with columns of these widths.
+fn push_rounds_with(
+    text: &mut Vec<u8>,
+    style: &Style,
+    widths: &[usize],
+    most: u64,
+    rounds: &[Round],
+) -> Result<(), AllocError>
+    requires wide { length widths.now ≡ 7 }
+    ensures { OnOk result (text.new.items ≡ text.old.items ++ rounds_with style.now widths.now most rounds.now) }
+{
+    push_names(text, widths, &ROUND)?;
+    push_round_rows(text, style, widths, most, rounds)?;
+    end_line(text)
 }
 
 /// Appends the table of rounds.
+#[tactic(auto, unfolding(crate::specs::Screens::rounds_table))]
+fn push_rounds_table(
+    alloc: Global,
+    text: &mut Vec<u8>,
+    style: &Style,
+    rounds: &[Round],
+) -> Result<(), AllocError>
+    ensures { OnOk result (text.new.items ≡ text.old.items ++ rounds_table style.now rounds.now) }
+{
+    let mosts = greatest_of_rounds(rounds);
+    let widths = column_widths(alloc, &ROUND, &mosts)?;
+    push_rounds_with(text, style, &widths, mosts[4], rounds)
+}
+
+/// Appends the rounds: what the parts of their bars mean, and their table.
+#[tactic(auto, unfolding(crate::specs::Screens::rounds_text))]
 fn push_rounds(
     alloc: Global,
     text: &mut Vec<u8>,
     style: &Style,
     rounds: &[Round],
-) -> Result<(), AllocError> {
+) -> Result<(), AllocError>
+    ensures { OnOk result (text.new.items ≡ text.old.items ++ rounds_text style.now rounds.now) }
+{
     push_words(text, "rounds, at a rate in pages per 1,000 ticks; pages:")?;
-    push_legend(text, style, &[(again(0), " sent"), (fresh(0), " skipped")])?;
-    let mosts = round_mosts(rounds);
-    let table = Table::new(alloc, style, &ROUND, &mosts, mosts[4])?;
-    table.push_names(text, &ROUND)?;
-    for (number, round) in rounds.iter().enumerate() {
-        table.push_row(text, &round_numbers(number, round), &round_bar(round))?;
-    }
-    push_blank(text)
+    push_round_key(text, style.colors)?;
+    push_rounds_table(alloc, text, style, rounds)
 }
 
-/// Appends the end of a plan.
-fn push_stop(text: &mut Vec<u8>, plan: &Plan) -> Result<(), AllocError> {
+/// Appends why and when the guest stops.
+#[tactic(auto, unfolding(crate::specs::Screens::reason_words))]
+fn push_reason(text: &mut Vec<u8>, plan: &Plan) -> Result<(), AllocError>
+    ensures { OnOk result (text.new.items ≡ text.old.items ++ reason_words plan.now) }
+{
     push_words(text, "stop: ")?;
     push_words(text, plan.reason.word())?;
-    push_field(text, ", at tick ", plan.stop)?;
+    push_field(text, ", at tick ", plan.stop)
+}
+
+/// Appends what is left at the stop, how long that takes, and all that is sent.
+#[tactic(auto, unfolding(crate::specs::Screens::left_words))]
+fn push_left(text: &mut Vec<u8>, plan: &Plan) -> Result<(), AllocError>
+    ensures { OnOk result (text.new.items ≡ text.old.items ++ left_words plan.now) }
+{
     push_field(text, "\nleft: ", plan.last.len() as u64)?;
     push_field(text, " pages\ndowntime: ", plan.down)?;
     push_field(text, " ticks\nsent in all: ", plan.total())?;
-    push_words(text, " pages\n")
+    push_words(text, " pages\n")?;
+    Ok(())
 }
 
-/// Appends windows and hot pages, rounds and the end of the plan, in ticks and pages.
-fn push_tables(
-    alloc: Global,
-    text: &mut Vec<u8>,
-    style: &Style,
-    shape: &Shape,
-    settings: &Settings,
-    tables: &Tables,
-    plan: &Plan,
-) -> Result<(), AllocError> {
-    let asked = settings.asked();
-    push_blank(text)?;
-    push_windows(alloc, text, style, asked.window, &tables.windows)?;
-    push_hot(
-        alloc,
-        text,
-        style,
-        asked.hot,
-        shape.pages as u64,
-        &tables.hot,
-    )?;
-    push_rounds(alloc, text, style, &plan.rounds)?;
-    push_stop(text, plan)
+/// Appends the end of a plan.
+#[tactic(auto, unfolding(crate::specs::Screens::stop_words))]
+fn push_stop(text: &mut Vec<u8>, plan: &Plan) -> Result<(), AllocError>
+    ensures { OnOk result (text.new.items ≡ text.old.items ++ stop_words plan.now) }
+{
+    push_reason(text, plan)?;
+    push_left(text, plan)
 }
 
 /// Returns a report for a terminal, in UTF-8: the working sets and the plan of a trace of this shape as tables, with
@@ -257,10 +300,25 @@ pub fn report_screen(
     settings: &Settings,
     tables: &Tables,
     plan: &Plan,
-) -> Result<Vec<u8>, AllocError> {
+) -> Result<Vec<u8>, AllocError>
+    ensures { IfOk result (λ text. IsScreen style.now shape.now.pages (2 ^ shape.now.shift) shape.now.writes settings.now
+        tables.now plan.now text.items) }
+{
+    let asked = settings.asked();
     let mut text = Vec::new(alloc);
     push_trace(&mut text, shape)?;
-    push_tables(alloc, &mut text, style, shape, settings, tables, plan)?;
+    end_line(&mut text)?;
+    push_windows(alloc, &mut text, style, asked.window, &tables.windows)?;
+    push_hot(
+        alloc,
+        &mut text,
+        style,
+        asked.hot,
+        shape.pages as u64,
+        &tables.hot,
+    )?;
+    push_rounds(alloc, &mut text, style, &plan.rounds)?;
+    push_stop(&mut text, plan)?;
     Ok(text)
 }
 
@@ -273,12 +331,15 @@ pub fn measured_screen(
     settings: &Settings,
     tables: &Tables,
     plan: &Plan,
-) -> Result<Vec<u8>, AllocError> {
+) -> Result<Vec<u8>, AllocError>
+    ensures { IfOk result (λ text. IsMeasuredScreen style.now scale.now shape.now.pages (2 ^ shape.now.shift)
+        shape.now.writes settings.now tables.now plan.now text.items) }
+{
     let asked = settings.asked();
     let mut text = Vec::new(alloc);
     push_trace(&mut text, shape)?;
     units_screen::push_scale(&mut text, scale)?;
-    push_measured_windows(
+    units_screen::push_windows(
         alloc,
         &mut text,
         style,

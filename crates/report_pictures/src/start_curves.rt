@@ -3,10 +3,9 @@
 
 use crate::axis::{Axis, LEFT, SPAN};
 use crate::panel::Panel;
-use crate::svg::{
-    Area, begin_picture, begin_text, end_picture, end_text, push_rect, push_text, push_words,
-};
+use crate::svg::{Area, begin_picture, begin_text, end_picture, end_text, push_rect, push_text};
 use crate::window_panel::{panel_of_windows, push_windows};
+use crate::words::push_words;
 use guest_units::{Limits, Scale};
 use migration_starts::StartCost;
 use predictions::{push_bytes, push_seconds};

@@ -1,5 +1,6 @@
 //! Pieces of an SVG picture.
 
+use crate::words::push_words;
 use std::alloc::AllocError;
 use sweep_report::push_field;
 
@@ -57,11 +58,6 @@ pub(crate) fn begin_picture(text: &mut Vec<u8>, height: u64) -> Result<(), Alloc
 /// Ends a picture.
 pub(crate) fn end_picture(text: &mut Vec<u8>) -> Result<(), AllocError> {
     push_words(text, "</svg>\n")
-}
-
-/// Appends some words.
-pub(crate) fn push_words(text: &mut Vec<u8>, words: &str) -> Result<(), AllocError> {
-    text.extend_from_slice(words.as_bytes())
 }
 
 /// Appends a rectangle of a class.

@@ -1,83 +1,214 @@
 //! Windows and rounds in times and bytes of the guest, a line each.
 
-use crate::table::{Part, Style, part_cells, push_blank, push_part, push_right, push_words};
+ghost use Rattle.std.specs.Prelude.{◌≡◌, ◌++◌, ◌∷◌, [], IfOk, OnOk, length};
+ghost use Rattle.std.specs.Fmt.{decimal};
+ghost use Rattle.std.specs.List.{enumerate_from, flat_map};
+ghost use Rattle.report_pictures.specs.MeasuredScreens.{first_tick, round_line, round_lines, round_words, sample_words};
+ghost use Rattle.report_pictures.specs.MeasuredScreens.{scale_words, share_words, size_width, size_words, sizes_width};
+ghost use Rattle.report_pictures.specs.MeasuredScreens.{stop_words, time_words, window_line, window_lines};
+ghost use Rattle.report_pictures.specs.MeasuredScreens.{left_words, named_size, named_time, reason_words};
+ghost use Rattle.report_pictures.specs.MeasuredScreens.{windows_head, windows_text};
+ghost use Rattle.migration_starts.specs.Texts.{right_in};
+
+use crate::bar::{push_bar, push_window_key};
+use crate::screen::{greatest_of_windows, window_bar};
+use crate::table::Style;
+use crate::words::push_words;
 use guest_units::Scale;
+use migration_starts::push_right;
 use predictions::{push_bytes, push_seconds, push_wide};
 use rate_limit::Settings;
 use round_planner::{Plan, Round};
 use std::alloc::{AllocError, Global};
-use sweep_report::push_field;
+use sweep_report::{end_line, push_field};
 use working_sets::Window;
 
 /// How wide the columns of windows are.
 const COLUMN: usize = 12;
 
+/// The columns of windows.
+const NAMES: &str = "      window        from     written\n";
+
 /// Returns ticks as a time in words.
-fn time_words(alloc: Global, scale: &Scale, ticks: u64) -> Result<Vec<u8>, AllocError> {
+fn words_of_time(alloc: Global, scale: &Scale, ticks: u64) -> Result<Vec<u8>, AllocError>
+    ensures { IfOk result (λ words. words.items ≡ time_words scale.now ticks) }
+{
     let mut words = Vec::new(alloc);
     push_seconds(&mut words, scale.micros(ticks))?;
     Ok(words)
 }
 
 /// Returns pages as a size in words.
-fn size_words(alloc: Global, scale: &Scale, pages: u64) -> Result<Vec<u8>, AllocError> {
+fn words_of_size(alloc: Global, scale: &Scale, pages: u64) -> Result<Vec<u8>, AllocError>
+    ensures { IfOk result (λ words. words.items ≡ size_words scale.now pages) }
+{
     let mut words = Vec::new(alloc);
     push_bytes(&mut words, scale.bytes(pages))?;
     Ok(words)
 }
 
-/// Returns a number in words.
-fn number_words(alloc: Global, number: u64) -> Result<Vec<u8>, AllocError> {
-    let mut words = Vec::new(alloc);
-    push_wide(&mut words, number as u128)?;
-    Ok(words)
+/// Appends some words, and ticks as a time after them.
+#[tactic(auto, unfolding(crate::specs::MeasuredScreens::named_time))]
+fn push_named_time(
+    text: &mut Vec<u8>,
+    name: &str,
+    scale: &Scale,
+    ticks: u64,
+) -> Result<(), AllocError>
+    ensures { OnOk result (text.new.items ≡ text.old.items ++ named_time name.now scale.now ticks) }
+{
+    push_words(text, name)?;
+    push_seconds(text, scale.micros(ticks))
 }
 
-/// Appends what ticks and pages stand for.
-pub(crate) fn push_scale(text: &mut Vec<u8>, scale: &Scale) -> Result<(), AllocError> {
-    push_field(text, "a tick is ", scale.tick())?;
-    push_words(text, " us")?;
+/// Appends some words, and pages as a size after them.
+#[tactic(auto, unfolding(crate::specs::MeasuredScreens::named_size))]
+fn push_named_size(
+    text: &mut Vec<u8>,
+    name: &str,
+    scale: &Scale,
+    pages: u64,
+) -> Result<(), AllocError>
+    ensures { OnOk result (text.new.items ≡ text.old.items ++ named_size name.now scale.now pages) }
+{
+    push_words(text, name)?;
+    push_bytes(text, scale.bytes(pages))
+}
+
+/// Appends a number at the right end of a column.
+fn push_number(
+    alloc: Global,
+    text: &mut Vec<u8>,
+    width: usize,
+    number: u64,
+) -> Result<(), AllocError>
+    ensures { OnOk result (text.new.items ≡ text.old.items ++ right_in width (decimal number)) }
+{
+    let mut words = Vec::new(alloc);
+    push_wide(&mut words, number as u128)?;
+    push_right(text, width, &words)
+}
+
+/// Appends ticks as a time at the right end of a column.
+fn push_time(
+    alloc: Global,
+    text: &mut Vec<u8>,
+    width: usize,
+    scale: &Scale,
+    ticks: u64,
+) -> Result<(), AllocError>
+    ensures { OnOk result (text.new.items ≡ text.old.items ++ right_in width (time_words scale.now ticks)) }
+{
+    push_right(text, width, &words_of_time(alloc, scale, ticks)?)
+}
+
+/// Appends pages as a size at the right end of a column.
+fn push_size(
+    alloc: Global,
+    text: &mut Vec<u8>,
+    width: usize,
+    scale: &Scale,
+    pages: u64,
+) -> Result<(), AllocError>
+    ensures { OnOk result (text.new.items ≡ text.old.items ++ right_in width (size_words scale.now pages)) }
+{
+    push_right(text, width, &words_of_size(alloc, scale, pages)?)
+}
+
+/// Appends how many of the guest's pages were sampled, if not all.
+fn push_sample(text: &mut Vec<u8>, scale: &Scale) -> Result<(), AllocError>
+    ensures { OnOk result (text.new.items ≡ text.old.items ++ sample_words scale.now) }
+{
     if scale.sampled() < scale.guest() {
         push_field(text, "; the trace has ", scale.sampled())?;
         push_field(text, " of the guest's ", scale.guest())?;
         push_words(text, " pages")?;
     }
+    Ok(())
+}
+
+/// Appends what ticks and pages stand for.
+#[tactic(auto, unfolding(crate::specs::MeasuredScreens::scale_words))]
+pub(crate) fn push_scale(text: &mut Vec<u8>, scale: &Scale) -> Result<(), AllocError>
+    ensures { OnOk result (text.new.items ≡ text.old.items ++ scale_words scale.now) }
+{
+    push_field(text, "a tick is ", scale.tick())?;
+    push_words(text, " us")?;
+    push_sample(text, scale)?;
     push_words(text, "\n\n")
 }
 
-/// Appends the names of the columns of windows.
-pub(crate) fn push_window_names(text: &mut Vec<u8>) -> Result<(), AllocError> {
-    for name in ["window", "from", "written"] {
-        push_right(text, COLUMN, name.as_bytes())?;
-    }
-    push_blank(text)
-}
-
-/// Appends the line of a window, with its bar, for pages up to `most`.
-pub(crate) fn push_window(
+/// Appends the line of a window of this many ticks, with its bar, for pages up to `most`.
+fn push_window(
     alloc: Global,
     text: &mut Vec<u8>,
     style: &Style,
     scale: &Scale,
-    from: u64,
+    ticks: u64,
+    most: u64,
     window: &Window,
-    bar: (&[Part], u64),
-) -> Result<(), AllocError> {
-    push_right(text, COLUMN, &number_words(alloc, window.number)?)?;
-    push_right(text, COLUMN, &time_words(alloc, scale, from)?)?;
-    push_right(
-        text,
-        COLUMN,
-        &size_words(alloc, scale, window.pages as u64)?,
-    )?;
+) -> Result<(), AllocError>
+    ensures { OnOk result (text.new.items ≡ text.old.items ++ window_line style.now scale.now ticks most window.now) }
+{
+    push_number(alloc, text, COLUMN, window.number)?;
+    let from = window.number.saturating_mul(ticks);
+    push_time(alloc, text, COLUMN, scale, from)?;
+    push_size(alloc, text, COLUMN, scale, window.pages as u64)?;
     push_words(text, "  ")?;
-    let (parts, most) = bar;
-    for part in parts {
-        let room = style.width.saturating_sub(3 * COLUMN + 2);
-        let cells = part_cells(part.count, most, room);
-        push_part(text, part, cells, style.colors)?;
+    let room = style.width.saturating_sub(3 * COLUMN + 2);
+    push_bar(text, style.colors, most, room, &window_bar(window))?;
+    end_line(text)
+}
+
+/// Appends a line for each window.
+fn push_window_lines(
+    alloc: Global,
+    text: &mut Vec<u8>,
+    style: &Style,
+    scale: &Scale,
+    ticks: u64,
+    windows: &[Window],
+) -> Result<(), AllocError>
+    ensures { OnOk result (text.new.items ≡ text.old.items ++ window_lines style.now scale.now ticks windows.now) }
+{
+    let most = greatest_of_windows(windows)[2];
+    for window in windows {
+        push_window(alloc, text, style, scale, ticks, most, window)?;
     }
-    push_blank(text)
+    Ok(())
+}
+
+/// Appends what the lines of windows show.
+#[tactic(auto, unfolding(crate::specs::MeasuredScreens::windows_head))]
+fn push_windows_head(
+    text: &mut Vec<u8>,
+    style: &Style,
+    scale: &Scale,
+    ticks: u64,
+) -> Result<(), AllocError>
+    ensures { OnOk result (text.new.items ≡ text.old.items ++ windows_head style.now scale.now ticks) }
+{
+    push_named_time(text, "windows of ", scale, ticks)?;
+    push_words(text, "; written:")?;
+    push_window_key(text, style.colors)?;
+    push_words(text, NAMES)
+}
+
+/// Appends the windows of this many ticks.
+#[tactic(auto, unfolding(crate::specs::MeasuredScreens::windows_text))]
+pub(crate) fn push_windows(
+    alloc: Global,
+    text: &mut Vec<u8>,
+    style: &Style,
+    scale: &Scale,
+    ticks: u64,
+    windows: &[Window],
+) -> Result<(), AllocError>
+    ensures { OnOk result (text.new.items ≡ text.old.items ++ windows_text style.now scale.now ticks windows.now) }
+{
+    push_windows_head(text, style, scale, ticks)?;
+    push_window_lines(alloc, text, style, scale, ticks, windows)?;
+    end_line(text)
 }
 
 /// How wide the times and the sizes of rounds are.
@@ -87,63 +218,120 @@ struct Widths {
     size: usize,
 }
 
-/// Returns how wide the times and the sizes of rounds are.
-fn widths_of(alloc: Global, scale: &Scale, plan: &Plan) -> Result<Widths, AllocError> {
-    let mut size = 0;
+/// Returns how wide the sizes of a round are.
+fn sizes_of(alloc: Global, scale: &Scale, round: &Round) -> Result<usize, AllocError>
+    ensures { IfOk result (λ width. width ≡ sizes_width scale.now round.now) }
+{
+    let sent = words_of_size(alloc, scale, round.sent.len() as u64)?.len();
+    let dirtied = words_of_size(alloc, scale, round.dirtied as u64)?.len();
+    Ok(dirtied.max(sent))
+}
+
+/// Returns how wide the sizes of rounds are.
+fn widest_of(alloc: Global, scale: &Scale, plan: &Plan) -> Result<usize, AllocError>
+    ensures { IfOk result (λ width. width ≡ size_width scale.now plan.now) }
+{
+    let mut width = 0;
     for round in &plan.rounds {
-        for pages in [round.sent.len() as u64, round.dirtied as u64] {
-            size = size_words(alloc, scale, pages)?.len().max(size);
-        }
+        width = sizes_of(alloc, scale, round)?.max(width);
     }
-    let time = time_words(alloc, scale, plan.stop)?.len();
-    Ok(Widths { time, size })
+    Ok(width)
 }
 
 /// Returns the line of a round: when it begins and ends, what it sends, and what is dirtied meanwhile.
-fn round_words(
+#[tactic(auto, unfolding(crate::specs::MeasuredScreens::round_words))]
+fn words_of_round(
     alloc: Global,
     scale: &Scale,
     widths: &Widths,
     number: usize,
     round: &Round,
-) -> Result<Vec<u8>, AllocError> {
+) -> Result<Vec<u8>, AllocError>
+    ensures { IfOk result (λ words. words.items
+        ≡ round_words scale.now widths.now.time widths.now.size number round.now) }
+{
     let mut line = Vec::new(alloc);
     push_words(&mut line, "round ")?;
-    push_right(&mut line, 2, &number_words(alloc, number as u64)?)?;
+    push_number(alloc, &mut line, 2, number as u64)?;
     push_words(&mut line, "   ")?;
-    push_right(
-        &mut line,
-        widths.time,
-        &time_words(alloc, scale, round.from)?,
-    )?;
+    push_time(alloc, &mut line, widths.time, scale, round.from)?;
     push_words(&mut line, " to ")?;
-    push_right(&mut line, widths.time, &time_words(alloc, scale, round.to)?)?;
+    push_time(alloc, &mut line, widths.time, scale, round.to)?;
     push_words(&mut line, "   ")?;
-    let sent = round.sent.len() as u64;
-    push_right(&mut line, widths.size, &size_words(alloc, scale, sent)?)?;
+    push_size(
+        alloc,
+        &mut line,
+        widths.size,
+        scale,
+        round.sent.len() as u64,
+    )?;
     push_words(&mut line, " sent   ")?;
-    let dirtied = round.dirtied as u64;
-    push_right(&mut line, widths.size, &size_words(alloc, scale, dirtied)?)?;
+    push_size(alloc, &mut line, widths.size, scale, round.dirtied as u64)?;
     push_words(&mut line, " dirtied")?;
     Ok(line)
 }
 
 /// Appends the share of the link that a round takes, if the line has room for it.
 fn push_share(
-    line: &mut Vec<u8>,
+    text: &mut Vec<u8>,
     style: &Style,
     settings: &Settings,
-    round: &Round,
-) -> Result<(), AllocError> {
-    let percent = round.rate.saturating_mul(100) / settings.asked().max.max(1);
-    if line.len().saturating_add(16) <= style.width {
-        push_field(line, "   ", percent)?;
-        return push_words(line, "% of link");
+    taken: usize,
+    rate: u64,
+) -> Result<(), AllocError>
+    ensures { OnOk result (text.new.items ≡ text.old.items ++ share_words style.now settings.now taken rate) }
+{
+    if style.width.saturating_sub(taken) >= 16 {
+        let percent = rate as u128 * 100 / settings.asked().max.max(1) as u128;
+        push_words(text, "   ")?;
+        push_wide(text, percent)?;
+        push_words(text, "% of link")?;
     }
     Ok(())
 }
 
-/// Appends a line for each round.
+/// Appends the line of a round.
+fn push_round(
+    alloc: Global,
+    text: &mut Vec<u8>,
+    style: &Style,
+    scale: &Scale,
+    settings: &Settings,
+    widths: &Widths,
+    at: (usize, &Round),
+) -> Result<(), AllocError>
+    ensures { OnOk result (text.new.items ≡ text.old.items
+        ++ round_line style.now scale.now settings.now widths.now.time widths.now.size at.entry.0 at.entry.1.now) }
+{
+    let (number, round) = at;
+    let words = words_of_round(alloc, scale, widths, number, round)?;
+    text.extend_from_slice(&words)?;
+    push_share(text, style, settings, words.len(), round.rate)?;
+    end_line(text)
+}
+
+/// Appends the lines of rounds, with times and sizes of these widths.
+fn push_round_lines(
+    alloc: Global,
+    text: &mut Vec<u8>,
+    style: &Style,
+    scale: &Scale,
+    settings: &Settings,
+    widths: &Widths,
+    rounds: &[Round],
+) -> Result<(), AllocError>
+    ensures { OnOk result (text.new.items ≡ text.old.items
+        ++ flat_map (λ at. round_line style.now scale.now settings.now widths.now.time widths.now.size at.0 at.1)
+        (enumerate_from 0 rounds.now)) }
+{
+    for (number, round) in rounds.iter().enumerate() {
+        push_round(alloc, text, style, scale, settings, widths, (number, round))?;
+    }
+    Ok(())
+}
+
+/// Appends a line for each round, and an empty one.
+#[tactic(auto, unfolding(crate::specs::MeasuredScreens::round_lines))]
 pub(crate) fn push_rounds(
     alloc: Global,
     text: &mut Vec<u8>,
@@ -151,28 +339,43 @@ pub(crate) fn push_rounds(
     scale: &Scale,
     settings: &Settings,
     plan: &Plan,
-) -> Result<(), AllocError> {
-    let widths = widths_of(alloc, scale, plan)?;
-    for (number, round) in plan.rounds.iter().enumerate() {
-        let mut line = round_words(alloc, scale, &widths, number, round)?;
-        push_share(&mut line, style, settings, round)?;
-        text.extend_from_slice(&line)?;
-        push_blank(text)?;
-    }
-    push_blank(text)
+) -> Result<(), AllocError>
+    ensures { OnOk result (text.new.items ≡ text.old.items
+        ++ (round_lines style.now scale.now settings.now plan.now ++ 10 ∷ [])) }
+{
+    let time = words_of_time(alloc, scale, plan.stop)?.len();
+    let size = widest_of(alloc, scale, plan)?;
+    let widths = Widths { time, size };
+    push_round_lines(alloc, text, style, scale, settings, &widths, &plan.rounds)?;
+    end_line(text)
+}
+
+/// Appends why and when the guest stops.
+#[tactic(auto, unfolding(crate::specs::MeasuredScreens::reason_words))]
+fn push_reason(text: &mut Vec<u8>, scale: &Scale, plan: &Plan) -> Result<(), AllocError>
+    ensures { OnOk result (text.new.items ≡ text.old.items ++ reason_words scale.now plan.now) }
+{
+    push_words(text, "stop: ")?;
+    push_words(text, plan.reason.word())?;
+    push_named_time(text, ", at ", scale, plan.stop)
+}
+
+/// Appends what is left at the stop, how long that takes, and all that is sent.
+#[tactic(auto, unfolding(crate::specs::MeasuredScreens::left_words))]
+fn push_left(text: &mut Vec<u8>, scale: &Scale, plan: &Plan) -> Result<(), AllocError>
+    ensures { OnOk result (text.new.items ≡ text.old.items ++ left_words scale.now plan.now) }
+{
+    push_named_size(text, "\nleft: ", scale, plan.last.len() as u64)?;
+    push_named_time(text, "\ndowntime: ", scale, plan.down)?;
+    push_named_size(text, "\nsent in all: ", scale, plan.total())?;
+    end_line(text)
 }
 
 /// Appends the end of a plan.
-pub(crate) fn push_stop(text: &mut Vec<u8>, scale: &Scale, plan: &Plan) -> Result<(), AllocError> {
-    push_words(text, "stop: ")?;
-    push_words(text, plan.reason.word())?;
-    push_words(text, ", at ")?;
-    push_seconds(text, scale.micros(plan.stop))?;
-    push_words(text, "\nleft: ")?;
-    push_bytes(text, scale.bytes(plan.last.len() as u64))?;
-    push_words(text, "\ndowntime: ")?;
-    push_seconds(text, scale.micros(plan.down))?;
-    push_words(text, "\nsent in all: ")?;
-    push_bytes(text, scale.bytes(plan.total()))?;
-    push_blank(text)
+#[tactic(auto, unfolding(crate::specs::MeasuredScreens::stop_words))]
+pub(crate) fn push_stop(text: &mut Vec<u8>, scale: &Scale, plan: &Plan) -> Result<(), AllocError>
+    ensures { OnOk result (text.new.items ≡ text.old.items ++ stop_words scale.now plan.now) }
+{
+    push_reason(text, scale, plan)?;
+    push_left(text, scale, plan)
 }

@@ -1,5 +1,5 @@
 -- What a view of a trace shows.
-use Rattle.std.specs.Prelude.{◌≡◌, ℕ, List, ◌++◌, length, slice_index_or, Option}
+use Rattle.std.specs.Prelude.{◌≡◌, ℕ, ◌^◌, List, ◌++◌, length, slice_index_or, Option, None, Some}
 use Rattle.guest_units.specs.Scales.{TraceScale}
 use Rattle.migration_model.specs.Rates.{MigrationSettings}
 use Rattle.migration_model.specs.Rounds.{IsPlan, MigrationPlan}
@@ -9,6 +9,9 @@ use Rattle.migration_model.specs.Windows.{working_sets_of}
 use Rattle.predictions.specs.Predictions.{last_tick_of}
 use Rattle.predictions.specs.declared.verdict.Verdict.{Verdict}
 use Rattle.predictions.specs.declared.verdict.Verdict.TheVariants.{Yes}
+use Rattle.report_pictures.specs.MeasuredScreens.{IsMeasuredScreen}
+use Rattle.report_pictures.specs.Screens.{IsScreen}
+use Rattle.report_pictures.specs.declared.table.Style.{Style}
 use Rattle.trace_views.specs.Advice.{IsAdvice}
 use Rattle.trace_views.specs.AdviceText.{advice_head, case_of, choice_text, known_cost}
 use Rattle.trace_views.specs.Grid.{cases_for, grid_of}
@@ -55,14 +58,29 @@ pub record IsAdviceView (log : GuestTouches) (settings : MigrationSettings) (bud
       ≡ advice_head budget settings (grid_of settings budget) (length lines) advice
       ++ choice_text (case_of advice) chosen (known_cost measured chosen (last_tick_of log.touches))
 
--- What a view shows about a trace, and whether its limit is kept, if it has one. Nothing is said about pictures and terminal reports.
+-- a report for a terminal, in times and bytes of the guest if it is known what ticks and pages stand for
+abbrev pub IsScreenOf : Style → Option TraceScale → GuestTouches → MigrationSettings → MigrationPlan → List ℕ → Type 0
+IsScreenOf style None log settings plan text = IsScreen style log.pages (2 ^ log.shift) (length log.touches) settings
+    (working_sets_of log.pages log.touches settings) plan text
+IsScreenOf style (Some scale) log settings plan text = IsMeasuredScreen style scale log.pages (2 ^ log.shift)
+    (length log.touches) settings (working_sets_of log.pages log.touches settings) plan text
+
+-- the facts of a report, for a terminal
+pub record IsShownView (log : GuestTouches) (settings : MigrationSettings) (scale : Option TraceScale)
+    (style : Style) (text : List ℕ) : Type 0 where
+  pub plan : MigrationPlan
+  pub is_plan : IsPlan log.pages log.touches settings plan
+  pub screen : IsScreenOf style scale log settings plan text
+
+-- What a view shows about a trace, and whether its limit is kept, if it has one. Nothing is said about pictures.
 abbrev pub IsView : GuestTouches → View → List ℕ → Verdict → Type 0
 IsView log (views.JsonReport settings scale) text kept = IsReportView log settings scale text × (kept ≡ Yes)
 IsView log (views.JsonSweep cases workers scale) text kept =
     IsSweepView log cases.items scale text × (kept ≡ Yes)
 IsView log (views.Advise budget settings measured) text kept =
     IsAdviceView log settings budget measured text × (kept ≡ Yes)
-IsView log (views.Show settings scale style) text kept = kept ≡ Yes
+IsView log (views.Show settings scale style) text kept =
+    IsShownView log settings scale style text × (kept ≡ Yes)
 IsView log (views.Chart settings scale) text kept = kept ≡ Yes
 IsView log (views.When asked) text kept = IsStartsView log asked text kept
 IsView log (views.Predict asked) text kept = IsPredictionView log asked text kept

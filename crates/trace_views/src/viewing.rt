@@ -2,7 +2,7 @@
 
 ghost use Rattle.std.specs.Prelude.{◌≡◌, Err, IfErr, IfOk, Ok};
 ghost use Rattle.trace_views.specs.AdviceText.{known_cost};
-ghost use Rattle.trace_views.specs.Views.{IsAdviceView, IsReportView, IsSweepView, IsView, RefusesView};
+ghost use Rattle.trace_views.specs.Views.{IsAdviceView, IsReportView, IsShownView, IsSweepView, IsView, RefusesView};
 
 use crate::advice_writing::{advice_head, push_choice};
 use crate::budget::Budget;
@@ -63,7 +63,8 @@ fn screen_view(
     style: &Style,
     log: &TouchLog,
 ) -> Result<Vec<u8>, ViewError>
-    ensures { IfErr result (λ e. e ≡ ViewError.Memory) }
+    ensures made { IfOk result (λ v. IsShownView log.now settings.now scale.now style.now v.items) }
+    ensures refused { IfErr result (λ e. e ≡ ViewError.Memory) }
 {
     let tables = tables(alloc, log, settings).or(Err(ViewError::Memory))?;
     let plan = plan(alloc, log, settings).or(Err(ViewError::Memory))?;

@@ -20,7 +20,7 @@ loop-column-preserved c =
 pub returns : goal.returns
 returns c =
     let old = c.args.text.now.items in
-    let same : c.loop-column._column - length c.args.words.now ≡ 14 - length c.args.words.now =
+    let same : c.loop-column._column - length c.args.words.now ≡ c.args.width - length c.args.words.now =
     omega (arith, c.loop-column.auto._column, c.loop-column.invariant.high) in
     c.in_ok-extend_from_slice.ensures.items ∙ ap (λ (l : List ℕ). l ++ c.args.words.now) c.loop-column.invariant.text
     ∙ append_assoc old (replicate {A = ℕ} (c.loop-column._column - length c.args.words.now) 32) c.args.words.now
