@@ -195,6 +195,7 @@ static void streams(void) {
 }
 
 int main(void) {
+    ROW(precopy_abi() == PRECOPY_ABI);
     streams();
     plans();
     reports();

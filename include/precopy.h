@@ -128,6 +128,10 @@ const char *precopy_strerror(uint32_t status);
 /* The version of the library that is linked, as "1.2.3". The text stays. */
 const char *precopy_version(void);
 
+/* PRECOPY_ABI of the library that is linked. A program that was compiled with another number must not call it. */
+PRECOPY_ANSWERS
+uint32_t precopy_abi(void);
+
 /* ---- traces */
 
 /* The sizes of a trace, from its header. */

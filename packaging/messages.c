@@ -1,4 +1,4 @@
-/* What the library for C says in words: a line for each status, and its version. */
+/* What the library for C says in words: a line for each status, and its version. And the number of its interface. */
 #include "precopy.h"
 
 #ifndef PRECOPY_VERSION
@@ -7,6 +7,10 @@
 
 const char *precopy_version(void) {
     return PRECOPY_VERSION;
+}
+
+uint32_t precopy_abi(void) {
+    return PRECOPY_ABI;
 }
 
 const char *precopy_strerror(uint32_t status) {

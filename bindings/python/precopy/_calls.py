@@ -8,7 +8,8 @@ import operator
 import os
 from typing import Any, Iterator, Tuple
 
-ABI = "libprecopy.so.1"
+ABI_NUMBER = 1
+ABI = f"libprecopy.so.{ABI_NUMBER}"
 NO_MEMORY, FRAME_PAGE, MEMORY_LENGTH, PAGE_MISSING = 16, 42, 63, 65
 # The statuses of what is wrong in streams.
 NO_VERSION, PAGE_BEHIND = 71, 75
@@ -92,6 +93,9 @@ def _place() -> str:
 
 def _load() -> ctypes.CDLL:
     loaded = ctypes.CDLL(_place())
+    loaded.precopy_abi.argtypes, loaded.precopy_abi.restype = [], _NUMBER
+    if (found := loaded.precopy_abi()) != ABI_NUMBER:
+        raise ImportError(f"{loaded._name} has interface {found}, and this module calls interface {ABI_NUMBER}")
     for name, arguments in _CALLS.items():
         call = getattr(loaded, f"precopy_{name}")
         call.argtypes, call.restype = arguments, ctypes.c_uint32

@@ -61,6 +61,7 @@ pub struct Finding {
 extern "C" {
     pub fn precopy_strerror(status: u32) -> *const c_char;
     pub fn precopy_version() -> *const c_char;
+    pub fn precopy_abi() -> u32;
     pub fn precopy_check_trace(trace: *const u8, trace_length: usize, sizes: *mut Sizes, record: *mut u32) -> u32;
     pub fn precopy_check_settings(settings: *const Settings) -> u32;
     pub fn precopy_plan(trace: *const u8, trace_length: usize, settings: *const Settings, sums: *mut Sums) -> u32;

@@ -26,6 +26,15 @@ pub fn version() -> &'static str {
     text.to_str().unwrap_or_default()
 }
 
+/// The number of the interface that this crate was written for.
+pub const ABI: u32 = 1;
+
+/// Returns the number of the library's interface. If it is not [`ABI`], call nothing else.
+pub fn abi() -> u32 {
+    // SAFETY: the call reads nothing.
+    unsafe { calls::precopy_abi() }
+}
+
 /// Returns whether each byte is 0.
 pub fn is_zero(bytes: &[u8]) -> bool {
     // SAFETY: the slice is there for its length.

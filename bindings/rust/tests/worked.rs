@@ -223,6 +223,11 @@ const SENT: [u8; 118] = [
 ];
 
 #[test]
+fn interface() {
+    assert_eq!(precopy::abi(), precopy::ABI);
+}
+
+#[test]
 fn streams() {
     let check = |bytes: &[u8], sizes: &[usize]| precopy::check_streams(&TRACE, 3, bytes, sizes);
     assert_eq!(precopy::writes_before(&TRACE, 2500), Ok(3));
