@@ -118,7 +118,8 @@ def damaged_fields(_, folder):
     for name in fields:
         said = refusal(json.dumps({other: fields[other] for other in fields if other != name}))
         expect(f"{name} is missing" in said, f"without {name}: {said!r}")
-    for text, said in (("", "no JSON"), ("[1]", "no JSON object"), ('{"a": 1}', "no field a"), ("{", "no JSON"), ("[" * 100_000, "no JSON")):
+    for text, said in (("", "no JSON"), ("[1]", "no JSON object"), ('{"a": 1}', "no field a"), ("{", "no JSON"),
+                       ("[" * 100_000, "no JSON")):
         expect(said in refusal(text), f"{text!r} is not refused")
     expect(count > 180, f"{count} damages")
 

@@ -303,7 +303,8 @@ def start_ticks(draw, last):
     every = max(1, (end - first) // draw.randrange(1, 6))
     if draw.randrange(8) == 0 and end - first < 20:
         every = None
-    words = [f"--from={first}"] + ([] if to is None else [f"--to={to}"]) + ([] if every is None else [f"--every={every}"])
+    words = [f"--from={first}"]
+    words += ([] if to is None else [f"--to={to}"]) + ([] if every is None else [f"--every={every}"])
     step = every or max(1, -(-(end - first) // 200))
     return words, list(range(first, end + 1, step))
 
