@@ -281,7 +281,7 @@ def check_predicted(view, asked, found):
     status, text, faults = ran(view, words, asked.known.path)
     lines = text.splitlines()
     live = next((line for line in lines if line.startswith("precopy live ")), None)
-    if status not in (0, 3) or live is None or f"{live} < TRACE" != found["commands"]["live"]:
+    if status not in (0, 3, 4) or live is None or f"{live} < TRACE" != found["commands"]["live"]:
         raise Failure(f"{words}: status {status}, {faults!r}, {live!r} in place of {found['commands']['live']!r}")
 
 
