@@ -3,7 +3,8 @@
 import re
 
 # What is offered for the value of an option or for a word: files and processes by the word, some numbers by the option.
-FILES = {"PATH", "FILE", "SCRIPT", "SOCKET", "TRACE", "TEXT", "OUTPUT", "INPUT", "FOLDER", "IMAGE", "MAP"}
+FILES = {"PATH", "FILE", "SCRIPT", "SOCKET", "TRACE", "TEXT", "OUTPUT", "INPUT", "FOLDER", "IMAGE", "MAP",
+         "STREAM"}
 PROCESSES = {"PID"}
 NUMBERS = {
     "--workers": "1 2 4 8 16",
@@ -167,7 +168,7 @@ def zsh_function(command):
     else:
         many = "..." in command.usage
         words = [zsh_option(option) for option in command.options]
-        words += [zsh_operand(operand, many) for operand in command.operands]
+        words += [zsh_operand(operand, many and operand is command.operands[-1]) for operand in command.operands]
         yield "    _arguments \\"
         yield from (f"        {word} \\" for word in words[:-1])
         yield f"        {words[-1]}"
