@@ -132,7 +132,7 @@ def write_record(folder: str, name: str, guest: model.Guest, **changed) -> str:
 
 
 def random_costs(programs: Programs, folder: str) -> None:
-    """The costs of each guest at each share are those of a plain planner."""
+    """The costs of each guest at each share, and the range over starts, are those of a plain planner."""
     draw, compared = random.Random("records of guests"), 0
     for number in range(SETS):
         guests = [random_guest(draw) for _ in range(draw.randrange(1, 4))]
@@ -140,17 +140,14 @@ def random_costs(programs: Programs, folder: str) -> None:
         asked = host_costs.Asked(programs.view, float(link), host_schedules.numbers_up_to(len(guests)), 3, 0.001)
         for place, guest in enumerate(guests):
             path = write_record(folder, f"guest{place}", guest)
-            told = host_costs.guest_of(path, asked, host_costs.Wanted(downtime))
+            base = draw.choice([None, None, 0, draw.randint(0, guest.first)])
+            told = host_costs.guest_of(path, asked, host_costs.Wanted(downtime, base=base))
             for at_once in asked.numbers:
-                wanted = model.planned(guest, link / at_once, round(1e6 * downtime))
+                wanted = model.costs(guest, link / at_once, round(1e6 * downtime), base, asked.starts)
                 cost = told.costs.get(at_once)
-                found = cost and (cost.time, cost.sent, cost.downtime, cost.known, cost.kept)
-                if wanted:
-                    wanted = (*wanted[:4], wanted[3] and wanted[4])
-                    compared += 1
-                where = f"set {number}, {guest._replace(writes=[])}, {at_once} at once"
-                expect(found == wanted, f"{where}: {found} in place of {wanted}")
-                expect(not cost or cost.least <= max(cost.time, cost.least) <= max(cost.most, cost.time), "a range")
+                compared += wanted is not None
+                where = f"set {number}, {guest._replace(writes=[])}, {base}, {at_once} at once"
+                expect((cost and cost[2:10]) == wanted, f"{where}: {cost} in place of {wanted}")
     expect(compared > SETS, f"only {compared} costs were compared")
 
 
@@ -263,8 +260,9 @@ def expect_picture(path: str, told: dict) -> None:
 def deadlines(programs: Programs, folder: str) -> None:
     """A deadline that no schedule keeps gives status 3, and one that some keep status 0; QMP lines tell the rate."""
     records = four_guests(folder)
-    text, _ = run_tool(programs, *records, "--link", LINK, "--deadline", "1s", status=3)
+    text, fault = run_tool(programs, *records, "--link", LINK, "--deadline", "1s", status=3)
     expect("missed: the deadline  <- best" in text, text)
+    expect("no schedule ends within 1 s: the shortest takes 2.5 s" in fault, fault)
     text, _ = run_tool(programs, *records, "--link", LINK, "--deadline", "20m", "--at-once", "2", "--lines", "qmp")
     expect('"max-bandwidth": 33554432, "downtime-limit": 300' in text and "kept  <- best" in text, text)
     expect(not re.search(r"^ +[14]  ", text, re.M), "another number at once")
@@ -300,10 +298,12 @@ def refusals(programs: Programs, folder: str) -> None:
     expect("there is no" in fault and "twin.light.json beside it" in fault, fault)
     fast = model.Guest(2000, 2000, 2000, 1000, 10_000, [(1000 + n // 20, n % 2000) for n in range(180_000)])
     text, fault = run_tool(programs, web, write_record(folder, "fast", fast), *link, "--downtime", "50ms", status=3)
-    expect("fast keeps its limits at no share; with 0.537 Gbit/s: downtime" in fault, fault)
-    expect("missed: fast" in text, text)
+    expect("fast converges at no share; with 0.537 Gbit/s: downtime" in fault, fault)
+    expect("missed: fast" in text and "1 at once, no convergence: fast\n" in text, text)
     short = write_record(folder, "short", model.Guest(9000, 9000, 9000, 1000, 1010, [(1005, 3)]))
-    _, fault = run_tool(programs, web, short, *link, status=3)
+    text, fault = run_tool(programs, web, short, *link, status=4)
+    expect("unknown: short  <- best" in text and "1 at once, records too short: short\n" in text, text)
+    run_tool(programs, web, short, *link, "--deadline", "10ms", status=3)
     expect("short keeps its limits at no share" in fault and "the recording ends before the migration" in fault, fault)
     _, fault = run_tool(programs, web, "--link", "10B", status=3)
     expect("web has no plan at any share" in fault, fault)
@@ -330,6 +330,7 @@ def settings(programs: Programs, folder: str) -> None:
         ({"guests": {"web": {"size": 1}}}, "web: there is no setting size"),
         ({"guests": {"web": {"downtime": "1"}}}, "web: downtime"), ({"guests": {"web": {"copy": -1}}}, "web: copy"),
         ({"guests": {"web": {"domain": ""}}}, "web: domain"), ({"guests": {"web": {"time": 3}}}, "web: time"),
+        ({"guests": {"web": {"copy": 1001}}}, "web.light.pcwt: a copy of tick 1,001 is newer than the"),
     ):
         _, fault = with_settings(fields, 1)
         expect(told in fault, f"{fields}: {fault!r}")
@@ -382,8 +383,9 @@ def damaged_lines(programs: Programs, folder: str, records: list[str], words: li
     for wrong, told in (
         ('{"format": "precopy costs 2"}', "has no costs of a guest"), (good[: len(good) // 2], "is no JSON"),
         ("[" * 100_000, "is no JSON"), ("[]", "has no costs"), (with_cost(time="1"), "time is '1'"),
-        (with_cost(sent=-1), "sent is -1"), (with_cost(known=1), "known is 1"), (with_cost(more=1), "more"),
+        (with_cost(sent=-1), "sent is -1"), (with_cost(kept=1), "kept is 1"), (with_cost(more=1), "more"),
         (with_cost(share=1e999), "share is inf"), (with_cost(downtime=1 << 64), "downtime is"),
+        (with_cost(converges="so"), "converges is 'so'"),
         (json.dumps({**fields, "name": 1}), "name"), (json.dumps({**fields, "name": "a\nb"}), "name"),
     ):
         with open(f"{folder}/some.jsonl", "w", encoding="utf-8") as file:

@@ -73,17 +73,51 @@ def tick_factor(guest: Guest, bandwidth: float, downtime: int) -> int:
     return next((factor for factor in fitting if rate * factor >= 500), fitting[-1])
 
 
-def planned(guest: Guest, bandwidth: float, downtime: int) -> tuple[int, int, int, bool, bool] | None:
-    """Time, bytes and downtime of a migration at bytes a second, with the limit of the downtime in microseconds;
-    whether the record lasts to its end; and whether the limit is kept. None if the rate is none."""
+class Plan(NamedTuple):
+    """Time, bytes and downtime; whether the record lasts to the stop, whether the plan ends since few pages are left,
+    and whether the limit of the downtime is kept."""
+
+    time: int
+    sent: int
+    down: int
+    is_known: bool
+    converges: bool
+    kept: bool
+
+    def verdict(self) -> str:
+        return ("yes" if self.converges else "no") if self.is_known else "unknown"
+
+
+class Rates(NamedTuple):
+    """A migration in longer ticks: by how much, pages in 1,000 of them, the limit of the downtime in microseconds, and
+    the ticks and pages that are written."""
+
+    factor: int
+    rate: int
+    limit: int
+    written: set[tuple[int, int]]
+
+
+def rates(guest: Guest, bandwidth: float, downtime: int) -> Rates | None:
+    """Those of a migration at bytes a second, with the limit of the downtime in microseconds. None if no plan can have
+    the rate. A write in the last tick says how long the record is."""
     factor = tick_factor(guest, bandwidth, downtime)
-    tick, start = 1000 * factor, guest.first // factor
-    written = sorted({(at // factor, page) for at, page in guest.writes})
+    tick, last = 1000 * factor, guest.last // factor
     rate = int(rate_in_words(bandwidth) * tick * guest.sampled) // (1000 * 4096 * guest.guest)
     if not 1 <= rate <= 1_000_000:
         return None
-    limit = min(downtime, (1000 * 65_536 - 1) // rate * tick)
-    threshold, due, sent, at = limit // tick * rate // 1000 + 1, guest.pages, 0, start
+    written = {(at // factor, page) for at, page in guest.writes}
+    if max((at for at, _ in written), default=-1) < last:
+        written.add((last, 0))
+    return Rates(factor, rate, min(downtime, (1000 * 65_536 - 1) // rate * tick), written)
+
+
+def planned(guest: Guest, rates: Rates, start: int, base: int | None) -> Plan:
+    """A migration that begins at a tick, to a destination with a copy of all that was written before another one. Tick
+    0 is before all that the record found."""
+    factor, rate, limit, written = rates
+    tick, threshold, sent, at = 1000 * factor, limit // (1000 * factor) * rate // 1000 + 1, 0, start
+    due = len({page for when, page in written if base // factor <= when < start}) if base else guest.pages
     for number in range(1, 65):
         end = at + math.ceil(1000 * due / rate)
         sent += due
@@ -93,4 +127,20 @@ def planned(guest: Guest, bandwidth: float, downtime: int) -> tuple[int, int, in
             break
     down = math.ceil(1000 * due / rate) * tick
     size = (sent + due) * 4096 * guest.guest // guest.sampled
-    return (at - start) * tick + down, size, down, at <= guest.last // factor, down <= limit
+    return Plan((at - start) * tick + down, size, down, at <= guest.last // factor, is_few, down <= limit)
+
+
+def costs(guest: Guest, bandwidth: float, downtime: int, base: int | None, most: int) -> tuple | None:
+    """What a migration from the beginning of the record on costs: time, bytes and downtime, the shortest and the
+    longest time and the fewest bytes over at most so many starts, whether it converges, and whether the limit is
+    kept."""
+    found = rates(guest, bandwidth, downtime)
+    if found is None:
+        return None
+    first, last = guest.first // found.factor, guest.last // found.factor
+    every = math.ceil((last - first + 1) / most)
+    plans = [planned(guest, found, start, base) for start in range(first, last + 1, every)]
+    cold, known = plans[0], [plan for plan in plans if plan.is_known] or plans[:1]
+    times = [plan.time for plan in known]
+    return (cold.time, cold.sent, cold.down, min(times), max(times), min(plan.sent for plan in known), cold.verdict(),
+            cold.is_known and cold.kept)

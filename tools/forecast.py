@@ -122,6 +122,15 @@ class Forecast:
         known = plan.tick <= self._last_tick(pages, factor)
         return Outcome(plan.sent * size, stop + downtime, downtime, plan.why, plan.rounds, stop, known)
 
+    def ended(self, factor: int) -> bytes:
+        """A trace of the sample in longer ticks, up to the last look: a write there, which no plan that stops by then
+        counts, says that the recording lasts so long."""
+        pages, last = self.coarse(factor), self.sample.last_tick // factor
+        is_whole = len(pages.writes) < traces.Limits().writes
+        if is_whole and (not pages.writes or pages.writes[-1][0] < last):
+            pages = pages._replace(writes=[*pages.writes, (last, 0)])
+        return encoded(pages, self.page_size)
+
     def host_words(self, link: Link) -> list[str]:
         """The lines that give QEMU and libvirt the same limits; none if all of the guest fits the downtime."""
         factor = self.factor(link)

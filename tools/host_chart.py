@@ -5,10 +5,24 @@ import math
 
 from host_schedules import Placed
 
-WIDTH, LEFT, RIGHT, TOP = 900, 170, 90, 66
-ROW, BAR, BELOW = 26, 16, 44
-MOVING, MISSED, DOWN, AXIS = "#9ecae1", "#f4a582", "#b2182b", "#555"
+WIDTH, LEFT, RIGHT, TOP, BELOW = 900, 170, 90, 66, 44
+# Rows are lower if there are many guests, and have no texts if those would touch.
+ROW, ROWS, LEAST_ROW, LEAST_TEXT = 26, 3000, 2, 13
 LEAST_DOWN = 2.0
+STYLE = """<style>
+.paper { fill: #ffffff } text { fill: #1f2328 } .note { fill: #57606a } .grid { stroke: #d8dee4 }
+.moving { fill: #54aeff } .missed { fill: #e3a008 } .unknown { fill: #b6bfc9 } .down { fill: #cf222e }
+.round { stroke: #ffffff } .limit { stroke: #cf222e; stroke-dasharray: 5 3 }
+@media (prefers-color-scheme: dark) {
+.paper { fill: #0d1117 } text { fill: #e6edf3 } .note { fill: #8b949e } .grid { stroke: #30363d }
+.moving { fill: #388bfd } .missed { fill: #d29922 } .unknown { fill: #6e7681 } .down { fill: #ff7b72 }
+.round { stroke: #0d1117 } .limit { stroke: #ff7b72 }
+}
+</style>"""
+KEYS = {
+    "moving": ("moves; lines end rounds", 190), "missed": ("misses a limit", 110),
+    "unknown": ("its record is too short", 155), "down": ("downtime, drawn at least two dots wide", 0),
+}
 
 
 def step_of(seconds: float) -> float:
@@ -21,51 +35,99 @@ def ellipsis(name: str, most: int = 24) -> str:
     return name if len(name) <= most else f"{name[: most - 1]}…"
 
 
-def bar(move: Placed, rounds: list[int], x_of, y: float) -> list[str]:
+def kind_of(move: Placed) -> str:
+    """How a guest's bar is drawn."""
+    if move.cost.converges == "unknown":
+        return "unknown"
+    return "moving" if move.cost.kept else "missed"
+
+
+class Rows:
+    """Where things are: the times of all rows, which end with the last move, and their height."""
+
+    def __init__(self, moves: list[Placed]):
+        self.end = max(move.end for move in moves) or 1
+        self.height = min(ROW, max(LEAST_ROW, ROWS / len(moves)))
+        self.bar = max(1, self.height * 0.62 if self.height >= LEAST_TEXT else self.height - 1)
+        self.bottom = TOP + self.height * len(moves)
+
+    def x_of(self, at: float) -> float:
+        return LEFT + at / self.end * (WIDTH - LEFT - RIGHT)
+
+    def y_of(self, number: int) -> float:
+        return TOP + self.height * number + (self.height - self.bar) / 2
+
+
+def upright(kind: str, x: float, top: float, bottom: float) -> str:
+    return f'<line class="{kind}" x1="{x:.1f}" x2="{x:.1f}" y1="{top:.1f}" y2="{bottom:.1f}"/>'
+
+
+def rectangle(kind: str, x: float, y: float, width: float, height: float) -> str:
+    return f'<rect class="{kind}" x="{x:.1f}" y="{y:.1f}" width="{width:.1f}" height="{height:.1f}"/>'
+
+
+def bar(move: Placed, ends: list[int], rows: Rows, y: float) -> list[str]:
     """One guest: its name, its bar with a line at the end of each round, its downtime, and when it ends."""
     name, cost = move.guest.name, move.cost
-    begin, end, stop = x_of(move.start), x_of(move.end), x_of(move.end - cost.downtime)
+    begin, end, stop = (rows.x_of(at) for at in (move.start, move.end, move.end - cost.downtime))
     told = (f"{name}: {move.start / 1e6:.1f} s to {move.end / 1e6:.1f} s, {cost.sent / (1 << 20):.1f} MiB, "
             f"downtime {cost.downtime / 1000:.0f} ms" + (f"; {cost.why}" if cost.why else ""))
     down = min(stop, end - LEAST_DOWN)
     lines = [
-        f'<g><title>{html.escape(told)}</title>',
-        f'<text x="{LEFT - 8}" y="{y + 12:g}" text-anchor="end">{html.escape(ellipsis(name))}</text>',
-        f'<rect x="{begin:.1f}" y="{y:g}" width="{max(end - begin, LEAST_DOWN):.1f}" height="{BAR}" '
-        f'fill="{MOVING if cost.kept else MISSED}"/>',
+        f"<g><title>{html.escape(told)}</title>",
+        rectangle(kind_of(move), begin, y, max(end - begin, LEAST_DOWN), rows.bar),
+        *(upright("round", rows.x_of(at), y, y + rows.bar) for at in ends if begin < rows.x_of(at) < stop),
+        rectangle("down", down, y, end - down, rows.bar),
     ]
-    lines += [
-        f'<line x1="{x_of(at):.1f}" x2="{x_of(at):.1f}" y1="{y:g}" y2="{y + BAR:g}" stroke="white"/>'
-        for at in rounds if move.start < at < move.end - cost.downtime
-    ]
-    lines.append(f'<rect x="{down:.1f}" y="{y:g}" width="{end - down:.1f}" height="{BAR}" fill="{DOWN}"/>')
-    lines.append(f'<text x="{end + 5:.1f}" y="{y + 12:g}" fill="{AXIS}">{move.end / 1e6:.1f} s</text></g>')
+    if rows.height >= LEAST_TEXT:
+        at = y + rows.bar / 2 + 4
+        lines.append(f'<text x="{LEFT - 8}" y="{at:.1f}" text-anchor="end">{html.escape(ellipsis(name))}</text>')
+        lines.append(f'<text class="note" x="{end + 5:.1f}" y="{at:.1f}">{move.end / 1e6:.1f} s</text>')
+    return [*lines, "</g>"]
+
+
+def keys(kinds: set[str]) -> list[str]:
+    """What the colors mean, of those that are there."""
+    lines, x = [], float(LEFT)
+    for kind, (told, width) in KEYS.items():
+        if kind in kinds:
+            lines += [rectangle(kind, x, 36, 10, 10), f'<text class="note" x="{x + 15:g}" y="45">{told}</text>']
+            x += width
     return lines
 
 
-def drawn(moves: list[Placed], rounds: dict[str, list[int]], title: str) -> str:
-    """The picture of some moves: at least one. `rounds` has the ends of each guest's rounds, in microseconds."""
-    end = max(move.end for move in moves) or 1
-    bottom = TOP + ROW * len(moves)
-
-    def x_of(at: float) -> float:
-        return LEFT + at / end * (WIDTH - LEFT - RIGHT)
-
-    lines = [
-        f'<text x="{LEFT}" y="24" font-size="15">{html.escape(title)}</text>',
-        f'<text x="{LEFT}" y="44" fill="{AXIS}">white lines end rounds; red is the downtime, at least two dots wide; '
-        f'orange bars miss a limit</text>',
-    ]
-    step, at = step_of(end / 1e6), 0.0
-    while at <= end / 1e6 * (1 + 1e-9):
-        x = x_of(at * 1e6)
-        lines.append(f'<line x1="{x:.1f}" x2="{x:.1f}" y1="{TOP - 6}" y2="{bottom}" stroke="#e4e4e4"/>')
-        lines.append(f'<text x="{x:.1f}" y="{bottom + 18}" text-anchor="middle" fill="{AXIS}">{at:g}</text>')
+def axis(rows: Rows) -> list[str]:
+    """A line for each round number of seconds."""
+    lines, step, at = [], step_of(rows.end / 1e6), 0.0
+    while at <= rows.end / 1e6 * (1 + 1e-9):
+        x = rows.x_of(at * 1e6)
+        lines.append(upright("grid", x, TOP - 6, rows.bottom))
+        lines.append(f'<text class="note" x="{x:.1f}" y="{rows.bottom + 18:g}" text-anchor="middle">{at:g}</text>')
         at = round(at + step, 9)
-    lines.append(f'<text x="{WIDTH - RIGHT:g}" y="{bottom + 36}" text-anchor="end" fill="{AXIS}">seconds</text>')
-    for number, move in enumerate(moves):
-        lines += bar(move, rounds.get(move.guest.name, []), x_of, TOP + ROW * number + (ROW - BAR) / 2)
-    height = bottom + BELOW
+    end = f'x="{WIDTH - RIGHT:g}" y="{rows.bottom + 36:g}" text-anchor="end"'
+    return [*lines, f'<text class="note" {end}>seconds</text>']
+
+
+def limit(rows: Rows, deadline: int) -> list[str]:
+    """The deadline, if there is one and it is within the picture."""
+    if not 0 < deadline <= rows.end:
+        return []
+    x = rows.x_of(deadline)
+    told = f'<text class="note" x="{x:.1f}" y="{TOP - 9}" text-anchor="middle">deadline</text>'
+    return [upright("limit", x, TOP - 6, rows.bottom), told]
+
+
+def drawn(moves: list[Placed], ends: dict[str, list[int]], title: str, deadline: int) -> str:
+    """The picture of some moves: at least one. `ends` are those of each guest's rounds, in microseconds; a deadline of
+    0 is none."""
+    rows = Rows(moves)
+    bars = [bar(move, ends.get(move.guest.name, []), rows, rows.y_of(number)) for number, move in enumerate(moves)]
+    height = math.ceil(rows.bottom + BELOW)
     head = (f'<svg xmlns="http://www.w3.org/2000/svg" width="{WIDTH}" height="{height}" '
             f'viewBox="0 0 {WIDTH} {height}" font-family="sans-serif" font-size="12">')
-    return "\n".join([head, '<rect width="100%" height="100%" fill="white"/>', *lines, "</svg>", ""])
+    return "\n".join([
+        head, STYLE, '<rect class="paper" width="100%" height="100%"/>',
+        f'<text x="{LEFT}" y="24" font-size="15">{html.escape(title)}</text>',
+        *keys({"down", *map(kind_of, moves)}), *axis(rows), *(line for each in bars for line in each),
+        *limit(rows, deadline), "</svg>", "",
+    ])

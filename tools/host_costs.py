@@ -1,4 +1,7 @@
-"""What the migration of each of several guests costs at each share of a link: `precopy-view json when` of its record.
+"""What the migration of each of several guests costs at each share of a link, by the proved `precopy-view`.
+
+What it costs from the beginning of its record on is what `json predict` tells; the range over other starts, and the
+cost of a guest whose record ends before its migration does, are those of `json when`.
 
 A record is a trace that tools/record has made, with NAME.json beside it, or a whole trace without that, whose guest is
 named by the file. Times are whole microseconds, and sizes bytes.
@@ -15,13 +18,15 @@ import plans
 import refusals
 import samples
 import traces
-from forecast import Forecast, Link, encoded
+from forecast import Forecast, Link
 from refusals import Refused
 
 FORMAT = "precopy costs 1"
 LIGHT = ".light.pcwt"
 STAMP = re.compile(r"\.\d{8}T\d{6}Z$")
 MOST_MICROS = 1 << 53
+VERDICTS = ("yes", "no", "unknown")
+STATUSES = (0, 3, 4)  # of precopy-view: the limit is kept, is missed, or the trace ends before the migration
 
 
 class Wanted(NamedTuple):
@@ -38,8 +43,9 @@ class Cost(NamedTuple):
     """What the migration of one guest costs at one share, if it begins where its recording does.
 
     `least` and `most` are the shortest and the longest time over all starts whose migration ends within the recording,
-    and `quiet` is the least bytes of them. It is known if the recording lasts to its end, and kept if the guest's
-    limits are. `why` says what is not.
+    and `quiet` is the least bytes of them. `converges` is yes, no, or unknown if the recording ends before the
+    migration does: then the cost is that of a guest that writes nothing more. It is kept if the guest's limits are, and
+    `why` says what is not.
     """
 
     at_once: int
@@ -50,7 +56,7 @@ class Cost(NamedTuple):
     least: int
     most: int
     quiet: int
-    known: bool
+    converges: str
     kept: bool
     why: str
 
@@ -104,74 +110,80 @@ def whole(path: str, trace: traces.Trace, written: list[tuple[int, int]], tick: 
 
 
 class Planner:
-    """The plans of one record: its pages are encoded once for each length of a tick."""
+    """The plans of one record, to a destination with a copy if there is one: its pages are encoded once for each length
+    of a tick."""
 
-    def __init__(self, path: str, asked: Asked):
+    def __init__(self, path: str, asked: Asked, base: int | None):
         trace, records = traces.read_file(path)
         written = [record[:2] for record in records]
         if path.endswith(LIGHT) or os.path.exists(samples.path_beside(path)):
             sample = samples.read(path, trace, written)
         else:
             sample = whole(path, trace, written, asked.tick)
-        self.forecast, self.texts = Forecast(asked.program, sample, trace.size, written), {}
+        if base is not None and base > sample.first_tick:
+            begins = f"which begins at tick {sample.first_tick:,}"
+            raise Refused(f"{path}: a copy of tick {base:,} is newer than the record, {begins}")
+        self.forecast, self.base, self.texts = Forecast(asked.program, sample, trace.size, written), base, {}
+        if base == 0:
+            # A copy of before the recording lacks the pages that were found at its beginning.
+            self.forecast.writes = written
 
-    def _asked(self, link: Link, base: int | None) -> tuple[int, bytes, list[str]]:
+    def _asked(self, link: Link) -> tuple[int, bytes, list[str]]:
         """By how much ticks are made longer, the trace in those, and the words of precopy-view."""
         forecast = self.forecast
         factor = forecast.factor(link)
         if factor not in self.texts:
-            self.texts[factor] = encoded(forecast.coarse(factor), forecast.page_size)
+            self.texts[factor] = forecast.ended(factor)
         words = forecast.limits(link, factor, forecast.sample.weight)
-        return factor, self.texts[factor], words + (["--base", str(base // factor)] if base is not None else [])
+        return factor, self.texts[factor], words + ([] if self.base is None else ["--base", str(self.base // factor)])
 
-    def starts(self, link: Link, most: int, base: int | None) -> list[dict]:
+    def prediction(self, link: Link) -> dict:
+        """What precopy-view predicts of a migration that begins where the recording does."""
+        _, text, words = self._asked(link)
+        return plans.document(self.forecast.program, ["predict", *words], text, STATUSES)
+
+    def starts(self, link: Link, most: int) -> list[dict]:
         """What precopy-view tells of at most so many starts; the first is where the recording begins."""
-        factor, text, words = self._asked(link, base)
+        factor, text, words = self._asked(link)
         first = self.forecast.start // factor
         last = max(first, self.forecast.sample.last_tick // factor)
         every = -(-(last - first + 1) // most)
-        told = plans.starts(self.forecast.program, text, words, first, last, every)["starts"]
-        tick = self.forecast.sample.tick_seconds * factor
-        return [{**start, "known": stop_of(start, tick) <= last} for start in told]
+        return plans.starts(self.forecast.program, text, words, first, last, every)["starts"]
 
-    def rounds(self, rate: float, limits: Wanted) -> list[int]:
+    def rounds(self, link: Link) -> list[int]:
         """When the rounds of the plan end, in microseconds from its start on."""
-        factor, text, words = self._asked(Link(rate, limits.downtime), limits.base)
+        factor, text, words = self._asked(link)
         told = plans.document(self.forecast.program, ["report", *words, "--window", str(1 << 40)], text)
         start, tick = self.forecast.start // factor, self.forecast.tick() * factor
         return [(each["to"] - start) * tick for each in told["rounds"]]
-
-
-def stop_of(start: dict, tick: float) -> int:
-    """The tick at which a plan stops the guest. Up to the last look at it a recording tells what the guest writes, also
-    if that is nothing."""
-    return round((start["start_seconds"] + start["time_seconds"] - start["down_seconds"]) / tick)
 
 
 def micros(seconds: float) -> int:
     return min(round(1e6 * seconds), MOST_MICROS)
 
 
-def missed(start: dict, limits: Wanted) -> str:
-    """Which of a guest's limits is not kept, and by what."""
-    if not start["known"]:
+def missed(told: dict, limits: Wanted) -> str:
+    """Which of a guest's limits a migration does not keep, and by what."""
+    if told["converges"] == "unknown":
         return "the recording ends before the migration"
-    if start["down_seconds"] > limits.downtime:
-        return f"downtime {1000 * start['down_seconds']:.0f} ms over {1000 * limits.downtime:g} ms"
-    if limits.time is not None and start["time_seconds"] > limits.time:
-        return f"time {start['time_seconds']:.1f} s over {limits.time:g} s"
-    return ""
+    migration, found = told["migration"], []
+    if told["kept"] == "no":
+        found.append(f"downtime {1000 * migration['down_seconds']:.0f} ms over {1000 * limits.downtime:g} ms")
+    if limits.time is not None and migration["time_seconds"] > limits.time:
+        found.append(f"time {migration['time_seconds']:.1f} s over {limits.time:g} s")
+    return " and ".join(found)
 
 
 def cost_of(planner: Planner, asked: Asked, limits: Wanted, at_once: int) -> Cost:
     share = asked.link / at_once
-    rate = min(share, limits.link or share)
-    starts = planner.starts(Link(rate, limits.downtime), asked.starts, limits.base)
-    first, within = starts[0], [start for start in starts if start["known"]] or starts[:1]
-    times, why = [micros(start["time_seconds"]) for start in within], missed(first, limits)
+    link = Link(min(share, limits.link or share), limits.downtime)
+    told, starts = planner.prediction(link), planner.starts(link, asked.starts)
+    cost = told.get("migration", starts[0])
+    known = [start for start in starts if start["kept"] != "unknown"] or starts[:1]
+    times, why = [micros(start["time_seconds"]) for start in known], missed(told, limits)
     return Cost(
-        at_once, rate, micros(first["time_seconds"]), first["sent_bytes"], micros(first["down_seconds"]),
-        min(times), max(times), min(start["sent_bytes"] for start in within), first["known"], not why, why,
+        at_once, link.bandwidth, micros(cost["time_seconds"]), cost["sent_bytes"], micros(cost["down_seconds"]),
+        min(times), max(times), min(start["sent_bytes"] for start in known), told["converges"], not why, why,
     )
 
 
@@ -180,7 +192,7 @@ def guest_of(path: str, asked: Asked, limits: Wanted) -> Guest:
     name = name_of(path)
     if not is_name(name):
         raise Refused(f"{path!r}: the name of its guest is empty, or cannot be printed in a line")
-    planner, costs, unplanned = Planner(path, asked), {}, {}
+    planner, costs, unplanned = Planner(path, asked, limits.base), {}, {}
     for at_once in asked.numbers:
         try:
             costs[at_once] = cost_of(planner, asked, limits, at_once)
@@ -194,7 +206,9 @@ def try_guest(path: str, asked: Asked, limits: Wanted) -> Guest | str:
     """The costs of one record, or why it is refused."""
     try:
         return guest_of(path, asked, limits)
-    except (OSError, Refused, plans.Failed) as fault:
+    except plans.Failed as fault:
+        return f"{path}: {fault}"
+    except (OSError, Refused) as fault:
         return traces.told(fault)
 
 
@@ -214,7 +228,8 @@ def guests_of(paths: list[str], asked: Asked, limits_of, jobs: int) -> list[Gues
 
 def rounds_of(path: str, asked: Asked, share: float, limits: Wanted) -> list[int]:
     """When the rounds of one guest end, in microseconds from its start on. A record that is elsewhere has none."""
-    return Planner(path, asked).rounds(share, limits) if os.path.exists(path) else []
+    link = Link(share, limits.downtime)
+    return Planner(path, asked, limits.base).rounds(link) if os.path.exists(path) else []
 
 
 def line(guest: Guest, asked: Asked) -> str:
@@ -266,6 +281,8 @@ def expect_kinds(cost: Cost) -> None:
             raise ValueError(f"{name} is {value!r}")
     if not 0 < cost.share < math.inf:
         raise ValueError(f"share is {cost.share!r}")
+    if cost.converges not in VERDICTS:
+        raise ValueError(f"converges is {cost.converges!r}")
 
 
 def expect_same(where: str, guest: Guest, rate: float, asked: Asked, limits_of) -> None:
