@@ -5,7 +5,7 @@ import math
 
 from host_schedules import Placed
 
-WIDTH, LEFT, RIGHT, TOP, BELOW = 900, 170, 90, 66, 44
+WIDTH, LEFT, RIGHT, TOP, BELOW = 900, 170, 90, 76, 44
 # Rows are lower if there are many guests, and have no texts if those would touch.
 ROW, ROWS, LEAST_ROW, LEAST_TEXT = 26, 3000, 2, 13
 LEAST_DOWN = 2.0
@@ -13,10 +13,11 @@ STYLE = """<style>
 .paper { fill: #ffffff } text { fill: #1f2328 } .note { fill: #57606a } .grid { stroke: #d8dee4 }
 .moving { fill: #54aeff } .missed { fill: #e3a008 } .unknown { fill: #b6bfc9 } .down { fill: #cf222e }
 .round { stroke: #ffffff } .limit { stroke: #cf222e; stroke-dasharray: 5 3 }
+.end { fill: #57606a; stroke: #ffffff; stroke-width: 3; paint-order: stroke }
 @media (prefers-color-scheme: dark) {
 .paper { fill: #0d1117 } text { fill: #e6edf3 } .note { fill: #8b949e } .grid { stroke: #30363d }
 .moving { fill: #388bfd } .missed { fill: #d29922 } .unknown { fill: #6e7681 } .down { fill: #ff7b72 }
-.round { stroke: #0d1117 } .limit { stroke: #ff7b72 }
+.round { stroke: #0d1117 } .limit { stroke: #ff7b72 } .end { fill: #8b949e; stroke: #0d1117 }
 }
 </style>"""
 KEYS = {
@@ -31,7 +32,7 @@ def step_of(seconds: float) -> float:
     return next(times * power for times in (1, 2, 5, 10) if times * power * 10 >= seconds * (1 - 1e-9))
 
 
-def ellipsis(name: str, most: int = 24) -> str:
+def ellipsis(name: str, most: int = 22) -> str:
     return name if len(name) <= most else f"{name[: most - 1]}…"
 
 
@@ -82,7 +83,7 @@ def bar(move: Placed, ends: list[int], rows: Rows, y: float) -> list[str]:
     if rows.height >= LEAST_TEXT:
         at = y + rows.bar / 2 + 4
         lines.append(f'<text x="{LEFT - 8}" y="{at:.1f}" text-anchor="end">{html.escape(ellipsis(name))}</text>')
-        lines.append(f'<text class="note" x="{end + 5:.1f}" y="{at:.1f}">{move.end / 1e6:.1f} s</text>')
+        lines.append(f'<text class="end" x="{end + 5:.1f}" y="{at:.1f}">{move.end / 1e6:.1f} s</text>')
     return [*lines, "</g>"]
 
 
@@ -128,6 +129,6 @@ def drawn(moves: list[Placed], ends: dict[str, list[int]], title: str, deadline:
     return "\n".join([
         head, STYLE, '<rect class="paper" width="100%" height="100%"/>',
         f'<text x="{LEFT}" y="24" font-size="15">{html.escape(title)}</text>',
-        *keys({"down", *map(kind_of, moves)}), *axis(rows), *(line for each in bars for line in each),
-        *limit(rows, deadline), "</svg>", "",
+        *keys({"down", *map(kind_of, moves)}), *axis(rows), *limit(rows, deadline),
+        *(line for each in bars for line in each), "</svg>", "",
     ])
