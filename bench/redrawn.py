@@ -25,11 +25,15 @@ class Settings(NamedTuple):
 
 
 class Outcome(NamedTuple):
+    """How many rounds there are, why they end and at which tick, the ticks of the downtime, the pages that are sent, and
+    those of them that are left at the stop."""
+
     rounds: int
     reason: str
     stop: int
     down: int
     total: int
+    left: int
 
 
 class Scale(NamedTuple):
@@ -71,7 +75,7 @@ def planned(guest: list[list[int]], asked: Settings) -> Outcome:
         reason = "few" if len(dirtied) < asked.threshold else "fast" if following > asked.greatest else "rounds"
         if reason != "rounds" or rounds == asked.rounds:
             down = -(-1000 * len(dirtied) // asked.greatest)
-            return Outcome(rounds, reason, end, down, total + len(dirtied))
+            return Outcome(rounds, reason, end, down, total + len(dirtied), len(dirtied))
         tick, rate, pages = end, max(following, asked.least), dirtied
     raise AssertionError("a plan has a round")
 

@@ -62,7 +62,7 @@ def check_shape(page, number, text):
 def check_records(page, _):
     """A record comes with its trace, after it, or before it; one that is not the trace's is refused by its field."""
     trace, record = (read(example(f"guests/sqlite.light.{kind}")) for kind in ("pcwt", "json"))
-    wanted = [str(json.loads(record)["first_tick"]), "31.25146", "1"]
+    wanted = [str(json.loads(record)["first_tick"]), "31.25156", "1"]
     values = "['start', 'sample', 'tick'].map((name) => document.getElementById(`control-${name}`).value)"
     for files in ([("a.pcwt", trace), ("a.json", record)], [("a.json", record), ("a.pcwt", trace)]):
         page.open()

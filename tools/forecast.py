@@ -1,29 +1,24 @@
-"""What a migration of a guest will be, from a sample of its pages: plans, and their standard errors.
+"""What is asked of `precopy-view` about a recording: the trace that it plans, and the words of the limits.
 
-`precopy-view` plans by the limits of the guest, and by how many of its pages are drawn. Rates are whole numbers,
-rounded down, so ticks are made longer if a rate would be small. The standard error is a bootstrap (Efron 1979):
-pages are drawn again from the sample, with replacement, and planned as the sample is.
+The program works out all that is told of a migration; here a recording is only converted. Its ticks are counted from
+the first look on, and the pages that this found are left out. Rates are whole numbers, rounded down, so ticks are made
+longer if a rate would be small. A last write says how long the recording lasts.
 """
 
-import collections
 import datetime
-import math
-import random
-import statistics
 import struct
 from typing import NamedTuple
 
 import plans
+import samples
 import traces
-from memory import PAGE
-from samples import Sample
 
 FACTORS = (1, 2, 5, 10, 20)
 LEAST_RATE = 500
 LONGEST_TICK = 1_000_000
 RECORD = struct.Struct("<QIHHB")
-# How far past the end of the plan writes are taken, for plans that end later.
-MARGIN = 1.5
+WORDS = ("precopy live ", "QEMU: ", "libvirt: ")
+ALL_FIT = f"{plans.MOST_THRESHOLD - 1:,} pages of the sample go over the link in it"
 
 
 class Link(NamedTuple):
@@ -33,56 +28,35 @@ class Link(NamedTuple):
     downtime: float
 
 
-class Outcome(NamedTuple):
-    """What a plan says of the whole guest. `is_known` if the recording lasts to its stop."""
-
-    sent: float
-    seconds: float
-    downtime: float
-    why: str
-    rounds: int
-    stop: float
-    is_known: bool
-
-
-class Errors(NamedTuple):
-    sent: float
-    seconds: float
-    downtime: float
-    plans: int
-    converging: int
-    unknown: int
-
-
-class Pages(NamedTuple):
-    """Some pages, as a trace of them is made: how many, for how many of the guest each stands, and their writes."""
-
-    count: int
-    weight: float
-    writes: list[tuple[int, int]]
-
-
-def encoded(pages: Pages, page_size: int = PAGE) -> bytes:
-    """A light trace of the pages. What does not fit is left out at its end."""
-    writes, shift = pages.writes[: traces.Limits().writes], page_size.bit_length() - 1
-    header = traces.MAGIC + bytes([traces.PLAIN, shift, 0, 0]) + struct.pack("<II", max(1, pages.count), len(writes))
-    return header + b"".join(RECORD.pack(tick, page, 0, 1, 1) for tick, page in writes)
+def encoded(pages: int, writes: list[tuple[int, int]], page_size: int) -> bytes:
+    """A light trace of so many pages, with these ticks and pages of writes."""
+    header = traces.MAGIC + bytes([traces.PLAIN, page_size.bit_length() - 1, 0, 0])
+    return header + struct.pack("<II", pages, len(writes)) + b"".join(RECORD.pack(*write, 0, 1, 1) for write in writes)
 
 
 class Forecast:
-    """Plans of one sample, by its writes from the first tick on."""
+    """The question about one recording, whose writes have these ticks and pages."""
 
-    def __init__(self, program: str, sample: Sample, page_size: int, records: list[tuple[int, int]]):
+    def __init__(self, program: str, sample: samples.Sample, page_size: int, records: list[tuple[int, int]]):
         self.program, self.sample, self.page_size = program, sample, page_size
+        self.writes = [(tick - sample.first_tick, page) for tick, page in records if tick >= sample.first_tick]
         self.found = {page for tick, page in records if tick < sample.first_tick}
-        self.writes = [record for record in records if record[0] >= sample.first_tick]
-        self.start = sample.first_tick
-        if sample.method == "trace":
-            self.found = set(range(sample.trace_pages))
+        self.start, self.base, self.texts = 0, None, {}
 
-    def begin_at(self, later: int) -> None:
-        """Plans begin this many ticks later. Pages written up to then are not zero."""
-        self.start = self.sample.first_tick + later
+    def begin_after(self, seconds: float) -> None:
+        """Plans begin so long after the first look."""
+        self.start = round(seconds / self.sample.tick_seconds)
+
+    def begin_with(self, base: int | None) -> None:
+        """The destination has a copy of the guest, of a tick up to the first look. One of tick 0 is of before the
+        recording, so it lacks the pages that were found."""
+        self.base = base
+
+    def looks(self, factor: int) -> tuple[int, int]:
+        """The ticks of the first and of the last look, in longer ticks. Before the first there is only what was
+        found, if a copy lacks it."""
+        first = int(self.base == 0)
+        return first, first + (self.sample.last_tick - self.sample.first_tick) // factor
 
     def tick(self) -> int:
         """The length of a tick of the recording, in microseconds."""
@@ -91,119 +65,80 @@ class Forecast:
             raise plans.Failed(f"ticks of {self.sample.tick_seconds:g} s are not 1 to {LONGEST_TICK:,} microseconds")
         return tick
 
-    def scale(self, factor: int, weight: float) -> plans.Scale:
-        """The same for a trace of the sample in longer ticks, in which a page stands for several."""
-        sampled = self.sample.sampled_pages
-        return plans.Scale(self.tick() * factor, self.page_size, sampled, max(sampled, round(sampled * weight)))
+    def scale(self, factor: int) -> plans.Scale:
+        """What a trace in longer ticks stands for. Its pages are drawn from those of the guest that are not zero, whose
+        number NAME.json has from a larger count; so chance does not move how many of them there are."""
+        pages = self.sample.trace_pages
+        return plans.Scale(
+            self.tick() * factor, self.page_size, pages, max(pages, round(pages * self.sample.weight))
+        )
 
     def factor(self, link: Link) -> int:
         """By how much ticks are made longer: for a rate of 500 or more, if they fit the downtime limit."""
         downtime, tick = round(1e6 * link.downtime), self.tick()
         fitting = [each for each in FACTORS if downtime % (tick * each) == 0 and tick * each <= LONGEST_TICK] or [1]
-        rate = self.scale(1, self.sample.weight).rate(link.bandwidth)
+        rate = self.scale(1).rate(link.bandwidth)
         return next((factor for factor in fitting if rate * factor >= LEAST_RATE), fitting[-1])
 
-    def coarse(self, factor: int) -> Pages:
-        """All pages of the sample, in longer ticks. Of several writes to a page in a tick one stays."""
-        if factor == 1:
-            writes = self.writes
-        else:
-            writes = list(dict.fromkeys((tick // factor, page) for tick, page in self.writes))
-        return Pages(self.sample.trace_pages, self.sample.weight, writes)
+    def text(self, factor: int) -> bytes:
+        """The trace in longer ticks. Of several writes to a page in a tick one stays. A write at the last look, which
+        no plan that stops by then counts, says that the recording lasts so long."""
+        if factor not in self.texts:
+            first, last = self.looks(factor)
+            writes = [(0, page) for page in sorted(self.found)] * first
+            writes += dict.fromkeys((first + tick // factor, page) for tick, page in self.writes)
+            if len(writes) < traces.Limits().writes and (not writes or writes[-1][0] < last):
+                writes.append((last, 0))
+            self.texts[factor] = encoded(self.sample.trace_pages, writes, self.page_size)
+        return self.texts[factor]
 
-    def limits(self, link: Link, factor: int, weight: float) -> list[str]:
-        return plans.limits(*link, self.scale(factor, weight), self.start // factor)
-
-    def planned(self, pages: Pages, link: Link, factor: int) -> Outcome:
-        start, tick = self.start // factor, self.sample.tick_seconds * factor
-        plan = plans.planned(self.program, encoded(pages, self.page_size), self.limits(link, factor, pages.weight))
-        size = pages.weight * self.page_size
-        downtime, stop = plan.last * size / link.bandwidth, (plan.tick - start) * tick
-        known = plan.tick <= self._last_tick(pages, factor)
-        return Outcome(plan.sent * size, stop + downtime, downtime, plan.why, plan.rounds, stop, known)
-
-    def ended(self, factor: int) -> bytes:
-        """A trace of the sample in longer ticks, up to the last look: a write there, which no plan that stops by then
-        counts, says that the recording lasts so long."""
-        pages, last = self.coarse(factor), self.sample.last_tick // factor
-        is_whole = len(pages.writes) < traces.Limits().writes
-        if is_whole and (not pages.writes or pages.writes[-1][0] < last):
-            pages = pages._replace(writes=[*pages.writes, (last, 0)])
-        return encoded(pages, self.page_size)
-
-    def host_words(self, link: Link) -> list[str]:
-        """The lines that give QEMU and libvirt the same limits; none if all of the guest fits the downtime."""
+    def limits(self, link: Link) -> tuple[int, list[str]]:
+        """By how much ticks are made longer, and the words of the limits."""
         factor = self.factor(link)
-        pages, words = self.coarse(factor), self.limits(link, factor, self.sample.weight)
-        if f"{round(1e6 * link.downtime)}us" not in words:
-            return []
-        return plans.host_words(self.program, encoded(pages, self.page_size), words)
+        warm = [] if self.base is None else ["--base", "0"]
+        return factor, [*plans.limits(*link, self.scale(factor)), *warm]
+
+    def words(self, link: Link) -> tuple[int, list[str]]:
+        """The same, and the words of the start."""
+        factor, words = self.limits(link)
+        return factor, [*words, "--start", str(self.looks(factor)[0] + self.start // factor)]
+
+    def lines(self, link: Link) -> tuple[int, list[str]]:
+        """The status and the lines of `precopy-view predict`, but for the words of a live run. If the downtime limit is
+        longer than a plan takes, there are no words for hypervisors: they would have a shorter one."""
+        factor, words = self.words(link)
+        status, text = plans.answered(self.program, ["predict", *words], self.text(factor))
+        is_whole = f"{round(1e6 * link.downtime)}us" in words
+        others = ("precopy live ",) if is_whole else WORDS
+        lines = [line for line in text.splitlines() if not line.startswith(others)]
+        return status, lines if is_whole else [*lines, f"a plan takes no longer limit than that: {ALL_FIT}"]
+
+    def told(self, link: Link) -> dict:
+        """What `precopy-view json predict` tells."""
+        factor, words = self.words(link)
+        return plans.document(self.program, ["predict", *words], self.text(factor))
+
+    def rounds(self, link: Link) -> list[float]:
+        """When the rounds of the plan end, in seconds from its start on."""
+        factor, words = self.words(link)
+        told = plans.document(self.program, ["report", *words, "--window", str(1 << 40)], self.text(factor))
+        return [each["to_seconds"] - told["rounds"][0]["from_seconds"] for each in told["rounds"]]
 
     def starts(self, link: Link, most: int) -> dict:
-        """What `precopy-view json when` tells of at most so many starts, which are evenly apart, in seconds from the
-        first look on."""
-        factor = self.factor(link)
-        pages, first = self.coarse(factor), self.start // factor
-        last = max(first, self._last_tick(pages, factor))
-        every = -(-(last - first + 1) // most)
-        words = self.limits(link, factor, self.sample.weight)
-        text = encoded(pages, self.page_size)
-        return plans.starts(self.program, text, words, first, last, every)
+        """What `precopy-view json when` tells of at most so many starts, which are evenly apart."""
+        factor, words = self.limits(link)
+        first, last = self.looks(factor)
+        places = ["--from", str(first), "--to", str(last), "--every", str(-(-(last - first + 1) // most))]
+        return plans.document(self.program, ["when", *words, *places], self.text(factor))
 
-    def moment(self, start: dict) -> datetime.datetime:
-        """When a start is, in UTC."""
+    def moment(self, seconds: float) -> datetime.datetime:
+        """When it is so long after the first look, in UTC."""
         taken = datetime.datetime.fromisoformat(self.sample.taken_at).astimezone(datetime.timezone.utc)
-        return taken + datetime.timedelta(seconds=start["start_seconds"] - self.start * self.sample.tick_seconds)
+        return taken + datetime.timedelta(seconds=seconds)
 
-    def _last_tick(self, pages: Pages, factor: int) -> int:
-        """Up to where the writes are known."""
-        if len(pages.writes) > traces.Limits().writes:
-            return pages.writes[traces.Limits().writes][0] - 1
-        return self.sample.last_tick // factor
 
-    def outcome(self, link: Link) -> Outcome:
-        factor = self.factor(link)
-        return self.planned(self.coarse(factor), link, factor)
-
-    def deciding(self, link: Link) -> int:
-        """How many pages of the sample fit the downtime limit: these decide when the guest stops."""
-        return int(link.downtime * link.bandwidth / self.page_size / self.sample.weight)
-
-    def redrawn(self, draws: random.Random, writes: list[tuple[int, int]]) -> Pages:
-        """As many pages as the sample has, drawn from it with replacement."""
-        sample = self.sample
-        times = collections.Counter(draws.choices(range(sample.sampled_pages), k=sample.sampled_pages))
-        numbers, count, nonzero = [()] * sample.trace_pages, 0, 0
-        for page in range(sample.trace_pages):
-            numbers[page] = range(count, count + times[page])
-            count += times[page]
-            nonzero += times[page] if page in self.found else 0
-        weight = sample.guest_nonzero / nonzero if nonzero and sample.guest_nonzero else sample.weight
-        return Pages(count, weight, [(tick, number) for tick, page in writes for number in numbers[page]])
-
-    def errors(self, link: Link, of: Outcome, count: int, seed: int) -> Errors:
-        """The standard errors of an outcome, from a number of plans of pages that are drawn again."""
-        factor, draws = self.factor(link), random.Random(seed)
-        tick, writes = self.sample.tick_seconds * factor, self.coarse(factor).writes
-        end = self.start // factor + math.ceil(MARGIN * of.stop / tick)
-        near = [write for write in writes if write[0] <= end]
-        found = []
-        for _ in range(count):
-            state = draws.getstate()
-            outcome = self.planned(self.redrawn(draws, near), link, factor)
-            if outcome.stop > MARGIN * of.stop:
-                draws.setstate(state)
-                outcome = self.planned(self.redrawn(draws, writes), link, factor)
-            found.append(outcome)
-        return self._errors_of(found)
-
-    def _errors_of(self, found: list[Outcome]) -> Errors:
-        """A sample of many of the guest's pages is nearer to the guest than one of a few: the finite correction."""
-        left = math.sqrt(1 - self.sample.sampled_pages / self.sample.guest_pages)
-
-        def apart(name: str) -> float:
-            return left * statistics.stdev(getattr(outcome, name) for outcome in found)
-
-        converging = sum(outcome.why == "few" for outcome in found)
-        unknown = sum(not outcome.is_known for outcome in found)
-        return Errors(apart("sent"), apart("seconds"), apart("downtime"), len(found), converging, unknown)
+def forecast_of(program: str, path: str) -> Forecast:
+    """The question about a recording in a file, with NAME.json beside it."""
+    trace, records = traces.read_file(path)
+    written = [record[:2] for record in records]
+    return Forecast(program, samples.read(path, trace, written), trace.size, written)

@@ -26,7 +26,6 @@ LIGHT = ".light.pcwt"
 STAMP = re.compile(r"\.\d{8}T\d{6}Z$")
 MOST_MICROS = 1 << 53
 VERDICTS = ("yes", "no", "unknown")
-STATUSES = (0, 3, 4)  # of precopy-view: the limit is kept, is missed, or the trace ends before the migration
 
 
 class Wanted(NamedTuple):
@@ -109,53 +108,20 @@ def whole(path: str, trace: traces.Trace, written: list[tuple[int, int]], tick: 
     )
 
 
-class Planner:
-    """The plans of one record, to a destination with a copy if there is one: its pages are encoded once for each length
-    of a tick."""
-
-    def __init__(self, path: str, asked: Asked, base: int | None):
-        trace, records = traces.read_file(path)
-        written = [record[:2] for record in records]
-        if path.endswith(LIGHT) or os.path.exists(samples.path_beside(path)):
-            sample = samples.read(path, trace, written)
-        else:
-            sample = whole(path, trace, written, asked.tick)
-        if base is not None and base > sample.first_tick:
-            begins = f"which begins at tick {sample.first_tick:,}"
-            raise Refused(f"{path}: a copy of tick {base:,} is newer than the record, {begins}")
-        self.forecast, self.base, self.texts = Forecast(asked.program, sample, trace.size, written), base, {}
-        if base == 0:
-            # A copy of before the recording lacks the pages that were found at its beginning.
-            self.forecast.writes = written
-
-    def _asked(self, link: Link) -> tuple[int, bytes, list[str]]:
-        """By how much ticks are made longer, the trace in those, and the words of precopy-view."""
-        forecast = self.forecast
-        factor = forecast.factor(link)
-        if factor not in self.texts:
-            self.texts[factor] = forecast.ended(factor)
-        words = forecast.limits(link, factor, forecast.sample.weight)
-        return factor, self.texts[factor], words + ([] if self.base is None else ["--base", str(self.base // factor)])
-
-    def prediction(self, link: Link) -> dict:
-        """What precopy-view predicts of a migration that begins where the recording does."""
-        _, text, words = self._asked(link)
-        return plans.document(self.forecast.program, ["predict", *words], text, STATUSES)
-
-    def starts(self, link: Link, most: int) -> list[dict]:
-        """What precopy-view tells of at most so many starts; the first is where the recording begins."""
-        factor, text, words = self._asked(link)
-        first = self.forecast.start // factor
-        last = max(first, self.forecast.sample.last_tick // factor)
-        every = -(-(last - first + 1) // most)
-        return plans.starts(self.forecast.program, text, words, first, last, every)["starts"]
-
-    def rounds(self, link: Link) -> list[int]:
-        """When the rounds of the plan end, in microseconds from its start on."""
-        factor, text, words = self._asked(link)
-        told = plans.document(self.forecast.program, ["report", *words, "--window", str(1 << 40)], text)
-        start, tick = self.forecast.start // factor, self.forecast.tick() * factor
-        return [(each["to"] - start) * tick for each in told["rounds"]]
+def planner_of(path: str, asked: Asked, base: int | None) -> Forecast:
+    """The plans of one record, to a destination with a copy if there is one."""
+    trace, records = traces.read_file(path)
+    written = [record[:2] for record in records]
+    if path.endswith(LIGHT) or os.path.exists(samples.path_beside(path)):
+        sample = samples.read(path, trace, written)
+    else:
+        sample = whole(path, trace, written, asked.tick)
+    if base is not None and base > sample.first_tick:
+        begins = f"which begins at tick {sample.first_tick:,}"
+        raise Refused(f"{path}: a copy of tick {base:,} is newer than the record, {begins}")
+    forecast = Forecast(asked.program, sample, trace.size, written)
+    forecast.begin_with(base)
+    return forecast
 
 
 def micros(seconds: float) -> int:
@@ -174,10 +140,10 @@ def missed(told: dict, limits: Wanted) -> str:
     return " and ".join(found)
 
 
-def cost_of(planner: Planner, asked: Asked, limits: Wanted, at_once: int) -> Cost:
+def cost_of(planner: Forecast, asked: Asked, limits: Wanted, at_once: int) -> Cost:
     share = asked.link / at_once
     link = Link(min(share, limits.link or share), limits.downtime)
-    told, starts = planner.prediction(link), planner.starts(link, asked.starts)
+    told, starts = planner.told(link), planner.starts(link, asked.starts)["starts"]
     cost = told.get("migration", starts[0])
     known = [start for start in starts if start["kept"] != "unknown"] or starts[:1]
     times, why = [micros(start["time_seconds"]) for start in known], missed(told, limits)
@@ -192,13 +158,13 @@ def guest_of(path: str, asked: Asked, limits: Wanted) -> Guest:
     name = name_of(path)
     if not is_name(name):
         raise Refused(f"{path!r}: the name of its guest is empty, or cannot be printed in a line")
-    planner, costs, unplanned = Planner(path, asked, limits.base), {}, {}
+    planner, costs, unplanned = planner_of(path, asked, limits.base), {}, {}
     for at_once in asked.numbers:
         try:
             costs[at_once] = cost_of(planner, asked, limits, at_once)
         except plans.NoRate as fault:
             unplanned[at_once] = str(fault)
-    sample = planner.forecast.sample
+    sample = planner.sample
     return Guest(name, path, sample.taken_of, sample.trace_sha256, limits, costs, unplanned)
 
 
@@ -228,8 +194,10 @@ def guests_of(paths: list[str], asked: Asked, limits_of, jobs: int) -> list[Gues
 
 def rounds_of(path: str, asked: Asked, share: float, limits: Wanted) -> list[int]:
     """When the rounds of one guest end, in microseconds from its start on. A record that is elsewhere has none."""
-    link = Link(share, limits.downtime)
-    return Planner(path, asked, limits.base).rounds(link) if os.path.exists(path) else []
+    if not os.path.exists(path):
+        return []
+    ends = planner_of(path, asked, limits.base).rounds(Link(share, limits.downtime))
+    return [micros(seconds) for seconds in ends]
 
 
 def line(guest: Guest, asked: Asked) -> str:

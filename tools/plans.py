@@ -8,7 +8,8 @@ from typing import NamedTuple
 
 from memory import PAGE
 
-MOST_RATE = 1_000_000
+# Bytes in the smallest unit of a link, and the most pages in 1,000 ticks.
+LEAST_LINK, MOST_RATE = 125, 1_000_000
 MOST_THRESHOLD = 65_536
 ROUNDS = 64
 STOP = re.compile(r"^stop (\w+) at (\d+) pages (\d+) down (\d+) total (\d+)$", re.M)
@@ -86,8 +87,10 @@ def rate_word(bandwidth: float) -> str:
     return f"{bandwidth / 125:.0f}Kbit"
 
 
-def limits(bandwidth: float, downtime: float, scale: Scale, start: int) -> list[str]:
+def limits(bandwidth: float, downtime: float, scale: Scale) -> list[str]:
     """The words of precopy-view for limits in bytes a second and seconds."""
+    if bandwidth < LEAST_LINK:
+        raise NoRate(f"a link of {bandwidth:,.0f} bytes a second has less than 1 Kbit")
     rate = int(scale.rate(bandwidth))
     if not 1 <= rate <= MOST_RATE:
         slow = "slow" if rate < 1 else "fast"
@@ -97,43 +100,24 @@ def limits(bandwidth: float, downtime: float, scale: Scale, start: int) -> list[
     most = (1000 * MOST_THRESHOLD - 1) // rate * scale.tick
     words = ["--link", rate_word(bandwidth), "--downtime", f"{min(round(1e6 * downtime), most)}us"]
     words += ["--tick", f"{scale.tick}us", "--page", str(scale.page), "--sampled", f"{scale.sampled}/{scale.guest}"]
-    return [*words, "--start", str(start), "--rounds", str(ROUNDS)]
+    return [*words, "--rounds", str(ROUNDS)]
 
 
-def answer(program: str, command: list[str], trace: bytes, statuses: tuple[int, ...] = (0,)) -> str:
+def answered(program: str, command: list[str], trace: bytes) -> tuple[int, str]:
+    """The status, which is 3 or 4 if no limit is known to be kept, and what the program prints."""
     done = subprocess.run([program, *command], input=trace, capture_output=True)
-    if done.returncode not in statuses:
+    if done.returncode not in (0, 3, 4):
         raise Failed(f"{' '.join([program, *command])}: {done.stderr.decode(errors='replace').strip()}")
-    return done.stdout.decode()
+    return done.returncode, done.stdout.decode()
 
 
-def document(program: str, command: list[str], trace: bytes, statuses: tuple[int, ...] = (0,)) -> dict:
+def document(program: str, command: list[str], trace: bytes) -> dict:
     """The JSON document that the program answers."""
-    text = answer(program, ["json", *command], trace, statuses)
+    _, text = answered(program, ["json", *command], trace)
     try:
         return json.loads(text)
     except ValueError as fault:
         raise Failed(f"{program} json {command[0]} answers no JSON: {text[:80]!r}") from fault
-
-
-def planned(program: str, trace: bytes, words: list[str]) -> Plan:
-    """What precopy-view plans of a trace, by the words of limits()."""
-    told = document(program, ["report", *words, "--window", str(1 << 40)], trace)
-    stop = told["stop"]
-    return Plan(stop["why"], stop["at"], stop["pages"], stop["down"], stop["total"], len(told["rounds"]))
-
-
-def starts(program: str, trace: bytes, words: list[str], first: int, last: int, every: int) -> dict:
-    """What the same migration costs from many starts, by the words of limits()."""
-    at = words.index("--start")
-    words = words[:at] + words[at + 2 :] + ["--from", str(first), "--to", str(last), "--every", str(every)]
-    return document(program, ["when", *words], trace, (0, 3, 4))
-
-
-def host_words(program: str, trace: bytes, words: list[str]) -> list[str]:
-    """The lines that give QEMU and libvirt the same limits."""
-    lines = answer(program, ["predict", *words], trace, (0, 3, 4)).split("\n")
-    return [line for line in lines if line.startswith(("QEMU: ", "libvirt: "))]
 
 
 def end_of_first_round(start: int, pages: int, rate: int) -> int:

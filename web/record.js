@@ -74,10 +74,11 @@ function fieldsOf(text) {
   return fields;
 }
 
-/** How many pages of the guest stand for the sample's: those that are not zero, if both were counted. */
-function guestFor(fields) {
-  const { guest_nonzero: nonzero, sampled_nonzero: found, guest_pages: guest, sampled_pages: part } = fields;
-  const weight = nonzero > 0 && found > 0 ? nonzero / found : guest / part;
+/** The pages of the trace, and for how many of the guest they stand: those that are not zero, if they were counted. */
+function sampleOf(fields) {
+  const { guest_nonzero: nonzero, sampled_nonzero: found, guest_pages: guest, sampled_pages: drawn } = fields;
+  const weight = nonzero > 0 && found > 0 ? nonzero / found : guest / drawn;
+  const part = fields.trace_pages;
   return { part, whole: Math.max(part, Math.min(Math.round(part * weight), 2 ** 32)) };
 }
 
@@ -85,10 +86,10 @@ function guestFor(fields) {
 export function recordIn(text, trace) {
   const fields = fieldsOf(text);
   requireFits(fields, trace);
-  const sample = guestFor(fields);
+  const sample = sampleOf(fields);
   return {
     tick: Math.round(fields.tick_seconds * 1e6),
     start: fields.first_tick,
-    sample: sample.whole > sample.part || sample.part > trace.sizes.pages ? sample : null,
+    sample: sample.whole > sample.part ? sample : null,
   };
 }

@@ -31,7 +31,7 @@ const DEFAULTS = {
 const PRESETS = {
   gzip: { link: rate(8, "MiB"), downtime: time(4, "ms"), first: 25, window: 40, start: 400 },
   sqlite: {
-    link: rate(64, "MiB"), first: 50, start: 1000, sample: { part: 16_384, whole: 512_024 }, window: 500,
+    link: rate(64, "MiB"), first: 50, start: 1000, sample: { part: 4_154, whole: 129_819 }, window: 500,
   },
 };
 

@@ -1,0 +1,128 @@
+"""The doors at which a prediction is asked for, for checks/predictions. A further door is a further class in DOORS."""
+
+import contextlib
+import importlib.machinery
+import importlib.util
+import io
+import json
+import os
+from fractions import Fraction
+from typing import Optional
+
+from prediction_model import TOP, Answer, document_of, host_lines, lines_of
+from prediction_questions import Asked
+from view_texts import Failure, ran
+
+STATUSES = {"yes": 0, "no": 3, "unknown": 4}
+REFUSED = (1, 2)
+KINDS = ("converges: ", "total time: ", "sent: ", "downtime: ", "standard errors: ", "warning: ", "QEMU: ", "libvirt: ")
+
+
+class Door:
+    """A door: what it answers to a question, and what it should answer by the model. Refused is None."""
+
+    name = ""
+
+    def __init__(self, view: str):
+        self.view = view
+
+    def is_asked(self, asked: Asked) -> bool:
+        """Whether the question can be asked at this door."""
+        return True
+
+    def told(self, asked: Asked) -> object:
+        raise NotImplementedError
+
+    def wanted(self, asked: Asked, answer: Answer) -> object:
+        raise NotImplementedError
+
+
+class Lines(Door):
+    """The program's lines and its status. Those of which the model knows nothing are left out."""
+
+    name = "precopy-view predict"
+
+    def told(self, asked: Asked) -> object:
+        status, text, faults = ran(self.view, ["predict", *asked.question.words()], asked.trace.path)
+        return answered(status, faults) and [status, *known(text.splitlines())]
+
+    def wanted(self, asked: Asked, answer: Answer) -> object:
+        return [STATUSES[answer.kept], *lines_of(asked.question, answer), *host_lines(asked.question)]
+
+
+class Document(Door):
+    """The program's JSON. Members of which the model knows nothing are left out."""
+
+    name = "precopy-view json predict"
+
+    def told(self, asked: Asked) -> object:
+        status, text, faults = ran(self.view, ["json", "predict", *asked.question.words()], asked.trace.path)
+        return answered(status, faults) and [status, json.loads(text, parse_float=Fraction)]
+
+    def wanted(self, asked: Asked, answer: Answer) -> object:
+        return [STATUSES[answer.kept], document_of(asked.question, answer)]
+
+
+class Tool(Door):
+    """The lines of tools/predict that are the program's. It reads the record itself."""
+
+    name = "tools/predict"
+
+    def __init__(self, view: str):
+        super().__init__(view)
+        loader = importlib.machinery.SourceFileLoader("predict", os.path.join(TOP, "tools", "predict"))
+        spec = importlib.util.spec_from_loader("predict", loader)
+        self.tool = importlib.util.module_from_spec(spec)
+        loader.exec_module(self.tool)
+
+    def is_asked(self, asked: Asked) -> bool:
+        return asked.words is not None
+
+    def told(self, asked: Asked) -> object:
+        printed, faults = io.StringIO(), io.StringIO()
+        with contextlib.redirect_stdout(printed), contextlib.redirect_stderr(faults):
+            status = self.tool.main([*asked.words, "--program", self.view])
+        lines = known(printed.getvalue().splitlines())
+        return answered(status, faults.getvalue()) and [status, *lines]
+
+    def wanted(self, asked: Asked, answer: Answer) -> object:
+        """If the downtime is cut to what a plan takes, there is no word for a hypervisor."""
+        is_whole = f"--downtime={asked.question.downtime}us" in asked.words
+        lines = lines_of(asked.question, answer) + (host_lines(asked.question) if is_whole else [])
+        return [STATUSES[answer.kept], *lines]
+
+
+DOORS = [Lines, Document, Tool]
+
+
+def answered(status: int, faults: str) -> Optional[bool]:
+    """Whether there is an answer; None if the question is refused, in words."""
+    if status in REFUSED and faults:
+        return None
+    if status in REFUSED or faults:
+        raise Failure(f"status {status}, {faults!r}")
+    return True
+
+
+def known(lines: list[str]) -> list[str]:
+    """The lines that the model tells too."""
+    return [line for line in lines if line.startswith(KINDS)]
+
+
+def only(found: object, wanted: object) -> object:
+    """What is found, without members that are not wanted."""
+    if isinstance(found, dict) and isinstance(wanted, dict):
+        return {name: only(found[name], wanted[name]) for name in wanted if name in found}
+    if isinstance(found, list) and isinstance(wanted, list):
+        return [only(*pair) for pair in zip(found, wanted)] if len(found) == len(wanted) else found
+    return found
+
+
+def compare(door: Door, asked: Asked, answer: Optional[Answer]) -> str:
+    """What differs at a door from what should be told, or nothing."""
+    try:
+        found, wanted = door.told(asked), answer and door.wanted(asked, answer)
+    except (Failure, OSError, ValueError) as fault:
+        return f"{asked}, at {door.name}: {fault}"
+    found = only(found, wanted)
+    return "" if found == wanted else f"{asked}, at {door.name}: {found} in place of {wanted}"
