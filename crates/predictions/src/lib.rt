@@ -2,18 +2,13 @@
 #![tactic(auto)]
 
 mod cost;
-mod counts;
-mod errors;
 mod hosts;
 mod prediction;
 mod prediction_text;
 mod quantities;
-mod roots;
-mod tally;
 mod verdict;
 
 pub use cost::Cost;
-pub use errors::Errors;
 pub use hosts::{link_in_mib, millis_for_pages, push_hosts};
 pub use prediction::Prediction;
 pub use prediction_text::push_prediction;
