@@ -4,7 +4,7 @@ ghost use Rattle.std.specs.Prelude.{◌≡◌, IfOk, false};
 
 use crate::input_rows::trace_of;
 use live_engine::OpenGate;
-use migration_jobs::{Job, RunError, Show, TestSink, run};
+use migration_jobs::{Job, Remains, RunError, Show, TestSink, run};
 use rate_limit::{Asked, Settings};
 use std::alloc::{AllocError, Global};
 use std::sync::Wait;
@@ -62,7 +62,8 @@ fn ran<R: Threads + Wait + Sync>(
 {
     let job = job(alloc, number)?;
     let mut source = source(alloc, failing_read)?;
-    let answer = run(rt, alloc, &job, &mut source, &mut sink, &OpenGate);
+    let remains = Remains::Freed;
+    let answer = run(rt, alloc, &job, &mut source, &mut sink, &OpenGate, remains);
     Ok((answer, sink))
 }
 

@@ -2,7 +2,7 @@
 
 use crate::tests::{sink, whole};
 use live_engine::{Gate, LiveError, OpenGate, Point};
-use migration_jobs::{Job, RunError, Show, TestSink, run};
+use migration_jobs::{Job, Remains, RunError, Show, TestSink, run};
 use rate_limit::{Asked, Settings};
 use std::alloc::{AllocError, Global};
 use std::sync::Wait;
@@ -25,7 +25,8 @@ pub(crate) fn shown<R: Threads + Wait + Sync, G: Gate>(
     let job = Job::Live(Settings::new(asked)?, show);
     let mut source = TestSource::new(bytes, 102, None);
     let mut output = sink(alloc);
-    run(rt, alloc, &job, &mut source, &mut output, gate)?;
+    let remains = Remains::Freed;
+    run(rt, alloc, &job, &mut source, &mut output, gate, remains)?;
     Ok(output)
 }
 

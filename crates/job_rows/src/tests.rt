@@ -4,7 +4,7 @@ ghost use Rattle.std.specs.Prelude.{◌≡◌, false};
 
 use image_build::{Image, replay, replay_before, replay_bytes, replay_view};
 use live_engine::OpenGate;
-use migration_jobs::{Job, RunError, TestSink, run};
+use migration_jobs::{Job, Remains, RunError, TestSink, run};
 use std::alloc::{AllocError, Global};
 use std::sync::Wait;
 use std::test::Fail;
@@ -58,7 +58,8 @@ pub(crate) fn ran<R: Threads + Wait + Sync>(
     requires unread { source.has_failed ≡ false }
     requires unwritten { sink.has_failed ≡ false }
 {
-    let answer = run(rt, alloc, job, &mut source, &mut sink, &OpenGate);
+    let remains = Remains::Freed;
+    let answer = run(rt, alloc, job, &mut source, &mut sink, &OpenGate, remains);
     (answer, sink)
 }
 

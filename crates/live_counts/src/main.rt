@@ -4,7 +4,7 @@
 use anyhow::{Result, bail};
 use job_words::{job_of, words};
 use live_engine::{Gate, Point};
-use migration_jobs::{FromWrite, Job, run};
+use migration_jobs::{FromWrite, Job, Remains, run};
 use std::sync::atomic::{AtomicU64, Ordering};
 use trace_codec::FromRead;
 
@@ -35,7 +35,8 @@ fn main(rt: HostRuntime) -> Result<()> {
     let frames = TakenFrames(AtomicU64::new(0));
     let mut source = FromRead::new(rt.stdin());
     let mut sink = FromWrite::new(rt.stdout());
-    run(&rt, alloc, &job, &mut source, &mut sink, &frames)?;
+    let remains = Remains::Left;
+    run(&rt, alloc, &job, &mut source, &mut sink, &frames, remains)?;
     let taken = frames.0.load(Ordering::SeqCst);
     eprintln!(rt; "sent {taken}")?;
     Ok(())

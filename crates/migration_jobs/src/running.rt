@@ -18,6 +18,7 @@ use crate::error::RunError;
 use crate::imaging::image_output;
 use crate::live::live_output;
 use crate::output::{Output, write_output};
+use crate::remains::Remains;
 use crate::sink::Sink;
 use job_kinds::Job;
 use live_engine::Gate;
@@ -180,7 +181,8 @@ fn read_output<R: Threads + Wait + Sync, S: Source, G: Gate>(
 /// Runs one job: reads a trace to the end of the source, makes its output, writes it and flushes. Texts are made whole
 /// before they are written; memory is written in pieces, which are made one after the other in memory that was taken
 /// before. So nothing is written while anything but a write can still fail: each error but `Write` leaves nothing
-/// written, and `Write` leaves a prefix of the output. Only the threads of a live run call the gate.
+/// written, and `Write` leaves a prefix of the output. Only the threads of a live run call the gate. `remains` says whether
+/// the memory of the output is freed.
 pub fn run<R: Threads + Wait + Sync, S: Source, K: Sink, G: Gate>(
     rt: &R,
     alloc: Global,
@@ -188,6 +190,7 @@ pub fn run<R: Threads + Wait + Sync, S: Source, K: Sink, G: Gate>(
     source: &mut S,
     sink: &mut K,
     gate: &G,
+    remains: Remains,
 ) -> Result<(), RunError>
     requires unread { S.has_failed source.old ≡ false }
     requires unwritten { K.has_failed sink.old ≡ false }
@@ -210,7 +213,11 @@ pub fn run<R: Threads + Wait + Sync, S: Source, K: Sink, G: Gate>(
     ensures write_failed { (result ≡ Err RunError.Write) ↔ (K.has_failed sink.new ≡ true) }
 {
     match read_output(rt, alloc, job, source, gate) {
-        Ok(output) => write_output(alloc, sink, &output),
+        Ok(output) => {
+            let answer = write_output(alloc, sink, &output);
+            remains.end(output);
+            answer
+        }
         Err(error) => Err(error),
     }
 }

@@ -10,7 +10,7 @@ ghost use Rattle.program_edge.specs.Ends.{IsTold, TellsRun, memory_line};
 
 use job_words::job_of;
 use live_engine::OpenGate;
-use migration_jobs::{Job, RunError, Sink, run};
+use migration_jobs::{Job, Remains, RunError, Sink, run};
 use program_edge::{Program, refuse, run_fault};
 use std::alloc::Global;
 use std::sync::Wait;
@@ -38,7 +38,7 @@ fn run_job<R: Threads + Wait + Sync, S: Source, K: Sink, E: Sink>(
         (λ e. TellsRun Program.Precopy e (E.contents faults.old) (E.contents faults.new) (E.has_failed faults.new)) }
     ensures untold { result ≡ 0 → faults.new ≡ faults.old }
 {
-    match run(rt, alloc, job, source, sink, &OpenGate) {
+    match run(rt, alloc, job, source, sink, &OpenGate, Remains::Left) {
         Ok(()) => 0,
         Err(error) => run_fault(Program::Precopy, &error, faults),
     }
