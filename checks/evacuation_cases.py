@@ -254,14 +254,18 @@ def expect_picture(path: str, told: dict) -> None:
         expect(abs(begin - 170 - 640 * move["start_seconds"] / end) < 0.1, f"{move}: begins at {begin}")
         expect(abs(begin + long - 170 - 640 * move["end_seconds"] / end) < 0.2, f"{move}: ends at {begin + long}")
         expect(float(down.get("x")) + float(down.get("width")) <= width, "a downtime beyond the picture")
+        expect((bar.get("class"), down.get("class")) == ("moving", "down"), f"{move}: is drawn as {bar.get('class')}")
         expect(move["guest"] in group.find(f"{SVG}title").text, "another title")
 
 
 def deadlines(programs: Programs, folder: str) -> None:
     """A deadline that no schedule keeps gives status 3, and one that some keep status 0; QMP lines tell the rate."""
     records = four_guests(folder)
-    text, fault = run_tool(programs, *records, "--link", LINK, "--deadline", "1s", status=3)
+    picture = f"{folder}/host.svg"
+    text, fault = run_tool(programs, *records, "--link", LINK, "--deadline", "1s", "--picture", picture, status=3)
     expect("missed: the deadline  <- best" in text, text)
+    line = xml.etree.ElementTree.parse(picture).getroot().find(f"{SVG}line[@class='limit']")
+    expect(abs(float(line.get("x1")) - 170 - 640 * 1.0 / 2.5) < 1, f"the deadline is at {line.get('x1')}")
     expect("no schedule ends within 1 s: the shortest takes 2.5 s" in fault, fault)
     text, _ = run_tool(programs, *records, "--link", LINK, "--deadline", "20m", "--at-once", "2", "--lines", "qmp")
     expect('"max-bandwidth": 33554432, "downtime-limit": 300' in text and "kept  <- best" in text, text)
