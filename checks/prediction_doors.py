@@ -48,6 +48,10 @@ class Door:
     def told(self, asked: Asked) -> object:
         raise NotImplementedError
 
+    def all_told(self, some: list[Asked]) -> list[object]:
+        """The answers to some questions about one trace."""
+        return [self.told(asked) for asked in some]
+
     def wanted(self, asked: Asked, answer: Answer) -> object:
         raise NotImplementedError
 
@@ -116,17 +120,19 @@ class Page(Door):
     def lacking(programs: Programs) -> str:
         if not programs.node:
             return "there is no node with 64-bit memory"
+        if not os.path.exists(os.path.join(programs.web, "questions.js")):
+            return "the page's planner takes no questions"
         return "" if os.path.exists(programs.module) else f"there is no {programs.module}; make page builds it"
 
-    def told(self, asked: Asked) -> object:
-        fields = {name: str(value) if type(value) is int else value for name, value in vars(asked.question).items()}
+    def all_told(self, some: list[Asked]) -> list[object]:
+        questions = [{name: str(value) if type(value) is int else value for name, value in vars(asked.question).items()}
+                     for asked in some]
         script, module = os.path.join(self.programs.web, "page_predictions.mjs"), self.programs.module
-        command = [*self.programs.node, "--no-warnings", script, module, asked.trace.path]
-        done = subprocess.run(command, input=json.dumps(fields), capture_output=True, text=True, check=False)
+        command = [*self.programs.node, "--no-warnings", script, module, some[0].trace.path]
+        done = subprocess.run(command, input=json.dumps(questions), capture_output=True, text=True, check=False)
         if done.returncode:
             raise Failure(done.stderr[-300:])
-        found = json.loads(done.stdout)
-        return None if "refusal" in found else found
+        return [None if "refusal" in found else found for found in json.loads(done.stdout)]
 
     def wanted(self, asked: Asked, answer: Answer) -> object:
         """Large numbers are words."""
@@ -163,11 +169,18 @@ def only(found: object, wanted: object) -> object:
     return found
 
 
-def compare(door: Door, asked: Asked, answer: Optional[Answer]) -> str:
+def difference(door: Door, asked: Asked, found: object, answer: Optional[Answer]) -> str:
     """What differs at a door from what should be told, or nothing."""
-    try:
-        found, wanted = door.told(asked), answer and door.wanted(asked, answer)
-    except (Failure, OSError, ValueError) as fault:
-        return f"{asked}, at {door.name}: {fault}"
+    wanted = answer and door.wanted(asked, answer)
     found = only(found, wanted)
     return "" if found == wanted else f"{asked}, at {door.name}: {found} in place of {wanted}"
+
+
+def compare(door: Door, some: list[Asked], answers: list[Optional[Answer]]) -> list[str]:
+    """The differences at a door, of each of some questions about one trace that can be asked there."""
+    pairs = [(asked, answer) for asked, answer in zip(some, answers) if door.is_asked(asked)]
+    try:
+        told = door.all_told([asked for asked, _ in pairs]) if pairs else []
+    except (Failure, OSError, ValueError) as fault:
+        return [f"{asked}, at {door.name}: {fault}" for asked, _ in pairs]
+    return [difference(door, asked, found, answer) for (asked, answer), found in zip(pairs, told)]
