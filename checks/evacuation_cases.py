@@ -305,7 +305,7 @@ def refusals(programs: Programs, folder: str) -> None:
     short = write_record(folder, "short", model.Guest(9000, 9000, 9000, 1000, 1010, [(1005, 3)]))
     _, fault = run_tool(programs, web, short, *link, status=3)
     expect("short keeps its limits at no share" in fault and "the recording ends before the migration" in fault, fault)
-    _, fault = run_tool(programs, web, "--link", "10B", status=3)
+    _, fault = run_tool(programs, web, "--link", "0.01KB", status=3)
     expect("web has no plan at any share" in fault, fault)
 
 

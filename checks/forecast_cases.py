@@ -249,9 +249,9 @@ def predicted(program, folder):
         (part, ["--link", "64MiB", "--downtime", "3ms"], 0, "decide the stop"),
         (part, ["--link", "64MiB", "--downtime", "9s"], 0, "up to the limit of 9000 ms"),
         (path, ["--link", "100Mbit", "--downtime", "2s"], 3, "no prediction"),
-        (path, ["--link", "1bit"], 1, "too slow for this sample"),
+        (path, ["--link", "0.001KB"], 1, "too slow for this sample"),
         (path, ["--link", "128Gbit"], 0, "at twice the link: no plan"),
-        (path, ["--link", "x"], 2, "no link such as"),
+        (path, ["--link", "1"], 2, "Kbit, Mbit, Gbit"),
         (path, ["--link", "1Gbit", "--plans", "1"], 2, "2 or more"),
     ):
         printed, refused = run_predict(name, *words, status=status)
