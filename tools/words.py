@@ -35,7 +35,7 @@ def seconds(word: str) -> float:
     return found / 1_000_000
 
 
-def link(word: str) -> int:
+def rate(word: str) -> int:
     """Bytes a second, from 1 on, as 10Gbit, 1.5GB or 128MiB."""
     found = amount(word, RATES)
     if not found:
@@ -43,8 +43,13 @@ def link(word: str) -> int:
     return found
 
 
-def link_word(bandwidth: int) -> str:
-    """A word that `link` takes for so many bytes a second."""
+def link(word: str) -> float:
+    """A rate that is shared."""
+    return float(rate(word))
+
+
+def rate_word(bandwidth: int) -> str:
+    """A word that `rate` takes for so many bytes a second."""
     if bandwidth % (1 << 20) == 0:
         return f"{bandwidth >> 20}MiB"
     return f"{bandwidth // 1_000}.{bandwidth % 1_000:03}KB"
