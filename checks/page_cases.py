@@ -8,6 +8,7 @@ import random
 
 import page_shapes
 from limit_cases import RATES, TIMES, Known, redrawn, seconds
+from limit_cases import size_text as told_size
 from view_texts import TOP, Failure, document_of, ran, report_facts, sweep_facts, told
 
 TRACES = ["a.pcwt", "gzip.pcwt", "released.pcwt", "guests/mid.light.pcwt", "guests/sqlite.light.pcwt"]
@@ -139,29 +140,16 @@ class Asked:
 # ---- What the page says of a plan.
 
 
-def spaced(text):
-    """A number with commas between thousands, in a text of a number with a point and a unit."""
-    whole, point, rest = text.partition(".")
-    return f"{int(whole):,}{point}{rest}"
-
-
 def time_text(micros):
-    """A time as the page writes it."""
-    if 0 < micros < 1_000:
-        return f"{micros} \u00b5s"
-    if micros < 1_000_000:
-        rest = f"{micros % 1_000:03}".rstrip("0")
-        return f"{micros // 1_000}{'.' * bool(rest)}{rest} ms"
-    return spaced(seconds(micros))
+    """A time as the page writes it: as precopy-view does, but for what would be zeros."""
+    return f"{micros} \u00b5s" if 0 < micros < 1_000 else seconds(micros)
 
 
 def size_text(size):
-    """A size as the page writes it."""
-    if size < 1 << 10:
-        return f"{size} bytes"
-    unit, name = next((1 << power, name) for power, name in ((30, "GiB"), (20, "MiB"), (10, "KiB")) if size >> power)
-    hundredths = size * 100 // unit
-    return f"{hundredths // 100:,}.{hundredths % 100:02} {name}"
+    """A size as the page writes it: as precopy-view does, but for what would be zeros."""
+    if 0 < size * 100 < 1 << 20:
+        return f"{size} byte{'' if size == 1 else 's'}"
+    return told_size(size)
 
 
 def plural(count, noun):
