@@ -309,7 +309,7 @@ def refusals(programs: Programs, folder: str) -> None:
     expect("unknown: short  <- best" in text and "1 at once, records too short: short\n" in text, text)
     run_tool(programs, web, short, *link, "--deadline", "10ms", status=3)
     expect("short keeps its limits at no share" in fault and "the recording ends before the migration" in fault, fault)
-    _, fault = run_tool(programs, web, "--link", "10B", status=3)
+    _, fault = run_tool(programs, web, "--link", "0.01KB", status=3)
     expect("web has no plan at any share" in fault, fault)
 
 

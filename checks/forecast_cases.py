@@ -252,7 +252,7 @@ def predicted(program, folder):
         (path, ["--link", "32MiB", "--downtime", "100ms", "--start", "1h"], 4, "time: more than 0.000 s"),
         (path, ["--link", "1Kbit"], 1, "too slow for this sample"),
         (path, ["--link", "128Gbit"], 0, "at twice the link: no plan"),
-        (path, ["--link", "x"], 2, "no link such as"),
+        (path, ["--link", "1"], 2, "Kbit, Mbit, Gbit"),
     ):
         printed, refused = run_predict(name, *words, status=status)
         expect(said in printed + refused, printed + refused)

@@ -228,8 +228,8 @@ def named_mappings(_, folder):
         over = ranges["c"][1] + (1 << 30)
         bad = [
             ([*pid, *words, "--memory", "64G"], 1, "--memory 64.00 GiB", f"{size:,} bytes"),
-            (["--qmp", known.socket, "--memory", f"{size + PAGE}"], 1, f"{size:,} bytes"),
-            ([*pid, *words, "--memory", "64X"], 2, "no size of memory"),
+            (["--qmp", known.socket, "--memory", f"{(size + PAGE) >> 10}K"], 1, f"{size:,} bytes"),
+            ([*pid, *words, "--memory", "64X"], 2, "K, M, G or T"),
             ([*pid, "--mapping", f"{begin:x}-{end:x}"], 1, "no memory of a guest"),
             ([*pid, "--mapping", f"{ranges['c'][0]:x}-{over:x}"], 1, "no memory of a guest"),
             ([*pid, "--mapping", f"{begin + 1:x}-{end:x}"], 1, "no range of whole pages"),

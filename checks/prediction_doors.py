@@ -6,8 +6,9 @@ import importlib.util
 import io
 import json
 import os
+import subprocess
 from fractions import Fraction
-from typing import Optional
+from typing import NamedTuple, Optional
 
 from prediction_model import TOP, Answer, document_of, host_lines, lines_of
 from prediction_questions import Asked
@@ -18,13 +19,27 @@ REFUSED = (1, 2)
 KINDS = ("converges: ", "total time: ", "sent: ", "downtime: ", "standard errors: ", "warning: ", "QEMU: ", "libvirt: ")
 
 
+class Programs(NamedTuple):
+    """What is built: precopy-view, the page's module, and a folder with what the page's programs need in Node."""
+
+    view: str
+    module: str
+    web: str
+    node: Optional[list[str]]
+
+
 class Door:
     """A door: what it answers to a question, and what it should answer by the model. Refused is None."""
 
     name = ""
 
-    def __init__(self, view: str):
-        self.view = view
+    def __init__(self, programs: Programs):
+        self.programs = programs
+
+    @staticmethod
+    def lacking(programs: Programs) -> str:
+        """Why there is no such door here, or nothing."""
+        return ""
 
     def is_asked(self, asked: Asked) -> bool:
         """Whether the question can be asked at this door."""
@@ -32,6 +47,10 @@ class Door:
 
     def told(self, asked: Asked) -> object:
         raise NotImplementedError
+
+    def all_told(self, some: list[Asked]) -> list[object]:
+        """The answers to some questions about one trace."""
+        return [self.told(asked) for asked in some]
 
     def wanted(self, asked: Asked, answer: Answer) -> object:
         raise NotImplementedError
@@ -43,7 +62,7 @@ class Lines(Door):
     name = "precopy-view predict"
 
     def told(self, asked: Asked) -> object:
-        status, text, faults = ran(self.view, ["predict", *asked.question.words()], asked.trace.path)
+        status, text, faults = ran(self.programs.view, ["predict", *asked.question.words()], asked.trace.path)
         return answered(status, faults) and [status, *known(text.splitlines())]
 
     def wanted(self, asked: Asked, answer: Answer) -> object:
@@ -56,7 +75,7 @@ class Document(Door):
     name = "precopy-view json predict"
 
     def told(self, asked: Asked) -> object:
-        status, text, faults = ran(self.view, ["json", "predict", *asked.question.words()], asked.trace.path)
+        status, text, faults = ran(self.programs.view, ["json", "predict", *asked.question.words()], asked.trace.path)
         return answered(status, faults) and [status, json.loads(text, parse_float=Fraction)]
 
     def wanted(self, asked: Asked, answer: Answer) -> object:
@@ -68,8 +87,8 @@ class Tool(Door):
 
     name = "tools/predict"
 
-    def __init__(self, view: str):
-        super().__init__(view)
+    def __init__(self, programs: Programs):
+        super().__init__(programs)
         loader = importlib.machinery.SourceFileLoader("predict", os.path.join(TOP, "tools", "predict"))
         spec = importlib.util.spec_from_loader("predict", loader)
         self.tool = importlib.util.module_from_spec(spec)
@@ -81,7 +100,7 @@ class Tool(Door):
     def told(self, asked: Asked) -> object:
         printed, faults = io.StringIO(), io.StringIO()
         with contextlib.redirect_stdout(printed), contextlib.redirect_stderr(faults):
-            status = self.tool.main([*asked.words, "--program", self.view])
+            status = self.tool.main([*asked.words, "--program", self.programs.view])
         lines = known(printed.getvalue().splitlines())
         return answered(status, faults.getvalue()) and [status, *lines]
 
@@ -92,7 +111,39 @@ class Tool(Door):
         return [STATUSES[answer.kept], *lines]
 
 
-DOORS = [Lines, Document, Tool]
+class Page(Door):
+    """The page's module, by the file that asks it."""
+
+    name = "web/planner.js"
+
+    @staticmethod
+    def lacking(programs: Programs) -> str:
+        if not programs.node:
+            return "there is no node with 64-bit memory"
+        if not os.path.exists(os.path.join(programs.web, "questions.js")):
+            return "the page's planner takes no questions"
+        return "" if os.path.exists(programs.module) else f"there is no {programs.module}; make page builds it"
+
+    def all_told(self, some: list[Asked]) -> list[object]:
+        questions = [{name: str(value) if type(value) is int else value for name, value in vars(asked.question).items()}
+                     for asked in some]
+        script, module = os.path.join(self.programs.web, "page_predictions.mjs"), self.programs.module
+        command = [*self.programs.node, "--no-warnings", script, module, some[0].trace.path]
+        done = subprocess.run(command, input=json.dumps(questions), capture_output=True, text=True, check=False)
+        if done.returncode:
+            raise Failure(done.stderr[-300:])
+        return [None if "refusal" in found else found for found in json.loads(done.stdout)]
+
+    def wanted(self, asked: Asked, answer: Answer) -> object:
+        """Large numbers are words."""
+        plain = {"rounds": answer.rounds, "reason": answer.why, "left": answer.left, "converges": answer.converges,
+                 "kept": answer.kept}
+        large = {"time": answer.time, "bytes": answer.sent, "downtime": answer.downtime, "recorded": answer.recorded}
+        errors = answer.errors and dict(zip(("bytes", "time", "downtime"), map(str, answer.errors)))
+        return {**plain, **{name: str(number) for name, number in large.items()}, "errors": errors}
+
+
+DOORS = [Lines, Document, Tool, Page]
 
 
 def answered(status: int, faults: str) -> Optional[bool]:
@@ -118,11 +169,18 @@ def only(found: object, wanted: object) -> object:
     return found
 
 
-def compare(door: Door, asked: Asked, answer: Optional[Answer]) -> str:
+def difference(door: Door, asked: Asked, found: object, answer: Optional[Answer]) -> str:
     """What differs at a door from what should be told, or nothing."""
-    try:
-        found, wanted = door.told(asked), answer and door.wanted(asked, answer)
-    except (Failure, OSError, ValueError) as fault:
-        return f"{asked}, at {door.name}: {fault}"
+    wanted = answer and door.wanted(asked, answer)
     found = only(found, wanted)
     return "" if found == wanted else f"{asked}, at {door.name}: {found} in place of {wanted}"
+
+
+def compare(door: Door, some: list[Asked], answers: list[Optional[Answer]]) -> list[str]:
+    """The differences at a door, of each of some questions about one trace that can be asked there."""
+    pairs = [(asked, answer) for asked, answer in zip(some, answers) if door.is_asked(asked)]
+    try:
+        told = door.all_told([asked for asked, _ in pairs]) if pairs else []
+    except (Failure, OSError, ValueError) as fault:
+        return [f"{asked}, at {door.name}: {fault}" for asked, _ in pairs]
+    return [difference(door, asked, found, answer) for (asked, answer), found in zip(pairs, told)]

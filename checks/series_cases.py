@@ -272,7 +272,7 @@ def words_of_a_series(_, folder):
             (["--segment", "900ms"], "--segment is 1s or more"),
             (["--segment", "1s", "--every", "600ms"], "--segment is 1s or more"),
             (["--segment", "1s", "--map", "map"], "--segment is 1s or more"),
-            (["--segment", "1x"], "no length of time"),
+            (["--segment", "1x"], "us, ms, s, m or h"),
             (["--segment", "1s", "--keep", "0"], "whole number from 1"),
             (["--segment", "1s", "--image", "image"], "leave out --image"),
         ):

@@ -19,14 +19,14 @@ def seconds(time: float) -> str:
     return f"{millis // 1000}.{millis % 1000:03} s"
 
 
-def cost(told: dict) -> str:
+def cost(told: dict) -> list[str]:
     """Bytes, time and downtime of a migration, with the standard errors that there are, and whether it converges."""
     if not (migration := told.get("migration")):
-        return SHORT
+        return [SHORT]
     errors, parts = migration.get("errors", {}), []
     for name, text in (("sent_bytes", size), ("time_seconds", seconds), ("down_seconds", seconds)):
         parts.append(text(migration[name]) + (f" +- {text(errors[name])}" if name in errors else ""))
-    return "  ".join([*parts, "converges" if told["converges"] == "yes" else "does not converge"])
+    return [*parts, "converges" if told["converges"] == "yes" else "does not converge"]
 
 
 def of_sample(sample: samples.Sample, page_size: int) -> list[str]:
@@ -53,6 +53,6 @@ def warnings(sample: samples.Sample) -> list[str]:
 
 def of_several(told: dict, begun: datetime.datetime, starts: dict, sample: samples.Sample) -> str:
     """The line of one of several traces: when the migration begins, what it costs, the best and the worst start."""
-    parts = [f"{begun:%Y-%m-%d %H:%M:%S}", cost(told)]
+    parts = [f"{begun:%Y-%m-%d %H:%M:%S}", *cost(told)]
     parts += [f"{name} {moment:%H:%M:%S} {size(start['sent_bytes'])}" for name, (moment, start) in starts.items()]
     return "  ".join(parts + [f"{sample.late} of {sample.samples} looks late"] * (sample.late > 0))

@@ -1,24 +1,72 @@
-"""Times, bandwidths and numbers on the command line."""
+"""Times, rates, sizes and numbers on the command line, as docs/COMMANDS.md tells. Times and rates are those of
+precopy-view."""
 
 import argparse
 import re
 
+TIMES = {"us": 1, "ms": 1_000, "s": 1_000_000, "m": 60_000_000, "h": 3_600_000_000}
+RATES = {
+    "Kbit": 125, "Mbit": 125_000, "Gbit": 125_000_000, "KB": 1_000, "MB": 1_000_000, "GB": 1_000_000_000,
+    "KiB": 1 << 10, "MiB": 1 << 20, "GiB": 1 << 30,
+}
+SIZES = {f"{letter}{rest}": 1 << power for letter, power in zip("KMGT", (10, 20, 30, 40)) for rest in ("", "iB")}
+DIGITS_BELOW = 1 << 64
 
-def seconds(word):
-    """A length of time, as 100ms, 250us, 1.5s, 10m or 24h."""
-    match = re.fullmatch(r"(\d+(?:\.\d+)?)(us|ms|s|m|h)", word)
-    if not match or not float(match[1]):
-        raise argparse.ArgumentTypeError(f"{word!r} is no length of time such as 100ms, 250us, 1.5s, 10m or 24h")
-    return float(match[1]) * {"us": 1e-6, "ms": 1e-3, "s": 1.0, "m": 60.0, "h": 3600.0}[match[2]]
+
+def amount(word: str, units: dict[str, int]) -> int | None:
+    """What a decimal number followed by a unit comes to, rounded down, or None."""
+    match = re.fullmatch(r"0*([0-9]{1,20})(?:\.([0-9]{1,6}))?([A-Za-z]+)", word)
+    if not match or match[3] not in units:
+        return None
+    digits, places = int(match[1] + (match[2] or "")), len(match[2] or "")
+    found = digits * units[match[3]] // 10**places
+    return found if max(digits, found) < DIGITS_BELOW else None
 
 
-def memory(word):
-    """Bytes of memory in whole pages, as 64G, 512M or 130944K, in powers of 1,024."""
-    match = re.fullmatch(r"(\d{1,18})([KMGT]?)(?:iB)?", word)
-    size = int(match[1]) << {"": 0, "K": 10, "M": 20, "G": 30, "T": 40}[match[2]] if match else 0
-    if not size or size % 4096:
-        raise argparse.ArgumentTypeError(f"{word!r} is no size of memory in whole pages, such as 64G or 512M")
-    return size
+def refused(word: str, what: str) -> argparse.ArgumentTypeError:
+    return argparse.ArgumentTypeError(f"{word!r}: a number and its unit, {what}")
+
+
+def seconds(word: str) -> float:
+    """A length of time from 1us on, as 100ms, 1.5s or 24h."""
+    found = amount(word, TIMES)
+    if not found:
+        raise refused(word, "us, ms, s, m or h, as in 300ms or 0.3s")
+    return found / 1_000_000
+
+
+def rate(word: str) -> int:
+    """Bytes a second, from 1 on, as 10Gbit, 1.5GB or 128MiB."""
+    found = amount(word, RATES)
+    if not found:
+        raise refused(word, "Kbit, Mbit, Gbit, KB, MB, GB, KiB, MiB or GiB, per second, as in 10Gbit or 1.5GB")
+    return found
+
+
+def link(word: str) -> float:
+    """A rate that is shared."""
+    return float(rate(word))
+
+
+def rate_word(bandwidth: int) -> str:
+    """A word that `rate` takes for so many bytes a second."""
+    if bandwidth % (1 << 20) == 0:
+        return f"{bandwidth >> 20}MiB"
+    return f"{bandwidth // 1_000}.{bandwidth % 1_000:03}KB"
+
+
+def time_word(length: float) -> str:
+    """A word that `seconds` takes for a length of time."""
+    micros = round(1_000_000 * length)
+    return f"{micros // 1_000}ms" if micros % 1_000 == 0 else f"{micros}us"
+
+
+def memory(word: str) -> int:
+    """Bytes of memory in whole pages, as 64G, 1.5GiB or 130944K: units are powers of 1,024."""
+    found = amount(word, SIZES)
+    if not found or found % 4096:
+        raise refused(word, "K, M, G or T, in whole pages, as in 64G or 512M")
+    return found
 
 
 def process(word):
@@ -26,25 +74,6 @@ def process(word):
     if not re.fullmatch(r"\d{1,9}", word) or not int(word):
         raise argparse.ArgumentTypeError(f"{word!r} is not the number of one process")
     return int(word)
-
-
-def bytes_a_second(word):
-    """Bytes a second, as 4000000, 512K, 32M or 1G, in powers of 1,024 as QEMU takes them."""
-    match = re.fullmatch(r"(\d+)([KMG]?)(?:iB)?", word)
-    if not match:
-        raise argparse.ArgumentTypeError(f"{word!r} is no bandwidth such as 4000000, 512K, 32M or 1G")
-    return int(match[1]) << {"": 0, "K": 10, "M": 20, "G": 30}[match[2]]
-
-
-def link(word):
-    """Bytes a second of a link, as 10Gbit, 1250MB, 128MiB or, as QEMU takes it, 128M."""
-    match = re.fullmatch(r"(\d+(?:\.\d+)?)([KMGT]?)(bit|B|iB|)", word)
-    if not match or not float(match[1]):
-        raise argparse.ArgumentTypeError(f"{word!r} is no link such as 10Gbit, 1250MB or 128MiB")
-    power = " KMGT".index(match[2] or " ")
-    if match[3] in ("bit", "B") and match[2]:
-        return float(match[1]) * 1000**power / (8 if match[3] == "bit" else 1)
-    return float(match[1]) * 1024**power / (8 if match[3] == "bit" else 1)
 
 
 def count(word):

@@ -1,7 +1,11 @@
-// Numbers as text. Times and sizes are rounded down, as `precopy-view predict` does.
+// Numbers as text. Times and sizes are those of `precopy-view predict`, rounded down and without commas. But what would be
+// zeros there, though it is something, is told in microseconds or bytes.
 
 const MIB = 1n << 20n;
 const GIB = 1n << 30n;
+
+/** The least bytes that are a hundredth of a MiB. */
+const LEAST_IN_MIB = (MIB + 99n) / 100n;
 
 /** A number, with commas between thousands. */
 export function counted(number) {
@@ -30,25 +34,22 @@ export function decimalText(number, divisor, digits) {
 /** A time, given in microseconds: seconds with three digits after the point. */
 export function secondsText(micros) {
   const millis = micros / 1_000n;
-  return `${counted(millis / 1_000n)}.${String(millis % 1_000n).padStart(3, "0")} s`;
+  return `${millis / 1_000n}.${String(millis % 1_000n).padStart(3, "0")} s`;
 }
 
-/** A time, given in microseconds: below a millisecond in microseconds, below a second in milliseconds, else seconds. */
+/** A time, given in microseconds: below a millisecond in microseconds, else in seconds. */
 export function timeText(micros) {
-  if (micros > 0n && micros < 1_000n) {
-    return `${micros} \u00b5s`;
-  }
-  return micros < 1_000_000n ? `${decimalText(micros, 1_000n, 3)} ms` : secondsText(micros);
+  return micros > 0n && micros < 1_000n ? `${micros} \u00b5s` : secondsText(micros);
 }
 
-/** A size: in GiB if it has one, else in MiB, with two digits after the point; below a MiB in KiB or bytes. */
+/** A size: in GiB if it has one, else in MiB, with two digits after the point; below a hundredth of a MiB in bytes. */
 export function bytesText(bytes) {
-  if (bytes < 1_024n) {
-    return `${bytes} bytes`;
+  if (bytes > 0n && bytes < LEAST_IN_MIB) {
+    return `${bytes} ${bytes === 1n ? "byte" : "bytes"}`;
   }
-  const [unit, name] = bytes < MIB ? [1_024n, "KiB"] : bytes < GIB ? [MIB, "MiB"] : [GIB, "GiB"];
+  const [unit, name] = bytes < GIB ? [MIB, "MiB"] : [GIB, "GiB"];
   const hundredths = (bytes * 100n) / unit;
-  return `${counted(hundredths / 100n)}.${String(hundredths % 100n).padStart(2, "0")} ${name}`;
+  return `${hundredths / 100n}.${String(hundredths % 100n).padStart(2, "0")} ${name}`;
 }
 
 /** A rate in bytes a second, in the greatest decimal unit that it has one of. */
@@ -56,7 +57,7 @@ export function rateText(bytes) {
   const steps = [[1_000_000_000n, "GB/s"], [1_000_000n, "MB/s"], [1_000n, "KB/s"]];
   const [unit, name] = steps.find(([size]) => bytes >= size) ?? [1n, "B/s"];
   const tenths = (bytes * 10n) / unit;
-  return `${counted(tenths / 10n)}.${tenths % 10n} ${name}`;
+  return `${tenths / 10n}.${tenths % 10n} ${name}`;
 }
 
 /** A difference of two numbers as text: its sign, and what `text` makes of its amount. */

@@ -1,7 +1,7 @@
 // Rates and times as the controls say them: an amount in bytes a second or microseconds, and the unit that it is shown
 // in. A change of the unit keeps the amount. Sliders are logarithmic, in round numbers.
 
-import { counted, decimalText } from "./numbers.js";
+import { decimalText } from "./numbers.js";
 import { RATE_UNITS, TIME_UNITS } from "./units.js";
 
 /** How many places a slider has. */
@@ -125,7 +125,7 @@ export function unitName(unit, units) {
 
 /** A quantity in words. */
 export function quantityWords(quantity, units) {
-  return `${counted(shownCount(quantity, units))} ${unitName(quantity.unit, units)}`;
+  return `${shownCount(quantity, units)} ${unitName(quantity.unit, units)}`;
 }
 
 /** An amount in the greatest unit that it has one of, of the family of this unit. */

@@ -7,7 +7,7 @@
    10 seconds a sweep marks a value on each sixteenth page.
 
    cc -O2 -static -o store examples/guests/store.c
-   tools/compare-qemu --memory 2G --bandwidth 128M --downtime 300ms --workload examples/guests/store.sh --add store */
+   tools/compare-qemu --memory 2G --bandwidth 128MiB --downtime 300ms --workload examples/guests/store.sh --add store */
 
 #include <stdint.h>
 #include <stdio.h>
