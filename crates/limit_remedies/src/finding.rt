@@ -34,7 +34,7 @@ pub struct Remedies {
 /// Returns whether a trial keeps its limit, over a timeline, and what does.
 ///
 /// It allocates nothing: the caller lends a bit of `marks` and a slot of `list` for each page, and 64 slots of `rows`.
-/// What they hold does not matter. It costs as much as some 50 plans, and at most 98.
+/// What they hold does not matter. It costs as much as some 35 plans, and at most 98.
 pub fn remedies_of<T: Timeline>(
     timeline: &T,
     trial: &Trial,
