@@ -8,6 +8,8 @@ mod rate_rows;
 #[cfg(test)]
 mod redrawn_rows;
 #[cfg(test)]
+mod remedy_rows;
+#[cfg(test)]
 mod table_rows;
 #[cfg(test)]
 mod text_rows;

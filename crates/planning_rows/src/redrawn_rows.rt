@@ -13,7 +13,7 @@ use trace_codec::Trace;
 use worked_guest::asked;
 
 /// When each of six pages is written.
-const WRITES: [(u64, u32); 18] = [
+pub(crate) const WRITES: [(u64, u32); 18] = [
     (0, 0),
     (100, 1),
     (300, 2),
