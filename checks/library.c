@@ -9,6 +9,7 @@
  * there were.
  */
 #define _GNU_SOURCE
+#include "library_fences.h"
 #include "precopy.h"
 
 #include <pthread.h>
@@ -16,11 +17,7 @@
 #include <stdio.h>
 #include <stdlib.h>
 #include <string.h>
-#include <sys/mman.h>
-#include <unistd.h>
 
-#define PATTERN 0xA5
-#define FRONT 64
 #define THREADS 8
 #define TURNS 20
 #define MOST_MEMORY ((size_t)1 << 22)
@@ -73,59 +70,12 @@ void __wrap_free(void *old) {
     __real_free(old);
 }
 
-/* ---- buffers with a fence after them */
-
-struct room {
-    uint8_t *at;
-    size_t length;
-    uint8_t *mapped;
-    size_t whole;
-};
-
-static struct room fenced(size_t length) {
-    size_t page = (size_t)sysconf(_SC_PAGESIZE);
-    size_t inside = (length + FRONT + page - 1) / page * page;
-    uint8_t *mapped = mmap(NULL, inside + page, PROT_READ | PROT_WRITE, MAP_PRIVATE | MAP_ANONYMOUS, -1, 0);
-    if (mapped == MAP_FAILED || mprotect(mapped + inside, page, PROT_NONE)) {
-        perror("mmap");
-        exit(3);
-    }
-    memset(mapped, PATTERN, inside);
-    struct room room = {mapped + inside - length, length, mapped, inside + page};
-    return room;
-}
-
-static struct room input_of(const void *bytes, size_t length) {
-    struct room room = fenced(length);
-    memcpy(room.at, bytes, length);
-    mprotect(room.mapped, room.whole - (size_t)sysconf(_SC_PAGESIZE), PROT_READ);
-    return room;
-}
-
-static void drop(struct room *room) {
-    munmap(room->mapped, room->whole);
-}
-
-/* Whether the bytes in front of a buffer are untouched, and those from `from` on. */
-static int is_untouched(const struct room *room, size_t from) {
-    for (const uint8_t *at = room->at - FRONT; at < room->at; at++) {
-        if (*at != PATTERN) {
-            return 0;
-        }
-    }
-    for (size_t i = from; i < room->length; i++) {
-        if (room->at[i] != PATTERN) {
-            return 0;
-        }
-    }
-    return 1;
-}
-
 /* ---- the calls, each over the inputs of a guest and three buffers */
 
 struct guest {
     struct room trace, settings, cases, sizes, page, stream, streams, lengths;
     uint64_t tick;
+    uint32_t stamp; /* the last version of page 0 */
 };
 
 /* What a call writes: its long buffer, its states of pages, and what it reports. */
@@ -171,6 +121,23 @@ static uint32_t memory_before(const struct guest *g, struct outputs *out) {
 
 static uint32_t writes_before(const struct guest *g, struct outputs *out) {
     return precopy_writes_before(g->trace.at, g->trace.length, g->tick, (void *)out->told.at);
+}
+
+static uint32_t memory_step(const struct guest *g, struct outputs *out) {
+    return precopy_memory_step(g->trace.at, g->trace.length, 0, UINT32_MAX, out->room.at, out->room.length);
+}
+
+static uint32_t version_after(const struct guest *g, struct outputs *out) {
+    return precopy_version_after(g->trace.at, g->trace.length, 0, UINT32_MAX, (void *)out->told.at);
+}
+
+static uint32_t page_at(const struct guest *g, struct outputs *out) {
+    return precopy_page_at(g->trace.at, g->trace.length, 0, g->stamp, out->room.at, out->room.length);
+}
+
+static uint32_t page_writes(const struct guest *g, struct outputs *out) {
+    return precopy_page_writes(g->trace.at, g->trace.length, 0, (void *)out->room.at,
+                               out->room.length / sizeof(struct precopy_write), (void *)out->told.at);
 }
 
 static uint32_t check_streams(const struct guest *g, struct outputs *out) {
@@ -240,9 +207,11 @@ static void try_lengths(const struct guest *guest, const struct trial *trial) {
         struct outputs out = outputs_of(lengths[i], trial->told);
         uint32_t status = trial->call(guest, &out);
         expect(status == PRECOPY_SHORT_BUFFER && is_untouched(&out.room, 0), trial->name, "of a short buffer");
-        size_t needed;
-        memcpy(&needed, out.told.at, sizeof needed);
-        int tells = trial->call != decode && trial->call != sweep;
+        size_t needed = 0;
+        int tells = trial->call != decode && trial->call != sweep && trial->call != page_at;
+        if (tells) {
+            memcpy(&needed, out.told.at, sizeof needed);
+        }
         expect(!tells || needed * trial->element == trial->room, trial->name, "the length that is needed");
         expect(tells || is_untouched(&out.told, 0), trial->name, "what is told of a short buffer");
         drop_outputs(&out);
@@ -345,6 +314,7 @@ static void make_streams(struct guest *guest, const struct precopy_sizes *sizes,
     }
     guest->streams = input_of(stream, length);
     guest->lengths = input_of(lengths, sizeof lengths);
+    guest->stamp = places[0];
     __real_free(stream);
     __real_free(places);
 }
@@ -374,6 +344,28 @@ static void take_cut(const struct precopy_sizes *sizes, const uint8_t *stream, s
     drop(&states);
 }
 
+/* Memory that is brought on in two steps, backwards, and of a wrong length. */
+static void try_steps(const struct guest *guest, const struct precopy_sizes *sizes, const uint8_t *whole) {
+    const uint8_t *trace = guest->trace.at;
+    size_t length = guest->trace.length, bytes = (size_t)sizes->pages << sizes->shift;
+    uint32_t half = sizes->writes / 2;
+    struct room room = fenced(bytes), longer = fenced(bytes + 1);
+    expect(precopy_memory_step(trace, length, 1, 0, room.at, bytes) == PRECOPY_BACKWARDS, "memory_step", "backwards");
+    expect(precopy_memory_step(trace, length, 0, half, room.at, bytes - 1) == PRECOPY_MEMORY_LENGTH, "memory_step",
+           "of short memory");
+    uint32_t status = precopy_memory_step(trace, length, 0, half, longer.at, bytes + 1);
+    expect(status == PRECOPY_MEMORY_LENGTH && is_untouched(&longer, 0), "memory_step", "of long memory");
+    expect(is_untouched(&room, 0), "memory_step", "that is refused");
+    memset(room.at, 0, bytes);
+    status = precopy_memory_step(trace, length, 0, half, room.at, bytes);
+    expect(status == PRECOPY_OK, "memory_step", "to the half");
+    status = precopy_memory_step(trace, length, half, sizes->writes, room.at, bytes);
+    expect(status == PRECOPY_OK && !memcmp(room.at, whole, bytes), "memory_step", "to the end");
+    expect(is_untouched(&room, bytes), "memory_step", "in front of memory");
+    drop(&room);
+    drop(&longer);
+}
+
 static void try_streams(const struct precopy_sizes *sizes, const uint8_t *earlier, const uint8_t *whole) {
     size_t most = 2 * sizes->pages * (((size_t)1 << sizes->shift) + 9) + ((size_t)1 << sizes->shift) + 9;
     uint8_t *stream = __real_malloc(most);
@@ -399,7 +391,8 @@ static struct precopy_settings settings_of(uint64_t min, uint64_t max, uint64_t 
 
 /* Each call over a trace that is refused: the same number, and nothing written. */
 static void try_refused(const struct guest *guest, uint32_t status) {
-    call_of *calls[] = {plan, rounds, report, sweep, memory, memory_before, writes_before, check_streams};
+    call_of *calls[] = {plan,        rounds,        report,  sweep,       memory,       memory_before, writes_before,
+                        memory_step, version_after, page_at, page_writes, check_streams};
     for (size_t i = 0; i < sizeof calls / sizeof *calls; i++) {
         struct outputs out = outputs_of(1920, 40);
         uint32_t told = calls[i](guest, &out);
@@ -410,10 +403,11 @@ static void try_refused(const struct guest *guest, uint32_t status) {
 
 static void try_all(struct guest *guest, const struct precopy_sizes *sizes) {
     size_t bytes = (size_t)sizes->pages << sizes->shift, size = (size_t)1 << sizes->shift;
+    size_t row = sizeof(struct precopy_write);
     struct outputs whole = outputs_of(bytes, sizeof(size_t)), earlier = outputs_of(bytes, sizeof(size_t));
     expect(memory(guest, &whole) == PRECOPY_OK && memory_before(guest, &earlier) == PRECOPY_OK, "memory", "of a trace");
     uint8_t frame[9 + 4096];
-    size_t needed = 0, text = 0, count = 0;
+    size_t needed = 0, text = 0, count = 0, writes = 0;
     guest->page = input_of(whole.room.at, size);
     uint32_t status = precopy_encode_frame(sizes, 0, 0, guest->page.at, size, frame, sizeof frame, &needed);
     expect(status == PRECOPY_OK, "encode_frame", "of page 0");
@@ -422,8 +416,11 @@ static void try_all(struct guest *guest, const struct precopy_sizes *sizes) {
     struct outputs none = outputs_of(0, sizeof(size_t));
     report(guest, &none);
     memcpy(&text, none.told.at, sizeof text);
+    expect(text <= PRECOPY_REPORT_BOUND(guest->trace.length), "report", "a bound of its length");
     rounds(guest, &none);
     memcpy(&count, none.told.at, sizeof count);
+    page_writes(guest, &none);
+    memcpy(&writes, none.told.at, sizeof writes);
     struct trial trials[] = {
         {"check_trace", check_trace, 0, sizeof(struct precopy_sizes) + 4, 1},
         {"plan", plan, 0, sizeof(struct precopy_sums), 1},
@@ -433,6 +430,9 @@ static void try_all(struct guest *guest, const struct precopy_sizes *sizes) {
         {"memory", memory, bytes, sizeof(size_t), 1},
         {"memory_before", memory_before, bytes, sizeof(size_t), 1},
         {"writes_before", writes_before, 0, sizeof(uint32_t), 1},
+        {"version_after", version_after, 0, sizeof(uint32_t), 1},
+        {"page_at", page_at, size, 0, 1},
+        {"page_writes", page_writes, writes * row, sizeof(size_t), row},
         {"check_streams", check_streams, 0, sizeof(struct precopy_finding), 1},
         {"encode_frame", encode, needed, sizeof(size_t), 1},
         {"decode_frame", decode, size, sizeof(struct precopy_frame), 1},
@@ -445,6 +445,7 @@ static void try_all(struct guest *guest, const struct precopy_sizes *sizes) {
     if (sizes->writes < 20000) {
         try_threads(guest, trials, all);
     }
+    try_steps(guest, sizes, whole.room.at);
     try_streams(sizes, earlier.room.at, whole.room.at);
     drop_outputs(&whole);
     drop_outputs(&earlier);

@@ -32,6 +32,14 @@ static void nulls_of_traces(void) {
     ROW(precopy_sweep(trace, sizeof trace, &good, 1, NULL, 0, &count) == PRECOPY_SHORT_BUFFER && count == 0);
     ROW(precopy_sweep(trace, sizeof trace, NULL, 0, &sums, 1, &count) == PRECOPY_OK && count == 0);
     ROW(precopy_writes_before(NULL, 0, 1, &record) == PRECOPY_SHORT_HEADER);
+    ROW(precopy_version_after(NULL, 0, 0, 1, &record) == PRECOPY_SHORT_HEADER);
+    ROW(precopy_page_at(NULL, 0, 0, 1, NULL, 0) == PRECOPY_SHORT_HEADER);
+    ROW(precopy_page_at(trace, sizeof trace, 0, 1, NULL, 0) == PRECOPY_SHORT_BUFFER);
+    ROW(precopy_page_writes(NULL, 0, 0, NULL, 0, &count) == PRECOPY_SHORT_HEADER && count == 0);
+    ROW(precopy_page_writes(trace, sizeof trace, 0, NULL, 0, &count) == PRECOPY_SHORT_BUFFER && count == 1);
+    ROW(precopy_memory_step(NULL, 0, 0, 1, NULL, 0) == PRECOPY_SHORT_HEADER);
+    ROW(precopy_memory_step(trace, sizeof trace, 0, 1, NULL, 0) == PRECOPY_MEMORY_LENGTH);
+    count = 0;
     ROW(precopy_memory(NULL, 0, NULL, 0, &count) == PRECOPY_SHORT_HEADER && count == 0);
     ROW(precopy_memory(trace, sizeof trace, NULL, 0, &count) == PRECOPY_SHORT_BUFFER && count == 16);
     ROW(precopy_memory_before(NULL, 0, 8, NULL, 0, &count) == PRECOPY_SHORT_HEADER && count == 16);
@@ -75,6 +83,20 @@ static void order_of_traces(void) {
     ROW(precopy_memory_before(trace, 32, 8, NULL, 0, &count) == PRECOPY_SHORT_RECORD);
 }
 
+static void order_of_places(void) {
+    struct precopy_write writes[1];
+    uint32_t version;
+    size_t count;
+    ROW(precopy_version_after(trace, 32, 1, 1, &version) == PRECOPY_SHORT_RECORD);
+    ROW(precopy_page_at(trace, 32, 1, 2, NULL, 0) == PRECOPY_SHORT_RECORD);
+    ROW(precopy_page_at(trace, sizeof trace, 1, 2, NULL, 0) == PRECOPY_NO_PAGE);
+    ROW(precopy_page_at(trace, sizeof trace, 0, 2, NULL, 0) == PRECOPY_NO_VERSION);
+    ROW(precopy_page_writes(trace, 32, 1, writes, 0, &count) == PRECOPY_SHORT_RECORD);
+    ROW(precopy_page_writes(trace, sizeof trace, 1, writes, 0, &count) == PRECOPY_NO_PAGE);
+    ROW(precopy_memory_step(trace, 32, 2, 1, NULL, 0) == PRECOPY_BACKWARDS);
+    ROW(precopy_memory_step(trace, 32, 1, 2, NULL, 0) == PRECOPY_SHORT_RECORD);
+}
+
 static void order_of_frames(void) {
     static const size_t whole[] = {25};
     struct precopy_finding found = {9, 9, 9, 9, 9, 9, 9, 9};
@@ -102,6 +124,7 @@ int main(void) {
     nulls_of_traces();
     nulls_of_frames();
     order_of_traces();
+    order_of_places();
     order_of_frames();
     printf("%d passed, %d failed\n", passed, failed);
     return failed != 0;

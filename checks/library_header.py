@@ -18,6 +18,8 @@ int main(void) {{
     {}
 }}
 """
+# Numbers of writes at which the bound of a report's length bends.
+EDGES = [1, 2, (1 << 16) - 1, 1 << 16, (1 << 16) + 1, (1 << 20) - 1, 1 << 20, (1 << 20) + 1, 1 << 24]
 # Programs that misuse the library, and the warning that tells of it. The first is right.
 CALL = "#include <precopy.h>\nvoid f(const struct precopy_settings *it, size_t *page) {{ {} }}\n"
 MISUSES = [
@@ -57,6 +59,24 @@ def check_version(tally):
     tally.add(good, f"the version of precopy.h is {told and told[1]}, and that of the tools {version.VERSION}")
 
 
+def check_bound(tally, folder):
+    """The bound of a report's length is that of Python, and a constant where the length of the trace is one."""
+    import precopy  # noqa: PLC0415
+
+    lengths = [0, 1, 15, 16, 31, 32, 47, 48, 1000, *(16 * count + 16 + more for count in EDGES for more in (-1, 0, 1))]
+    body = "static uint8_t text[PRECOPY_REPORT_BOUND(1000)];\n    static const size_t lengths[] = {%s};\n    "
+    body += 'for (size_t i = 0; i < %d; i++)\n        printf("%%zu\\n", PRECOPY_REPORT_BOUND(lengths[i]));\n    '
+    body += "return fread(trace, 1, trace_length, stdin) || sizeof text != PRECOPY_REPORT_BOUND((size_t)1000);"
+    path = written(folder, "bound.c", AROUND.format(body % (", ".join(map(str, lengths)), len(lengths))))
+    built = os.path.join(folder, "bound")
+    done = run("cc", "-std=c99", *WARNINGS, f"-I{TOP}/include", "-o", built, path, f"{LIBRARY}/libprecopy.a")
+    if is_done(tally, done, "the bound of a report's length is compiled"):
+        done = run(built)
+        wanted = [precopy._longest_report(length) for length in lengths]
+        found = [int(it) for it in done.stdout.split()]
+        tally.add(done.returncode == 0 and found == wanted, f"bounds of reports: {found}, and in Python {wanted}")
+
+
 def check_warnings(tally, folder):
     """A compiler tells of an answer that nobody looks at, and of a null where none may be."""
     for language, suffix in (("c", "c"), ("c++", "cpp")):
@@ -71,4 +91,5 @@ def check_warnings(tally, folder):
 def check(tally, folder):
     check_example(tally, folder)
     check_version(tally)
+    check_bound(tally, folder)
     check_warnings(tally, folder)

@@ -43,6 +43,14 @@ def taking_numbers(trace):
     for name, ends in (("shift", (4, 12)), ("pages", (1, 1 << 16)), ("writes", (0, 1 << 20))):
         yield f"Sizes, {name}", lambda it, n=name: precopy.Sizes(**{"shift": 4, "pages": 1, "writes": 0, n: it}), ends
     yield "writes_before, tick", lambda it: precopy.writes_before(trace, it), (0, (1 << 64) - 1)
+    pages, memory = precopy.check_trace(trace).pages, precopy.memory(trace)
+    yield "version_after, page", lambda it: precopy.version_after(trace, it, 1), (0, pages - 1)
+    yield "version_after, count", lambda it: precopy.version_after(trace, 0, it), (0, (1 << 32) - 1)
+    yield "page_at, page", lambda it: precopy.page_at(trace, it, 0), (0, pages - 1)
+    yield "page_at, stamp", lambda it: precopy.page_at(trace, 0, it), (0, 0)
+    yield "page_writes, page", lambda it: precopy.page_writes(trace, it), (0, pages - 1)
+    yield "memory_step, start", lambda it: precopy.memory_step(trace, it, 7, memory), (0, 7)
+    yield "memory_step, end", lambda it: precopy.memory_step(trace, 7, it, memory), (7, (1 << 32) - 1)
     yield "check_streams, stop", lambda it: precopy.check_streams(trace, it, []), (0, (1 << 32) - 1)
     yield "encode_frame, page", lambda it: precopy.encode_frame(SIZES, it, 0, PAGE), (0, 2)
     yield "encode_frame, stamp", lambda it: precopy.encode_frame(SIZES, 0, it, PAGE), (0, 20)
@@ -105,10 +113,25 @@ def taking_bytes(trace, stream):
         yield call.__name__, trace, call
     yield "memory_before", trace, lambda it: precopy.memory_before(it, 700)
     yield "writes_before", trace, lambda it: precopy.writes_before(it, 700)
+    yield "version_after", trace, lambda it: precopy.version_after(it, 0, 9)
+    yield "page_at", trace, lambda it: precopy.page_at(it, 0, 0)
+    yield "page_writes", trace, lambda it: precopy.page_writes(it, 0)
+    yield "memory_step", trace, step_of
     yield "check_streams, trace", trace, lambda it: precopy.check_streams(it, 9, [b""])
     yield "encode_frame", PAGE, lambda it: precopy.encode_frame(SIZES, 2, 3, it)
     yield "decode_frame", stream, lambda it: precopy.decode_frame(SIZES, it)
     yield "accept", stream, lambda it: (lambda flat: (flat.accept(it), traces.state(flat)))(precopy.FlatMemory(SIZES))
+
+
+def step_of(data):
+    """The memory after nine writes of a trace."""
+    try:
+        sizes = precopy.check_trace(data)
+        room = bytearray(sizes.pages << sizes.shift)
+    except (precopy.TraceRefused, TypeError, BufferError):
+        room = bytearray()
+    precopy.memory_step(data, 0, 9, room)
+    return room
 
 
 def kinds_of(data, folder):

@@ -90,6 +90,50 @@ static void memories(void) {
     ROW(precopy_memory(trace, sizeof trace, memory, 63, &needed) == PRECOPY_SHORT_BUFFER && needed == 64);
 }
 
+static void pages(void) {
+    static const uint8_t first[16] = {1};
+    struct precopy_write writes[4] = {{0, 9, 9, 9}, {0, 9, 9, 9}, {0, 9, 9, 9}, {0, 9, 9, 9}};
+    uint8_t content[17], memory[64] = {0}, wanted[64] = {0};
+    uint32_t version = 9;
+    size_t count = 9;
+    ROW(precopy_version_after(trace, sizeof trace, 1, 0, &version) == PRECOPY_OK && version == 0);
+    ROW(precopy_version_after(trace, sizeof trace, 1, 4, &version) == PRECOPY_OK && version == 3);
+    ROW(precopy_version_after(trace, sizeof trace, 1, 5, &version) == PRECOPY_OK && version == 5);
+    ROW(precopy_version_after(trace, sizeof trace, 1, UINT32_MAX, &version) == PRECOPY_OK && version == 5);
+    ROW(precopy_version_after(trace, sizeof trace, 2, 5, &version) == PRECOPY_OK && version == 0);
+    ROW(precopy_version_after(trace, sizeof trace, 4, 5, &version) == PRECOPY_NO_PAGE && version == 0);
+    memset(content, 9, sizeof content);
+    ROW(precopy_page_at(trace, sizeof trace, 0, 1, content, 17) == PRECOPY_OK);
+    ROW(!memcmp(content, first, 16) && content[16] == 9);
+    ROW(precopy_page_at(trace, sizeof trace, 1, 3, content, 16) == PRECOPY_OK && content[0] == 3 && content[15] == 2);
+    ROW(precopy_page_at(trace, sizeof trace, 1, 5, content, 16) == PRECOPY_OK && content[0] == 0 && content[15] == 2);
+    ROW(precopy_page_at(trace, sizeof trace, 1, 0, content, 16) == PRECOPY_OK && precopy_is_zero(content, 16));
+    memset(content, 9, sizeof content);
+    ROW(precopy_page_at(trace, sizeof trace, 1, 4, content, 16) == PRECOPY_NO_VERSION);
+    ROW(precopy_page_at(trace, sizeof trace, 1, 6, content, 16) == PRECOPY_NO_VERSION);
+    ROW(precopy_page_at(trace, sizeof trace, 4, 0, content, 16) == PRECOPY_NO_PAGE);
+    ROW(precopy_page_at(trace, sizeof trace, 1, 3, content, 15) == PRECOPY_SHORT_BUFFER && content[0] == 9);
+    ROW(precopy_page_writes(trace, sizeof trace, 1, writes, 2, &count) == PRECOPY_SHORT_BUFFER && count == 3);
+    ROW(writes[0].size == 9);
+    ROW(precopy_page_writes(trace, sizeof trace, 1, writes, 4, &count) == PRECOPY_OK && count == 3);
+    ROW(writes[0].place == 2 && writes[0].tick == 5 && writes[0].offset == 15 && writes[0].size == 1);
+    ROW(writes[1].place == 3 && writes[1].tick == 1200 && writes[1].offset == 0 && writes[1].size == 1);
+    ROW(writes[2].place == 5 && writes[2].tick == 2500 && writes[2].offset == 0 && writes[3].size == 9);
+    ROW(precopy_page_writes(trace, sizeof trace, 2, writes, 0, &count) == PRECOPY_OK && count == 0);
+    ROW(precopy_page_writes(trace, sizeof trace, 4, writes, 4, &count) == PRECOPY_NO_PAGE && count == 0);
+    wanted[0] = 1, wanted[31] = 2;
+    ROW(precopy_memory_step(trace, sizeof trace, 0, 2, memory, 64) == PRECOPY_OK && !memcmp(memory, wanted, 64));
+    ROW(precopy_memory_step(trace, sizeof trace, 2, 2, memory, 64) == PRECOPY_OK && !memcmp(memory, wanted, 64));
+    wanted[16] = 3, wanted[50] = 4, wanted[51] = 5;
+    ROW(precopy_memory_step(trace, sizeof trace, 2, 4, memory, 64) == PRECOPY_OK && !memcmp(memory, wanted, 64));
+    ROW(precopy_memory_step(trace, sizeof trace, 4, 3, memory, 64) == PRECOPY_BACKWARDS);
+    ROW(precopy_memory_step(trace, sizeof trace, 4, 5, memory, 63) == PRECOPY_MEMORY_LENGTH);
+    ROW(!memcmp(memory, wanted, 64));
+    wanted[16] = 0;
+    ROW(precopy_memory_step(trace, sizeof trace, 4, UINT32_MAX, memory, 64) == PRECOPY_OK);
+    ROW(!memcmp(memory, wanted, 64));
+}
+
 static void traces(void) {
     struct precopy_sizes sizes = {0, 0, 0};
     uint32_t record = 9;
@@ -201,6 +245,7 @@ int main(void) {
     reports();
     sweeps();
     memories();
+    pages();
     traces();
     frames();
     printf("%d passed, %d failed\n", passed, failed);

@@ -12,7 +12,7 @@ from library_runs import EXAMPLES, LIBRARY, TOP, is_done, program_says, read, ru
 from tally import left_out
 
 HEADER, CRATE = "include/precopy.h", "bindings/rust"
-SOURCES = ("flat.rs", "lib.rs", "refusals.rs", "streams.rs")
+SOURCES = ("flat.rs", "lib.rs", "places.rs", "refusals.rs", "streams.rs")
 
 
 def receive(tally, folder, path, trace):

@@ -29,7 +29,7 @@
  * - All memory is the caller's. A function that needs memory of its own gets it from malloc, frees it before it
  *   returns, and returns PRECOPY_NO_MEMORY if there is none. Its comment says whether it takes any.
  * - A buffer that is longer than needed keeps the rest of its contents. One that is too short gets nothing: the
- *   function returns PRECOPY_SHORT_BUFFER, and sets the length that it needs.
+ *   function returns PRECOPY_SHORT_BUFFER, and sets the length that it needs, if that is not a page's.
  *
  * What nothing checks, and a caller must ensure:
  *
@@ -113,6 +113,10 @@ enum precopy_status {
     PRECOPY_PAGE_COUNT = 64,    /* there is not a struct precopy_page for each page */
     PRECOPY_PAGE_MISSING = 65,  /* a page did not come */
     PRECOPY_STREAM_SIZES = 66,  /* the streams do not have as many bytes as their sizes say */
+
+    /* A trace does not have what is asked for. */
+    PRECOPY_NO_PAGE = 67,   /* the guest does not have the page */
+    PRECOPY_BACKWARDS = 68, /* a step ends before it begins */
 
     /* Streams are not what they must be. */
     PRECOPY_NO_VERSION = 71,  /* a stamp is not 0, and no write to the page has that place */
@@ -224,10 +228,25 @@ uint32_t precopy_rounds(const uint8_t *trace, size_t trace_length, const struct 
                         struct precopy_round *rounds, size_t rounds_length, size_t *count);
 
 /*
+ * At least as many bytes as the report on a trace of this length has, as a constant if the length is one. A write has
+ * at least 16 bytes in a trace. A report has a line of at most 72 bytes for each window with a write, one of at most 11
+ * for each hot page, one for each round, and three more, all of at most 128.
+ */
+#define PRECOPY_REPORT_BOUND(trace_length)                                                                             \
+    (72 * PRECOPY_MOST(trace_length, 1048576) + 11 * PRECOPY_MOST(trace_length, 65536) + 128 * (size_t)67)
+
+/* How many writes a trace of this length may have, or `most` if that is less. */
+#define PRECOPY_MOST(trace_length, most)                                                                               \
+    ((size_t)(trace_length) < 32                         ? (size_t)0                                                   \
+     : ((size_t)(trace_length)-16) / 16 < (size_t)(most) ? ((size_t)(trace_length)-16) / 16                            \
+                                                         : (size_t)(most))
+
+/*
  * Writes the report on a trace, as `precopy report` does: ASCII, without a 0 at the end. *needed is its length.
  *
- * If the buffer is shorter, it returns PRECOPY_SHORT_BUFFER and writes only *needed. It takes memory as precopy_plan
- * does, and for the text.
+ * If the buffer is shorter, it returns PRECOPY_SHORT_BUFFER and writes only *needed. That takes as long as a report. A
+ * buffer of PRECOPY_REPORT_BOUND(trace_length) bytes is never too short, so with it one call does. It takes memory as
+ * precopy_plan does, and for the text.
  */
 PRECOPY_ANSWERS PRECOPY_NOT_NULL(3, 6)
 uint32_t precopy_report(const uint8_t *trace, size_t trace_length, const struct precopy_settings *settings,
@@ -265,6 +284,57 @@ uint32_t precopy_memory(const uint8_t *trace, size_t trace_length, uint8_t *memo
 PRECOPY_ANSWERS PRECOPY_NOT_NULL(6)
 uint32_t precopy_memory_before(const uint8_t *trace, size_t trace_length, uint64_t tick, uint8_t *memory,
                                size_t memory_length, size_t *needed);
+
+/*
+ * Brings memory after the first `from` writes of a trace on to that after the first `to` writes, in place. Memory after
+ * 0 writes is all zeros. Each call reads the whole trace, but applies only the writes in between.
+ *
+ * It first returns PRECOPY_BACKWARDS if `to` is below `from`. Of a trace with fewer writes than `to` it applies all. If
+ * the memory has not as many bytes as all pages, it returns PRECOPY_MEMORY_LENGTH. It takes no memory.
+ */
+PRECOPY_ANSWERS
+uint32_t precopy_memory_step(const uint8_t *trace, size_t trace_length, uint32_t from, uint32_t to, uint8_t *memory,
+                             size_t memory_length);
+
+/* ---- pages */
+
+/*
+ * Sets *version to the version of a page after the first `count` writes of a trace: the place of the last of them that
+ * is to the page, or 0 if none is. For a tick, precopy_writes_before says how many writes there are.
+ *
+ * After the trace the page is tested, with PRECOPY_NO_PAGE. It takes no memory.
+ */
+PRECOPY_ANSWERS PRECOPY_NOT_NULL(5)
+uint32_t precopy_version_after(const uint8_t *trace, size_t trace_length, uint32_t page, uint32_t count,
+                               uint32_t *version);
+
+/*
+ * Writes the bytes of a page at a stamp: as the write to it with this place leaves them, or zeros for 0.
+ *
+ * After the trace the page is tested, with PRECOPY_NO_PAGE, and then the stamp, with PRECOPY_NO_VERSION. If `content`
+ * is shorter than a page, it returns PRECOPY_SHORT_BUFFER. It takes no memory.
+ */
+PRECOPY_ANSWERS
+uint32_t precopy_page_at(const uint8_t *trace, size_t trace_length, uint32_t page, uint32_t stamp, uint8_t *content,
+                         size_t content_length);
+
+/* A write to a page. */
+struct precopy_write {
+    uint64_t tick;   /* its tick */
+    size_t size;     /* how many bytes it writes; 0 if it releases the page, which becomes zeros */
+    uint32_t place;  /* its place in the trace, 1 for the first write */
+    uint32_t offset; /* the byte of the page at which it begins */
+};
+
+/*
+ * Writes the writes to a page into an array, in their order. *count is how many there are.
+ *
+ * If the array has fewer elements, it returns PRECOPY_SHORT_BUFFER and writes only *count. After the trace the page is
+ * tested, with PRECOPY_NO_PAGE. It takes no memory.
+ */
+PRECOPY_ANSWERS PRECOPY_NOT_NULL(6)
+uint32_t precopy_page_writes(const uint8_t *trace, size_t trace_length, uint32_t page, struct precopy_write *writes,
+                             size_t writes_length, size_t *count);
 
 /* ---- frames */
 

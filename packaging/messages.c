@@ -89,6 +89,10 @@ const char *precopy_strerror(uint32_t status) {
         return "a page did not come";
     case PRECOPY_STREAM_SIZES:
         return "the streams do not have as many bytes as their sizes say";
+    case PRECOPY_NO_PAGE:
+        return "the guest does not have the page";
+    case PRECOPY_BACKWARDS:
+        return "a step ends before it begins";
     case PRECOPY_NO_VERSION:
         return "no write to the page has the place of the stamp";
     case PRECOPY_AFTER_STOP:

@@ -32,10 +32,11 @@ from ._calls import lent as _lent
 from ._calls import number as _number
 
 __all__ = [
-    "BufferRefused", "Finding", "FlatMemory", "Frame", "FrameRefused", "NoMemory", "Reason", "Refused", "Round",
-    "Settings", "SettingsRefused", "Sizes", "Sums", "Taken", "TraceRefused", "check_settings", "check_streams",
-    "check_trace", "decode_frame", "encode_frame", "is_zero", "memory", "memory_before", "plan", "report", "rounds",
-    "sweep", "version", "writes_before",
+    "BufferRefused", "Finding", "FlatMemory", "Frame", "FrameRefused", "NoMemory", "PlaceRefused", "Reason", "Refused",
+    "Round", "Settings", "SettingsRefused", "Sizes", "Sums", "Taken", "TraceRefused", "Write", "check_settings",
+    "check_streams", "check_trace", "decode_frame", "encode_frame", "is_zero", "memory", "memory_before",
+    "memory_step", "page_at", "page_writes", "plan", "report", "rounds", "sweep", "version", "version_after",
+    "writes_before",
 ]  # fmt: skip
 
 Bytes = Union[bytes, bytearray, memoryview, mmap.mmap]
@@ -79,12 +80,16 @@ class BufferRefused(Refused):
     """The number of bytes is not that of a page, or not that of the memory."""
 
 
+class PlaceRefused(Refused):
+    """The guest does not have the page, or the page no such version, or a step ends before it begins."""
+
+
 class NoMemory(Refused, MemoryError):
     """Memory ran out."""
 
 
 _KINDS = [(range(1, 16), TraceRefused), (range(16, 17), NoMemory), (range(21, 31), SettingsRefused)]
-_KINDS += [(range(41, 46), FrameRefused), (range(61, 66), BufferRefused)]
+_KINDS += [(range(41, 46), FrameRefused), (range(61, 66), BufferRefused), (range(67, 72), PlaceRefused)]
 
 
 def _check(status: int) -> None:
@@ -210,6 +215,17 @@ class Taken:
 
 
 @dataclass(frozen=True)
+class Write:
+    """A write to a page: its place in the trace, 1 for the first, its tick, and how many bytes it writes from which
+    byte of the page on. With none it releases the page."""
+
+    place: int
+    tick: int
+    offset: int
+    size: int
+
+
+@dataclass(frozen=True)
 class Finding:
     """What is wrong first in streams, as include/precopy.h says for its status. What does not apply is 0."""
 
@@ -326,6 +342,40 @@ def writes_before(trace: Bytes, tick: int) -> int:
     count = ctypes.c_uint32()
     _call_over(_LIBRARY.precopy_writes_before, trace, _number("tick", tick, 64), count)
     return count.value
+
+
+def memory_step(trace: Bytes, start: int, end: int, memory: Bytes) -> None:
+    """Brings memory after the first `start` writes of a trace on to that after the first `end` writes, in place."""
+    where = _number("start", start, 32), _number("end", end, 32)
+    with _lent(memory, _calls.WRITABLE) as (room, length):
+        _call_over(_LIBRARY.precopy_memory_step, trace, *where, room, length)
+
+
+def version_after(trace: Bytes, page: int, count: int) -> int:
+    """Returns the version of a page after the first `count` writes of a trace: the place of the last of them that is to
+    the page, or 0."""
+    version, where = ctypes.c_uint32(), (_number("page", page, 32), _number("count", count, 32))
+    _call_over(_LIBRARY.precopy_version_after, trace, *where, version)
+    return version.value
+
+
+def page_at(trace: Bytes, page: int, stamp: int) -> bytes:
+    """Returns the bytes of a page at a stamp: as the write to it with this place leaves them, or zeros for 0."""
+    room = ctypes.create_string_buffer(check_trace(trace).page_length)
+    where = _number("page", page, 32), _number("stamp", stamp, 32)
+    _call_over(_LIBRARY.precopy_page_at, trace, *where, ctypes.addressof(room), len(room))
+    return room.raw
+
+
+def page_writes(trace: Bytes, page: int) -> List[Write]:
+    """Returns the writes to a page, in their order."""
+    where, count, found = _number("page", page, 32), ctypes.c_size_t(), (_calls.Write * 0)()
+    try:
+        _call_over(_LIBRARY.precopy_page_writes, trace, where, found, 0, count)
+    except BufferRefused:
+        found = (_calls.Write * count.value)()
+        _call_over(_LIBRARY.precopy_page_writes, trace, where, found, len(found), count)
+    return [Write(it.place, it.tick, it.offset, it.size) for it in found]
 
 
 def check_streams(trace: Bytes, stop: int, streams: Sequence[Bytes]) -> Optional[Finding]:

@@ -10,7 +10,7 @@ from typing import Any, Iterator, Tuple
 
 ABI_NUMBER = 1
 ABI = f"libprecopy.so.{ABI_NUMBER}"
-NO_MEMORY, FRAME_PAGE, MEMORY_LENGTH, PAGE_MISSING = 16, 42, 63, 65
+NO_MEMORY, FRAME_PAGE, SHORT_BUFFER, MEMORY_LENGTH, PAGE_MISSING = 16, 42, 61, 63, 65
 # The statuses of what is wrong in streams.
 NO_VERSION, PAGE_BEHIND = 71, 75
 NO_FRAME = range(41, 46)
@@ -59,6 +59,15 @@ class Finding(ctypes.Structure):
     ]
 
 
+class Write(ctypes.Structure):
+    _fields_ = [
+        ("tick", ctypes.c_uint64),
+        ("size", ctypes.c_size_t),
+        ("place", ctypes.c_uint32),
+        ("offset", ctypes.c_uint32),
+    ]
+
+
 _BYTES, _LENGTH, _NUMBER = ctypes.c_void_p, ctypes.c_size_t, ctypes.c_uint32
 _COUNT = ctypes.POINTER(ctypes.c_size_t)
 _pointer = ctypes.POINTER
@@ -73,6 +82,10 @@ _CALLS = {
     "memory": [_BYTES, _LENGTH, _BYTES, _LENGTH, _COUNT],
     "memory_before": [_BYTES, _LENGTH, ctypes.c_uint64, _BYTES, _LENGTH, _COUNT],
     "writes_before": [_BYTES, _LENGTH, ctypes.c_uint64, _pointer(_NUMBER)],
+    "memory_step": [_BYTES, _LENGTH, _NUMBER, _NUMBER, _BYTES, _LENGTH],
+    "version_after": [_BYTES, _LENGTH, _NUMBER, _NUMBER, _pointer(_NUMBER)],
+    "page_at": [_BYTES, _LENGTH, _NUMBER, _NUMBER, _BYTES, _LENGTH],
+    "page_writes": [_BYTES, _LENGTH, _NUMBER, _pointer(Write), _LENGTH, _COUNT],
     "check_streams": [_BYTES, _LENGTH, _NUMBER, _BYTES, _LENGTH, _COUNT, _LENGTH, _pointer(Finding)],
     "encode_frame": [_pointer(Sizes), _NUMBER, _NUMBER, _BYTES, _LENGTH, _BYTES, _LENGTH, _COUNT],
     "decode_frame": [_pointer(Sizes), _BYTES, _LENGTH, _pointer(Frame), _BYTES, _LENGTH],

@@ -1,6 +1,6 @@
 //! The functions and structs of include/precopy.h, as they are in C.
 
-use crate::{Page, Round, Taken};
+use crate::{Page, Round, Taken, Write};
 use std::os::raw::c_char;
 
 #[repr(C)]
@@ -106,6 +106,37 @@ extern "C" {
         needed: *mut usize,
     ) -> u32;
     pub fn precopy_writes_before(trace: *const u8, trace_length: usize, tick: u64, count: *mut u32) -> u32;
+    pub fn precopy_memory_step(
+        trace: *const u8,
+        trace_length: usize,
+        from: u32,
+        to: u32,
+        memory: *mut u8,
+        memory_length: usize,
+    ) -> u32;
+    pub fn precopy_version_after(
+        trace: *const u8,
+        trace_length: usize,
+        page: u32,
+        count: u32,
+        version: *mut u32,
+    ) -> u32;
+    pub fn precopy_page_at(
+        trace: *const u8,
+        trace_length: usize,
+        page: u32,
+        stamp: u32,
+        content: *mut u8,
+        content_length: usize,
+    ) -> u32;
+    pub fn precopy_page_writes(
+        trace: *const u8,
+        trace_length: usize,
+        page: u32,
+        writes: *mut Write,
+        writes_length: usize,
+        count: *mut usize,
+    ) -> u32;
     pub fn precopy_check_streams(
         trace: *const u8,
         trace_length: usize,

@@ -3,6 +3,7 @@
 
 mod calls;
 mod flat;
+mod places;
 mod refusals;
 mod room;
 mod streams;
@@ -10,6 +11,7 @@ mod streams;
 pub use flat::{
     accept, decode_frame, decode_frame_into, encode_frame, encode_frame_into, missing, FlatMemory, Frame, Page, Taken,
 };
+pub use places::{memory_step, page_at, page_at_into, page_writes, page_writes_into, version_after, Write};
 pub use refusals::{status, Refused};
 pub use streams::{check_streams, writes_before, Finding, FramePlace};
 

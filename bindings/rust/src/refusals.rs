@@ -45,6 +45,8 @@ pub mod status {
     pub const PAGE_COUNT: u32 = 64;
     pub const PAGE_MISSING: u32 = 65;
     pub const STREAM_SIZES: u32 = 66;
+    pub const NO_PAGE: u32 = 67;
+    pub const BACKWARDS: u32 = 68;
     pub const NO_VERSION: u32 = 71;
     pub const AFTER_STOP: u32 = 72;
     pub const OLDER: u32 = 73;
@@ -71,6 +73,9 @@ pub enum Refused {
     /// The length of a slice is not that of a page, of the memory, of the table of pages, or of all streams.
     #[allow(missing_docs)]
     Length { status: u32 },
+    /// The guest does not have the page, or the page no such version, or a step ends before it begins.
+    #[allow(missing_docs)]
+    Place { status: u32 },
     /// Memory ran out.
     NoMemory,
 }
@@ -86,6 +91,7 @@ impl Refused {
                 let taken = Taken::default();
                 Refused::Frame { status, taken }
             }
+            status::NO_PAGE..=status::NO_VERSION => Refused::Place { status },
             status => Refused::Length { status },
         }
     }
@@ -96,6 +102,7 @@ impl Refused {
             Refused::Trace { status, .. }
             | Refused::Settings { status }
             | Refused::Frame { status, .. }
+            | Refused::Place { status }
             | Refused::Length { status } => status,
             Refused::ShortBuffer { .. } => status::SHORT_BUFFER,
             Refused::NoMemory => status::NO_MEMORY,

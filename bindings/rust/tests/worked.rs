@@ -1,6 +1,6 @@
 //! Worked examples of each call, whose values were worked out by hand; those of checks/library_rows.c.
 
-use precopy::{status, Finding, FramePlace, Reason, Refused, Settings, Sizes, Sums, Taken};
+use precopy::{status, Finding, FramePlace, Reason, Refused, Settings, Sizes, Sums, Taken, Write};
 
 /// Pages of 16 bytes, 4 pages, 5 writes: of pages 0 and 1 at ticks 0 and 5, of page 1 at tick 1200, of pages 3 and 1 at
 /// tick 2500.
@@ -113,6 +113,44 @@ fn memories() {
 }
 
 #[test]
+fn pages() {
+    assert_eq!(precopy::version_after(&TRACE, 1, 4), Ok(3));
+    assert_eq!(precopy::version_after(&TRACE, 1, u32::MAX), Ok(5));
+    let mut wanted = [0; 16];
+    (wanted[0], wanted[15]) = (3, 2);
+    assert_eq!(precopy::page_at(&TRACE, 1, 3).as_deref(), Ok(&wanted[..]));
+    let mut content = [9; 17];
+    let short = precopy::page_at_into(&TRACE, 1, 3, &mut content[..15]);
+    assert_eq!((short, content), (Err(Refused::ShortBuffer { needed: 16 }), [9; 17]));
+    assert_eq!(precopy::page_at_into(&TRACE, 1, 3, &mut content), Ok(16));
+    assert_eq!((&content[..16], content[16]), (&wanted[..], 9));
+    let writes = precopy::page_writes(&TRACE, 1).unwrap();
+    let found: Vec<_> = writes
+        .iter()
+        .map(|it| (it.place, it.tick, it.offset, it.size))
+        .collect();
+    assert_eq!(found, [(2, 5, 15, 1), (3, 1200, 0, 1), (5, 2500, 0, 1)]);
+    assert_eq!(precopy::page_writes(&TRACE, 2), Ok(vec![]));
+    let short = precopy::page_writes_into(&TRACE, 1, &mut [Write::default(); 2]);
+    assert_eq!(short, Err(Refused::ShortBuffer { needed: 3 }));
+    let place = |status| Refused::Place { status };
+    assert_eq!(precopy::page_at(&TRACE, 1, 4), Err(place(status::NO_VERSION)));
+    assert_eq!(precopy::page_writes(&TRACE, 4), Err(place(status::NO_PAGE)));
+    assert_eq!(precopy::version_after(&TRACE, 4, 0), Err(place(status::NO_PAGE)));
+    let mut memory = [0; 64];
+    assert_eq!(precopy::memory_step(&TRACE, 0, 3, &mut memory), Ok(()));
+    assert_eq!(precopy::memory_before(&TRACE, 2500).as_deref(), Ok(&memory[..]));
+    assert_eq!(precopy::memory_step(&TRACE, 3, u32::MAX, &mut memory), Ok(()));
+    assert_eq!(precopy::memory(&TRACE).as_deref(), Ok(&memory[..]));
+    let back = precopy::memory_step(&TRACE, 3, 2, &mut memory);
+    assert_eq!(back, Err(place(status::BACKWARDS)));
+    let length = Refused::Length {
+        status: status::MEMORY_LENGTH,
+    };
+    assert_eq!(precopy::memory_step(&TRACE, 3, 4, &mut memory[..63]), Err(length));
+}
+
+#[test]
 fn traces() {
     let sizes = precopy::check_trace(&TRACE).unwrap();
     assert_eq!((sizes.shift(), sizes.pages(), sizes.writes()), (4, 4, 5));
@@ -130,6 +168,10 @@ fn traces() {
         precopy::memory(&TRACE[..101]).map(|_| ()),
         precopy::memory_into(&TRACE[..101], &mut [0; 64]).map(|_| ()),
         precopy::memory_before(&TRACE[..101], 9).map(|_| ()),
+        precopy::memory_step(&TRACE[..101], 0, 1, &mut [0; 64]),
+        precopy::version_after(&TRACE[..101], 0, 1).map(|_| ()),
+        precopy::page_at(&TRACE[..101], 0, 0).map(|_| ()),
+        precopy::page_writes(&TRACE[..101], 0).map(|_| ()),
     ] {
         assert_eq!(refused, Err(cut));
     }

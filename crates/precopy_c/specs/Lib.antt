@@ -7,3 +7,4 @@ pub mod Memories
 pub mod Frames
 pub mod FlatMemory
 pub mod StreamChecks
+pub mod Places

@@ -1,4 +1,5 @@
-//! The calls that a program in C, or in a language that calls C, makes: plans, reports, sweeps, memory and frames.
+//! The calls that a program in C, or in a language that calls C, makes: plans, reports, sweeps, memory,
+//! versions of pages, and frames.
 //!
 //! `include/precopy.h` declares them, and says what a caller must do. No call keeps anything between two calls, starts
 //! a thread or waits. A call returns 0, or the number of a refusal; it has then written only what its contract names.
@@ -10,9 +11,13 @@ mod checking;
 mod flat_memory;
 mod frames;
 mod memories;
+mod memory_steps;
+mod page_writes;
+mod place_answers;
 mod plans;
 mod reports;
 mod settings;
 mod sizes;
 mod sweeps;
 mod traces;
+mod versions;

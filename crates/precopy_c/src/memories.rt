@@ -18,7 +18,7 @@ use trace_codec::TraceView;
 const END: u64 = 1 << 40;
 
 /// Applies a write to memory of this shape, at its offset in its page.
-fn write_over(memory: &mut [u8], shape: Shape, write: &WriteView<'_>)
+pub(crate) fn write_over(memory: &mut [u8], shape: Shape, write: &WriteView<'_>)
     requires { write.now.page * 2 ^ shape.shift + write.now.offset + length (bytes_put shape.shift (shown write.now))
         ≤ length memory.old }
     ensures { memory.new

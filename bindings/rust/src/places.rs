@@ -1,0 +1,86 @@
+//! The versions and the writes of a page, and memory that is brought on from place to place.
+
+use crate::refusals::{checked, checked_buffer, Refused};
+use crate::{calls, check_trace, room, with_record};
+
+/// A write to a page.
+#[repr(C)]
+#[derive(Clone, Copy, Debug, Default, PartialEq, Eq)]
+pub struct Write {
+    /// Its tick.
+    pub tick: u64,
+    /// How many bytes it writes; 0 if it releases the page, which becomes zeros.
+    pub size: usize,
+    /// Its place in the trace, 1 for the first write.
+    pub place: u32,
+    /// The byte of the page at which it begins.
+    pub offset: u32,
+}
+
+/// Brings memory after the first `from` writes of a trace on to that after the first `to` writes, in place.
+pub fn memory_step(trace: &[u8], from: u32, to: u32, memory: &mut [u8]) -> Result<(), Refused> {
+    // SAFETY: each slice is there for its length, and no other reference reaches the one that is written.
+    let status =
+        unsafe { calls::precopy_memory_step(trace.as_ptr(), trace.len(), from, to, memory.as_mut_ptr(), memory.len()) };
+    with_record(trace, checked(status))
+}
+
+/// Returns the version of a page after the first `count` writes of a trace: the place of the last of them that is to
+/// the page, or 0.
+pub fn version_after(trace: &[u8], page: u32, count: u32) -> Result<u32, Refused> {
+    let mut version = 0;
+    // SAFETY: as in `memory_step`.
+    let status = unsafe { calls::precopy_version_after(trace.as_ptr(), trace.len(), page, count, &mut version) };
+    with_record(trace, checked(status).map(|()| version))
+}
+
+/// Writes the bytes of a page at a stamp to the front of a slice, and returns how many they are: as the write to the
+/// page with this place leaves them, or zeros for 0.
+pub fn page_at_into(trace: &[u8], page: u32, stamp: u32, content: &mut [u8]) -> Result<usize, Refused> {
+    let size = check_trace(trace)?.page_length();
+    // SAFETY: as in `memory_step`.
+    let status = unsafe {
+        calls::precopy_page_at(
+            trace.as_ptr(),
+            trace.len(),
+            page,
+            stamp,
+            content.as_mut_ptr(),
+            content.len(),
+        )
+    };
+    checked_buffer(status, size)
+}
+
+/// Returns the bytes of a page at a stamp.
+pub fn page_at(trace: &[u8], page: u32, stamp: u32) -> Result<Vec<u8>, Refused> {
+    let mut content = room::zeros(check_trace(trace)?.page_length())?;
+    page_at_into(trace, page, stamp, &mut content).map(|_| content)
+}
+
+/// Writes the writes to a page to the front of a slice, in their order, and returns how many there are.
+pub fn page_writes_into(trace: &[u8], page: u32, writes: &mut [Write]) -> Result<usize, Refused> {
+    let mut count = 0;
+    // SAFETY: as in `memory_step`.
+    let status = unsafe {
+        calls::precopy_page_writes(
+            trace.as_ptr(),
+            trace.len(),
+            page,
+            writes.as_mut_ptr(),
+            writes.len(),
+            &mut count,
+        )
+    };
+    with_record(trace, checked_buffer(status, count))
+}
+
+/// Returns the writes to a page, in their order.
+pub fn page_writes(trace: &[u8], page: u32) -> Result<Vec<Write>, Refused> {
+    let count = match page_writes_into(trace, page, &mut []) {
+        Err(Refused::ShortBuffer { needed }) => needed,
+        answer => answer?,
+    };
+    let mut found = room::filled(count, Write::default())?;
+    page_writes_into(trace, page, &mut found).map(|_| found)
+}

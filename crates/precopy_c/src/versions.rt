@@ -1,0 +1,113 @@
+//! The versions of a page: which one it has after some writes, and its bytes at one of them.
+
+ghost use Rattle.std.specs.Prelude.{◌≡◌, ◌≢◌, ◌<◌, ◌≤◌, ◌^◌, IfErr, IsOk, OnErr, OnOk, length};
+ghost use Rattle.migration_model.specs.Trace.{GuestTrace, Spells};
+ghost use Rattle.migration_model.specs.Versions.{page_at};
+ghost use Rattle.page_versions.specs.Index.{version_after};
+ghost use Rattle.precopy_c.specs.Buffers.{over};
+ghost use Rattle.precopy_c.specs.Places.{IsVersion, RefusesPage, RefusesVersion, number_of_place};
+
+use crate::place_answers::{PlaceRefusal, trace_with_page};
+use trace_codec::TraceView;
+
+/// Returns the page's version after the first `count` writes.
+fn version_to(trace: &TraceView<'_>, page: u32, count: u32) -> u32
+    ensures { result ≡ version_after trace.now page count }
+{
+    let mut version = 0u32;
+    let mut place = 0u32;
+    for write in trace.records() {
+        if place == count {
+            return version;
+        }
+        place += 1;
+        if write.page == page {
+            version = place;
+        }
+    }
+    version
+}
+
+/// Sets `version` to the page's version after the first `count` writes of a trace: the place of the last of them that
+/// is to the page, or 0. It allocates nothing.
+#[unsafe(no_mangle)]
+pub extern "C" fn precopy_version_after(
+    trace: &[u8],
+    page: u32,
+    count: u32,
+    version: &mut u32,
+) -> u32
+    ensures found { result ≡ 0 → (t : GuestTrace) × Spells trace.now t × (page < t.pages)
+        × (version.new ≡ version_after t page count) }
+    ensures refused { result ≢ 0 → (refusal : PlaceRefusal) × (result ≡ number_of_place refusal)
+        × RefusesPage trace.now page refusal × (version.new ≡ version.old) }
+    ensures only { (t : GuestTrace) → Spells trace.now t → page < t.pages → result ≡ 0 }
+{
+    match trace_with_page(trace, page) {
+        Ok(view) => {
+            *version = version_to(&view, page, count);
+            0
+        }
+        Err(refusal) => refusal.number(),
+    }
+}
+
+/// Makes the bytes of a page after the first `count` writes. What is in the room for them is lost.
+fn replay_page(trace: &TraceView<'_>, page: u32, count: u32, content: &mut [u8])
+    requires page { page < trace.now.pages }
+    requires room { length content.old ≡ 2 ^ trace.now.shift }
+    ensures { content.new ≡ page_at trace.now page count }
+{
+    let shape = trace.shape();
+    content.fill(0);
+    let mut place = 0u32;
+    for write in trace.records() {
+        if place == count {
+            return;
+        }
+        place += 1;
+        if write.page == page {
+            write.put_at(shape, content, write.offset as usize);
+        }
+    }
+}
+
+/// Makes the bytes of a page at a version over the front of a buffer.
+fn answer_page(trace: &[u8], page: u32, stamp: u32, content: &mut [u8]) -> Result<(), PlaceRefusal>
+    ensures made { OnOk result ((t : GuestTrace) × Spells trace.now t × IsVersion t page stamp
+        × (content.new ≡ over (page_at t page stamp) content.old)) }
+    ensures refused { IfErr result (RefusesVersion trace.now page stamp (length content.old)) }
+    ensures only { (t : GuestTrace) → Spells trace.now t → IsVersion t page stamp
+        → 2 ^ t.shift ≤ length content.old → IsOk result }
+    ensures unchanged { OnErr result (content.new ≡ content.old) }
+{
+    let view = trace_with_page(trace, page)?;
+    if version_to(&view, page, stamp) != stamp {
+        return Err(PlaceRefusal::NoVersion);
+    }
+    let size = view.shape().page_size();
+    if content.len() < size {
+        return Err(PlaceRefusal::ShortBuffer);
+    }
+    let (front, _) = content.split_at_mut(size);
+    replay_page(&view, page, stamp, front);
+    Ok(())
+}
+
+/// Writes the bytes of a page at a version, which is 0 or the place of a write to it, over the front of a buffer. It
+/// allocates nothing.
+#[unsafe(no_mangle)]
+pub extern "C" fn precopy_page_at(trace: &[u8], page: u32, stamp: u32, content: &mut [u8]) -> u32
+    ensures made { result ≡ 0 → (t : GuestTrace) × Spells trace.now t × IsVersion t page stamp
+        × (content.new ≡ over (page_at t page stamp) content.old) }
+    ensures refused { result ≢ 0 → (refusal : PlaceRefusal) × (result ≡ number_of_place refusal)
+        × RefusesVersion trace.now page stamp (length content.old) refusal }
+    ensures only { (t : GuestTrace) → Spells trace.now t → IsVersion t page stamp
+        → 2 ^ t.shift ≤ length content.old → result ≡ 0 }
+    ensures unchanged { result ≢ 0 → content.new ≡ content.old }
+{
+    match answer_page(trace, page, stamp, content) {
+        Ok(()) => 0,
+        Err(refusal) => refusal.number(),
+    }
+}
