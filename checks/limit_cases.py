@@ -357,22 +357,17 @@ def check_words(view, _, words, status, trace):
         raise Failure(f"{words}: status {found}, {faults!r}")
 
 
-WELL_SPELLED = ["--tick=1us", "--tick=1s", "--tick=1000000us", "--tick=+1ms", "--tick=0001ms", "--sampled=1/1",
-                "--sampled=4294967296/4294967296", "--sampled=65536/4294967296", "--page=4096"]
-MISSPELLED = ["--tick=0us", "--tick=1000001us", "--tick=2s", "--tick=1", "--tick=ms", "--tick=1 ms", "--tick=1.5ms",
-              "--tick=-1ms", "--tick=1MS", "--tick=1m", "--tick=1min", "--tick=0x1ms", "--tick=1e3us", "--tick=1,000us",
-              "--tick=", "--tick=++1ms", "--tick=18446744073709551616us", "--tick=18446744073710s", "--tick=1ms ",
-              "--tick=\N{ARABIC-INDIC DIGIT ONE}ms", "--sampled=0/1", "--sampled=2/1", "--sampled=1/4294967297",
-              "--sampled=1", "--sampled=1/", "--sampled=/1", "--sampled=1/2/3", "--sampled=1:2", "--page=15",
-              "--page=4097", "--link=1GB", "--downtime=1s", "--first=1GB", "--reserve=1s"]
-MISSPELLED_LINKS = ["1", "1GBit", "1gbit", "1Gb", "1G", "1 GB", "1.5GB", "10Gbps", "1GB/s", "-1GB", "GB", "", "1TiB",
-                    "18446744073709551615KB"]
+TAKEN = ["--tick=1us", "--tick=1s", "--tick=1.5ms", "--tick=1000000us", "--sampled=1/1", "--sampled=+1/0004",
+         "--sampled=4294967296/4294967296", "--sampled=65536/4294967296", "--page=4096"]
+REFUSED = ["--tick=0us", "--tick=0.9us", "--tick=1000001us", "--tick=1.000001s", "--tick=2s", "--tick=1m", "--tick=1",
+           "--reserve=1", "--first=1", "--sampled=0/1", "--sampled=2/1", "--sampled=1/4294967297", "--sampled=1",
+           "--sampled=1/", "--sampled=/1", "--sampled=1/2/3", "--sampled=1:2", "--sampled=1.5/2", "--page=15",
+           "--page=4097", "--link=1GB", "--downtime=1s", "--first=1GB", "--reserve=1s"]
 
 
 def word_tries(trace):
-    tries = [(check_words, [word], 0, trace) for word in WELL_SPELLED]
-    tries += [(check_words, [word], 2, trace) for word in MISSPELLED]
-    tries += [(check_words, [f"--link={word}", "--downtime=1ms"], 2, trace) for word in MISSPELLED_LINKS]
+    tries = [(check_words, [word], 0, trace) for word in TAKEN]
+    tries += [(check_words, [word], 2, trace) for word in REFUSED]
     for link, status in (("3KiB", 2), ("4KiB", 0), ("4000000KiB", 0), ("4000004KiB", 2)):
         tries.append((check_words, [f"--link={link}", "--downtime=0s"], status, trace))
     for more, status in (("--reserve=1ms", 0), ("--reserve=2ms", 2), ("--first=1GB", 0), ("--first=2GB", 2),

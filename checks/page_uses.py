@@ -3,6 +3,7 @@ that make no plan, units, going back, files that are refused, and a worker that 
 
 import base64
 import json
+import math
 import os
 import random
 import re
@@ -116,7 +117,7 @@ def check_files(page, folder):
 
 # What is typed, and the value that is taken then: a number, and by how much it is further from what was typed than the
 # nearest that plans.
-REFUSED = [("link", "0.1", "Kbit", 125), ("link", "900000", "Gbit", 125), ("downtime", "90000", "s", 1),
+REFUSED = [("link", "0.1", "Kbit", 1), ("link", "900000", "Gbit", 1), ("downtime", "90000", "s", 1),
            ("reserve", "5", "s", 1), ("rounds", "0", None, 1), ("rounds", "99", None, 1), ("window", "0", None, 1),
            ("window", str(1 << 41), None, 1), ("base", "999999", None, 1), ("tick", "0", "ms", 1),
            ("tick", "5", "s", 1), ("start", str(1 << 41), None, 1), ("first", "0", None, None),
@@ -126,13 +127,13 @@ REFUSED = [("link", "0.1", "Kbit", 125), ("link", "900000", "Gbit", 125), ("down
 def amount_in(word):
     """A word of the address as a number: a count, or an amount in bytes a second or microseconds."""
     count, unit = re.fullmatch(r"([\d.]+)([A-Za-z]*)", word.partition("/")[2] or word).groups()
-    return Fraction(count) * {**RATES, **TIMES, "": 1}[unit]
+    return math.floor(Fraction(count) * {**RATES, **TIMES, "": 1}[unit])
 
 
 def spelled(amount, unit):
     if unit is None:
         return str(amount)
-    return f"{amount / 125}Kbit" if unit in RATES else f"{amount}us"
+    return f"{amount // 1_000}.{amount % 1_000:03}KB" if unit in RATES else f"{amount}us"
 
 
 PLAIN = {"trace": "sqlite", "link": "1Gbit", "downtime": "300ms", "first": "10", "reserve": "0ms", "start": "1000",
@@ -198,10 +199,10 @@ def check_units(page):
             differing = [key for key in found if found[key] != before[key] and key != "predict"]
             require(not differing, f"{name} {some} in {unit}: other {differing}")
         settled(page)
-        require(round(amount_in(word_of(page, name))) == amount_in(some), word_of(page, name))
+        require(amount_in(word_of(page, name)) == amount_in(some), word_of(page, name))
     page.ask("trace=sqlite&link=1Gbit&downtime=300ms")
-    require("--link 1500Mbit" in typed(page, "link", "1.5")["predict"], "1.5 Gbit/s")
-    require("--downtime 500us" in typed(page, "downtime", "0.5")["predict"], "0.5 ms")
+    require("--link 1.5Gbit" in typed(page, "link", "1.5")["predict"], "1.5 Gbit/s")
+    require("--downtime 0.5ms" in typed(page, "downtime", "0.5")["predict"], "0.5 ms")
     require("--first 187500Kbit" in typed(page, "first", "12.5")["predict"], "12.5 %")
 
 

@@ -1,19 +1,24 @@
-"""Times, rates and sizes as words of the tools: those of quantities.tsv, and random decimals."""
+"""Times, rates and sizes as words: those of quantities.tsv, and random decimals. Each door makes the same of them."""
 
+import json
 import math
 import os
 import random
+import re
 import sys
 from fractions import Fraction
 
 from limit_cases import RATES, TIMES
-from view_texts import TOP, Failure
+from view_texts import TOP, Failure, ran
 
 sys.path.insert(0, os.path.join(TOP, "tools"))
 import words as tool_words  # noqa: E402
 
 UNITS = {"time": {**TIMES, "m": 60 * TIMES["s"], "h": 3_600 * TIMES["s"]}, "rate": RATES}
 DRAWN = 60
+PAGE_BYTES = 4_096
+MISSPELLED = "a number and its unit, "
+TOO_MUCH = 1 << 53
 
 
 def table():
@@ -39,6 +44,34 @@ def quantities():
     return [*table(), *drawn()]
 
 
+def words_for(kind, word, amount):
+    """Options that say a word where its amount, if it has one, is in its range."""
+    if kind == "time":
+        return ["--link=0.1KB", f"--downtime={word}", "--tick=1s"]
+    fits = (name for name, tick in TIMES.items() if 1 <= (amount or 0) * tick // (1_000 * PAGE_BYTES) <= 1_000_000)
+    return [f"--link={word}", "--downtime=0s", f"--tick=1{next(fits, 'ms')}"]
+
+
+def check_program(view, _, kind, word, amount, trace):
+    status, text, faults = ran(view, ["json", "predict", *words_for(kind, word, amount)], trace)
+    if amount is None:
+        option = {"time": "--downtime", "rate": "--link"}[kind]
+        if status != 2 or text or not faults.startswith(f"precopy-view: {option}: {MISSPELLED}"):
+            raise Failure(f"{word!r}: status {status}, {text[:80]!r}, {faults!r}")
+        return
+    if amount >= TOO_MUCH:
+        if status != 2 or MISSPELLED in faults:
+            raise Failure(f"{word!r}: status {status}, {faults!r}")
+        return
+    if status not in (0, 3, 4):
+        raise Failure(f"{word!r}: status {status}, {faults!r}")
+    limits = json.loads(text)["limits"]
+    said = re.search(r'"down_seconds":([0-9]+)\.([0-9]{6})', text)
+    found = limits["link_bytes"] if kind == "rate" else int(said[1] + said[2])
+    if found != amount:
+        raise Failure(f"{word!r}: {found} in place of {amount}")
+
+
 def check_tool(_, __, kind, word, amount, ___):
     units = {"time": tool_words.TIMES, "rate": tool_words.RATES, "size": tool_words.SIZES}[kind]
     found = tool_words.amount(word, units)
@@ -47,5 +80,6 @@ def check_tool(_, __, kind, word, amount, ___):
 
 
 def quantity_tries(trace):
-    """Returns the tries of words. The trace is not looked at."""
-    return [(check_tool, *row, trace) for row in quantities()]
+    """Returns the tries of words over a trace with pages of 4,096 bytes."""
+    tries = [(check_tool, *row, trace) for row in quantities()]
+    return tries + [(check_program, *row, trace) for row in quantities() if row[0] != "size"]

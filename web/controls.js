@@ -5,7 +5,7 @@ import { GROUPS } from "./control-list.js";
 import { byId, html } from "./elements.js";
 import { counted } from "./numbers.js";
 import {
-  amountAt, countAt, placeOf, PLACES, quantityNear, quantityOf, quantityWords, sayable, shownCount, unitName,
+  amountAt, countAt, placeOf, PLACES, quantityNear, quantityOf, quantityWords, shownCount, unitName,
 } from "./quantities.js";
 import { ControlRefusal } from "./units.js";
 
@@ -77,8 +77,7 @@ export class Controls {
   valueIn({ control, field }) {
     const { name, units, isPercent, isSample } = control;
     if (units) {
-      const found = quantityOf(field.value, this.settings[name].unit, units);
-      return found && sayable(found, units);
+      return quantityOf(field.value, this.settings[name].unit, units);
     }
     const number = numberIn(field, !isPercent && !isSample);
     if (number === null || (isPercent && (number > 100 || !/^\d+(\.\d{1,3})?$/.test(field.value)))) {

@@ -1,6 +1,6 @@
 // The nearest value of a control that makes a plan, for settings that make none.
 
-import { RATE_UNITS, refusalOf } from "./units.js";
+import { refusalOf } from "./units.js";
 
 /** Four steps double an amount, and so many steps lead from the least amount to the greatest. */
 const STEPS_OF_TWO = 4;
@@ -55,21 +55,11 @@ function edgeBetween(bad, good, holds) {
   return near;
 }
 
-/** An amount that is a whole number of some unit, on the side that holds. */
-function saidAmount(name, amount, holds) {
-  const grain = name === "link" ? Number(RATE_UNITS.Kbit) : 1;
-  if (name !== "link" || Object.values(RATE_UNITS).some((size) => amount % Number(size) === 0)) {
-    return amount;
-  }
-  const around = [Math.floor(amount / grain) * grain, Math.ceil(amount / grain) * grain];
-  return around.find((each) => holds(each)) ?? amount;
-}
-
 function nearestBy(settings, name, number, holds) {
   const amount = number.read(settings, name);
   for (const some of amountsAround(amount)) {
     if (holds(some)) {
-      return saidAmount(name, edgeBetween(amount, some, holds), holds);
+      return edgeBetween(amount, some, holds);
     }
   }
   return null;

@@ -1,5 +1,5 @@
 // Rates and times as the controls say them: an amount in bytes a second or microseconds, and the unit that it is shown
-// in. A change of the unit keeps the amount. Sliders are logarithmic, in round numbers.
+// in. A change of the unit keeps the amount. Sliders are logarithmic, in round numbers. Words are those of `precopy-view`.
 
 import { decimalText } from "./numbers.js";
 import { RATE_UNITS, TIME_UNITS } from "./units.js";
@@ -18,65 +18,69 @@ const FAMILIES = [
 /** The least count in which a slider shows an amount in a unit that does not divide it. */
 const LEAST_COUNT = 10;
 
-/** Digits after the point that tell each amount from the next, and those that a field shows. */
-const EXACT_DIGITS = 12;
-const SHOWN_DIGITS = 9;
+/** The most digits behind a point, and the power of ten for them. */
+const MOST_PLACES = 6;
+const PLACE_SHARE = 10n ** BigInt(MOST_PLACES);
+
+/** All digits of a number together make less than this. */
+const END_OF_DIGITS = 1n << 64n;
+
+/** Longer units of time, which words may have but no control shows: how many seconds one is. */
+const LONG_UNITS = { m: 60n, h: 3_600n };
 
 function familyOf(unit) {
   return FAMILIES.find((names) => names.includes(unit));
 }
 
-/** A decimal as a whole number and the power of ten that it is divided by, or null. */
-function decimalOf(word) {
-  const found = /^(\d{1,15})(?:\.(\d{1,18}))?$/.exec(word);
-  return found && { number: BigInt(found[1] + (found[2] ?? "")), divisor: 10n ** BigInt((found[2] ?? "").length) };
+/** The amount of a decimal number in a unit of this size, rounded down, or null if it is none. */
+function amountOfDecimal(word, size) {
+  const found = /^([0-9]+)(?:\.([0-9]{1,6}))?$/.exec(word);
+  const digits = found ? BigInt(found[1] + (found[2] ?? "")) : END_OF_DIGITS;
+  const amount = digits < END_OF_DIGITS ? (digits * size) / 10n ** BigInt((found[2] ?? "").length) : null;
+  return amount === null || amount > MOST_AMOUNT ? null : Number(amount);
 }
 
-/** The quantity of a decimal count in a unit, to the nearest of the amount's own unit; null if it is none. */
+/** The quantity of a decimal count in a unit, or null if it is none. */
 export function quantityOf(word, unit, units) {
-  const decimal = decimalOf(word);
-  if (!decimal || !Object.hasOwn(units, unit)) {
-    return null;
+  const amount = Object.hasOwn(units, unit) ? amountOfDecimal(word, units[unit]) : null;
+  return amount === null ? null : { amount, unit };
+}
+
+/** The quantity that a word says, or null if it says none. */
+export function quantityIn(word, units) {
+  const found = /^([0-9.]+)([A-Za-z]+)$/.exec(word);
+  if (found && units === TIME_UNITS && Object.hasOwn(LONG_UNITS, found[2])) {
+    const amount = amountOfDecimal(found[1], LONG_UNITS[found[2]] * units.s);
+    return amount === null ? null : { amount, unit: "s" };
   }
-  const twice = (2n * decimal.number * units[unit]) / decimal.divisor;
-  const amount = (twice + 1n) / 2n;
-  return amount > MOST_AMOUNT ? null : { amount: Number(amount), unit };
+  return found && quantityOf(found[1], found[2], units);
 }
 
-/** A quantity that can be said as a whole number of some unit: a rate is rounded in the family of its unit. */
-export function sayable(quantity, units) {
-  const grain = Number(units[familyOf(quantity.unit)[0]]);
-  const isWhole = Object.values(units).some((size) => quantity.amount % Number(size) === 0);
-  const rounded = Math.round(quantity.amount / grain) * grain;
-  return isWhole ? quantity : { ...quantity, amount: quantity.amount > 0 ? Math.max(grain, rounded) : 0 };
+/** The count of an amount in a unit, so that it leads back to the amount, or null if no count does. */
+function exactCount(amount, size) {
+  const scaled = (BigInt(amount) * PLACE_SHARE + size - 1n) / size;
+  return (scaled * size) / PLACE_SHARE === BigInt(amount) ? decimalText(scaled, PLACE_SHARE, MOST_PLACES) : null;
 }
 
-/** The count of a quantity as a decimal. It has so many digits that it leads back to the same amount. */
-export function exactCount({ amount, unit }, units) {
-  return decimalText(BigInt(amount), units[unit], EXACT_DIGITS);
+/** The count of a quantity as a field shows it: if none leads back to the amount, then rounded down. */
+export function shownCount({ amount, unit }, units) {
+  return exactCount(amount, units[unit]) ?? decimalText(BigInt(amount), units[unit], MOST_PLACES);
 }
 
-/** The count of a quantity as a field shows it. */
-export function shownCount(quantity, units) {
-  const text = exactCount(quantity, units);
-  const short = String(Number(Number(text).toPrecision(SHOWN_DIGITS)));
-  return text.includes(".") && !short.includes("e") ? short : text;
-}
-
-/** A quantity as a word of the address: its count and its unit. */
-export function wordOfQuantity(quantity) {
-  const units = Object.hasOwn(TIME_UNITS, quantity.unit) ? TIME_UNITS : RATE_UNITS;
-  return `${exactCount(quantity, units)}${quantity.unit}`;
-}
-
-/** A quantity as `precopy-view` takes it: a whole number of a unit, of its own family if that can be. */
+/** A quantity as `precopy-view` and the address take it: in its own unit if that can be, else by the shortest word. */
 export function commandWord({ amount, unit }, units) {
-  const family = familyOf(unit);
-  const others = Object.keys(units).filter((name) => !family.includes(name));
-  const order = [...family].reverse().concat(others.reverse());
-  const own = amount % Number(units[unit]) === 0 && amount > 0 ? unit : null;
-  const name = own ?? order.find((some) => amount % Number(units[some]) === 0) ?? family[0];
-  return `${Math.floor(amount / Number(units[name]))}${name}`;
+  const own = exactCount(amount, units[unit]);
+  if (own !== null) {
+    return `${own}${unit}`;
+  }
+  const counts = Object.entries(units).map(([name, size]) => [exactCount(amount, size), name]);
+  const words = counts.filter(([count]) => count !== null).map(([count, name]) => `${count}${name}`);
+  return words.reduce((shortest, word) => (word.length < shortest.length ? word : shortest));
+}
+
+/** A quantity as a word of the address. */
+export function wordOfQuantity(quantity) {
+  return commandWord(quantity, Object.hasOwn(TIME_UNITS, quantity.unit) ? TIME_UNITS : RATE_UNITS);
 }
 
 /** A number of few digits near this one. */

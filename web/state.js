@@ -1,7 +1,7 @@
 // What the controls say: a plain object, and its words in the fragment of the page's address. The trace is never in it;
 // only the name of an example is, or a fingerprint.
 
-import { quantityOf, wordOfQuantity } from "./quantities.js";
+import { quantityIn, quantityOf, wordOfQuantity } from "./quantities.js";
 import { RATE_UNITS, TIME_UNITS } from "./units.js";
 
 const rate = (count, unit) => quantityOf(String(count), unit, RATE_UNITS);
@@ -39,8 +39,7 @@ const PRESETS = {
 export const MOST_KEPT = 3;
 
 function readQuantity(word, units) {
-  const found = /^([\d.]+)([A-Za-z]+)$/.exec(word);
-  return (found && quantityOf(found[1], found[2], units)) ?? undefined;
+  return quantityIn(word, units) ?? undefined;
 }
 
 function readCount(word) {

@@ -256,9 +256,9 @@ libvirt: virsh migrate-setmaxdowntime DOMAIN 190
 fn a_trace_that_ends_first_has_a_status(rt: HostRuntime) -> Result<(), Fail> {
     let words = [
         "predict",
-        "--link=1KiB",
-        "--downtime=200ms",
-        "--reserve=10ms",
+        "--link=1.0249KB",
+        "--downtime=0.2s",
+        "--reserve=0.01s",
         "--page=16",
         "--sampled=4/16",
         "--start=2400",
@@ -287,7 +287,12 @@ fn a_missed_limit_has_a_status(rt: HostRuntime) -> Result<(), Fail> {
 #[test]
 fn refuses_limits(rt: HostRuntime) -> Result<(), Fail> {
     let alloc = rt.alloc();
-    let cases: [(&[&str], &str); 5] = [
+    let cases: [(&[&str], &str); 6] = [
+        (
+            &["predict", "--link=10", "--downtime=1s"],
+            "precopy-view: --link: a number and its unit, Kbit, Mbit, Gbit, KB, MB, GB, KiB, MiB or GiB, per second, \
+             as in 10Gbit\n",
+        ),
         (
             &["predict", "--link=1KiB"],
             "precopy-view: --link and --downtime go together, and --first and --reserve need them\n",
@@ -302,7 +307,7 @@ fn refuses_limits(rt: HostRuntime) -> Result<(), Fail> {
         ),
         (
             &["chart", "--tick=1"],
-            "precopy-view: --tick: a whole number followed by us, ms or s, as in 1ms\n",
+            "precopy-view: --tick: a number and its unit, us, ms, s, m or h, as in 1ms\n",
         ),
         (
             &["json", "report", "--link=10Gbit", "--downtime=1s"],

@@ -1,1 +1,2 @@
+pub mod DecimalLemmas
 pub mod QuantityLemmas

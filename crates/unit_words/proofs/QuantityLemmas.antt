@@ -1,5 +1,5 @@
 -- Words that are not a number followed by a unit.
-use Rattle.std.proofs.Common.{◌≡◌, ℕ, zero, suc, map, ◌*◌, ◌<◌, ◌≤◌, ◌^◌, List, [], ◌∷◌, ◌++◌, length, get_or, Option}
+use Rattle.std.proofs.Common.{◌≡◌, ℕ, zero, suc, map, ◌*◌, ◌/◌, ◌<◌, ◌≤◌, ◌^◌, List, [], ◌∷◌, ◌++◌, length, get_or, Option}
 use Rattle.std.proofs.Common.{Some, None, sym, ap, subst, ◌∙◌, arith, inl, inr}
 use Rattle.std.specs.Prelude.{◌≢◌, IfNone, MatchOption}
 use Rattle.std.specs.Borrow.{Bor}
@@ -9,7 +9,9 @@ use Rattle.std.proofs.lemmas.Bool.{cases_eq}
 use Rattle.std.proofs.lemmas.List.{append_cancel_right, get_or_default, get_or-map, length-map}
 use Rattle.std.proofs.lemmas.Str.Parse.{digit_at, without_leading_plus_none, without_leading_plus_plus}
 use Rattle.std.proofs.lemmas.Str.Pattern.{IsSplitOnceResult, split_after}
-use Rattle.unit_words.specs.Quantities.{IsCounted, IsQuantity, IsSample, IsWhole, Unit, unit_with}
+use Rattle.unit_words.specs.Decimals.{IsDecimal, IsWhole}
+use Rattle.unit_words.specs.Quantities.{IsCounted, IsQuantity, IsSample, Unit, unit_with}
+use Rattle.unit_words.proofs.DecimalLemmas.{decimal_same}
 
 -- no value, whatever it would be
 pub if_none : {A : Type 0} (o : Option A) (P : Type 0) → P → IfNone o P
@@ -20,20 +22,27 @@ if_none (Some x) P holds = tt
 pub stripped : (word name x : List ℕ) → StripsSuffix (FindsTextSuffix name) word x → word ≡ x ++ name
 stripped word name x is = is.1.1 ∙ ap (λ (t : List ℕ). t ++ name) (sym is.2)
 
-pub not_whole : (word name text : List ℕ) (factor : ℕ) → word ≡ text ++ name → ((m : ℕ) → ¬ IsWhole text m) → (n : ℕ)
-    → ¬ IsCounted word name factor n
-not_whole word name text factor is never n counted =
+-- what is counted in a unit is the decimal number before it
+pub counted_decimal : (word name text : List ℕ) (factor n : ℕ) → word ≡ text ++ name → (is : IsCounted word name factor n)
+    → IsDecimal text is.digits is.places
+counted_decimal word name text factor n is counted =
     let same : counted.text ≡ text = append_cancel_right counted.text text name (sym counted.word_is ∙ is) in
-    never counted.count (subst (λ (t : List ℕ). IsWhole t counted.count) same counted.whole)
+    subst (λ (t : List ℕ). IsDecimal t counted.digits counted.places) same counted.decimal
 
-pub not_small : (word name text : List ℕ) (factor m : ℕ) → word ≡ text ++ name → IsWhole text m → 2 ^ 64 ≤ m * factor
-    → (n : ℕ) → ¬ IsCounted word name factor n
-not_small word name text factor m is whole high n counted =
-    let same : counted.text ≡ text = append_cancel_right counted.text text name (sym counted.word_is ∙ is) in
-    let count : counted.count ≡ m = sym counted.whole.value ∙ ap
-    (λ (t : List ℕ). digits_value 10 (without_leading_plus t)) same ∙ whole.value in
-    let product : n ≡ m * factor = counted.is_product ∙ ap (λ (k : ℕ). k * factor) count in
-    omega (arith, counted.fits)
+pub not_decimal : (word name text : List ℕ) (factor : ℕ) → word ≡ text ++ name
+    → ((digits places : ℕ) → ¬ IsDecimal text digits places) → (n : ℕ) → ¬ IsCounted word name factor n
+not_decimal word name text factor is never n counted =
+    never counted.digits counted.places (counted_decimal word name text factor n is counted)
+
+pub not_small : (word name text : List ℕ) (factor digits places : ℕ) → word ≡ text ++ name
+    → IsDecimal text digits places → ¬ (digits * factor / 10 ^ places < 2 ^ 64) → (n : ℕ)
+    → ¬ IsCounted word name factor n
+not_small word name text factor digits places is decimal high n counted =
+    let same = decimal_same text counted.digits digits counted.places places
+    (counted_decimal word name text factor n is counted) decimal in
+    let rounded : n ≡ digits * factor / 10 ^ places = counted.is_rounded
+    ∙ ap (λ (d : ℕ). d * factor / 10 ^ counted.places) same.0 ∙ ap (λ (p : ℕ). digits * factor / 10 ^ p) same.1 in
+    high (subst (λ (m : ℕ). m < 2 ^ 64) rounded counted.fits)
 
 plain_digit : (text : List ℕ) (n i : ℕ) → IsWhole text n → get_or text 0 0 ≢ 43 → i < length text → get_or text i 0 ≢ 47
 plain_digit text n i whole other low =

@@ -1,3 +1,4 @@
+pub mod Decimals
 pub mod Quantities
 pub mod Units
 pub mod Measures

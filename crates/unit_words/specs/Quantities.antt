@@ -1,7 +1,7 @@
--- Numbers followed by a unit. A time is counted in microseconds, and a rate in bytes a second. Units are written as in
--- `tc` and `ip` of Linux, without "per second".
-use Rattle.std.specs.Prelude.{◌≡◌, ℕ, ◌<◌, ◌*◌, ◌^◌, List, [], ◌∷◌, ◌++◌, Any, codes}
-use Rattle.std.specs.Str.Parse.{IsNumeral, digits_value, without_leading_plus}
+-- Numbers followed by a unit. A time is counted in microseconds, and a rate in bytes a second. Units of rates are written
+-- as in `tc` and `ip` of Linux, without "per second".
+use Rattle.std.specs.Prelude.{◌≡◌, ℕ, ◌<◌, ◌*◌, ◌/◌, ◌^◌, List, [], ◌∷◌, ◌++◌, Any, codes}
+use Rattle.unit_words.specs.Decimals.{IsDecimal, IsWhole}
 
 -- a unit's name and its factor
 pub record Unit : Type 0 where
@@ -11,27 +11,25 @@ pub record Unit : Type 0 where
 abbrev pub unit_with : List ℕ → ℕ → Unit
 unit_with name factor = record { name = name; factor = factor }
 
--- the text is a whole number below 2^64: decimal digits, with or without a plus before them
-pub record IsWhole (text : List ℕ) (n : ℕ) : Type 0 where
-  pub digits : IsNumeral 10 (without_leading_plus text)
-  pub value : digits_value 10 (without_leading_plus text) ≡ n
-  pub fits : n < 2 ^ 64
-
--- the word is a whole number followed by this unit, and stands for n, which is below 2^64
+-- the word is a decimal number followed by this unit, and stands for n: the number times the factor, rounded down
 pub record IsCounted (word name : List ℕ) (factor n : ℕ) : Type 0 where
   pub text : List ℕ
   pub word_is : word ≡ text ++ name
-  pub count : ℕ
-  pub whole : IsWhole text count
-  pub is_product : n ≡ count * factor
+  pub digits : ℕ
+  pub places : ℕ
+  pub decimal : IsDecimal text digits places
+  pub is_rounded : n ≡ digits * factor / 10 ^ places
   pub fits : n < 2 ^ 64
 
--- the word is a whole number followed by one of these units
+-- the word is a decimal number followed by one of these units
 abbrev pub IsQuantity : List Unit → List ℕ → ℕ → Type 0
 IsQuantity units word n = Any (λ unit. IsCounted word unit.name unit.factor n) units
 
+-- microseconds, milliseconds, seconds, minutes and hours
 abbrev pub time_units : List Unit
-time_units = unit_with (codes "us") 1 ∷ unit_with (codes "ms") 1_000 ∷ unit_with (codes "s") 1_000_000 ∷ []
+time_units =
+    unit_with (codes "us") 1 ∷ unit_with (codes "ms") 1_000 ∷ unit_with (codes "s") 1_000_000
+    ∷ unit_with (codes "m") 60_000_000 ∷ unit_with (codes "h") 3_600_000_000 ∷ []
 
 -- bits, bytes, and bytes by powers of two
 abbrev pub rate_units : List Unit

@@ -1,6 +1,7 @@
 //! Limits of a migration as words: times, rates and samples, and the options that take them.
 #![tactic(auto)]
 
+mod decimals;
 mod limits;
 mod measures;
 mod quantities;

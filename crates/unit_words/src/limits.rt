@@ -22,19 +22,19 @@ use thiserror::Error;
 #[derive(Clone, Copy, Debug, PartialEq, Eq, Error)]
 pub enum LimitsRefusal {
     /// The length of a tick is not a time.
-    #[error("--tick: a whole number followed by us, ms or s, as in 1ms")]
+    #[error("--tick: a number and its unit, us, ms, s, m or h, as in 1ms")]
     Tick,
     /// The downtime is not a time.
-    #[error("--downtime: a whole number followed by us, ms or s, as in 300ms")]
+    #[error("--downtime: a number and its unit, us, ms, s, m or h, as in 300ms or 0.3s")]
     Downtime,
     /// The reserved part of the downtime is not a time.
-    #[error("--reserve: a whole number followed by us, ms or s, as in 50ms")]
+    #[error("--reserve: a number and its unit, us, ms, s, m or h, as in 50ms")]
     Reserve,
     /// The rate of the link is not a rate.
-    #[error("--link: a whole number followed by a unit per second, as in 10Gbit, 1250MB or 128MiB")]
+    #[error("--link: a number and its unit, Kbit, Mbit, Gbit, KB, MB, GB, KiB, MiB or GiB, per second, as in 10Gbit")]
     Link,
     /// The rate of the first round is not a rate.
-    #[error("--first: a whole number followed by a unit per second, as in 1Gbit, 125MB or 64MiB")]
+    #[error("--first: a number and its unit, Kbit, Mbit, Gbit, KB, MB, GB, KiB, MiB or GiB, per second, as in 1.5GB")]
     First,
     /// The sample is not two numbers.
     #[error("--sampled: two whole numbers with a slash between them, as in 16384/16777216")]
@@ -77,7 +77,7 @@ const LIMITS: [Quantity<'static>; 4] = [
         "RATE",
         "What the first round may use [default: the whole link]",
     ),
-    ("downtime", "TIME", "Longest downtime, as in 300ms"),
+    ("downtime", "TIME", "Longest downtime, as in 300ms or 0.3s"),
     (
         "reserve",
         "TIME",

@@ -1,13 +1,21 @@
 //! Numbers followed by a unit.
 
 ghost use Rattle.std.specs.Prelude.{ℕ, IfNone, IfSome, map};
-ghost use Rattle.unit_words.specs.Quantities.{IsCounted, IsQuantity, IsRate, IsSample, IsTime, IsWhole, unit_with};
+ghost use Rattle.unit_words.specs.Quantities.{IsCounted, IsQuantity, IsRate, IsSample, IsTime, unit_with};
+
+use crate::decimals::{decimal_of, whole_of};
 
 /// A unit: its name and its factor.
 type Unit<'a> = (&'a str, u64);
 
 /// Units of time, in microseconds.
-const TIMES: [Unit<'static>; 3] = [("us", 1), ("ms", 1_000), ("s", 1_000_000)];
+const TIMES: [Unit<'static>; 5] = [
+    ("us", 1),
+    ("ms", 1_000),
+    ("s", 1_000_000),
+    ("m", 60_000_000),
+    ("h", 3_600_000_000),
+];
 
 /// Units of a rate, in bytes a second.
 const RATES: [Unit<'static>; 9] = [
@@ -22,21 +30,13 @@ const RATES: [Unit<'static>; 9] = [
     ("GiB", 1 << 30),
 ];
 
-/// Returns a whole number.
-fn whole_of(text: &str) -> Option<u64>
-    ensures some { IfSome result (IsWhole text.now) }
-    ensures none { IfNone result ((n : ℕ) → ¬ IsWhole text.now n) }
-{
-    text.parse::<u64>().ok()
-}
-
 /// Returns what a number followed by this unit stands for.
 fn counted(word: &str, name: &str, factor: u64) -> Option<u64>
     ensures some { IfSome result (IsCounted word.now name.now factor) }
     ensures none { IfNone result ((n : ℕ) → ¬ IsCounted word.now name.now factor n) }
 {
     let text = word.strip_suffix(name)?;
-    whole_of(text)?.checked_mul(factor)
+    decimal_of(text)?.times(factor)
 }
 
 /// Returns what a number followed by one of these units stands for.
@@ -52,7 +52,7 @@ fn quantity_of(word: &str, units: &[Unit<'_>]) -> Option<u64>
     None
 }
 
-/// Returns how many microseconds the word stands for: a whole number followed by `us`, `ms` or `s`.
+/// Returns how many microseconds the word stands for: a decimal number followed by a unit of time, rounded down.
 pub fn time_of(word: &str) -> Option<u64>
     ensures some { IfSome result (IsTime word.now) }
     ensures none { IfNone result ((n : ℕ) → ¬ IsTime word.now n) }
@@ -60,7 +60,8 @@ pub fn time_of(word: &str) -> Option<u64>
     quantity_of(word, &TIMES)
 }
 
-/// Returns how many bytes a second the word stands for: a whole number followed by a unit of bits or bytes.
+/// Returns how many bytes a second the word stands for: a decimal number followed by a unit of bits or bytes, rounded
+/// down.
 pub fn link_rate_of(word: &str) -> Option<u64>
     ensures some { IfSome result (IsRate word.now) }
     ensures none { IfNone result ((n : ℕ) → ¬ IsRate word.now n) }

@@ -1,7 +1,8 @@
 use Rattle.std.proofs.Common.{ℕ, List, Some, None}
 use Rattle.std.specs.Borrow.{Bor}
 use Rattle.std.proofs.lemmas.Str.Pattern.{IsSplitOnceResult}
-use Rattle.unit_words.specs.Quantities.{IsSample, IsWhole}
+use Rattle.unit_words.specs.Decimals.{IsWhole}
+use Rattle.unit_words.specs.Quantities.{IsSample}
 use Rattle.unit_words.proofs.QuantityLemmas.{if_none, no_sample}
 use Rattle.unit_words.proofs.quantities.sample_of.Goals as goal
 
