@@ -229,6 +229,8 @@ def comparison(asked, report):
     down = stop["down"] * asked.tick + reserve
     time = (stop["at"] - asked.start) * asked.tick + down
     of_sample = " of the sample" * (asked.guest > asked.sampled)
+    threshold = asked.settings()[3]
+    few = "none left ends pre-copy" if threshold == 1 else f"fewer than {threshold:,} end pre-copy"
     guest = f"{plural(stop['total'] * asked.guest // asked.sampled, 'page')} of the guest; " if of_sample else ""
     error_down, error_sent = errors(asked, report)
     pages = f"{plural(stop['total'], 'page')}{of_sample}"
@@ -237,7 +239,7 @@ def comparison(asked, report):
         "time": [time_text(time), ""],
         "sent": [size_text(asked.bytes(stop["total"])), f"{error_sent}{guest}{pages}"],
         "rounds": [f"{len(report['rounds']):,}", reason(asked, report)],
-        "left": [plural(stop["pages"], "page") + of_sample, f"fewer than {asked.settings()[3]:,} end pre-copy"],
+        "left": [plural(stop["pages"], "page") + of_sample, few],
         "stop": [time_text(stop["at"] * asked.tick), ""],
     }
 

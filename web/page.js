@@ -14,7 +14,7 @@ import { hasWideMemory, Refusal } from "./planner.js";
 import { commandsOf, predictionOf } from "./predictions.js";
 import { firstStartOf } from "./starts.js";
 import { StartsView } from "./starts-view.js";
-import { fragmentOf, MOST_KEPT, presetOf, stateIn } from "./state.js";
+import { fragmentOf, MOST_KEPT, presetOf, stateIn, withoutPreset } from "./state.js";
 import { TraceDesk } from "./trace-desk.js";
 import { amountOf, ControlRefusal, limitsOf, microsOf } from "./units.js";
 import { WindowsView } from "./windows-view.js";
@@ -100,7 +100,7 @@ class Page {
     } else {
       const { print } = this.state;
       const whose = print ? `the trace whose SHA-256 begins with ${print}` : "a trace";
-      byId("trace-state").textContent = `This address has settings for ${whose}. Choose it, or an example.`;
+      this.desk.want(`This address has settings for ${whose}. Choose it, or an example.`);
     }
   }
 
@@ -111,8 +111,8 @@ class Page {
   take(trace, { isGiven = false, isRecordOnly = false }) {
     const { example } = trace.source;
     if (!isGiven) {
-      const settings = example ? presetOf(example) : this.state.settings;
-      this.state.settings = example ? settings : fittedSettings(settings, this.chosen, trace.sizes, trace.record);
+      this.state.settings = example ? presetOf(example)
+        : fittedSettings(this.settingsToFit(), this.chosen, trace.sizes, trace.record);
     }
     const kept = isGiven || isRecordOnly ? this.state.kept : [];
     const wanted = isGiven ? this.state.print : null;
@@ -128,6 +128,12 @@ class Page {
     this.controls.fit(trace.sizes, trace.record?.start ?? 0);
     this.planSoon();
     this.settle();
+  }
+
+  /** The settings that are fitted to another trace. Those of an example go with it. */
+  settingsToFit() {
+    const { settings, example } = this.state;
+    return example ? withoutPreset(settings, example, this.chosen) : settings;
   }
 
   /** Takes settings that the user has changed, with the names of those that were chosen. */
@@ -326,14 +332,15 @@ class Page {
       const { scale } = prediction;
       const limits = limitsOf(settings);
       const noun = scale.isSample ? "sample page" : "page";
-      const pages = `${noun}s`;
-      words.link = `${rateText(limits.link)}: ${counted(max)} ${pages} per 1,000 ticks`;
-      words.first = `${rateText(limits.first)}: ${counted(min)} ${pages} per 1,000 ticks`;
-      words.increase = `${counted(increment)} ${pages} per 1,000 ticks`;
-      words.reserve = `${timeText(limits.downtime - limits.reserve)} for pages`;
-      words.downtime = `stops at fewer than ${countOf(threshold, noun)}`;
+      const rateWords = (pages) => `${countOf(pages, noun)} per 1,000 ticks`;
+      words.link = `${rateText(limits.link)}: ${rateWords(max)}`;
+      words.first = `${rateText(limits.first)}: ${rateWords(min)}`;
+      words.increase = `+${rateWords(increment)} a round`;
+      words.reserve = `leaves ${timeText(limits.downtime - limits.reserve)} for pages`;
+      words.downtime = threshold === 1 ? `stops when no ${noun} is left`
+        : `stops at fewer than ${countOf(threshold, noun)}`;
       words.sample = scale.isSample ? `${counted(scale.sampled)} of ${counted(scale.guest)} pages, `
-        + bytesText(scale.guest * scale.page) : `itself: the trace has all ${countOf(sizes.pages, "page")}`;
+        + bytesText(scale.guest * scale.page) : `the trace has the whole guest, ${countOf(sizes.pages, "page")}`;
     }
     return words;
   }

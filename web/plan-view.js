@@ -45,7 +45,8 @@ class RoundsFigure {
   constructor(name, title) {
     this.title = html("figcaption", {}, title);
     this.plot = html("div", { class: "plot", id: `rounds-plot-${name}` });
-    this.readout = html("p", { class: "readout", "data-hint": "Point at a round, or step with the arrow keys." });
+    this.readout = html("p", { class: "readout", "data-hint": "Point at a round, or step with the arrow keys.",
+      "data-touch": "Tap a round to read it." });
     this.table = html("div", { class: "scrolls", id: `rounds-table-${name}` });
     this.details = html("details", { open: true }, html("summary", {}, `Table of rounds${title && `, ${title}`}`),
       this.table);
