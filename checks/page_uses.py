@@ -369,7 +369,7 @@ def check_saving(page):
     before = asked(page, start="20000", first="100")
     page.browser.value("document.getElementById('ask').click()")
     page.browser.wait("document.getElementById('saving') !== null", 20)
-    said = page.browser.value("textOf('saving')")
+    said = page.browser.value("textOf('saving')").replace("\u00a0", " ")
     after = page.after("document.getElementById('take-best').click()")
     for name in ("time", "downtime"):
         told = re.search(rf"(?<!\w){name} (same|\S+ \S?s)[,.]", said)

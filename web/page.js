@@ -159,7 +159,7 @@ class Page {
     }
     this.startBefore = before;
     this.controls.set("start", start);
-    const at = (ticks) => timeText(microsOf({ tick: amountOf(before.tick) }, ticks));
+    const at = (ticks) => timeText(microsOf({ tick: amountOf(before.tick) }, ticks)).replace(" ", "\u00a0");
     byId("moved-words").textContent = `The start is moved from ${at(before.start)} to ${at(start)}.`;
     byId("moved").hidden = false;
   }

@@ -139,7 +139,7 @@ export class StartsView {
       return [];
     }
     const { cost } = prediction;
-    const saved = (text, name) => signed(best.cost[name] - cost[name], text);
+    const saved = (text, name) => signed(best.cost[name] - cost[name], text).replace(" ", "\u00a0");
     const words = prediction.settings.start === best.start ? "This plan starts there."
       : `At the best start instead of this one: time ${saved(timeText, "time")}, sent ${saved(bytesText, "bytes")}, `
         + `downtime ${saved(timeText, "downtime")}.`;
