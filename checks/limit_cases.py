@@ -1,12 +1,15 @@
 """Cases of checks/view about limits in time and bytes: precopy-view's answers, computed again from precopy's lines."""
 
-import bisect
-import collections
 import math
+import os
 import random
 import struct
+import sys
 
-from view_texts import Failure, document_of, ran, report_facts, sweep_facts, told
+from view_texts import TOP, Failure, document_of, ran, report_facts, sweep_facts, told
+
+sys.path.insert(0, os.path.join(TOP, "bench"))
+import redrawn  # noqa: E402
 
 TIMES = {"us": 1, "ms": 1_000, "s": 1_000_000}
 RATES = {"Kbit": 125, "Mbit": 125_000, "Gbit": 125_000_000, "KB": 1_000, "MB": 10**6, "GB": 10**9,
@@ -16,7 +19,8 @@ CASES_OF_STARTS = 400
 
 
 class Known:
-    """A trace, and what is in it: the bytes of a page, the writes as ticks and pages, and the last tick."""
+    """A trace, and what is in it: the bytes of a page, the writes as ticks and pages, the last tick, and the ticks at
+    which each page is written."""
 
     def __init__(self, path):
         self.path = path
@@ -30,6 +34,7 @@ class Known:
             self.writes.append((tick, page))
             at += 16 + length
         self.last = self.writes[-1][0]
+        self.guest = redrawn.by_page(self.pages, self.writes)
 
     def __repr__(self):
         return self.path
@@ -41,7 +46,8 @@ class Limits:
     def __init__(self, draw, known):
         self.tick = draw.choice([1, 10, 100, 1_000, 10_000])
         self.guest = draw.choice([1, draw.randrange(70_000, 1 << 30), 3 * known.pages])
-        self.sampled = 1 if self.guest == 1 else draw.randrange(known.pages, min(self.guest, 70_000))
+        most = min(self.guest, draw.choice([3 * known.pages, 3 * known.pages, 3 * known.pages, 70_000]))
+        self.sampled = 1 if self.guest == 1 else draw.randrange(known.pages, most)
         page = self.page = known.size
         self.link = self._rate(draw)
         self.first = draw.choice([None, self._rate(draw)])
@@ -123,24 +129,14 @@ def error_of(limits, total, squares):
     return root_above(-(-spread // (sampled * sampled * (sampled - 1))))
 
 
-def pages_sent(report, known):
-    """Returns the pages that each round of a plan without skipping sends, and those that are sent after the stop."""
-    lists = [range(report["trace"]["pages"])]
-    for some in report["rounds"]:
-        low, high = (bisect.bisect_left(known.writes, (some[name], 0)) for name in ("from", "to"))
-        lists.append({page for _, page in known.writes[low:high]})
-    return lists
-
-
-def errors_of(limits, lists):
-    """Returns the standard errors of what is sent, in bytes, and of the downtime, in microseconds, if there are any."""
+def errors_of(limits, start, known):
+    """Returns the standard errors of what is sent, in bytes, and of time and downtime, in microseconds, if there are
+    any: by plans of redrawn pages, page by page."""
     if not 2 <= limits.sampled <= 65_536 or limits.sampled >= limits.guest:
         return None
-    times = collections.Counter(page for some in lists for page in some)
-    sent = error_of(limits, sum(times.values()), sum(count * count for count in times.values()))
-    left = error_of(limits, len(lists[-1]), len(lists[-1]))
-    time = -(-left * limits.sampled * limits.tick * 1_000 // (limits.guest * limits.rate(limits.link[1])))
-    return sent * limits.page, time
+    rates = [int(word.split("=")[1]) for word in limits.settings()]
+    scale = redrawn.Scale(limits.tick, limits.page, limits.sampled, limits.guest)
+    return redrawn.errors(known.guest, redrawn.Settings(*rates, rounds=30, start=start), scale)
 
 
 def predicted_document(limits, report, start, last, errors):
@@ -152,7 +148,8 @@ def predicted_document(limits, report, start, last, errors):
     migration = {"why": stop["why"], "rounds": len(report["rounds"]), "time_seconds": time / 1e6, "sent_bytes": sent,
                  "down_seconds": down / 1e6, "left_pages": stop["pages"]}
     if errors:
-        migration["errors"] = {"sent_bytes": errors[0], "down_seconds": errors[1] / 1e6}
+        sent, time, down = errors
+        migration["errors"] = {"sent_bytes": sent, "time_seconds": time / 1e6, "down_seconds": down / 1e6}
     is_known = stop["at"] <= last
 
     def answer(holds):
@@ -190,9 +187,10 @@ def check_prediction(view, precopy, limits, start, known):
     settings = limits.settings()
     report = report_facts(told(precopy, ["report", *settings, f"--start={start}"], known.path))
     lines, warnings, wanted = predicted_lines(limits, report, start, known.last)
-    errors = errors_of(limits, pages_sent(report, known))
-    if errors and wanted != 4:
-        lines.append(f"standard errors: sent {size_text(errors[0])}, downtime {seconds(errors[1])}")
+    errors = errors_of(limits, start, known) if wanted != 4 else None
+    if errors:
+        sent, time, down = errors
+        lines.append(f"standard errors: sent {size_text(sent)}, time {seconds(time)}, downtime {seconds(down)}")
     found = text.splitlines()
     told_warnings = [line for line in found if line.startswith("warning: ")]
     if status != wanted or found[: len(lines)] != lines or len(told_warnings) != warnings:

@@ -1,10 +1,15 @@
 -- The numbers that a caller sees for refusals: those that C sees. Those of traces are the numbers of their names in
--- fault lines, E1 to E17; those of settings, S1 to S10, begin at 21. This project's own.
+-- fault lines, E1 to E17; those of settings, S1 to S10, begin at 21; those of limits and what they stand for, in the
+-- order in which they are tested, at 81. This project's own.
 use Rattle.std.specs.Prelude.{◌≡◌, ℕ, Option, Some, None}
 use Rattle.trace_codec.specs.declared.error.TraceError.{TraceError}
 use Rattle.trace_codec.specs.declared.error.TraceError.TheVariants as traces
 use Rattle.rate_limit.specs.declared.error.SettingsError.{SettingsError}
 use Rattle.rate_limit.specs.declared.error.SettingsError.TheVariants as settings
+use Rattle.guest_units.specs.declared.error.UnitsError.{UnitsError}
+use Rattle.guest_units.specs.declared.error.UnitsError.TheVariants as units
+use Rattle.predictions.specs.declared.question.Misfit.{Misfit}
+use Rattle.predictions.specs.declared.question.Misfit.TheVariants as misfits
 use Rattle.lent_planner.specs.declared.answers.Refusal.{Refusal}
 use Rattle.lent_planner.specs.declared.answers.Refusal.TheVariants as refusals
 
@@ -39,9 +44,25 @@ number_of_settings settings.StartTick = 28
 number_of_settings settings.Parallelism = 29
 number_of_settings settings.BaseTick = 30
 
+abbrev pub number_of_units : UnitsError → ℕ
+number_of_units units.Tick = 81
+number_of_units units.Page = 82
+number_of_units units.Sampled = 83
+number_of_units units.Link = 84
+number_of_units units.First = 85
+number_of_units units.Reserve = 86
+number_of_units units.Downtime = 87
+number_of_units (units.Setting e) = number_of_settings e
+
+abbrev pub number_of_misfit : Misfit → ℕ
+number_of_misfit misfits.PageSize = 88
+number_of_misfit misfits.TooManyPages = 89
+
 abbrev pub number_of : Refusal → ℕ
 number_of (refusals.Trace e) = number_of_trace e
 number_of (refusals.Settings e) = number_of_settings e
+number_of (refusals.Units e) = number_of_units e
+number_of (refusals.Misfit e) = number_of_misfit e
 number_of refusals.ShortBuffer = 61
 
 -- this is the number of a refusal of which that holds

@@ -4,3 +4,6 @@ pub mod Touches
 pub mod Traces
 pub mod Plans
 pub mod Windows
+pub mod Predictions
+pub mod Errors
+pub mod Starts

@@ -2,9 +2,10 @@
 use Rattle.std.specs.Prelude.{◌≡◌, ◌≤◌, ℕ, List, length, Some}
 use Rattle.migration_model.specs.Trace.{GuestTrace, Spells}
 use Rattle.migration_model.specs.Touches.{touches_of}
-use Rattle.migration_model.specs.Rates.{AreSettings, MigrationSettings, StopReason, few_remain, too_fast, rounds_done}
+use Rattle.migration_model.specs.Rates.{AreSettings, MigrationSettings}
 use Rattle.migration_model.specs.Sweeps.{PlanOutcome}
 use Rattle.page_bitmap.specs.Listing.{word_count}
+use Rattle.predictions.specs.Questions.{reason_number}
 use Rattle.rate_limit.specs.Refusals.{refusal_of}
 use Rattle.trace_codec.specs.Refusals.{Refuses}
 use Rattle.round_planner.specs.Rows.{IsPlanned}
@@ -13,12 +14,6 @@ use Rattle.lent_planner.specs.declared.answers.Refusal.{Refusal}
 use Rattle.lent_planner.specs.declared.answers.Refusal.TheVariants as refusals
 use Rattle.lent_planner.specs.declared.plans.LentSums.{LentSums}
 use Rattle.lent_planner.specs.declared.plans.PlanRoom.{PlanRoom}
-
--- the number of a reason
-abbrev pub reason_number : StopReason → ℕ
-reason_number few_remain = 0
-reason_number too_fast = 1
-reason_number rounds_done = 2
 
 -- the sums of a plan as a caller sees them
 abbrev pub sums_of : PlanOutcome → LentSums
@@ -59,5 +54,7 @@ pub record IsSummedOf (bytes : List ℕ) (settings : MigrationSettings)
 abbrev pub RefusesPlan : List ℕ → MigrationSettings → PlanRoom → Refusal → Type 0
 RefusesPlan bytes settings room (refusals.Settings e) = refusal_of settings ≡ Some e
 RefusesPlan bytes settings room (refusals.Trace e) = AreSettings settings × Refuses bytes e
+RefusesPlan bytes settings room (refusals.Units e) = ⊥
+RefusesPlan bytes settings room (refusals.Misfit e) = ⊥
 RefusesPlan bytes settings room refusals.ShortBuffer =
     AreSettings settings × (trace : GuestTrace) × Spells bytes trace × (HasRoom trace settings room → ⊥)

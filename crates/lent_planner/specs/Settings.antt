@@ -1,5 +1,5 @@
 -- The settings that a caller asks for, as the definitions' value.
-use Rattle.std.specs.Prelude.{ℕ, ◌==◌, not, if◌then◌else◌, Option, Some, None}
+use Rattle.std.specs.Prelude.{ℕ, ◌==◌, not, is_some, unwrap_or, if◌then◌else◌, Option, Some, None}
 use Rattle.migration_model.specs.Rates.{MigrationSettings}
 use Rattle.lent_planner.specs.declared.settings.LentSettings.{LentSettings}
 
@@ -24,4 +24,20 @@ settings_in s = record {
   lane = 1;
   skip = not (s.skip == 0);
   base = base_in s;
+}
+
+-- settings as a caller gets them
+abbrev pub lent_of : MigrationSettings → LentSettings
+lent_of s = record {
+  min = s.min;
+  max = s.max;
+  increment = s.increment;
+  threshold = s.threshold;
+  rounds = s.rounds;
+  start = s.start;
+  window = s.window;
+  hot = s.hot;
+  base = unwrap_or s.base 0;
+  has_base = if is_some s.base then 1 else 0;
+  skip = if s.skip then 1 else 0;
 }

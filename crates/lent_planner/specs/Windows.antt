@@ -39,5 +39,7 @@ pub record AreWindowsOf (bytes : List ℕ) (settings : MigrationSettings)
 abbrev pub RefusesWindows : List ℕ → MigrationSettings → WindowRoom → Refusal → Type 0
 RefusesWindows bytes settings room (refusals.Settings e) = refusal_of settings ≡ Some e
 RefusesWindows bytes settings room (refusals.Trace e) = AreSettings settings × Refuses bytes e
+RefusesWindows bytes settings room (refusals.Units e) = ⊥
+RefusesWindows bytes settings room (refusals.Misfit e) = ⊥
 RefusesWindows bytes settings room refusals.ShortBuffer =
     AreSettings settings × (trace : GuestTrace) × Spells bytes trace × (HasRoom trace settings room → ⊥)

@@ -1,9 +1,12 @@
 //! What calls answer.
 
 ghost use Rattle.std.specs.Prelude.{◌≡◌, ◌≤◌};
-ghost use Rattle.lent_planner.specs.Answers.{number_of_settings, number_of_trace};
-ghost use Rattle.lent_planner.specs.declared.answers.Refusal.TheVariants.{Settings as OfSettings, Trace as OfTrace};
+ghost use Rattle.lent_planner.specs.Answers.{number_of_misfit, number_of_settings, number_of_trace, number_of_units};
+ghost use Rattle.lent_planner.specs.declared.answers.Refusal.TheVariants.{Misfit as OfMisfit, Settings as OfSettings};
+ghost use Rattle.lent_planner.specs.declared.answers.Refusal.TheVariants.{Trace as OfTrace, Units as OfUnits};
 
+use guest_units::UnitsError;
+use predictions::Misfit;
 use rate_limit::SettingsError;
 use trace_codec::TraceError;
 
@@ -14,6 +17,10 @@ pub enum Refusal {
     Trace(TraceError),
     /// The settings are out of range.
     Settings(SettingsError),
+    /// A question is out of range.
+    Units(UnitsError),
+    /// The trace does not have the question's scale.
+    Misfit(Misfit),
     /// Room or a buffer is too short for what belongs there.
     ShortBuffer,
 }
@@ -31,6 +38,22 @@ impl From<SettingsError> for Refusal {
 
     fn from(error: SettingsError) -> Refusal {
         Refusal::Settings(error)
+    }
+}
+
+impl From<UnitsError> for Refusal {
+    ghost from_gives = { λ e r. r ≡ OfUnits e };
+
+    fn from(error: UnitsError) -> Refusal {
+        Refusal::Units(error)
+    }
+}
+
+impl From<Misfit> for Refusal {
+    ghost from_gives = { λ e r. r ≡ OfMisfit e };
+
+    fn from(error: Misfit) -> Refusal {
+        Refusal::Misfit(error)
     }
 }
 
@@ -79,6 +102,34 @@ fn settings_number(error: SettingsError) -> u32
     }
 }
 
+/// Returns the number of a refusal of a question.
+pub(crate) fn units_number(error: UnitsError) -> u32
+    ensures number { result ≡ number_of_units error }
+    ensures some { 1 ≤ result }
+{
+    match error {
+        UnitsError::Tick => 81,
+        UnitsError::Page => 82,
+        UnitsError::Sampled => 83,
+        UnitsError::Link => 84,
+        UnitsError::First => 85,
+        UnitsError::Reserve => 86,
+        UnitsError::Downtime => 87,
+        UnitsError::Setting(error) => settings_number(error),
+    }
+}
+
+/// Returns the number of a trace that does not have the question's scale.
+fn misfit_number(error: Misfit) -> u32
+    ensures number { result ≡ number_of_misfit error }
+    ensures some { 1 ≤ result }
+{
+    match error {
+        Misfit::PageSize => 88,
+        Misfit::TooManyPages => 89,
+    }
+}
+
 impl Refusal {
     ghost use Rattle.std.specs.Prelude.{◌≡◌, ◌≤◌};
     ghost use Rattle.lent_planner.specs.Answers.{number_of};
@@ -91,6 +142,8 @@ impl Refusal {
         match self {
             Refusal::Trace(error) => trace_number(error),
             Refusal::Settings(error) => settings_number(error),
+            Refusal::Units(error) => units_number(error),
+            Refusal::Misfit(error) => misfit_number(error),
             Refusal::ShortBuffer => 61,
         }
     }

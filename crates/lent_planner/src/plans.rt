@@ -5,7 +5,8 @@ ghost use Rattle.migration_model.specs.Rates.{AreSettings};
 ghost use Rattle.migration_model.specs.Trace.{GuestTrace, Spells};
 ghost use Rattle.rate_limit.specs.Pacing.{reason_of};
 ghost use Rattle.lent_planner.specs.Answers.{IsNumberOf};
-ghost use Rattle.lent_planner.specs.Plans.{HasRoom, IsPlannedOf, IsSummedOf, RefusesPlan, reason_number, room_of};
+ghost use Rattle.lent_planner.specs.Plans.{HasRoom, IsPlannedOf, IsSummedOf, RefusesPlan, room_of};
+ghost use Rattle.predictions.specs.Questions.{reason_number};
 ghost use Rattle.lent_planner.specs.Plans.{sums_of};
 ghost use Rattle.migration_model.specs.Touches.{touches_of};
 ghost use Rattle.round_planner.specs.Rows.{IsPlanned};
@@ -63,10 +64,10 @@ fn sums_in(outcome: &Outcome) -> LentSums
 /// How long what is lent for a plan is.
 #[derive(Clone, Copy)]
 pub(crate) struct PlanRoom {
-    touches: usize,
-    marks: usize,
-    list: usize,
-    rounds: usize,
+    pub(crate) touches: usize,
+    pub(crate) marks: usize,
+    pub(crate) list: usize,
+    pub(crate) rounds: usize,
 }
 
 impl PlanRoom {
@@ -74,7 +75,7 @@ impl PlanRoom {
     ghost use Rattle.lent_planner.specs.Plans.{HasRoom};
 
     /// Returns whether that is enough for a plan of a trace.
-    fn is_enough(&self, trace: &TraceView<'_>, settings: &Settings) -> bool
+    pub(crate) fn is_enough(&self, trace: &TraceView<'_>, settings: &Settings) -> bool
         ensures { IsTrue result ↔ HasRoom trace.now settings.now self.now }
     {
         let Shape { pages, writes, .. } = trace.shape();
@@ -86,7 +87,7 @@ impl PlanRoom {
 }
 
 /// Returns the sums of the plan of a trace, and writes its rounds over the front of a buffer.
-fn plan_of(
+pub(crate) fn plan_of(
     trace: &TraceView<'_>,
     settings: &Settings,
     touches: &mut [LentTouch],

@@ -5,7 +5,7 @@ ghost use Rattle.migration_model.specs.Rates.{AreSettings};
 ghost use Rattle.rate_limit.specs.Refusals.{refusal_of};
 ghost use Rattle.rate_limit.specs.declared.error.SettingsError.{SettingsError};
 ghost use Rattle.lent_planner.specs.Answers.{number_of_settings};
-ghost use Rattle.lent_planner.specs.Settings.{settings_in};
+ghost use Rattle.lent_planner.specs.Settings.{lent_of, settings_in};
 
 use crate::answers::Refusal;
 use rate_limit::{Asked, Settings, SettingsError};
@@ -83,6 +83,26 @@ impl LentSettings {
         ensures refused { IfErr result (λ e. refusal_of (settings_in self.now) ≡ Some e) }
     {
         Settings::new(self.asked())
+    }
+}
+
+/// Returns settings as the caller sees them.
+pub(crate) fn lent_settings(settings: &Settings) -> LentSettings
+    ensures { result ≡ lent_of settings.now }
+{
+    let asked = settings.asked();
+    LentSettings {
+        min: asked.min,
+        max: asked.max,
+        increment: asked.increment,
+        threshold: asked.threshold,
+        rounds: asked.rounds,
+        start: asked.start,
+        window: asked.window,
+        hot: asked.hot,
+        base: asked.base.unwrap_or(0),
+        has_base: u32::from(asked.base.is_some()),
+        skip: u32::from(asked.skip),
     }
 }
 

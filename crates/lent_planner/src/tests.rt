@@ -10,7 +10,7 @@ use working_sets::{PageSeen, WindowNumbers};
 
 /// Pages of 16 bytes, 4 pages, 5 writes: of pages 0 and 1 at ticks 0 and 5, of page 1 at tick 1200, of pages 3 and 1
 /// at tick 2500.
-static TRACE: [u8; 102] = [
+pub(crate) static TRACE: [u8; 102] = [
     0x50, 0x43, 0x57, 0x54, 1, 4, 0, 0, 4, 0, 0, 0, 5, 0, 0, 0, //
     0, 0, 0, 0, 0, 0, 0, 0, 0, 0, 0, 0, 0, 0, 1, 0, 1, //
     5, 0, 0, 0, 0, 0, 0, 0, 1, 0, 0, 0, 15, 0, 1, 0, 2, //
@@ -29,9 +29,9 @@ static EARLIER: [u8; 102] = [
     0xc3, 9, 0, 0, 0, 0, 0, 0, 1, 0, 0, 0, 0, 0, 1, 0, 0,
 ];
 
-const TOUCH: LentTouch = LentTouch { tick: 0, page: 0 };
+pub(crate) const TOUCH: LentTouch = LentTouch { tick: 0, page: 0 };
 
-const ROUND: RoundRow = RoundRow {
+pub(crate) const ROUND: RoundRow = RoundRow {
     from: 7,
     to: 7,
     rate: 7,
@@ -53,7 +53,7 @@ const WINDOW: WindowNumbers = WindowNumbers {
     fresh: 7,
 };
 
-fn settings(start: u64, base: Option<u64>, skip: u32) -> LentSettings {
+pub(crate) fn settings(start: u64, base: Option<u64>, skip: u32) -> LentSettings {
     LentSettings {
         min: 2,
         max: 4,

@@ -6,8 +6,8 @@ use Rattle.std.proofs.lemmas.Bool.{cases_lt, cases_eq, or_cases, or_left, or_rig
 use Rattle.std.proofs.lemmas.Bool.{false_from_ne_true, ltb-true, lt-ltb, eq-eqb, eqb-true}
 use Rattle.std.proofs.lemmas.List.MinMax.{IsStrictWeakOrder-by_number, IsStrictWeakOrder-flip}
 use Rattle.migration_starts.specs.Costs.{CostAtStart}
-use Rattle.migration_starts.specs.Choices.{by_then, first_price, is_better_start, is_worse_start, misses}
-use Rattle.migration_starts.specs.Choices.{second_price}
+use Rattle.migration_starts.specs.Choices.{by_then, first_price, is_better_known, is_better_start, is_worse_known}
+use Rattle.migration_starts.specs.Choices.{is_worse_start, lateness, misses, second_price}
 
 -- the first of two numbers is less, or they are equal and the rest holds
 less_is : (m n : ℕ) (rest : Bool) → (ltb m n || (eqb m n && rest)) ≡ true → (m < n) ⊎ ((m ≡ n) × (rest ≡ true))
@@ -70,3 +70,9 @@ better_order =
 
 pub worse_order : IsStrictWeakOrder is_worse_start
 worse_order = IsStrictWeakOrder-flip is_better_start better_order
+
+pub better_known_order : IsStrictWeakOrder is_better_known
+better_known_order = IsStrictWeakOrder-by_then lateness is_better_start better_order
+
+pub worse_known_order : IsStrictWeakOrder is_worse_known
+worse_known_order = IsStrictWeakOrder-by_then lateness is_worse_start worse_order

@@ -38,6 +38,17 @@ is_better_start = by_then misses (by_then first_price (by_then second_price is_q
 abbrev pub is_worse_start : CostAtStart → CostAtStart → Bool
 is_worse_start a b = is_better_start b a
 
+-- 0 if the migration ends within the trace, and else 1
+abbrev pub lateness : CostAtStart → ℕ
+lateness at = if at.cost.is_late then 1 else 0
+
+-- the same choice over all starts: one of which nothing is known comes after any other
+abbrev pub is_better_known : CostAtStart → CostAtStart → Bool
+is_better_known = by_then lateness is_better_start
+
+abbrev pub is_worse_known : CostAtStart → CostAtStart → Bool
+is_worse_known = by_then lateness is_worse_start
+
 -- what is chosen of some starts: the first that no other beats, or none of none
 abbrev pub IsChosen : (CostAtStart → CostAtStart → Bool) → List CostAtStart → Option CostAtStart → Type 0
 IsChosen beats costs None = costs ≡ []

@@ -3,7 +3,8 @@
 ghost use Rattle.std.specs.Prelude.{◌≡◌, ◌≤◌, ◌<◌, ◌&&◌, ◌||◌, ◌==◌, nat_lt, if◌then◌else◌, IfOk, length};
 ghost use Rattle.std.specs.List.{IsFirstBest};
 ghost use Rattle.migration_starts.specs.Choices.{IsChosen, first_price, is_better_start, is_worse_start};
-ghost use Rattle.migration_starts.specs.Choices.{known_of, misses, second_price};
+ghost use Rattle.migration_starts.specs.Choices.{is_better_known, is_worse_known, known_of, lateness, misses};
+ghost use Rattle.migration_starts.specs.Choices.{second_price};
 
 use crate::starting::StartCost;
 use std::alloc::{AllocError, Global};
@@ -65,6 +66,27 @@ fn is_better(at: &StartCost, other: &StartCost) -> bool
     let by_second = is_less_then(second_price_of(at), second_price_of(other), by_time);
     let by_first = is_less_then(first_price_of(at), first_price_of(other), by_second);
     is_less_then(misses_of(at), misses_of(other), by_first)
+}
+
+/// Returns 0 if a migration ends within the trace, and else 1.
+fn lateness_of(at: &StartCost) -> u128
+    ensures { result ≡ lateness at.now }
+{
+    if at.cost.is_late { 1 } else { 0 }
+}
+
+/// Returns whether a start is better than another. If nothing is known of one, the other is better.
+pub fn is_better_known(at: &StartCost, other: &StartCost) -> bool
+    ensures { result ≡ is_better_known at.now other.now }
+{
+    is_less_then(lateness_of(at), lateness_of(other), is_better(at, other))
+}
+
+/// Returns whether a start is worse than another. If nothing is known of one, the other is worse: it is chosen first.
+pub fn is_worse_known(at: &StartCost, other: &StartCost) -> bool
+    ensures { result ≡ is_worse_known at.now other.now }
+{
+    is_less_then(lateness_of(at), lateness_of(other), is_better(other, at))
 }
 
 /// Returns the place of the first start that no other is better than.

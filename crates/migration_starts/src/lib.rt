@@ -7,7 +7,7 @@ mod starting;
 mod starts;
 mod table;
 
-pub use choosing::{best_start, known_starts, worst_start};
+pub use choosing::{best_start, is_better_known, is_worse_known, known_starts, worst_start};
 pub use error::StartsError;
 pub use starting::{StartCost, start_costs};
 pub use starts::Starts;

@@ -212,14 +212,13 @@ fn unknown_words_are_told(rt: HostRuntime) -> Result<(), Fail> {
 }
 
 /// A prediction for a guest of which one page in four was recorded, over a link of 64 pages of the guest in 1,000
-/// ticks: 16 of the trace. The first round sends 4 pages in 250 ticks. The 2 that are left take 125 ticks. The 4 pages
-/// are sent 2, 2, 1 and 1 times, so the square of the standard error is 16 * 12 * (4 * 10 - 6 * 6) / (4 * 4 * 3) = 16,
-/// and the same for the pages that are left. These 4 pages of the guest take 62.5 ticks.
+/// ticks: 16 of the trace. The first round sends 4 pages in 250 ticks. The 2 that are left take 125 ticks. The standard
+/// errors come from `bench/redrawn.py`, which shares no code with the crates.
 static PREDICTION: &str = "converges: yes, rounds: 1
 total time: 0.385 s
 sent: 0.00 MiB
 downtime: 0.135 s, limit: 0.200 s, kept
-standard errors: sent 0.00 MiB, downtime 0.062 s
+standard errors: sent 0.00 MiB, time 0.054 s, downtime 0.060 s
 warning: fewer than 100 pages decided the stop; chance moves it
 precopy live --min 16 --max 16 --inc 0 --threshold 4 --rounds 30 --start 0
 QEMU: migrate_set_parameter max-bandwidth 1024B

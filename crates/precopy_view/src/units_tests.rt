@@ -155,7 +155,8 @@ static PREDICTED: &str =
 \"settings\":{\"min\":16,\"max\":16,\"inc\":0,\"threshold\":4,\"limit\":30,\"skip\":false,\"start\":0},\
 \"converges\":\"yes\",\"kept\":\"yes\",\"recorded_seconds\":2.500000,\
 \"migration\":{\"why\":\"few\",\"rounds\":1,\"time_seconds\":0.385000,\"sent_bytes\":384,\
-\"down_seconds\":0.135000,\"left_pages\":2,\"errors\":{\"sent_bytes\":64,\"down_seconds\":0.062500}},\
+\"down_seconds\":0.135000,\"left_pages\":2,\"errors\":{\"sent_bytes\":64,\
+\"time_seconds\":0.054082,\"down_seconds\":0.060686}},\
 \"hosts\":{\"bandwidth_bytes\":1024,\"bandwidth_mib\":1,\"down_milliseconds\":190}}\n";
 
 /// The same from a tick from which the trace ends before the migration does.

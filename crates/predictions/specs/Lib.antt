@@ -2,5 +2,4 @@ pub mod Quantities
 pub mod Predictions
 pub mod Texts
 pub mod Hosts
-pub mod Errors
-pub mod Tallies
+pub mod Questions

@@ -48,14 +48,18 @@ cost_of scale limits start outcome last_tick = record {
   is_late = nat_lt last_tick outcome.stop;
 }
 
--- what a plan predicts
-abbrev pub prediction_of : TraceScale → Limits → ℕ → MigrationPlan → ℕ → GuestPrediction
-prediction_of scale limits start plan last_tick = record {
-  reason = plan.reason;
-  cost = cost_of scale limits start (outcome_of plan) last_tick;
-  left = length plan.last;
+-- what a plan predicts, by its result and the number of pages that it leaves
+abbrev pub prediction_with : TraceScale → Limits → ℕ → PlanOutcome → ℕ → ℕ → GuestPrediction
+prediction_with scale limits start outcome left last_tick = record {
+  reason = outcome.reason;
+  cost = cost_of scale limits start outcome last_tick;
+  left = left;
   recorded = micros_of scale (last_tick - start);
 }
+
+abbrev pub prediction_of : TraceScale → Limits → ℕ → MigrationPlan → ℕ → GuestPrediction
+prediction_of scale limits start plan last_tick =
+    prediction_with scale limits start (outcome_of plan) (length plan.last) last_tick
 
 -- The answer to a question about a migration. Nothing is known if the trace ends before the migration does: writes that
 -- it lacks could change any answer.

@@ -2,9 +2,9 @@
 use Rattle.std.specs.Prelude.{ℕ, nat_lt, Bool, true, false, if◌then◌else◌, List, [], ◌∷◌, ◌++◌, codes}
 use Rattle.std.specs.Prelude.{Option, None, Some}
 use Rattle.migration_model.specs.Rates.{StopReason, few_remain, rounds_done, too_fast}
-use Rattle.predictions.specs.Errors.{GuestErrors}
 use Rattle.predictions.specs.Predictions.{GuestPrediction}
 use Rattle.predictions.specs.Quantities.{bytes_text, seconds_text}
+use Rattle.redrawn_pages.specs.Errors.{SampleErrors}
 use Rattle.sweep_report.specs.Lines.{field, line}
 
 -- whether pre-copy comes down to what the limit allows
@@ -53,13 +53,13 @@ warnings p = line_if (nat_lt p.left 100) (codes "warning: fewer than 100 pages d
     ++ line_if (ends_early p.reason) (reason_words p.reason)
 
 -- how far chance moves the prediction, if pages were sampled
-abbrev pub errors_line : Option GuestErrors → List ℕ
+abbrev pub errors_line : Option SampleErrors → List ℕ
 errors_line None = []
-errors_line (Some errors) = line (codes "standard errors: sent " ∷ bytes_text errors.bytes ∷ codes ", downtime "
-    ∷ seconds_text errors.downtime ∷ [])
+errors_line (Some errors) = line (codes "standard errors: sent " ∷ bytes_text errors.bytes ∷ codes ", time "
+    ∷ seconds_text errors.time ∷ codes ", downtime " ∷ seconds_text errors.downtime ∷ [])
 
 -- a prediction of a migration that ends within the trace
-abbrev pub known_text : ℕ → GuestPrediction → Option GuestErrors → List ℕ
+abbrev pub known_text : ℕ → GuestPrediction → Option SampleErrors → List ℕ
 known_text limit p errors = facts_text limit p ++ (errors_line errors ++ warnings p)
 
 -- all that is known of a migration if the trace, which goes on for so many microseconds, ends before it
@@ -67,5 +67,5 @@ abbrev pub unknown_text : ℕ → List ℕ
 unknown_text recorded = codes "converges: unknown, the trace ends before the migration does; record longer\n"
     ++ line (codes "total time: more than " ∷ seconds_text recorded ∷ [])
 
-abbrev pub prediction_text : ℕ → GuestPrediction → Option GuestErrors → List ℕ
+abbrev pub prediction_text : ℕ → GuestPrediction → Option SampleErrors → List ℕ
 prediction_text limit p errors = if p.cost.is_late then unknown_text p.recorded else known_text limit p errors

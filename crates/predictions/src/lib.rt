@@ -1,21 +1,20 @@
 //! What a migration will be, in time and bytes: predictions of one plan, and of many starts.
 #![tactic(auto)]
 
+mod answer;
 mod cost;
-mod counts;
-mod errors;
 mod hosts;
 mod prediction;
 mod prediction_text;
 mod quantities;
-mod roots;
-mod tally;
+mod question;
 mod verdict;
 
+pub use answer::{Answer, ErrorNumbers};
 pub use cost::Cost;
-pub use errors::Errors;
 pub use hosts::{link_in_mib, millis_for_pages, push_hosts};
 pub use prediction::Prediction;
 pub use prediction_text::push_prediction;
 pub use quantities::{push_bytes, push_seconds, push_wide};
+pub use question::{Misfit, Question, Terms, check_fit};
 pub use verdict::Verdict;

@@ -4,7 +4,7 @@ use crate::cost::Cost;
 use crate::verdict::Verdict;
 use guest_units::{Limits, Scale};
 use rate_limit::Reason;
-use round_planner::Plan;
+use round_planner::{Outcome, Plan};
 use std::marker::Model;
 
 /// What a migration will be: how it ends, and what it costs.
@@ -36,7 +36,7 @@ impl Model for Prediction {
 
 impl Prediction {
     ghost use Rattle.std.specs.Prelude.{◌≡◌};
-    ghost use Rattle.predictions.specs.Predictions.{prediction_of, verdict_of};
+    ghost use Rattle.predictions.specs.Predictions.{prediction_of, prediction_with, verdict_of};
 
     /// Returns what a plan predicts that begins at a tick, over a trace of this scale and with this last tick.
     pub fn new(
@@ -48,10 +48,32 @@ impl Prediction {
     ) -> Prediction
         ensures { result ≡ prediction_of scale.now limits.now start plan.now last_tick }
     {
+        Prediction::of_outcome(
+            scale,
+            limits,
+            start,
+            &plan.outcome(),
+            plan.last.len() as u64,
+            last_tick,
+        )
+    }
+
+    /// Returns what a plan predicts that begins at a tick, by its sums and the number of pages that it leaves, over a
+    /// trace of this scale and with this last tick.
+    pub fn of_outcome(
+        scale: &Scale,
+        limits: &Limits,
+        start: u64,
+        outcome: &Outcome,
+        left: u64,
+        last_tick: u64,
+    ) -> Prediction
+        ensures { result ≡ prediction_with scale.now limits.now start outcome.now left last_tick }
+    {
         Prediction {
-            reason: plan.reason,
-            cost: Cost::new(scale, limits, start, &plan.outcome(), last_tick),
-            left: plan.last.len() as u64,
+            reason: outcome.reason,
+            cost: Cost::new(scale, limits, start, outcome, last_tick),
+            left,
             recorded: scale.micros(last_tick.saturating_sub(start)),
         }
     }

@@ -1,16 +1,16 @@
 //! A prediction as lines.
 
-ghost use Rattle.std.specs.Prelude.{◌≡◌, ◌++◌, ◌∷◌, ◌<◌, ◌^◌, [], OnOk, codes};
+ghost use Rattle.std.specs.Prelude.{◌≡◌, ◌++◌, ◌∷◌, ◌<◌, ◌^◌, [], OnOk, Some, codes};
 ghost use Rattle.predictions.specs.Quantities.{bytes_text, seconds_text};
 ghost use Rattle.predictions.specs.Texts.{ending, ends_early, errors_line, facts_text, known_text, line_if};
 ghost use Rattle.predictions.specs.Texts.{prediction_text, reason_words, time_line, unknown_text, verdict, warnings};
 ghost use Rattle.rate_limit.specs.Pacing.{reason_of};
 ghost use Rattle.sweep_report.specs.Lines.{field, line};
 
-use crate::errors::Errors;
 use crate::prediction::Prediction;
 use crate::quantities::{push_bytes, push_seconds};
 use rate_limit::Reason;
+use redrawn_pages::Errors;
 use std::alloc::AllocError;
 use sweep_report::{end_line, push_field};
 
@@ -150,15 +150,15 @@ fn push_warnings(text: &mut Vec<u8>, prediction: &Prediction) -> Result<(), Allo
 }
 
 /// Appends the line on standard errors.
-fn push_both(text: &mut Vec<u8>, bytes: u128, downtime: u128) -> Result<(), AllocError>
-    requires { bytes < 2 ^ 120 }
-    ensures { OnOk result (text.new.items ≡ text.old.items ++ line (codes "standard errors: sent " ∷ bytes_text bytes
-        ∷ codes ", downtime " ∷ seconds_text downtime ∷ [])) }
+fn push_all(text: &mut Vec<u8>, errors: &Errors) -> Result<(), AllocError>
+    ensures { OnOk result (text.new.items ≡ text.old.items ++ errors_line (Some errors.now)) }
 {
     text.extend_from_slice("standard errors: sent ".as_bytes())?;
-    push_bytes(text, bytes)?;
+    push_bytes(text, errors.bytes)?;
+    text.extend_from_slice(", time ".as_bytes())?;
+    push_seconds(text, errors.time)?;
     text.extend_from_slice(", downtime ".as_bytes())?;
-    push_seconds(text, downtime)?;
+    push_seconds(text, errors.downtime)?;
     end_line(text)?;
     Ok(())
 }
@@ -168,7 +168,7 @@ fn push_errors(text: &mut Vec<u8>, errors: &Option<Errors>) -> Result<(), AllocE
     ensures { OnOk result (text.new.items ≡ text.old.items ++ errors_line errors.now) }
 {
     match errors {
-        Some(errors) => push_both(text, errors.bytes, errors.downtime),
+        Some(errors) => push_all(text, errors),
         None => Ok(()),
     }
 }

@@ -4,9 +4,9 @@ use Rattle.guest_units.specs.Scales.{TraceScale}
 use Rattle.guest_units.specs.declared.limits.Limits.{Limits}
 use Rattle.json.specs.Token.{Token}
 use Rattle.migration_model.specs.Rates.{MigrationSettings, word_of}
-use Rattle.predictions.specs.Errors.{GuestErrors}
 use Rattle.predictions.specs.Hosts.{link_in_mib, millis_for_pages}
 use Rattle.predictions.specs.Predictions.{GuestPrediction, kept_of, verdict_of, verdict_word}
+use Rattle.redrawn_pages.specs.Errors.{SampleErrors}
 use Rattle.trace_views.specs.Json.{member_of, number_member, object_of, scale_object, seconds_member, settings_members}
 use Rattle.trace_views.specs.Json.{text_member}
 use Rattle.trace_views.specs.StartsJson.{cost_numbers}
@@ -38,23 +38,24 @@ hosts_object limits =
     (link_in_mib limits)
     ∷ number_member (codes "down_milliseconds") (millis_for_pages limits) ∷ [])
 
--- one standard error of what is sent, and of the downtime
-abbrev pub errors_object : ℕ → ℕ → List Token
-errors_object bytes downtime =
-    object_of (number_member (codes "sent_bytes") bytes ∷ seconds_member (codes "down_seconds") downtime ∷ [])
+-- one standard error of what is sent, of the time, and of the downtime
+abbrev pub errors_object : SampleErrors → List Token
+errors_object errors =
+    object_of (number_member (codes "sent_bytes") errors.bytes ∷ seconds_member (codes "time_seconds") errors.time
+    ∷ seconds_member (codes "down_seconds") errors.downtime ∷ [])
 
-abbrev pub errors_member : Option GuestErrors → List Token
+abbrev pub errors_member : Option SampleErrors → List Token
 errors_member None = []
-errors_member (Some errors) = member_of (codes "errors") (errors_object errors.bytes errors.downtime)
+errors_member (Some errors) = member_of (codes "errors") (errors_object errors)
 
 -- the migration of a plan: why it stops, what it costs, how many pages of the trace are sent after the stop, and the
 -- errors
-abbrev pub migration_object : GuestPrediction → Option GuestErrors → List Token
+abbrev pub migration_object : GuestPrediction → Option SampleErrors → List Token
 migration_object p errors = object_of (text_member (codes "why") (word_of p.reason) ∷
     (cost_numbers p.cost ++ number_member (codes "left_pages") p.left ∷ errors_member errors ∷ []))
 
 -- it is left out if the trace ends before it
-abbrev pub migration_member : GuestPrediction → Option GuestErrors → List Token
+abbrev pub migration_member : GuestPrediction → Option SampleErrors → List Token
 migration_member p errors =
     if p.cost.is_late then [] else member_of (codes "migration") (migration_object p errors)
 
@@ -74,7 +75,7 @@ asked_members settings scale limits =
     ∷ []
 
 -- what was asked, the answers, the migration if it is known, and the same limits for others
-abbrev pub prediction_object : MigrationSettings → TraceScale → Limits → GuestPrediction → Option GuestErrors
+abbrev pub prediction_object : MigrationSettings → TraceScale → Limits → GuestPrediction → Option SampleErrors
     → List Token
 prediction_object settings scale limits p errors = object_of (asked_members settings scale limits
     ++ (answer_members p ++ migration_member p errors ∷ member_of (codes "hosts") (hosts_object limits) ∷ []))

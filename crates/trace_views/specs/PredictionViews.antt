@@ -5,11 +5,11 @@ use Rattle.guest_units.specs.declared.limits.Limits.{Limits}
 use Rattle.migration_model.specs.Rates.{MigrationSettings}
 use Rattle.migration_model.specs.Rounds.{IsPlan, MigrationPlan}
 use Rattle.migration_model.specs.Touches.{GuestTouches}
-use Rattle.predictions.specs.Errors.{AreErrors, GuestErrors}
 use Rattle.predictions.specs.Hosts.{hosts_text}
 use Rattle.predictions.specs.Predictions.{GuestPrediction, kept_of, last_tick_of, prediction_of}
 use Rattle.predictions.specs.Texts.{prediction_text}
 use Rattle.predictions.specs.declared.verdict.Verdict.{Verdict}
+use Rattle.redrawn_pages.specs.Errors.{AreErrors, SampleErrors}
 use Rattle.trace_views.specs.AdviceText.{live_line}
 use Rattle.trace_views.specs.Json.{line_of}
 use Rattle.trace_views.specs.PredictionJson.{prediction_object}
@@ -18,13 +18,13 @@ use Rattle.trace_views.specs.declared.view.PredictionForm.{PredictionForm}
 use Rattle.trace_views.specs.declared.view.PredictionForm.TheVariants as forms
 
 -- a prediction, and the words that set the same limits
-abbrev pub predicted_text : MigrationSettings → Limits → GuestPrediction → Option GuestErrors → List ℕ
+abbrev pub predicted_text : MigrationSettings → Limits → GuestPrediction → Option SampleErrors → List ℕ
 predicted_text settings limits p errors = prediction_text limits.downtime p errors
     ++ (live_line settings ++ hosts_text limits)
 
 -- a prediction in some form
 abbrev pub prediction_in : PredictionForm → MigrationSettings → TraceScale → Limits → GuestPrediction
-    → Option GuestErrors → List ℕ
+    → Option SampleErrors → List ℕ
 prediction_in forms.Lines settings scale limits p errors = predicted_text settings limits p errors
 prediction_in forms.Json settings scale limits p errors = line_of (prediction_object settings scale limits p errors)
 
@@ -38,7 +38,7 @@ pub record IsPredictionView (log : GuestTouches) (asked : AskedPrediction) (text
     0 where
   pub plan : MigrationPlan
   pub is_plan : IsPlan log.pages log.touches asked.settings plan
-  pub errors : Option GuestErrors
-  pub are_errors : AreErrors asked.scale asked.settings.max log.pages plan errors
+  pub errors : Option SampleErrors
+  pub are_errors : AreErrors log.pages log.touches asked.settings asked.scale errors
   pub text_is : text ≡ prediction_in asked.form asked.settings asked.scale asked.limits (foretold log asked plan) errors
   pub kept_is : kept ≡ kept_of (foretold log asked plan).cost

@@ -10,8 +10,9 @@ use crate::prediction_document::json_prediction;
 use crate::view::{AskedPrediction, PredictionForm, ViewText};
 use guest_log::Timeline;
 use guest_units::Limits;
-use predictions::{Errors, Prediction, Verdict, push_hosts, push_prediction};
+use predictions::{Prediction, Verdict, push_hosts, push_prediction};
 use rate_limit::Settings;
+use redrawn_pages::Errors;
 use round_planner::plan;
 use std::alloc::{AllocError, Global};
 use trace_readers::TouchLog;
@@ -82,11 +83,10 @@ pub(crate) fn prediction_view(
     ensures refused { IfErr result (λ e. e ≡ ViewError.Memory) }
 {
     let scale = &asked.scale;
-    let numbers = asked.settings.asked();
     let plan = plan(alloc, log, &asked.settings).or(Err(ViewError::Memory))?;
-    let start = numbers.start;
+    let start = asked.settings.asked().start;
     let prediction = Prediction::new(scale, &asked.limits, start, &plan, last_tick(log));
-    let errors = Errors::of_plan(alloc, scale, numbers.max, log.page_count(), &plan)?;
+    let errors = Errors::of_trace(alloc, log, &asked.settings, scale)?;
     Ok(ViewText {
         text: written(alloc, asked, &prediction, &errors)?,
         kept: kept(&prediction),

@@ -11,8 +11,9 @@ use crate::document::Document;
 use crate::starts_document::write_cost_numbers;
 use crate::sweep_document::{write_scale, write_settings};
 use guest_units::{Limits, Scale};
-use predictions::{Errors, Prediction, link_in_mib, millis_for_pages};
+use predictions::{Prediction, link_in_mib, millis_for_pages};
 use rate_limit::Settings;
+use redrawn_pages::Errors;
 use std::alloc::{AllocError, Global};
 
 /// Writes what the first round may use of the link as a member, if that is given.
@@ -73,18 +74,14 @@ fn write_hosts(out: &mut Document, limits: &Limits) -> Result<(), AllocError>
     Ok(())
 }
 
-/// Writes one standard error of the bytes and of the downtime, in microseconds.
-fn write_both(
-    alloc: Global,
-    out: &mut Document,
-    bytes: u128,
-    downtime: u128,
-) -> Result<(), AllocError>
-    ensures { OnOk result (out.new ≡ out.old ++ errors_object bytes downtime) }
+/// Writes standard errors.
+fn write_all(alloc: Global, out: &mut Document, errors: &Errors) -> Result<(), AllocError>
+    ensures { OnOk result (out.new ≡ out.old ++ errors_object errors.now) }
 {
     out.begin_object()?;
-    out.wide_member("sent_bytes", bytes)?;
-    out.seconds_member(alloc, "down_seconds", downtime)?;
+    out.wide_member("sent_bytes", errors.bytes)?;
+    out.seconds_member(alloc, "time_seconds", errors.time)?;
+    out.seconds_member(alloc, "down_seconds", errors.downtime)?;
     out.end_object()?;
     Ok(())
 }
@@ -100,7 +97,7 @@ fn write_errors(
     match errors {
         Some(errors) => {
             out.key("errors")?;
-            write_both(alloc, out, errors.bytes, errors.downtime)
+            write_all(alloc, out, errors)
         }
         None => Ok(()),
     }

@@ -1,0 +1,282 @@
+//! Questions about the worked trace. The answers are those of `precopy-view`; standard errors come from
+//! `bench/redrawn.py`, which shares no code with this crate.
+
+use crate::answering::{lent_predict, lent_question};
+use crate::errors::lent_errors;
+use crate::settings::LentSettings;
+use crate::starts::{LentChoice, lent_chosen_starts};
+use crate::tests::{ROUND, TOUCH, TRACE, settings};
+use predictions::{Answer, ErrorNumbers, Question};
+
+/// A link of 64 pages of the guest in 1,000 ticks, a guest of which one page in four was recorded, and a downtime of
+/// 200 ms, of which 10 are reserved.
+const ASKED: Question = Question {
+    link: 1024,
+    first: 0,
+    downtime: 200_000,
+    reserve: 10_000,
+    tick: 1000,
+    page: 16,
+    sampled: 4,
+    guest: 16,
+    increment: 0,
+    rounds: 30,
+    start: 0,
+    base: 0,
+    has_first: 0,
+    has_increment: 0,
+    has_base: 0,
+    skip: 0,
+};
+
+const UNANSWERED: Answer = Answer {
+    rounds: 7,
+    reason: 7,
+    stop: 7,
+    down: 7,
+    total: 7,
+    left: 7,
+    time: 7,
+    bytes: 7,
+    downtime: 7,
+    recorded: 7,
+    converges: 7,
+    kept: 7,
+};
+
+/// What is answered, with this many slots for rounds.
+fn predicted(question: &Question, slots: usize) -> (u32, Answer) {
+    let mut rounds = [ROUND; 30];
+    let (lent, _) = rounds.split_at_mut(slots.min(30));
+    let mut answer = UNANSWERED;
+    let status = lent_predict(
+        &TRACE,
+        question,
+        &mut [TOUCH; 5],
+        &mut [u64::MAX; 1],
+        &mut [9; 4],
+        lent,
+        &mut answer,
+    );
+    (status, answer)
+}
+
+#[test]
+fn settings_of_limits(rt: HostRuntime) {
+    let mut made = settings(0, Some(0), 1);
+    let asked = Question {
+        first: 512,
+        has_first: 1,
+        start: 5,
+        base: 3,
+        has_base: 1,
+        skip: 7,
+        ..ASKED
+    };
+    assert!(rt; lent_question(&asked, &mut made) == 0);
+    let LentSettings {
+        min,
+        max,
+        increment,
+        threshold,
+        rounds,
+        ..
+    } = made;
+    assert!(rt; [min, max, increment, threshold, rounds] == [8, 16, 0, 4, 30]);
+    assert!(rt;
+        (
+            made.start,
+            made.window,
+            made.hot,
+            made.base,
+            made.has_base,
+            made.skip
+        ) == (5, 1000, 2, 3, 1, 1)
+    );
+}
+
+#[test]
+fn refused_questions_have_numbers(rt: HostRuntime) {
+    let cases = [
+        (81, Question { tick: 0, ..ASKED }),
+        (
+            82,
+            Question {
+                page: 8192,
+                ..ASKED
+            },
+        ),
+        (
+            83,
+            Question {
+                sampled: 17,
+                ..ASKED
+            },
+        ),
+        (84, Question { link: 0, ..ASKED }),
+        (
+            85,
+            Question {
+                first: 2048,
+                has_first: 1,
+                ..ASKED
+            },
+        ),
+        (
+            86,
+            Question {
+                reserve: 200_001,
+                ..ASKED
+            },
+        ),
+        (
+            87,
+            Question {
+                downtime: 4_096_000_000,
+                ..ASKED
+            },
+        ),
+        (
+            25,
+            Question {
+                rounds: 65,
+                ..ASKED
+            },
+        ),
+        (
+            30,
+            Question {
+                base: 1,
+                has_base: 1,
+                ..ASKED
+            },
+        ),
+    ];
+    for (number, asked) in cases {
+        let mut made = settings(0, None, 0);
+        assert!(rt; lent_question(&asked, &mut made) == number, "{number}");
+        assert!(rt;
+            made.min == 2 && predicted(&asked, 30) == (number, UNANSWERED),
+            "{number}"
+        );
+    }
+    let wide = Question { page: 32, ..ASKED };
+    let few = Question {
+        sampled: 3,
+        ..ASKED
+    };
+    assert!(rt; predicted(&wide, 30) == (88, UNANSWERED));
+    assert!(rt; predicted(&few, 30) == (89, UNANSWERED));
+    assert!(rt; predicted(&ASKED, 29) == (61, UNANSWERED));
+}
+
+#[test]
+fn answers_are_those_of_the_program(rt: HostRuntime) {
+    let expected = Answer {
+        rounds: 1,
+        reason: 0,
+        stop: 250,
+        down: 125,
+        total: 6,
+        left: 2,
+        time: 385_000,
+        bytes: 384,
+        downtime: 135_000,
+        recorded: 2_500_000,
+        converges: 0,
+        kept: 0,
+    };
+    assert!(rt; predicted(&ASKED, 30) == (0, expected));
+    let missed = Question {
+        downtime: 100_000,
+        rounds: 1,
+        ..ASKED
+    };
+    let (status, answer) = predicted(&missed, 1);
+    assert!(rt; (status, answer.converges, answer.kept, answer.bytes) == (0, 1, 1, 384));
+    let (status, answer) = predicted(
+        &Question {
+            start: 2400,
+            ..ASKED
+        },
+        30,
+    );
+    assert!(rt; (status, answer.converges, answer.kept, answer.recorded) == (0, 2, 2, 100_000));
+}
+
+#[test]
+fn times_beyond_64_bits_are_capped(rt: HostRuntime) {
+    let wide = Question {
+        link: u64::MAX / 2,
+        guest: 1 << 32,
+        tick: 1,
+        reserve: u64::MAX,
+        downtime: u64::MAX,
+        ..ASKED
+    };
+    let (status, answer) = predicted(&wide, 30);
+    assert!(rt; (status, answer.downtime, answer.time) == (0, u64::MAX, u64::MAX));
+}
+
+/// What is told of standard errors, with this many slots for the sample.
+fn errors(question: &Question, slots: usize) -> (u32, [u64; 3], u32) {
+    let mut sample = [9; 4];
+    let (lent, _) = sample.split_at_mut(slots.min(4));
+    let mut told = ErrorNumbers {
+        bytes: 7,
+        time: 7,
+        downtime: 7,
+        has_errors: 7,
+    };
+    let status = lent_errors(
+        &TRACE,
+        question,
+        &mut [TOUCH; 5],
+        lent,
+        &mut [u64::MAX; 1],
+        &mut [u64::MAX; 1],
+        &mut told,
+    );
+    (
+        status,
+        [told.bytes, told.time, told.downtime],
+        told.has_errors,
+    )
+}
+
+#[test]
+fn errors_are_those_of_redrawn_pages(rt: HostRuntime) {
+    assert!(rt; errors(&ASKED, 4) == (0, [64, 54_082, 60_686], 1));
+    let all = Question {
+        sampled: 16,
+        guest: 16,
+        ..ASKED
+    };
+    assert!(rt; errors(&all, 0) == (0, [0; 3], 0));
+    assert!(rt; errors(&ASKED, 3) == (61, [7; 3], 7));
+    assert!(rt; errors(&Question { tick: 0, ..ASKED }, 4) == (81, [7; 3], 7));
+}
+
+/// The places that are chosen of some answers, and how many of them tell something.
+fn chosen(answers: &[Answer]) -> (usize, u64, u64) {
+    let mut choice = LentChoice { best: 7, worst: 7 };
+    let known = lent_chosen_starts(answers, &mut choice);
+    (known, choice.best, choice.worst)
+}
+
+#[test]
+fn starts_that_tell_nothing_are_not_chosen(rt: HostRuntime) {
+    let mut answers = [UNANSWERED; 4];
+    for (place, start) in [2400, 0, 800, 1600].iter().enumerate() {
+        let asked = Question {
+            start: *start,
+            ..ASKED
+        };
+        let (_, answer) = predicted(&asked, 30);
+        answers[place.min(3)] = answer;
+    }
+    assert!(rt; chosen(&answers) == (3, 2, 1));
+    let (late, _) = answers.split_at(1);
+    assert!(rt; chosen(late) == (0, 0, 0));
+    assert!(rt; chosen(&[]) == (0, 7, 7));
+}

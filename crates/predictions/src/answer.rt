@@ -1,0 +1,135 @@
+//! Answers to questions about a migration, in the numbers that C and a web page have.
+
+ghost use Rattle.std.specs.Prelude.{◌≡◌};
+ghost use Rattle.predictions.specs.Questions.{capped, reason_number, verdict_number};
+ghost use Rattle.rate_limit.specs.Pacing.{reason_of};
+
+use crate::prediction::Prediction;
+use crate::verdict::Verdict;
+use rate_limit::Reason;
+use redrawn_pages::Errors;
+use round_planner::Outcome;
+
+/// What a migration will be. It is laid out as C's `struct precopy_prediction`.
+#[derive(Clone, Copy, Debug, PartialEq, Eq)]
+#[repr(C)]
+pub struct Answer {
+    /// How many rounds there are.
+    pub rounds: u64,
+    /// Why there are no more rounds: 0 if few pages remain, 1 if the next rate is too high, 2 after the last round.
+    pub reason: u64,
+    /// The tick at which the guest is stopped.
+    pub stop: u64,
+    /// How long the pages that are left take, in ticks.
+    pub down: u64,
+    /// How many pages of the trace are sent, over all rounds and after the stop.
+    pub total: u64,
+    /// How many of them are sent after the stop.
+    pub left: u64,
+    /// From the start of the first round until the guest runs again, in microseconds.
+    pub time: u64,
+    /// How many bytes of the guest are sent.
+    pub bytes: u64,
+    /// How long the guest does not run, in microseconds.
+    pub downtime: u64,
+    /// How long the trace goes on after the start, in microseconds.
+    pub recorded: u64,
+    /// Whether the migration converges: 0 for yes, 1 for no, and 2 if the trace ends before the migration does.
+    pub converges: u32,
+    /// Whether it keeps the downtime limit, in the same numbers.
+    pub kept: u32,
+}
+
+/// Standard errors of a prediction. It is laid out as C's `struct precopy_errors`.
+#[derive(Clone, Copy, Debug, PartialEq, Eq)]
+#[repr(C)]
+pub struct ErrorNumbers {
+    /// Of the bytes of the guest that are sent.
+    pub bytes: u64,
+    /// Of the time, in microseconds.
+    pub time: u64,
+    /// Of the downtime, in microseconds.
+    pub downtime: u64,
+    /// Whether there are standard errors: 0 if no pages were sampled, or all.
+    pub has_errors: u32,
+}
+
+/// Returns a number, or else the greatest that 64 bits hold.
+fn capped(number: u128) -> u64
+    ensures { result ≡ capped number }
+{
+    number.min(u64::MAX as u128) as u64
+}
+
+/// Returns the number of a reason.
+fn number_of_reason(reason: Reason) -> u64
+    ensures { result ≡ reason_number (reason_of reason) }
+{
+    match reason {
+        Reason::Few => 0,
+        Reason::Fast => 1,
+        Reason::Rounds => 2,
+    }
+}
+
+/// Returns the number of a verdict.
+fn number_of_verdict(verdict: Verdict) -> u32
+    ensures { result ≡ verdict_number verdict }
+{
+    match verdict {
+        Verdict::Yes => 0,
+        Verdict::No => 1,
+        Verdict::Unknown => 2,
+    }
+}
+
+impl Answer {
+    ghost use Rattle.std.specs.Prelude.{◌≡◌};
+    ghost use Rattle.predictions.specs.Questions.{answer_of};
+
+    /// Returns the answer of a plan with this result that predicts this.
+    pub fn new(outcome: &Outcome, prediction: &Prediction) -> Answer
+        ensures { result ≡ answer_of outcome.now prediction.now }
+    {
+        let cost = &prediction.cost;
+        Answer {
+            rounds: outcome.rounds,
+            reason: number_of_reason(prediction.reason),
+            stop: outcome.stop,
+            down: outcome.down,
+            total: outcome.total,
+            left: prediction.left,
+            time: capped(cost.time),
+            bytes: capped(cost.bytes),
+            downtime: capped(cost.downtime),
+            recorded: capped(prediction.recorded),
+            converges: number_of_verdict(prediction.verdict()),
+            kept: number_of_verdict(cost.kept()),
+        }
+    }
+}
+
+impl ErrorNumbers {
+    ghost use Rattle.std.specs.Prelude.{◌≡◌};
+    ghost use Rattle.predictions.specs.Questions.{error_numbers};
+
+    /// Returns standard errors, or zeros if there are none.
+    pub fn new(errors: &Option<Errors>) -> ErrorNumbers
+        ensures { result ≡ error_numbers errors.now }
+    {
+        match errors {
+            Some(errors) => ErrorNumbers {
+                bytes: capped(errors.bytes),
+                time: capped(errors.time),
+                downtime: capped(errors.downtime),
+                has_errors: 1,
+            },
+            None => ErrorNumbers {
+                bytes: 0,
+                time: 0,
+                downtime: 0,
+                has_errors: 0,
+            },
+        }
+    }
+}
