@@ -3,17 +3,18 @@
 The facts are worked out from the lines of `precopy report` and `precopy sweep`, by the rules of docs/COMMANDS.md.
 """
 
-import collections
 import os
 import random
 
 import page_shapes
-from limit_cases import RATES, TIMES, Known, error_of, seconds
-from view_texts import TOP, Failure, ran, report_facts, sweep_facts, told
+from limit_cases import RATES, TIMES, Known, redrawn, seconds
+from view_texts import TOP, Failure, document_of, ran, report_facts, sweep_facts, told
 
 TRACES = ["a.pcwt", "gzip.pcwt", "released.pcwt", "guests/mid.light.pcwt", "guests/sqlite.light.pcwt"]
 ROWS_SHOWN = 1000
 SHAPES, SETTINGS = 15, 20
+# Of how many pages the standard errors are worked out here too.
+SMALL = 2_000
 
 
 def example(name):
@@ -180,39 +181,51 @@ def commands(asked):
     return {"live": live, "qemu": qemu, "libvirt": libvirt}
 
 
-def first_writes(known, low, high):
-    """The first tick in [low, high) of each page that is written then."""
-    found = {}
-    for tick, page in known.writes:
-        if low <= tick < high:
-            found.setdefault(page, tick)
-    return found
+def figures(asked, report):
+    """What a migration comes to by the lines of a report: its answers, and its prices if it ends within the trace."""
+    stop, known = report["stop"], asked.known
+    _, _, limit, reserve = asked.limits()
+    down = stop["down"] * asked.tick + reserve
+    is_known = stop["at"] <= known.last
+
+    def answer(holds):
+        return "unknown" if not is_known else "yes" if holds else "no"
+
+    return {"converges": answer(stop["why"] == "few"), "kept": answer(down <= limit),
+            "recorded": max(0, known.last - asked.start) * asked.tick,
+            "time": (stop["at"] - asked.start) * asked.tick + down, "sent": asked.bytes(stop["total"]), "down": down}
 
 
-def times_sent(asked, report):
-    """How often each page is sent, by the definition of rounds that skip."""
-    known, times = asked.known, collections.Counter()
-    pages = range(known.pages) if asked.base is None else sorted(first_writes(known, asked.base, asked.start))
-    for number, some in enumerate(report["rounds"]):
-        again, below = first_writes(known, some["from"], some["to"]), 0
-        for page in pages:
-            turn = some["from"] + 1_000 * below // some["rate"]
-            if not (asked.skip and number and again.get(page, turn) < turn):
-                times[page] += 1
-                below += 1
-        pages = sorted(again)
-    return times + collections.Counter(pages), len(pages)
-
-
-def errors(asked, report):
-    """The words of the standard errors of downtime and bytes, each with what parts it from other words."""
+def drawn_errors(asked):
+    """The standard errors of bytes, time and downtime by `bench/redrawn.py`, if there are any."""
     if not 2 <= asked.sampled < asked.guest:
-        return "", ""
-    times, left = times_sent(asked, report)
-    sent = error_of(asked, sum(times.values()), sum(count * count for count in times.values()))
-    down = error_of(asked, left, left)
-    time = -(-down * asked.sampled * asked.tick * 1_000 // (asked.guest * asked.settings()[1]))
-    return f"\u00b1 {time_text(time)}; ", f"\u00b1 {size_text(sent * asked.page)}; "
+        return None
+    least, most, increment, threshold = asked.settings()
+    settings = redrawn.Settings(least, most, increment, threshold, asked.rounds, asked.start, bool(asked.skip),
+                                asked.base)
+    scale = redrawn.Scale(asked.tick, asked.page, asked.sampled, asked.guest)
+    return redrawn.errors(asked.known.guest, settings, scale)
+
+
+def micros(value):
+    return round(value * 1e6)
+
+
+def told_errors(document):
+    """The standard errors that a document of `json predict` tells, if it does."""
+    errors = document.get("migration", {}).get("errors")
+    return errors and (errors["sent_bytes"], micros(errors["time_seconds"]), micros(errors["down_seconds"]))
+
+
+def errors(asked, document):
+    """The standard errors, as the program tells them, and for small traces as they are worked out beside it."""
+    if document is None:
+        return drawn_errors(asked)
+    told_by_program = told_errors(document)
+    is_small = asked.known.pages <= SMALL
+    if is_small and document["kept"] != "unknown" and told_by_program != drawn_errors(asked):
+        raise Failure(f"errors of {told_by_program} in place of {drawn_errors(asked)}")
+    return told_by_program
 
 
 def reason(asked, report):
@@ -222,22 +235,27 @@ def reason(asked, report):
             "rounds": f"all {plural(asked.rounds, 'round')} that are allowed are done"}[report["stop"]["why"]]
 
 
-def comparison(asked, report):
+def comparison(asked, report, document):
     """The rows of the comparison, as the page writes them."""
-    stop = report["stop"]
-    _, _, limit, reserve = asked.limits()
-    down = stop["down"] * asked.tick + reserve
-    time = (stop["at"] - asked.start) * asked.tick + down
+    stop, found = report["stop"], figures(asked, report)
+    if found["kept"] == "unknown":
+        return {**{name: ["unknown", ""] for name in ("downtime", "sent", "rounds", "left", "stop")},
+                "time": [f"more than {time_text(found['recorded'])}", ""]}
+    drawn = errors(asked, document)
+    sent, time, down = drawn or (0, 0, 0)
+
+    def more(error, *words):
+        return "; ".join([*([f"\u00b1 {error}"] if drawn else []), *words])
+
     of_sample = " of the sample" * (asked.guest > asked.sampled)
     threshold = asked.settings()[3]
     few = "none left ends pre-copy" if threshold == 1 else f"fewer than {threshold:,} end pre-copy"
-    guest = f"{plural(stop['total'] * asked.guest // asked.sampled, 'page')} of the guest; " if of_sample else ""
-    error_down, error_sent = errors(asked, report)
+    guest = [f"{plural(stop['total'] * asked.guest // asked.sampled, 'page')} of the guest"] * bool(of_sample)
     pages = f"{plural(stop['total'], 'page')}{of_sample}"
     return {
-        "downtime": [time_text(down), f"{error_down}{'kept' if down <= limit else 'not kept'}"],
-        "time": [time_text(time), ""],
-        "sent": [size_text(asked.bytes(stop["total"])), f"{error_sent}{guest}{pages}"],
+        "downtime": [time_text(found["down"]), more(time_text(down), "kept" if found["kept"] == "yes" else "not kept")],
+        "time": [time_text(found["time"]), more(time_text(time))],
+        "sent": [size_text(found["sent"]), more(size_text(sent), *guest, pages)],
         "rounds": [f"{len(report['rounds']):,}", reason(asked, report)],
         "left": [plural(stop["pages"], "page") + of_sample, few],
         "stop": [time_text(stop["at"] * asked.tick), ""],
@@ -246,11 +264,20 @@ def comparison(asked, report):
 
 def warnings(asked, report):
     stop = report["stop"]
-    return (stop["at"] > asked.known.last) + (stop["pages"] < 100) + (stop["why"] != "few")
+    return 0 if stop["at"] > asked.known.last else (stop["pages"] < 100) + (stop["why"] != "few")
 
 
-def check_facts(precopy, asked, found):
-    """Tests what the page shows for settings against what precopy writes."""
+def verdict(asked, report):
+    """Words of the verdict."""
+    found = figures(asked, report)
+    if found["kept"] == "unknown":
+        return f"which takes more than {time_text(found['recorded'])}: record longer."
+    return f"It {'converges' if found['converges'] == 'yes' else 'does not converge'}: {reason(asked, report)}."
+
+
+def check_facts(precopy, asked, found, document):
+    """Tests what the page shows for settings against what precopy writes, and against the document of `json predict`,
+    if there is one."""
     name = asked.refusal()
     if name:
         if found["refused"] != name or not found["fault"] or not found["stale"]:
@@ -267,24 +294,42 @@ def check_facts(precopy, asked, found):
     wanted = {
         "rounds": [list(some.values()) for some in report["rounds"]],
         "windows": [list(some.values()) for some in report["windows"][:ROWS_SHOWN]],
-        "comparison": comparison(asked, report), "warnings": warnings(asked, report), "commands": commands(asked),
+        "comparison": comparison(asked, report, document), "warnings": warnings(asked, report),
+        "commands": commands(asked),
     }
     for key, value in wanted.items():
         if found[key] != value:
             raise Failure(f"{key}: {found[key]} in place of {value}")
-    converges = f"It {'converges' if stop['why'] == 'few' else 'does not converge'}: {reason(asked, report)}."
-    if converges not in found["verdict"] or found["stale"]:
-        raise Failure(f"{found['verdict']!r} in place of {converges!r}")
+    words = verdict(asked, report)
+    if words not in found["verdict"].replace("\u00a0", " ") or found["stale"]:
+        raise Failure(f"{found['verdict']!r} in place of {words!r}")
+    if document is not None:
+        check_document(document, figures(asked, report))
 
 
-def check_predicted(view, asked, found):
-    """Runs the words that the page gives for `precopy-view predict`: they ask for the same migration."""
+def check_document(document, wanted):
+    """Compares a document of `json predict` with what a migration comes to."""
+    told = {name: document[name] for name in ("converges", "kept")}
+    told["recorded"] = micros(document["recorded_seconds"])
+    if document["kept"] != "unknown":
+        migration = document["migration"]
+        told |= {"time": micros(migration["time_seconds"]), "sent": migration["sent_bytes"],
+                 "down": micros(migration["down_seconds"])}
+    if told != {name: wanted[name] for name in told}:
+        raise Failure(f"json predict tells {told} in place of {wanted}")
+
+
+def predicted(view, asked, found):
+    """Runs the words that the page gives for `precopy-view predict`: they ask for the same migration. Returns what
+    `json predict` answers to them."""
     words = found["predict"].removesuffix(" < TRACE").split()[1:]
     status, text, faults = ran(view, words, asked.known.path)
     lines = text.splitlines()
     live = next((line for line in lines if line.startswith("precopy live ")), None)
     if status not in (0, 3, 4) or live is None or f"{live} < TRACE" != found["commands"]["live"]:
         raise Failure(f"{words}: status {status}, {faults!r}, {live!r} in place of {found['commands']['live']!r}")
+    _, text, _ = ran(view, ["json", *words], asked.known.path)
+    return document_of("predict", text)
 
 
 def tries(folder):

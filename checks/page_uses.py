@@ -381,7 +381,7 @@ def check_saving(page):
 
 def check_comparison(page):
     """Of two kept plans each is compared; better and worse are marked, and one can be exchanged and dropped."""
-    asked(page)
+    asked(page, link="5Gbit", downtime="20ms")
     page.after("document.getElementById('keep').click()")
     first = asked_rounds(page, "2")
     page.after("document.getElementById('keep').click()")

@@ -1,7 +1,7 @@
 // Settings that suit a trace, so that each trace plans at once: link and downtime in round numbers by its pages and its
 // length, and what a record beside it says of tick, start and guest.
 
-import { limitsOf, MOST_RATE, RATE_UNITS, refusalOf, scaleOf, TIME_UNITS } from "./units.js";
+import { limitsOf, RATE_UNITS, refusalOf, scaleOf, TIME_UNITS } from "./units.js";
 import { inFittingUnit } from "./quantities.js";
 
 /** About how many windows a trace is cut into at first. */
@@ -14,6 +14,7 @@ const PARTS_OF_PAGES = 10;
 /** Yet so many pages may be left at a stop, and the link has so many pages per 1,000 ticks, if it can. */
 const FEW_LEFT = 4;
 const LEAST_RATE = 100;
+const MOST_RATE = 1_000_000;
 const LEAST_KILOBITS = 10;
 
 /** The links and downtimes that operators begin with. */
@@ -37,7 +38,7 @@ function windowFor(last) {
 function linkFor(settings, sizes, scale) {
   const ticks = sizes.last + 1 - Math.min(settings.start, sizes.last);
   const wanted = (sizes.pages * PARTS_OF_TRACE * 1_000) / ticks;
-  const rate = Math.min(Math.max(wanted, LEAST_RATE), Number(MOST_RATE));
+  const rate = Math.min(Math.max(wanted, LEAST_RATE), MOST_RATE);
   const bytes = (rate * 1_000 * sizes.pageBytes * Number(scale.guest)) / (Number(scale.sampled) * Number(scale.tick));
   const wantedBytes = Math.max(Math.min(bytes, MOST_LINK), (bytes / rate) * LEAST_RATE);
   const kilobits = roundBelow(Math.max(LEAST_KILOBITS, wantedBytes / Number(RATE_UNITS.Kbit)));

@@ -1,7 +1,5 @@
 // What a plan needs of a trace: tick and page of each write. From them a light trace is made, with one byte for each
-// write, which plans as the whole does and is far shorter; and from them come standard errors.
-
-import { firstPlace } from "./search.js";
+// write, which plans as the whole does and is far shorter.
 
 const HEADER = 16;
 const RECORD = 16;
@@ -40,50 +38,4 @@ export function lightTrace(writes, sizes) {
     view.setUint16(at + 14, 1, true);
   }
   return bytes;
-}
-
-/** The first tick from `from` on and before `to` at which each page is written, in the order of pages. */
-function firstWrites({ ticks, pages }, from, to) {
-  const found = new Map();
-  const begin = firstPlace(ticks.length, (place) => ticks[place] >= from);
-  for (let place = begin; place < ticks.length && ticks[place] < to; place += 1) {
-    if (!found.has(pages[place])) {
-      found.set(pages[place], ticks[place]);
-    }
-  }
-  return found;
-}
-
-/** The pages of a round that are sent: those that are not written before the sent pages below them are. */
-function sentPages(pages, again, { from, rate }) {
-  let below = 0;
-  return pages.filter((page) => {
-    const isWritten = again.get(page) < from + Math.floor((1_000 * below) / rate);
-    below += isWritten ? 0 : 1;
-    return !isWritten;
-  });
-}
-
-function sorted(pages) {
-  return Uint32Array.from(pages).sort();
-}
-
-/**
- * How often pages are sent, over a plan and its stop: the sum of the squares of each page's times. Null if the sums of
- * the plan are others.
- */
-export function squaresSent(writes, count, settings, plan) {
-  const times = new Uint32Array(count);
-  const { base, start, skip } = settings;
-  let pages = base === null ? Uint32Array.from({ length: count }, (_, page) => page)
-    : sorted(firstWrites(writes, base, start).keys());
-  plan.rounds.forEach((round, place) => {
-    const again = firstWrites(writes, round.from, round.to);
-    const sent = skip && place > 0 ? sentPages(pages, again, round) : pages;
-    sent.forEach((page) => { times[page] += 1; });
-    pages = sorted(again.keys());
-  });
-  pages.forEach((page) => { times[page] += 1; });
-  const total = times.reduce((sum, each) => sum + each, 0);
-  return total === plan.total ? times.reduce((sum, each) => sum + each * each, 0) : null;
 }

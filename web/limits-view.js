@@ -5,9 +5,9 @@
 import { byId, html } from "./elements.js";
 import { WorkerEnded } from "./planner-client.js";
 import { Refusal } from "./planner.js";
-import { costOf } from "./predictions.js";
+import { isGood } from "./predictions.js";
 import { inFittingUnit, quantityNear, quantityWords } from "./quantities.js";
-import { ControlRefusal, limitsOf, RATE_UNITS, scaleOf, settingsOf, TIME_UNITS } from "./units.js";
+import { askedOf, ControlRefusal, RATE_UNITS, TIME_UNITS } from "./units.js";
 
 /** How many steps of the grid a factor of ten has, and how often the last step is halved. */
 const STEPS_OF_TEN = 12;
@@ -29,10 +29,10 @@ function grid({ low, high, grain }) {
     Math.round((low * 10 ** (step / STEPS_OF_TEN)) / grain) * grain);
 }
 
-/** The settings of a state, or null if it makes none. */
-function settingsIfAny(state, sizes) {
+/** The question of a state, or null if it is refused. */
+function questionIfAny(state, sizes) {
   try {
-    return settingsOf(state, scaleOf(state, sizes), limitsOf(state));
+    return askedOf(state, sizes).question;
   } catch (error) {
     if (error instanceof ControlRefusal) {
       return null;
@@ -40,6 +40,9 @@ function settingsIfAny(state, sizes) {
     throw error;
   }
 }
+
+/** Another question was asked meanwhile. */
+class Overtaken extends Error {}
 
 export class LimitsView {
   /** `choose` takes a control's value. */
@@ -85,6 +88,9 @@ export class LimitsView {
       }
       byId("limits-answer").replaceChildren(...found.map(([wanted, value]) => this.answerPart(wanted, value)));
     } catch (error) {
+      if (error instanceof Overtaken) {
+        return;
+      }
       if (!(error instanceof Refusal) && !(error instanceof WorkerEnded)) {
         throw error;
       }
@@ -122,17 +128,15 @@ export class LimitsView {
   async areKept({ name }, amounts) {
     const { sizes } = this.trace;
     const states = amounts.map((amount) => ({ ...this.state, [name]: { ...this.state[name], amount } }));
-    const asked = states.map((state) => ({ state, settings: settingsIfAny(state, sizes) }));
-    const plans = await this.trace.plans(asked.map(({ settings }) => settings).filter(Boolean));
+    const questions = states.map((state) => questionIfAny(state, sizes));
+    const answers = await this.trace.answers(questions.filter(Boolean));
+    if (!answers) {
+      throw new Overtaken();
+    }
     let place = 0;
-    return asked.map(({ state, settings }) => {
-      if (!settings) {
-        return false;
-      }
-      const plan = plans[place];
-      place += 1;
-      const cost = costOf(scaleOf(state, sizes), limitsOf(state), settings.start, plan, sizes.last);
-      return plan.reason === "few" && cost.isKept && !cost.isLate;
+    return questions.map((question) => {
+      place += question ? 1 : 0;
+      return question !== null && isGood(answers[place - 1]);
     });
   }
 

@@ -3,15 +3,15 @@
 import { LABELS } from "./control-list.js";
 import { html } from "./elements.js";
 import { bytesText, counted, countOf, pagesText, signed, timeText } from "./numbers.js";
-import { endingOf, isGood, reasonWords, warningsOf } from "./predictions.js";
+import { endingOf, isGood, isUnknown, keptWords, reasonWords, warningsOf } from "./predictions.js";
 import { WorkerEnded } from "./planner-client.js";
 import { Refusal } from "./planner.js";
-import { ControlRefusal, guestPagesOf, microsOf } from "./units.js";
+import { ControlRefusal, microsOf } from "./units.js";
 import { refusalWords } from "./refusals.js";
 
-function sentText({ scale, plan }) {
+function sentText({ scale, plan, cost }) {
   const pages = pagesText(scale, plan.total);
-  return scale.isSample ? `${countOf(guestPagesOf(scale, plan.total), "page")} of the guest; ${pages}` : pages;
+  return scale.isSample ? `${countOf(cost.bytes / scale.page, "page")} of the guest; ${pages}` : pages;
 }
 
 function tickWords({ state }, words) {
@@ -23,17 +23,24 @@ function joined(...parts) {
   return parts.filter(Boolean).join("; ");
 }
 
+function errorText({ errors }, name, text) {
+  return errors && `\u00b1 ${text(errors[name])}`;
+}
+
 /**
- * The rows of the comparison: of a prediction, a number, its text, and more words. Of `isPrice` less is better.
+ * The rows of the comparison: of a prediction, a number, its text, and more words. Of `isPrice` less is better. Of a
+ * migration that ends after the trace there is nothing but the time that it takes at least.
  */
 const ROWS = [
   { name: "downtime", title: "Downtime", isPrice: true, number: ({ cost }) => cost.downtime, text: timeText,
-    more: (some) => joined(some.errors && `\u00b1 ${timeText(some.errors.downtime)}`,
-      some.cost.isKept ? "kept" : "not kept", tickWords(some, `${countOf(some.plan.down, "tick")} for pages`)) },
+    more: (some) => joined(errorText(some, "downtime", timeText), keptWords(some.cost),
+      tickWords(some, `${countOf(some.plan.down, "tick")} for pages`)) },
   { name: "time", title: "Total time", isPrice: true, number: ({ cost }) => cost.time, text: timeText,
-    more: (some) => tickWords(some, `${countOf(some.plan.stop - some.settings.start, "tick")} of pre-copy`) },
+    more: (some) => joined(errorText(some, "time", timeText),
+      tickWords(some, `${countOf(some.plan.stop - some.settings.start, "tick")} of pre-copy`)),
+    unknown: ({ cost }) => `more than ${timeText(cost.recorded)}` },
   { name: "sent", title: "Sent", isPrice: true, number: ({ cost }) => cost.bytes, text: bytesText,
-    more: (some) => joined(some.errors && `\u00b1 ${bytesText(some.errors.bytes)}`, sentText(some)) },
+    more: (some) => joined(errorText(some, "bytes", bytesText), sentText(some)) },
   { name: "rounds", title: "Rounds", number: ({ plan }) => plan.rounds.length, text: counted, more: reasonWords },
   { name: "left", title: "Left at the stop", isPrice: true, number: ({ plan }) => plan.left,
     text: (pages, { scale }) => pagesText(scale, pages),
@@ -51,21 +58,27 @@ function wholeTime(micros) {
 /** The verdict on a prediction, in a line. */
 export function verdictOf(prediction) {
   const { cost, limits } = prediction;
+  if (isUnknown(prediction)) {
+    return `The trace ends before the migration does, which takes more than ${wholeTime(cost.recorded)}: `
+      + "record longer.";
+  }
   return `${endingOf(prediction)} The guest stands still for ${wholeTime(cost.downtime)}; the limit of `
-    + `${wholeTime(limits.downtime)} ${cost.isKept ? "is kept" : "is not kept"}.`;
+    + `${wholeTime(limits.downtime)} ${cost.kept === "yes" ? "is kept" : "is not kept"}.`;
 }
 
 /** The word for a prediction, and whether it is good, bad or neither. */
 function verdictMark(prediction) {
   const { cost, plan } = prediction;
+  if (isUnknown(prediction)) {
+    return ["mark bad", "Unknown"];
+  }
   if (plan.total === 0) {
     return ["mark", "Nothing to send"];
   }
-  if (isGood(prediction)) {
+  if (isGood(cost)) {
     return ["mark good", "Keeps the limit"];
   }
-  return ["mark bad", !cost.isKept ? "Misses the limit" : cost.isLate ? "Ends after the trace"
-    : "Kept, but not bounded"];
+  return ["mark bad", cost.kept === "no" ? "Misses the limit" : "Kept, but not bounded"];
 }
 
 /** The verdict, and what speaks against it, as elements. */
@@ -78,9 +91,15 @@ export function verdictParts(prediction) {
   ];
 }
 
+/** A number of a prediction, and more words; or that it is unknown. */
+function cellWords(row, prediction) {
+  return isUnknown(prediction) ? [row.unknown?.(prediction) ?? "unknown", ""]
+    : [row.text(row.number(prediction), prediction), row.more(prediction)];
+}
+
 function cellOf(row, prediction, ...more) {
-  return html("td", { "data-name": row.name }, html("b", {}, row.text(row.number(prediction), prediction)), " ",
-    html("small", {}, row.more(prediction)), ...more);
+  const [words, others] = cellWords(row, prediction);
+  return html("td", { "data-name": row.name }, html("b", {}, words), " ", html("small", {}, others), ...more);
 }
 
 /** How this plan differs from a kept one, and whether that is better or worse. */
@@ -92,8 +111,12 @@ function differenceOf(row, prediction, kept) {
   return html("span", { class: className }, `this: ${words}${mark}`);
 }
 
-function keptCell(row, prediction, { found }) {
-  return found.value ? cellOf(row, found.value, differenceOf(row, prediction, found.value)) : html("td", {}, "\u2013");
+function keptCell(row, prediction, { found: { value } }) {
+  if (!value) {
+    return html("td", {}, "\u2013");
+  }
+  const isCompared = ![prediction, value].some(isUnknown);
+  return cellOf(row, value, ...(isCompared ? [differenceOf(row, prediction, value)] : []));
 }
 
 /** The head of a kept plan's column, with what can be done with it. */
@@ -116,13 +139,19 @@ export function comparisonOf(prediction, kept) {
     html("thead", {}, head), html("tbody", {}, ...rows));
 }
 
+/** What a migration comes to as numbers; nothing if it ends after the trace. */
+function priceCells(prediction) {
+  const { cost, plan, scale } = prediction;
+  return isUnknown(prediction) ? Array(6).fill("")
+    : [cost.downtime, cost.time, cost.bytes, plan.rounds.length, plan.left, microsOf(scale, plan.stop)];
+}
+
 /** The plans as columns and rows of numbers, for a file. */
 export function comparisonRows(predictions) {
-  const rows = predictions.map(({ cost, plan, settings, scale }) => [cost.downtime, cost.time, cost.bytes,
-    plan.rounds.length, plan.left, microsOf(scale, plan.stop), microsOf(scale, settings.start), plan.reason,
-    Number(cost.isKept), Number(!cost.isLate)]);
+  const rows = predictions.map((some) => [...priceCells(some), microsOf(some.scale, some.settings.start),
+    isUnknown(some) ? "" : some.plan.reason, some.cost.kept, some.cost.converges]);
   return [["downtime_us", "time_us", "sent_bytes", "rounds", "left_pages", "stop_us", "start_us", "reason", "kept",
-    "within_trace"], rows];
+    "converges"], rows];
 }
 
 /** A table of numbers, row by row; the first column heads its row. */

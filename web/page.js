@@ -10,13 +10,14 @@ import { LimitsView } from "./limits-view.js";
 import { PlanView } from "./plan-view.js";
 import { serve } from "./planner-worker.js";
 import { watchWidths } from "./plot.js";
-import { hasWideMemory, Refusal } from "./planner.js";
+import { hasWideMemory, Planner, Refusal } from "./planner.js";
 import { commandsOf, predictionOf } from "./predictions.js";
 import { firstStartOf } from "./starts.js";
 import { StartsView } from "./starts-view.js";
 import { fragmentOf, MOST_KEPT, presetOf, stateIn, withoutPreset } from "./state.js";
 import { TraceDesk } from "./trace-desk.js";
-import { amountOf, ControlRefusal, limitsOf, microsOf } from "./units.js";
+import { embeddedBytes } from "./trace-source.js";
+import { amountOf, ControlRefusal, limitsOf, microsOf, takeRules } from "./units.js";
 import { WindowsView } from "./windows-view.js";
 
 /** How long the page waits for a change to be the last one until it announces it, in milliseconds. */
@@ -397,6 +398,7 @@ async function open() {
     document.body.classList.add("unable");
     return;
   }
+  takeRules(await Planner.withoutTrace(await embeddedBytes("planner-module")));
   await new Page().open();
 }
 

@@ -10,6 +10,7 @@ import {
 import { saveButtons } from "./exports.js";
 import { Inspector } from "./inspector.js";
 import { watchWidths, widthOf } from "./plot.js";
+import { isUnknown, keptWords } from "./predictions.js";
 import { quantityWords } from "./quantities.js";
 import { reachOf, roundsLook, roundsPicture } from "./rounds-chart.js";
 import { amountOf, ControlRefusal, microsOf, RATE_UNITS, TIME_UNITS } from "./units.js";
@@ -138,8 +139,12 @@ export class PlanView {
       : html("p", { class: "derived" }, differencesOf(settings, own, place));
   }
 
-  summaryOf({ cost }) {
-    const downtime = `Downtime ${timeText(cost.downtime)}, ${cost.isKept ? "kept" : "not kept"}`;
+  summaryOf(prediction) {
+    const { cost } = prediction;
+    if (isUnknown(prediction)) {
+      return "Unknown: the trace ends before the migration does";
+    }
+    const downtime = `Downtime ${timeText(cost.downtime)}, ${keptWords(cost)}`;
     return [downtime, timeText(cost.time), bytesText(cost.bytes)].join(" \u00b7 ");
   }
 

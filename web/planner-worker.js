@@ -1,8 +1,8 @@
-// The planner's worker: it reads and tests a trace, keeps tick and page of each write, and plans. It runs the page's
-// own program.
+// The planner's worker: it reads and tests a trace, and plans. It runs the page's own program.
 
-import { lightLength, lightTrace, squaresSent, writesIn } from "./light-trace.js";
+import { lightLength, lightTrace, writesIn } from "./light-trace.js";
 import { Planner, Refusal } from "./planner.js";
+import { readAnswer } from "./questions.js";
 import { Sha256 } from "./sha256.js";
 import { Slice } from "./slices.js";
 import { piecesOf } from "./trace-source.js";
@@ -11,7 +11,7 @@ import { piecesOf } from "./trace-source.js";
 const UNREAD = 17;
 
 /** The worker's own state: the module, the trace, and the kinds of many plans with the number that is asked for. */
-const held = { module: null, planner: null, writes: null, asked: new Map() };
+const held = { module: null, planner: null, asked: new Map() };
 
 /** The planner over the open trace. */
 function planner() {
@@ -38,37 +38,36 @@ async function openTrace({ number, blob }) {
   const opened = await Planner.open(held.module, blob.size, digested(blob, digest, number));
   const { sizes } = opened;
   held.planner = opened;
-  held.writes = writesIn(opened.traceBytes(), sizes.writes);
   held.asked.clear();
   const isShorter = 2 * lightLength(sizes) < blob.size;
-  return { sizes, digest: digest.digest(), light: isShorter ? new Blob([lightTrace(held.writes, sizes)]) : null };
+  const light = isShorter ? lightTrace(writesIn(opened.traceBytes(), sizes.writes), sizes) : null;
+  return { sizes, digest: digest.digest(), light: light && new Blob([light]) };
 }
 
-function plan({ settings, hasErrors }) {
-  const found = planner().plan(settings);
-  const squares = hasErrors ? squaresSent(held.writes, planner().sizes.pages, settings, found) : null;
-  return { ...found, squares };
+function predict({ question }) {
+  return { ...planner().predict(question), errors: planner().errors(question) };
 }
 
 /**
- * The sums of many plans, a slice of time after another, unless others of their kind are asked for meanwhile, or none.
+ * The answers to many questions, and which of them is the best and which the worst; a slice of time after another,
+ * unless others of their kind are asked for meanwhile, or none.
  */
-async function manyPlans({ number, kind, settings }) {
+async function manyAnswers({ number, kind, questions }) {
   held.asked.set(kind, number);
-  const plans = [];
+  const answers = [];
   const slice = new Slice();
-  for (const some of settings) {
-    const { stop, down, total, rounds, reason } = planner().plan(some);
-    plans.push({ stop, down, total, reason, rounds: rounds.length });
+  for (const question of questions) {
+    answers.push(planner().answerBytes(question));
     if (slice.isOver()) {
-      postMessage({ number, share: plans.length / settings.length });
+      postMessage({ number, share: answers.length / questions.length });
       await slice.next();
       if (held.asked.get(kind) !== number) {
         return null;
       }
     }
   }
-  return plans;
+  const told = answers.map((bytes) => readAnswer(new DataView(bytes.buffer), 0));
+  return { answers: told, chosen: planner().chosen(answers) };
 }
 
 const ANSWERS = {
@@ -77,9 +76,9 @@ const ANSWERS = {
     return true;
   },
   open: openTrace,
-  plan,
+  predict,
   windows: ({ settings }) => planner().windows(settings),
-  plans: manyPlans,
+  answers: manyAnswers,
   cancel: ({ kind }) => held.asked.delete(kind),
 };
 
@@ -98,7 +97,7 @@ async function answer({ number, name, asked }) {
   }
 }
 
-/** Serves the page, if this program runs in a worker. Questions are answered in turn; many plans go on beside them. */
+/** Serves the page, if this program runs in a worker. Questions are answered in turn; many answers come beside them. */
 export function serve() {
   let turn = Promise.resolve();
   onmessage = ({ data }) => {
@@ -107,7 +106,7 @@ export function serve() {
     } else {
       turn = turn.then(() => {
         const answered = answer(data);
-        return data.name === "plans" ? null : answered;
+        return data.name === "answers" ? null : answered;
       });
     }
   };

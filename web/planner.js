@@ -1,12 +1,17 @@
 // The proved planner. It is a WebAssembly module that allocates nothing: this file lends it memory, and no other file
 // touches that memory. Addresses and lengths are BigInt, since the memory has 64-bit addresses.
 
+import {
+  ANSWER_SIZE, CHOICE_SIZE, ERRORS_SIZE, QUESTION_SIZE, readAnswer, readErrors, REASONS, writeQuestion,
+} from "./questions.js";
+
 /** The most bytes of a trace. */
 const MOST_TRACE_BYTES = 2 ** 28;
 
-/** The most writes and pages of a trace, and the most rounds of a plan. */
+/** The most pages of a trace, the most rounds of a plan, and the most answers of which one is chosen. */
 const MOST_PAGES = 65_536;
 export const MOST_ROUNDS = 64;
+const MOST_ANSWERS = 512;
 
 /** Bytes of the structs and rows that the module reads and writes. */
 const SIZES_SIZE = 24;
@@ -20,11 +25,10 @@ const PAGE_MARK_SIZE = 16;
 /** Bytes of a page of WebAssembly memory. */
 const MEMORY_PAGE = 65_536;
 
-/** What the module answers if memory was not there to lend, and if a trace is too long; and its reasons of a stop. */
+/** What the module answers if memory was not there to lend, if a trace is too long, and if it could not be read. */
 const NO_MEMORY = 16;
 const TOO_LONG = 15;
 const READ_FAULT = 17;
-const REASONS = ["few", "fast", "rounds"];
 
 /** A module with one memory of 64-bit addresses, and nothing else. */
 const WIDE_MEMORY = new Uint8Array([0, 0x61, 0x73, 0x6d, 1, 0, 0, 0, 5, 3, 1, 4, 1]);
@@ -63,7 +67,8 @@ function grow(memory, pages) {
 function placesFrom(base) {
   const lengths = {
     record: 8, sizes: SIZES_SIZE, settings: SETTINGS_SIZE, sums: SUMS_SIZE, count: 8, rounds: MOST_ROUNDS * ROUND_SIZE,
-    marks: MOST_PAGES / 8, list: MOST_PAGES * 4, pageMarks: MOST_PAGES * PAGE_MARK_SIZE,
+    question: QUESTION_SIZE, answers: MOST_ANSWERS * ANSWER_SIZE, errors: ERRORS_SIZE, choice: CHOICE_SIZE,
+    marks: MOST_PAGES / 8, otherMarks: MOST_PAGES / 8, list: MOST_PAGES * 4, pageMarks: MOST_PAGES * PAGE_MARK_SIZE,
   };
   const places = {};
   let at = alignedUp(base);
@@ -96,6 +101,14 @@ export class Planner {
     planner.reserve(planner.places.trace + size);
     await planner.read(size, pieces);
     planner.check();
+    return planner;
+  }
+
+  /** Makes a planner without a trace, which makes settings of limits. */
+  static async withoutTrace(bytes) {
+    const { instance } = await WebAssembly.instantiate(bytes, {});
+    const planner = new Planner(instance);
+    planner.reserve(planner.places.trace);
     return planner;
   }
 
@@ -171,27 +184,95 @@ export class Planner {
     view.setUint32(at + 76, settings.skip ? 1 : 0, true);
   }
 
-  /** Calls the module, and throws what it refuses. */
-  ask(name, more) {
-    const number = this.calls[name](...this.slice("trace", this.length), BigInt(this.places.settings), ...more);
+  /** Calls the module, and throws what it refuses. `input` is the place of settings or of a question. */
+  ask(name, input, more) {
+    const number = this.calls[name](...this.slice("trace", this.length), BigInt(this.places[input]), ...more);
     if (number !== 0) {
       throw new Refusal(number);
     }
   }
 
+  /** The settings that a question makes. Throws the Refusal of what is out of its range. */
+  settings(question) {
+    const { question: at, settings } = this.places;
+    writeQuestion(this.view(), at, question);
+    const number = this.calls.lent_question(BigInt(at), BigInt(settings));
+    if (number !== 0) {
+      throw new Refusal(number);
+    }
+    const [min, max, increment, threshold, rounds, start] = this.numbersAt(settings, 6);
+    return { min, max, increment, threshold, rounds, start, base: question.base, skip: question.skip };
+  }
+
+  /** The number of the refusal of a length of windows, or 0. */
+  windowRefusal(length) {
+    this.writeSettings({
+      min: 1, max: 1, increment: 0, threshold: 1, rounds: 1, start: 0, window: length, base: null, skip: false,
+    });
+    return this.calls.lent_check_settings(BigInt(this.places.settings));
+  }
+
+  /** The room for a plan, as arguments. */
+  planRoom() {
+    const { pages, writes } = this.sizes;
+    return [
+      ...this.slice("touches", writes), ...this.slice("marks", Math.ceil(pages / 64)), ...this.slice("list", pages),
+      ...this.slice("rounds", MOST_ROUNDS),
+    ];
+  }
+
+  /** The bytes of the answer to a question: what the migration will be. Throws what is refused. */
+  answerBytes(question) {
+    writeQuestion(this.view(), this.places.question, question);
+    this.ask("lent_predict", "question", [...this.planRoom(), BigInt(this.places.answers)]);
+    return new Uint8Array(this.calls.memory.buffer.slice(this.places.answers, this.places.answers + ANSWER_SIZE));
+  }
+
+  /** The answer to a question, with a row for each round of its plan. */
+  predict(question) {
+    this.answerBytes(question);
+    const answer = readAnswer(this.view(), this.places.answers);
+    return { ...answer, rows: this.roundRows(answer.rounds) };
+  }
+
+  /** The standard errors of the answer to a question, or null if there are none. */
+  errors(question) {
+    const { pages, writes } = this.sizes;
+    const words = Math.ceil(pages / 64);
+    writeQuestion(this.view(), this.places.question, question);
+    this.ask("lent_errors", "question", [
+      ...this.slice("touches", writes), ...this.slice("list", MOST_PAGES), ...this.slice("marks", words),
+      ...this.slice("otherMarks", words), BigInt(this.places.errors),
+    ]);
+    return readErrors(this.view(), this.places.errors);
+  }
+
+  /** The places of the best and the worst of some answers, given as their bytes; null if none tells anything. */
+  chosen(answers) {
+    const memory = new Uint8Array(this.calls.memory.buffer);
+    answers.forEach((bytes, place) => memory.set(bytes, this.places.answers + place * ANSWER_SIZE));
+    const known = this.calls.lent_chosen_starts(...this.slice("answers", answers.length), BigInt(this.places.choice));
+    if (known === 0n) {
+      return { best: null, worst: null };
+    }
+    const [best, worst] = this.numbersAt(this.places.choice, 2);
+    return { best, worst };
+  }
+
+  /** A row for each of the rounds that the module wrote last. */
+  roundRows(count) {
+    return Array.from({ length: count }, (_, place) => {
+      const [from, to, rate, pages, sent, dirtied] = this.numbersAt(this.places.rounds + place * ROUND_SIZE, 6);
+      return { from, to, rate, pages, sent, dirtied };
+    });
+  }
+
   /** The plan of settings: its sums, and a row for each round. Throws the Refusal of settings out of range. */
   plan(settings) {
     this.writeSettings(settings);
-    const { pages, writes } = this.sizes;
-    this.ask("lent_plan", [
-      ...this.slice("touches", writes), ...this.slice("marks", Math.ceil(pages / 64)), ...this.slice("list", pages),
-      ...this.slice("rounds", MOST_ROUNDS), BigInt(this.places.sums),
-    ]);
+    this.ask("lent_plan", "settings", [...this.planRoom(), BigInt(this.places.sums)]);
     const [count, reason, stop, down, total] = this.numbersAt(this.places.sums, 5);
-    const rounds = Array.from({ length: count }, (_, place) => {
-      const row = this.numbersAt(this.places.rounds + place * ROUND_SIZE, 6);
-      return { from: row[0], to: row[1], rate: row[2], pages: row[3], sent: row[4], dirtied: row[5] };
-    });
+    const rounds = this.roundRows(count);
     return { rounds, reason: REASONS[reason], stop, down, total, left: rounds[count - 1].dirtied };
   }
 
@@ -206,7 +287,7 @@ export class Planner {
     const rows = writes === 0 ? 0 : Math.min(writes, Math.floor(last / Math.max(1, settings.window)) + 1);
     this.reserve(this.places.rows + rows * WINDOW_SIZE);
     this.writeSettings(settings);
-    this.ask("lent_windows", [
+    this.ask("lent_windows", "settings", [
       ...this.slice("touches", writes), ...this.slice("pageMarks", pages), ...this.slice("rows", rows),
       BigInt(this.places.count),
     ]);

@@ -1,79 +1,46 @@
-// What a plan costs in time and bytes, how far chance moves that, what speaks against the prediction, and the words
-// that set the same limits elsewhere. The rules are those of `precopy-view predict`.
+// Predictions in words: how a plan ends, what speaks against it, and the words that set the same limits elsewhere. What
+// a migration comes to is the module's answer, as that of `precopy-view predict`.
 
-import { bytesOf, limitsOf, microsOf, RATE_UNITS, scaleOf, settingsOf, TIME_UNITS } from "./units.js";
+import { askedOf, limitsOf, RATE_UNITS, scaleOf, TIME_UNITS } from "./units.js";
 import { countOf } from "./numbers.js";
 import { commandWord } from "./quantities.js";
 
 /** If fewer pages than these are left, chance moves the downtime by more than a tenth. */
 const MANY_PAGES = 100;
 
-/** The most pages of a sample whose standard errors are told. */
-const MOST_SAMPLED = 65_536n;
-
 /** The unit in which libvirt takes a rate. */
 const LIBVIRT_UNIT = RATE_UNITS.MiB;
 
-/** What a migration costs, in microseconds and bytes, whether it keeps its limit, and whether it outlasts the trace. */
-export function costOf(scale, limits, start, plan, last) {
-  const downtime = microsOf(scale, plan.down) + limits.reserve;
-  return {
-    downtime,
-    time: microsOf(scale, Math.max(0, plan.stop - start)) + downtime,
-    bytes: bytesOf(scale, plan.total),
-    isKept: downtime <= limits.downtime,
-    isLate: last < plan.stop,
-  };
+/** What a migration costs by an answer, in microseconds and bytes, and the verdicts: `yes`, `no` or `unknown`. */
+export function costIn({ time, bytes, downtime, recorded, converges, kept }) {
+  return { time, bytes, downtime, recorded, converges, kept };
 }
 
-/** The least whole number whose square is a fraction or more. */
-function rootAbove(number, divisor) {
-  let [low, high] = [0n, 1n << 64n];
-  while (low < high) {
-    const middle = (low + high) >> 1n;
-    if (middle * middle * divisor >= number) {
-      high = middle;
-    } else {
-      low = middle + 1n;
-    }
-  }
-  return low;
-}
-
-/** A standard error in pages of the guest, from the sums of a number of each sampled page and of its square. */
-function errorOf({ sampled, guest }, sum, squares) {
-  const spread = guest * (guest - sampled) * (sampled * BigInt(squares) - BigInt(sum) ** 2n);
-  return rootAbove(spread, sampled * sampled * (sampled - 1n));
-}
-
-/** The standard errors of bytes and downtime that are due to the draw of a sample, or null. */
-function errorsOf(scale, settings, plan) {
-  const isTold = scale.sampled >= 2n && scale.isSample && scale.sampled <= MOST_SAMPLED;
-  if (!isTold || plan.squares === null) {
-    return null;
-  }
-  const left = errorOf(scale, plan.left, plan.left);
-  const rate = scale.guest * BigInt(settings.max);
-  return {
-    bytes: errorOf(scale, plan.total, plan.squares) * scale.page,
-    downtime: (left * scale.sampled * scale.tick * 1_000n + rate - 1n) / rate,
-  };
-}
-
-/** Plans a migration by the state of the controls, and says what it costs. Throws a refusal. */
+/** Asks what the migration will be by the state of the controls. Throws a refusal. */
 export async function predictionOf(guest, state) {
   const { sizes } = guest;
-  const scale = scaleOf(state, sizes);
-  const limits = limitsOf(state);
-  const settings = settingsOf(state, scale, limits);
-  const plan = await guest.plan(settings, scale.isSample);
-  const cost = costOf(scale, limits, settings.start, plan, sizes.last);
-  return { state, scale, limits, settings, plan, cost, errors: errorsOf(scale, settings, plan) };
+  const { question, settings } = askedOf(state, sizes);
+  const { rows, errors, ...answer } = await guest.predict(question);
+  const { reason, stop, down, total, left } = answer;
+  return {
+    state, question, settings, scale: scaleOf(state, sizes), limits: limitsOf(state),
+    plan: { rounds: rows, reason, stop, down, total, left }, cost: costIn(answer), errors,
+  };
 }
 
-/** Whether a prediction keeps its limit and ends because few pages are left, over more than nothing. */
-export function isGood({ cost, plan }) {
-  return cost.isKept && plan.reason === "few" && !cost.isLate;
+/** Whether an answer, or what a migration costs by it, keeps its limit and comes down to it. */
+export function isGood({ kept, converges }) {
+  return kept === "yes" && converges === "yes";
+}
+
+/** Whether the trace ends before the migration does, so that nothing is known of it. */
+export function isUnknown({ cost }) {
+  return cost.kept === "unknown";
+}
+
+/** Whether the limit is kept, in words. */
+export function keptWords({ kept }) {
+  return { yes: "kept", no: "not kept", unknown: "unknown" }[kept];
 }
 
 /** Why pre-copy ends, in words. */
@@ -87,17 +54,18 @@ export function reasonWords({ plan, settings, scale }) {
   }[plan.reason];
 }
 
-/** How a plan ends, in a sentence. */
+/** How a plan that ends within the trace ends, in a sentence. */
 export function endingOf(prediction) {
-  return `It ${prediction.plan.reason === "few" ? "converges" : "does not converge"}: ${reasonWords(prediction)}.`;
+  return `It ${prediction.cost.converges === "yes" ? "converges" : "does not converge"}: ${reasonWords(prediction)}.`;
 }
 
 /** What speaks against a prediction, a sentence each. */
-export function warningsOf({ plan, cost, settings }) {
-  const warnings = [];
-  if (cost.isLate) {
-    warnings.push("The stop is after the end of the trace, where no writes are known: record longer.");
+export function warningsOf(prediction) {
+  if (isUnknown(prediction)) {
+    return [];
   }
+  const { plan, settings } = prediction;
+  const warnings = [];
   if (plan.total === 0 && settings.base !== null) {
     warnings.push("No page is written between the copy and the start, so nothing is sent: take an earlier copy.");
   } else if (plan.left < MANY_PAGES) {

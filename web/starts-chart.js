@@ -4,6 +4,7 @@
 import { area, grounded, label, svg } from "./elements.js";
 import { bytesText, counted, timeText } from "./numbers.js";
 import { axisLabels, frameOf, panelOf, pictureOf } from "./plot.js";
+import { keptWords } from "./predictions.js";
 import { microsOf } from "./units.js";
 
 const CURVE_TOP = 26;
@@ -50,7 +51,7 @@ function levelFor(numbers, limit) {
 function stretchesOf(axis, costs) {
   const stretches = [[]];
   for (const at of costs) {
-    if (at.cost.isLate) {
+    if (at.cost.kept === "unknown") {
       stretches.push([]);
     } else if (at.start >= axis.first && at.start <= axis.last) {
       stretches.at(-1).push(at);
@@ -70,7 +71,8 @@ function lineOf(axis, panel, stretch, number) {
 
 /** Where starts lie whose migration ends after the trace, as one area from the first of each row of them. */
 function latePart(axis, panel, costs) {
-  const late = costs.filter(({ cost, start }) => cost.isLate && start >= axis.first && start <= axis.last);
+  const late = costs.filter(({ cost, start }) => cost.kept === "unknown" && start >= axis.first
+    && start <= axis.last);
   if (late.length === 0) {
     return [];
   }
@@ -131,10 +133,9 @@ export function startsPicture(axis, asked) {
 
 /** What a migration from a start costs, in words. */
 export function startWords(asked, { start, cost }, hasTicks) {
-  const mark = cost.isLate ? "ends after the trace" : cost.isKept ? "kept" : "not kept";
   const place = `${timeText(microsOf(asked.scale, start))}${hasTicks ? `, tick ${counted(start)}` : ""}`;
   return `${place}: time ${timeText(cost.time)}, sent ${bytesText(cost.bytes)}, downtime ${timeText(cost.downtime)}, `
-    + mark;
+    + keptWords(cost);
 }
 
 /** How the starts of a picture are looked at. */

@@ -2,7 +2,7 @@
 
 import { byId, html } from "./elements.js";
 import { bytesText, countOf, signed, timeText } from "./numbers.js";
-import { chosenStarts, firstStartOf, startCosts, startRows, startTicks } from "./starts.js";
+import { firstStartOf, startCosts, startRows, startTicks } from "./starts.js";
 import { startsLook, startsPicture, startWords } from "./starts-chart.js";
 import { saveButtons } from "./exports.js";
 import { Inspector } from "./inspector.js";
@@ -83,9 +83,9 @@ export class StartsView {
     this.changed();
     try {
       const told = (share) => question === this.question && this.busy(share);
-      const plans = await trace.starts(prediction.settings, ticks, told);
-      if (question === this.question && plans) {
-        this.finish(prediction, ticks, plans);
+      const found = await trace.starts(prediction.question, ticks, told);
+      if (question === this.question && found) {
+        this.finish(prediction, ticks, found);
       }
     } catch (error) {
       if (!(error instanceof Refusal) && !(error instanceof WorkerEnded)) {
@@ -95,11 +95,10 @@ export class StartsView {
     }
   }
 
-  finish(prediction, ticks, plans) {
+  finish(prediction, ticks, found) {
     const { scale, limits, state } = prediction;
-    const costs = startCosts(scale, limits, ticks, plans, this.trace.sizes.last);
     this.asked = {
-      costs, chosen: chosenStarts(costs), scale, limits, key: keyOf(prediction, ticks), hasTicks: state.ticks,
+      ...startCosts(ticks, found), scale, limits, key: keyOf(prediction, ticks), hasTicks: state.ticks,
     };
     this.busy(null);
     byId("starts-answer").hidden = false;
@@ -139,6 +138,9 @@ export class StartsView {
       return [];
     }
     const { cost } = prediction;
+    if (cost.kept === "unknown") {
+      return [html("p", { id: "saving" }, "This plan ends after the trace: what the best saves is unknown.")];
+    }
     const saved = (text, name) => signed(best.cost[name] - cost[name], text).replace(" ", "\u00a0");
     const words = prediction.settings.start === best.start ? "This plan starts there."
       : `At the best start instead of this one: time ${saved(timeText, "time")}, sent ${saved(bytesText, "bytes")}, `

@@ -1,7 +1,7 @@
-// The same migration from many starts: at which ticks it may begin, what it costs from each, the best and the worst.
-// The rules are those of `precopy-view when`.
+// The same migration from many starts: at which ticks it may begin, by the rules of `precopy-view when`. What it costs
+// from each, the best and the worst are the module's answers.
 
-import { costOf } from "./predictions.js";
+import { costIn } from "./predictions.js";
 import { microsOf } from "./units.js";
 
 /** Into how many parts starts cut a trace. */
@@ -23,45 +23,17 @@ export function startTicks(last, from) {
   return Array.from({ length: Math.floor((to - from) / every) + 1 }, (_, place) => from + place * every);
 }
 
-/** What a migration costs from each start, from the sums of its plans. */
-export function startCosts(scale, limits, ticks, plans, last) {
-  return ticks.map((start, place) => ({ start, cost: costOf(scale, limits, start, plans[place], last) }));
-}
-
-/** The numbers by which one start is better than another, the most important first. */
-function pricesOf({ cost }) {
-  const prices = cost.isKept ? [cost.bytes, cost.downtime] : [cost.downtime, cost.bytes];
-  return [cost.isKept ? 0n : 1n, ...prices, cost.time];
-}
-
-function isBetter(one, other) {
-  const mine = pricesOf(one);
-  const theirs = pricesOf(other);
-  const place = mine.findIndex((price, at) => price !== theirs[at]);
-  return place !== -1 && mine[place] < theirs[place];
-}
-
-/** The best and the worst of the starts whose migration ends within the trace, the first of equals; null if none is. */
-export function chosenStarts(costs) {
-  const chosen = { best: null, worst: null };
-  for (const at of costs) {
-    if (at.cost.isLate) {
-      continue;
-    }
-    if (chosen.best === null || isBetter(at, chosen.best)) {
-      chosen.best = at;
-    }
-    if (chosen.worst === null || isBetter(chosen.worst, at)) {
-      chosen.worst = at;
-    }
-  }
-  return chosen;
+/** The starts with what a migration costs from each, and the best and the worst of them, by the module's answers. */
+export function startCosts(ticks, { answers, chosen }) {
+  const costs = answers.map((answer, place) => ({ start: ticks[place], cost: costIn(answer) }));
+  const { best, worst } = chosen;
+  return { costs, chosen: best === null ? { best, worst } : { best: costs[best], worst: costs[worst] } };
 }
 
 /** The starts as columns and rows of numbers, for a file. */
 export function startRows({ costs, scale }) {
-  const columns = ["tick", "start_us", "time_us", "sent_bytes", "downtime_us", "kept", "within_trace"];
+  const columns = ["tick", "start_us", "time_us", "sent_bytes", "downtime_us", "kept"];
   const rows = costs.map(({ start, cost }) => [start, microsOf(scale, start), cost.time, cost.bytes, cost.downtime,
-    Number(cost.isKept), Number(!cost.isLate)]);
+    cost.kept]);
   return [columns, rows];
 }

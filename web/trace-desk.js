@@ -28,28 +28,29 @@ class OpenTrace {
     this.record = null;
   }
 
-  /** What a plan of the trace comes to; with the squares that standard errors need, if they are asked for. */
-  plan(settings, hasErrors) {
-    return this.client.ask("plan", { settings, hasErrors });
+  /** The answer to a question about the trace, with the rounds of its plan and its standard errors. */
+  predict(question) {
+    return this.client.ask("predict", { question });
   }
 
   windows(settings) {
     return this.client.ask("windows", { settings });
   }
 
-  /** The sums of a plan from each of some starts, or null if they were cancelled. */
-  starts(settings, ticks, told) {
-    const list = ticks.map((start) => ({ ...settings, start }));
-    return this.client.ask("plans", { kind: "starts", settings: list }, told);
+  /** The answers to a question from each of some starts, and which are chosen; null if they were cancelled. */
+  starts(question, ticks, told) {
+    const questions = ticks.map((start) => ({ ...question, start }));
+    return this.client.ask("answers", { kind: "starts", questions }, told);
   }
 
   cancelStarts() {
     return this.client.ask("cancel", { kind: "starts" });
   }
 
-  /** The sums of the plans of some settings. */
-  plans(settings) {
-    return this.client.ask("plans", { kind: "limits", settings });
+  /** The answers to some questions, or null if others were asked meanwhile. */
+  async answers(questions) {
+    const found = await this.client.ask("answers", { kind: "limits", questions });
+    return found && found.answers;
   }
 }
 
@@ -200,25 +201,16 @@ export class TraceDesk {
     }
     const { sizes, source } = this.trace;
     const { pages, pageBytes, writes, last } = sizes;
-    const scale = this.scaleFor(settings);
-    const sample = scale?.isSample ? `, a sample of a guest of ${countOf(scale.guest, "page")} `
+    const scale = scaleOf(settings, sizes);
+    const sample = scale.isSample ? `, a sample of a guest of ${countOf(scale.guest, "page")} `
       + `(${bytesText(scale.guest * scale.page)})` : ` (${bytesText(BigInt(pages) * BigInt(pageBytes))})`;
-    const time = scale ? timeText(microsOf(scale, last)) : countOf(last, "tick");
     const whence = this.trace.record ? `, as ${source.record.name} says` : "";
     const words = `${source.name}: ${countOf(pages, "page")} of ${counted(pageBytes)} bytes${sample}; `
-      + `${countOf(writes, "write")} in ${time}${whence}`;
+      + `${countOf(writes, "write")} in ${timeText(microsOf(scale, last))}${whence}`;
     if (byId("trace-state").textContent !== words) {
       byId("trace-state").textContent = words;
     }
     byId("trace-other").textContent = problem;
     byId("trace-other").hidden = problem === "";
-  }
-
-  scaleFor(settings) {
-    try {
-      return scaleOf(settings, this.trace.sizes);
-    } catch {
-      return null;
-    }
   }
 }

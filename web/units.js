@@ -1,8 +1,8 @@
-// Times, rates and sizes in an operator's units, and the settings in ticks and pages that they make. The rules are
-// those of `precopy-view`. What is out of its range is refused at the control that says it.
+// Times, rates and sizes in an operator's units. What they come to in ticks and pages is the module's answer; what it
+// refuses is told at the control that says it.
 
 import { counted, rateText, timeText } from "./numbers.js";
-import { MOST_ROUNDS } from "./planner.js";
+import { MOST_ROUNDS, Refusal } from "./planner.js";
 
 /** Microseconds of a unit of time. */
 export const TIME_UNITS = { us: 1n, ms: 1_000n, s: 1_000_000n };
@@ -14,9 +14,6 @@ export const RATE_UNITS = {
   KiB: 1n << 10n, MiB: 1n << 20n, GiB: 1n << 30n,
 };
 
-export const MOST_RATE = 1_000_000n;
-export const MOST_LEFT = 65_535n;
-const MOST_TICK = 1_000_000n;
 const MOST_GUEST_PAGES = 2 ** 32;
 const END_OF_TICKS = 2 ** 40;
 
@@ -32,6 +29,13 @@ export class ControlRefusal extends Error {
     super(sentence);
     this.control = control;
   }
+}
+
+/** The module without a trace, which makes settings of limits. */
+const rules = { planner: null };
+
+export function takeRules(planner) {
+  rules.planner = planner;
 }
 
 /** How much a quantity is, in microseconds or bytes a second. */
@@ -58,27 +62,11 @@ export function limitsOf(state) {
 
 /** What ticks and pages of a trace stand for. The trace of a sample has `sampled` of the guest's `guest` pages. */
 export function scaleOf(state, sizes) {
-  const tick = amountOf(state.tick);
   const { part, whole } = state.sample ?? { part: sizes.pages, whole: sizes.pages };
-  if (tick < 1n || tick > MOST_TICK) {
-    throw new ControlRefusal("tick", `${timeText(tick)} is not 1 \u00b5s to 1 s.`);
-  }
-  if (part < sizes.pages || part > MOST_GUEST_PAGES) {
-    throw new ControlRefusal("sample", `${counted(part)} sampled pages are fewer than the ${counted(sizes.pages)} of `
-      + "the trace.");
-  }
-  if (whole < part || whole > MOST_GUEST_PAGES) {
-    throw new ControlRefusal("sample", `A guest of ${counted(whole)} pages is not one of ${counted(part)} to `
-      + `${counted(MOST_GUEST_PAGES)}.`);
-  }
   return {
-    tick, page: BigInt(sizes.pageBytes), sampled: BigInt(part), guest: BigInt(whole), isSample: whole > part,
+    tick: amountOf(state.tick), page: BigInt(sizes.pageBytes), sampled: BigInt(part), guest: BigInt(whole),
+    isSample: whole > part,
   };
-}
-
-/** A rate of the trace, in pages per 1,000 ticks and rounded down, for a rate of the guest in bytes a second. */
-function rateOf(scale, bytes) {
-  return (bytes * scale.tick * scale.sampled) / (1_000n * scale.page * scale.guest);
 }
 
 /** How long some ticks are, in microseconds. */
@@ -86,77 +74,81 @@ export function microsOf(scale, ticks) {
   return BigInt(ticks) * scale.tick;
 }
 
-/** How many pages of the guest some pages of the trace stand for. */
-export function guestPagesOf(scale, pages) {
-  return (BigInt(pages) * scale.guest) / scale.sampled;
+/** The module's number of a trace with more pages than were sampled. */
+const TOO_MANY_PAGES = 89;
+
+/** The control of a refusal by its number. */
+const CONTROLS = {
+  25: "rounds", 26: "window", 28: "start", 30: "base", 81: "tick", 83: "sample", 84: "link", 85: "first",
+  86: "reserve", 87: "downtime", [TOO_MANY_PAGES]: "sample",
+};
+
+/** What a control says that is refused, with its limit, by the control's name. */
+const SENTENCES = {
+  tick: ({ tick }) => `${timeText(amountOf(tick))} is not 1 \u00b5s to 1 s.`,
+  sample: (state, { pages }) => {
+    const { part, whole } = state.sample ?? { part: pages, whole: pages };
+    return part < pages ? `${counted(part)} sampled pages are fewer than the ${counted(pages)} of the trace.`
+      : `A guest of ${counted(whole)} pages is not one of ${counted(part)} to ${counted(MOST_GUEST_PAGES)}.`;
+  },
+  link: ({ link }) => `${rateText(amountOf(link))} is not 1 to 1,000,000 pages per 1,000 ticks. Longer ticks make more `
+    + "of it.",
+  first: (state) => `${rateText(limitsOf(state).first)} is less than 1 page per 1,000 ticks.`,
+  reserve: ({ reserve, downtime }) => `${timeText(amountOf(reserve))} is more than the downtime limit of `
+    + `${timeText(amountOf(downtime))}.`,
+  downtime: ({ downtime }) => `In ${timeText(amountOf(downtime))} the link moves more than 65,535 pages of the trace.`,
+  rounds: ({ rounds: most }) => `${counted(most)} rounds are not 1 to ${MOST_ROUNDS}.`,
+  window: ({ window: length }) => `${counted(length)} ticks are not 1 to ${counted(END_OF_TICKS)}.`,
+  start: ({ start }) => `Tick ${counted(start)} is not below ${counted(END_OF_TICKS)}.`,
+  base: ({ base, start }) => `Tick ${counted(base)} is after the start, tick ${counted(start)}.`,
+};
+
+function controlRefusal(number, state, sizes) {
+  const control = CONTROLS[number];
+  return new ControlRefusal(control, SENTENCES[control](state, sizes));
 }
 
-/** How many bytes of the guest some pages of the trace stand for. */
-export function bytesOf(scale, pages) {
-  return (BigInt(pages) * scale.page * scale.guest) / scale.sampled;
-}
-
-function requireRates(limits, least, most) {
-  if (most < 1n) {
-    throw new ControlRefusal("link", `${rateText(limits.link)} is less than 1 page per 1,000 ticks.`);
-  }
-  if (most > MOST_RATE) {
-    throw new ControlRefusal("link", `${rateText(limits.link)} is ${counted(most)} pages per 1,000 ticks; the most `
-      + `is ${counted(MOST_RATE)}. Longer ticks make more of it too.`);
-  }
-  if (least < 1n) {
-    throw new ControlRefusal("first", `${rateText(limits.first)} is less than 1 page per 1,000 ticks.`);
-  }
-}
-
-/** The fewest dirty pages with which pre-copy goes on: what the link moves in the downtime for pages, plus 1. */
-function thresholdOf(scale, limits, most) {
-  if (limits.reserve > limits.downtime) {
-    throw new ControlRefusal("reserve", `${timeText(limits.reserve)} is more than the downtime limit of `
-      + `${timeText(limits.downtime)}.`);
-  }
-  const ticks = (limits.downtime - limits.reserve) / scale.tick;
-  const moved = (ticks * most) / 1_000n;
-  if (moved > MOST_LEFT) {
-    throw new ControlRefusal("downtime", `In ${timeText(limits.downtime)} the link moves ${counted(moved)} pages of `
-      + `the trace; the most is ${counted(MOST_LEFT)}.`);
-  }
-  return moved + 1n;
-}
-
-function requireCounts(state) {
-  if (state.rounds < 1 || state.rounds > MOST_ROUNDS) {
-    throw new ControlRefusal("rounds", `${counted(state.rounds)} rounds are not 1 to ${MOST_ROUNDS}.`);
-  }
-  if (state.window < 1 || state.window > END_OF_TICKS) {
-    throw new ControlRefusal("window", `${counted(state.window)} ticks are not 1 to ${counted(END_OF_TICKS)}.`);
-  }
-  if (state.start >= END_OF_TICKS) {
-    throw new ControlRefusal("start", `Tick ${counted(state.start)} is not below ${counted(END_OF_TICKS)}.`);
-  }
-  if (state.base !== null && state.base > state.start) {
-    throw new ControlRefusal("base", `Tick ${counted(state.base)} is after the start, tick ${counted(state.start)}.`);
+/** The settings that the module makes of a question. Throws its refusal, at the control that says it. */
+function settingsFor(question, state, sizes) {
+  try {
+    return rules.planner.settings(question);
+  } catch (error) {
+    if (!(error instanceof Refusal) || !CONTROLS[error.number]) {
+      throw error;
+    }
+    // The windows are no part of a question. Their length is tested before the start, and after the rounds.
+    const isLater = ["start", "base"].includes(CONTROLS[error.number]);
+    throw controlRefusal((isLater && rules.planner.windowRefusal(state.window)) || error.number, state, sizes);
   }
 }
 
-/** The settings of a plan that keeps to some limits. Throws a ControlRefusal if one is out of its range. */
-export function settingsOf(state, scale, limits) {
-  const max = rateOf(scale, limits.link);
-  const min = rateOf(scale, limits.first);
-  requireRates(limits, min, max);
-  const threshold = thresholdOf(scale, limits, max);
-  requireCounts(state);
-  const increment = shareOf(max - min, state.increase);
-  return {
-    min: Number(min), max: Number(max), increment: Number(increment), threshold: Number(threshold),
-    rounds: state.rounds, start: state.start, window: state.window, base: state.base, skip: state.skip,
+/**
+ * What the state of the controls asks of the module, and the settings that come of it. Throws a ControlRefusal if a
+ * control is out of its range.
+ */
+export function askedOf(state, sizes) {
+  const { isSample, ...scale } = scaleOf(state, sizes);
+  const { link, first, downtime, reserve } = limitsOf(state);
+  const { rounds, start, base, skip } = state;
+  const plain = {
+    ...scale, link, first: state.first === 100 ? null : first, downtime, reserve, increment: null, rounds, start, base,
+    skip,
   };
+  const { min, max } = settingsFor(plain, state, sizes);
+  const question = { ...plain, increment: shareOf(BigInt(max - min), state.increase) };
+  const settings = settingsFor(question, state, sizes);
+  const isTooFew = question.sampled < BigInt(sizes.pages);
+  const wrong = rules.planner.windowRefusal(state.window) || (isTooFew ? TOO_MANY_PAGES : 0);
+  if (wrong !== 0) {
+    throw controlRefusal(wrong, state, sizes);
+  }
+  return { question, settings: { ...settings, window: state.window } };
 }
 
 /** Why the state of the controls makes no plan over a trace, or null. */
 export function refusalOf(state, sizes) {
   try {
-    settingsOf(state, scaleOf(state, sizes), limitsOf(state));
+    askedOf(state, sizes);
     return null;
   } catch (error) {
     if (error instanceof ControlRefusal) {

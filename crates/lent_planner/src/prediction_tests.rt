@@ -132,7 +132,7 @@ fn refused_questions_have_numbers(rt: HostRuntime) {
         (
             87,
             Question {
-                downtime: 4_096_000_000,
+                downtime: 4_097_000_000,
                 ..ASKED
             },
         ),
