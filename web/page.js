@@ -39,7 +39,9 @@ async function foundBy(act) {
 }
 
 class Page {
-  constructor() {
+  /** `ready` is kept once the module makes settings: no trace is taken before. */
+  constructor(ready) {
+    this.ready = ready;
     this.state = stateIn(location.hash);
     this.isGiven = location.hash.length > 1;
     this.chosen = new Set();
@@ -63,7 +65,7 @@ class Page {
       this.takeFiles(files);
     });
     for (const button of document.querySelectorAll("[data-example]")) {
-      button.addEventListener("click", () => this.desk.takeExample(button.dataset.example, {}));
+      button.addEventListener("click", () => this.takeExample(button.dataset.example));
     }
     for (const button of document.querySelectorAll("[data-copies]")) {
       button.addEventListener("click", () => this.copy(button));
@@ -89,12 +91,19 @@ class Page {
     });
   }
 
-  takeFiles(files) {
-    return this.desk.takeFiles(files, { isGiven: this.isGiven && this.desk.trace === null });
+  async takeExample(example) {
+    await this.ready;
+    await this.desk.takeExample(example, {});
+  }
+
+  async takeFiles(files) {
+    await this.ready;
+    await this.desk.takeFiles(files, { isGiven: this.isGiven && this.desk.trace === null });
   }
 
   async open() {
     this.listen();
+    await this.ready;
     const example = this.state.example ?? (this.isGiven ? null : FIRST_EXAMPLE);
     if (example) {
       await this.desk.takeExample(example, { isGiven: this.isGiven });
@@ -398,8 +407,8 @@ async function open() {
     document.body.classList.add("unable");
     return;
   }
-  takeRules(await Planner.withoutTrace(await embeddedBytes("planner-module")));
-  await new Page().open();
+  const ready = embeddedBytes("planner-module").then((bytes) => Planner.withoutTrace(bytes)).then(takeRules);
+  await new Page(ready).open();
 }
 
 if (typeof document === "undefined") {
