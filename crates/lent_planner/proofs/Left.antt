@@ -1,10 +1,10 @@
 -- The pages that a plan leaves are those that its last round dirtied.
-use Rattle.std.proofs.Common.{◌≡◌, ℕ, ◌+◌, ◌-◌, ◌≤◌, List, [], ◌∷◌, ◌++◌, length, map, take, drop, sym, ap, ◌∙◌}
+use Rattle.std.proofs.Common.{◌≡◌, ℕ, ◌+◌, ◌-◌, ◌≤◌, List, [], ◌∷◌, length, map, take, drop, sym, ap, ◌∙◌}
 use Rattle.std.proofs.Common.{arith}
 use Rattle.std.specs.List.{fold}
 use Rattle.std.proofs.lemmas.List.{length-append, length-map, take_at}
 use Rattle.std.proofs.lemmas.List.Folds.{fold-map}
-use Rattle.migration_model.specs.Rates.{AfterRound, MigrationSettings, StopReason, after_round, goes_on, stops}
+use Rattle.migration_model.specs.Rates.{AfterRound, MigrationSettings, after_round, goes_on, stops}
 use Rattle.migration_model.specs.Rounds.{AreRounds, InEither, IsEnd, IsPlan, IsRound, MigrationPlan, NextRound}
 use Rattle.migration_model.specs.Rounds.{PlannedRound, first_round, round_after}
 use Rattle.migration_model.specs.Touches.{GuestTouch}

@@ -1,5 +1,5 @@
 -- Which of several answers is the best, and which the worst: those of the same question from several starts.
-use Rattle.std.specs.Prelude.{◌≡◌, ◌≤◌, ℕ, ◌==◌, not, Bool, List, length}
+use Rattle.std.specs.Prelude.{ℕ, ◌==◌, not, Bool, List, length}
 use Rattle.std.specs.List.{IsFirstBest, count_by}
 use Rattle.migration_starts.specs.Choices.{is_better_known, is_worse_known}
 use Rattle.migration_starts.specs.Costs.{CostAtStart}
