@@ -236,6 +236,8 @@ def comparison(asked, report, document):
         return "; ".join([*([f"\u00b1 {error}"] if drawn else []), *words])
 
     of_sample = " of the sample" * (asked.guest > asked.sampled)
+    threshold = asked.settings()[3]
+    few = "none left ends pre-copy" if threshold == 1 else f"fewer than {threshold:,} end pre-copy"
     guest = [f"{plural(stop['total'] * asked.guest // asked.sampled, 'page')} of the guest"] * bool(of_sample)
     pages = f"{plural(stop['total'], 'page')}{of_sample}"
     return {
@@ -243,7 +245,7 @@ def comparison(asked, report, document):
         "time": [time_text(found["time"]), more(time_text(time))],
         "sent": [size_text(found["sent"]), more(size_text(sent), *guest, pages)],
         "rounds": [f"{len(report['rounds']):,}", reason(asked, report)],
-        "left": [plural(stop["pages"], "page") + of_sample, f"fewer than {asked.settings()[3]:,} end pre-copy"],
+        "left": [plural(stop["pages"], "page") + of_sample, few],
         "stop": [time_text(stop["at"] * asked.tick), ""],
     }
 
@@ -262,8 +264,8 @@ def verdict(asked, report):
 
 
 def check_facts(precopy, asked, found, document):
-    """Tests what the page shows for settings against what precopy writes, and against the document of `json predict`, if
-    there is one."""
+    """Tests what the page shows for settings against what precopy writes, and against the document of `json predict`,
+    if there is one."""
     name = asked.refusal()
     if name:
         if found["refused"] != name or not found["fault"] or not found["stale"]:
@@ -280,7 +282,8 @@ def check_facts(precopy, asked, found, document):
     wanted = {
         "rounds": [list(some.values()) for some in report["rounds"]],
         "windows": [list(some.values()) for some in report["windows"][:ROWS_SHOWN]],
-        "comparison": comparison(asked, report, document), "warnings": warnings(asked, report), "commands": commands(asked),
+        "comparison": comparison(asked, report, document), "warnings": warnings(asked, report),
+        "commands": commands(asked),
     }
     for key, value in wanted.items():
         if found[key] != value:
@@ -305,8 +308,8 @@ def check_document(document, wanted):
 
 
 def predicted(view, asked, found):
-    """Runs the words that the page gives for `precopy-view predict`: they ask for the same migration. Returns what `json
-    predict` answers to them."""
+    """Runs the words that the page gives for `precopy-view predict`: they ask for the same migration. Returns what
+    `json predict` answers to them."""
     words = found["predict"].removesuffix(" < TRACE").split()[1:]
     status, text, faults = ran(view, words, asked.known.path)
     lines = text.splitlines()

@@ -1,5 +1,5 @@
-// Plans in Node what checks/page asks: `node page_plans.mjs MODULE TRACE` with a list on standard input, as JSON: of each
-// item the settings of a plan, and the question that they are made of.
+// Plans in Node what checks/page asks: `node page_plans.mjs MODULE TRACE` with a list on standard input, as JSON: of
+// each item the settings of a plan, and the question that they are made of.
 
 import { readFileSync } from "node:fs";
 import { Planner } from "./planner.js";

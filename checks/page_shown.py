@@ -2,9 +2,12 @@
 
 import base64
 import json
+import time
 
 from browser import BrowserError
 from view_texts import Failure
+
+SECONDS_TO_BECOME = 10
 
 # Collects what the page shows, after the next time that it draws.
 COLLECTOR = r"""
@@ -62,6 +65,19 @@ window.after = async (act) => {
   }
   return shown();
 };
+// Whether each picture that is seen is as wide as its place, and whether nothing is drawn anew any more.
+window.isFitted = () => [...document.querySelectorAll(".plot")].every((plot) => {
+  const picture = plot.querySelector("svg");
+  return !picture || !plot.offsetParent || Math.abs(Number(picture.getAttribute("width")) - plot.clientWidth) < 1;
+});
+window.atRest = async () => {
+  for (let count = 0, since = null; since !== begun || !isFitted(); count += 1) {
+    if (count > 200) { throw new Error("the page does not come to rest"); }
+    since = begun;
+    await new Promise((resume) => setTimeout(resume, 150));
+    await new Promise(requestAnimationFrame);
+  }
+};
 window.afterAsking = (hash) => after(() => {
   history.replaceState(null, "", location.pathname + "#");
   location.hash = hash;
@@ -89,7 +105,9 @@ class Page:
         self.browser.wait("document.readyState === 'complete' && typeof times === 'object'")
 
     def wait_for_plan(self):
-        self.browser.wait("document.querySelectorAll('#rounds-table-this tbody tr').length > 0", 20)
+        """Waits for the plan over the trace that the page opens by itself."""
+        self.browser.wait("document.querySelectorAll('#rounds-table-this tbody tr').length > 0 && opened > 0 "
+                          "&& isDrawn()", 20)
 
     def load(self, *paths):
         """Chooses files, and returns what is said of them, once the page has drawn them if they were taken."""
@@ -116,6 +134,18 @@ class Page:
 
     def shown(self):
         return self.browser.value("shown()")
+
+    def rest(self):
+        """Waits until the page draws nothing anew, and its pictures are as wide as their places."""
+        self.browser.value("atRest()")
+
+    def becomes(self, expression, wanted, told, seconds=SECONDS_TO_BECOME):
+        """Waits until an expression has a value. If it has another all that time, that is a failure."""
+        until = time.monotonic() + seconds
+        while (found := self.browser.value(expression)) != wanted:
+            if time.monotonic() > until:
+                raise Failure(f"{told}: {found!r} in place of {wanted!r}")
+            time.sleep(0.05)
 
 
 def tried(tally, told_of, act, *words):

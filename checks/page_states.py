@@ -70,6 +70,22 @@ def refused_files(page):
     page.drop(("notes.txt", b"no trace"), ("second.pcwt", b"another"))
 
 
+def refused_first(page):
+    """A file that is no trace, before there is one."""
+    no_trace(page)
+    page.drop(("notes.txt", b"no trace"))
+
+
+def missed_limit(page):
+    """A guest that writes faster than the link sends, a number that is none, and a record of another trace."""
+    open_with(page, "#trace=sqlite")
+    page.drop(("heavy.pcwt", page_shapes.trace(12, 9_000, [(at // 20, at * 7 % 9_000, 1) for at in range(20_000)])),
+              ("other.json", b"{}"))
+    typed(page, "downtime", "2")
+    plan_starts(page)
+    require(typed(page, "reserve", "2x")["stale"], "a plan of no number")
+
+
 def warm_start(page):
     """A warm start, nearer, with ticks, after a click that has moved the start."""
     open_with(page, "#trace=sqlite&start=20000&base=15000&ticks=1&skip=1")
@@ -89,7 +105,8 @@ def nothing_fits(page):
 
 
 STATES = {"no-trace": no_trace, "first-look": first_look, "starts": with_starts, "kept": kept_plans,
-          "refused-control": refused_control, "refused-files": refused_files, "warm": warm_start, "short": nothing_fits}
+          "refused-control": refused_control, "refused-files": refused_files, "refused-first": refused_first,
+          "missed": missed_limit, "warm": warm_start, "short": nothing_fits}
 
 
 # ---- Looking.
@@ -103,7 +120,7 @@ def check_state(page, name, folder):
     for is_dark in (False, True):
         for width in FULL_WIDTHS if is_full else WIDTHS:
             browser.dress(width, HEIGHT, is_dark)
-            browser.value("new Promise((resume) => setTimeout(resume, 300))")
+            page.rest()
             look = f"{name}-{width}-{'dark' if is_dark else 'light'}"
             check_look(page, look)
             if folder:

@@ -90,6 +90,8 @@ def check_files(page, folder):
     page.wait_for_plan()
     said = page.drop(("one.pcwt", good), ("two.pcwt", good), ("a.txt", b"text"))
     require("Not opened: two.pcwt, a.txt." in said and "one.pcwt: " in said, said)
+    first = page.browser.value("document.getElementById('control-first').value")
+    require(first == "100", f"the example's first round of {first} % stays over another trace")
     before = page.shown()
     said = page.drop(("bad.pcwt", good[:-1]))
     require("bad.pcwt is refused: E8 record" in said and "one.pcwt is still open." in said, said)
@@ -285,6 +287,14 @@ def check_looking(page):
                                 ".filter((words) => /^[0-9.]+ s$/.test(words)).map(parseFloat)")
     require(len(labels) > 3 and 9 <= min(labels) and max(labels) <= 19, f"of 9.4 to 18.8 s: {labels}")
     require(page.browser.value("document.getElementById('control-start').value") == start, "the brush takes a start")
+    page.browser.value("""(() => {
+      const plot = document.getElementById("rounds-plot-this");
+      const box = plot.getBoundingClientRect();
+      plot.dispatchEvent(new PointerEvent("click", { pointerType: "touch", bubbles: true, clientX: box.left + 70,
+        clientY: box.top + 60 }));
+    })()""")
+    said = page.browser.value("textOf('plan-this')")
+    require("Round 0, 0 ms to " in said, f"a finger on a round reads nothing: {said}")
     page.browser.value("document.getElementById('zoom-out').click()")
 
 
@@ -342,6 +352,32 @@ def check_limits(page):
             found = page.after(f"document.querySelector('[data-takes={name}]').click()")
             require("Keeps the limit" in found["verdict"] and found != before, f"{name}: {found['verdict']}")
             require(page.browser.value("textOf('limits-answer')") == "", "the answer is of other settings, and stays")
+
+
+def micros_in(text):
+    """A time of the page as microseconds: with a sign, or `same`."""
+    if text == "same":
+        return 0
+    found = re.fullmatch("([-\u2212+]?)([\\d.,]+) (s|ms|\u00b5s)", text)
+    require(found, f"{text!r} is no time")
+    sign, number, unit = found.groups()
+    size = {"s": 1_000_000, "ms": 1_000, "\u00b5s": 1}[unit]
+    return round(Fraction(number.replace(",", "")) * size) * (1 if sign in ("", "+") else -1)
+
+
+def check_saving(page):
+    """What the best start saves is the difference of both plans, and a click takes it."""
+    before = asked(page, start="20000", first="100")
+    page.browser.value("document.getElementById('ask').click()")
+    page.browser.wait("document.getElementById('saving') !== null", 20)
+    said = page.browser.value("textOf('saving')").replace("\u00a0", " ")
+    after = page.after("document.getElementById('take-best').click()")
+    for name in ("time", "downtime"):
+        told = re.search(rf"(?<!\w){name} (same|\S+ \S?s)[,.]", said)
+        require(told, f"{said}: no {name}")
+        wanted = micros_in(after["comparison"][name][0]) - micros_in(before["comparison"][name][0])
+        require(micros_in(told[1]) == wanted, f"{said}: {name} in place of {wanted} us")
+    page.becomes("textOf('saving')", "This plan starts there.", "at the best start")
 
 
 def check_comparison(page):
@@ -411,6 +447,7 @@ def check_uses(tally, page, folder):
     for case in REFUSED:
         tried(tally, f"refused: {case}", check_refused, page, *case)
     for words, check in (("what is no number", check_unread), ("units", check_units), ("warm starts", check_warm),
-                         ("back", check_back), ("limits", check_limits), ("kept plans", check_comparison),
-                         ("saved files", check_files_saved), ("looking", check_looking), ("the worker", check_worker)):
+                         ("back", check_back), ("limits", check_limits), ("the best start", check_saving),
+                         ("kept plans", check_comparison), ("saved files", check_files_saved),
+                         ("looking", check_looking), ("the worker", check_worker)):
         tried(tally, words, check, page)

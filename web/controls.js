@@ -57,8 +57,8 @@ export class Controls {
     part.field.addEventListener("change", () => this.unread || this.show(this.settings));
     part.field.addEventListener("keydown", (event) => this.stepped(part, event));
     part.slider.addEventListener("input", () => this.slid(part));
-    part.unit = control.units ? this.unitChoice(part) : html("span", { class: "unit" }, control.unit);
-    const fields = html("div", { class: "fields" }, part.field, part.unit);
+    part.unit = control.units ? this.unitChoice(part) : control.unit && html("span", { class: "unit" }, control.unit);
+    const fields = html("div", { class: "fields" }, ...[part.field, part.unit].filter(Boolean));
     part.whole = html("div", { class: "control", "data-control": control.name },
       html("div", { class: "head" }, html("label", { for: id }, control.label), fields), part.slider,
       ...(part.derived ? [part.derived] : []), part.fault);
@@ -192,7 +192,7 @@ export class Controls {
   }
 
   showPart(part, value, source) {
-    const { units, low, high, isLog, isSample, unit } = part.control;
+    const { units, low, high, isLog, isSample } = part.control;
     const number = isSample ? weightOf(value || null) : value;
     if (part.field !== source) {
       part.field.value = units ? shownCount(value, units) : String(number);
@@ -206,7 +206,7 @@ export class Controls {
     if (part.slider !== source) {
       part.slider.value = units || isLog ? placeOf(amount, low, high) : amount;
     }
-    part.slider.setAttribute("aria-valuetext", units ? quantityWords(value, units) : `${counted(number)} ${unit}`);
+    part.slider.setAttribute("aria-valuetext", this.wordsOf(part, value));
   }
 
   /** Says below controls what they come to. */
@@ -246,11 +246,12 @@ export class Controls {
 
   /** A value of a control in words. */
   wordsOf({ control }, value) {
-    const { units, unit, isSample } = control;
+    const { units, unit, isSample, isTick } = control;
     if (units) {
       return quantityWords(value, units);
     }
-    return unit === "tick" ? `tick ${counted(value)}` : `${counted(isSample ? weightOf(value) : value)} ${unit}`;
+    const number = counted(isSample ? weightOf(value || null) : value);
+    return isTick ? `tick ${number}` : unit ? `${number} ${unit}` : number;
   }
 
   /** Leads to the control that is refused. */

@@ -86,7 +86,7 @@ export function fittedSettings(settings, chosen, sizes, record) {
 
 /** The same with all limits fitted. */
 function fittedAnew(settings, sizes, scale) {
-  const first = { ...settings, first: 10, reserve: { ...settings.reserve, amount: 0 } };
+  const first = { ...settings, first: 100, reserve: { ...settings.reserve, amount: 0 } };
   const linked = { ...first, rounds: 30, link: linkFor(first, sizes, scale) };
   return { ...linked, downtime: downtimeFor(linked, sizes, scale) };
 }

@@ -26,7 +26,13 @@ export class Inspector {
     plot.addEventListener("click", (event) => this.click(event));
     plot.addEventListener("keydown", (event) => this.press(event));
     offer?.addEventListener("click", () => this.take(this.offered));
-    this.readout.textContent = this.readout.dataset.hint;
+    this.readout.textContent = this.hint();
+  }
+
+  /** How items are looked at: with a finger, or with a pointer and keys. */
+  hint() {
+    const { hint, touch } = this.readout.dataset;
+    return touch && matchMedia("(pointer: coarse)").matches ? touch : hint;
   }
 
   /** Takes the items of a picture that has just been drawn, or none. */
@@ -47,7 +53,7 @@ export class Inspector {
   }
 
   click(event) {
-    if (!this.look?.choose || this.look.count === 0) {
+    if (!this.look || this.look.count === 0) {
       return;
     }
     const place = this.placeOf(event);
@@ -55,14 +61,14 @@ export class Inspector {
     if (event.pointerType === "touch" || event.pointerType === "pen") {
       this.show(at);
       this.offerItem(at);
-    } else {
+    } else if (this.look.choose) {
       this.look.choose(at, place);
     }
   }
 
   offerItem(at) {
     this.offered = at;
-    if (this.offer) {
+    if (this.offer && this.look.choose) {
       this.offer.hidden = false;
       this.offer.textContent = this.look.offer(at);
     }
@@ -99,7 +105,7 @@ export class Inspector {
     this.at = at;
     this.plot.querySelector(".looked")?.remove();
     const words = at === null ? "" : this.look.words(at);
-    this.readout.textContent = words || this.readout.dataset.hint;
+    this.readout.textContent = words || this.hint();
     this.tip.remove();
     if (at !== null) {
       const [left, right] = this.look.span(at);

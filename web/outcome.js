@@ -5,6 +5,7 @@ import { html } from "./elements.js";
 import { bytesText, counted, countOf, pagesText, signed, timeText } from "./numbers.js";
 import { endingOf, isGood, isUnknown, keptWords, reasonWords, warningsOf } from "./predictions.js";
 import { WorkerEnded } from "./planner-client.js";
+import { Refusal } from "./planner.js";
 import { ControlRefusal, microsOf } from "./units.js";
 import { refusalWords } from "./refusals.js";
 
@@ -43,7 +44,8 @@ const ROWS = [
   { name: "rounds", title: "Rounds", number: ({ plan }) => plan.rounds.length, text: counted, more: reasonWords },
   { name: "left", title: "Left at the stop", isPrice: true, number: ({ plan }) => plan.left,
     text: (pages, { scale }) => pagesText(scale, pages),
-    more: ({ settings }) => `fewer than ${counted(settings.threshold)} end pre-copy` },
+    more: ({ settings: { threshold } }) => (threshold === 1 ? "none left ends pre-copy"
+      : `fewer than ${counted(threshold)} end pre-copy`) },
   { name: "stop", title: "Stop at", number: ({ plan, scale }) => microsOf(scale, plan.stop), text: timeText,
     more: (some) => tickWords(some, `tick ${counted(some.plan.stop)}`) },
 ];
@@ -190,7 +192,8 @@ export function* windowRows(windows, most = windows.count) {
 /** The windows of a trace as a table. */
 export function windowsTable(windows) {
   const more = windows.count > MOST_ROWS ? `, the first ${counted(MOST_ROWS)} of ${counted(windows.count)}` : "";
-  return numbersTable(`Windows with a write${more}`, WINDOW_COLUMNS, windowRows(windows, MOST_ROWS));
+  const caption = `Windows with a write${more}; again: also in the window before, fresh: never before`;
+  return numbersTable(caption, WINDOW_COLUMNS, windowRows(windows, MOST_ROWS));
 }
 
 /** What was refused, in words: a name, and a sentence. */
@@ -203,8 +206,9 @@ export function refusedWords(error) {
     : refusalWords(error);
 }
 
-/** What was refused, as an element. */
+/** What was refused, as an element. A name that is a number is parted from its sentence. */
 export function refusalPart(error, what) {
   const { name, sentence } = refusedWords(error);
-  return html("p", { class: "refusal" }, html("strong", {}, `${what} ${name}`), ` ${sentence}`);
+  const said = error instanceof Refusal ? ` \u2013 ${sentence}` : ` ${sentence}`;
+  return html("p", { class: "refusal" }, html("strong", {}, `${what} ${name}`), said);
 }

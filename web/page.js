@@ -14,7 +14,7 @@ import { hasWideMemory, Planner, Refusal } from "./planner.js";
 import { commandsOf, predictionOf } from "./predictions.js";
 import { firstStartOf } from "./starts.js";
 import { StartsView } from "./starts-view.js";
-import { fragmentOf, MOST_KEPT, presetOf, stateIn } from "./state.js";
+import { fragmentOf, MOST_KEPT, presetOf, stateIn, withoutPreset } from "./state.js";
 import { TraceDesk } from "./trace-desk.js";
 import { embeddedBytes } from "./trace-source.js";
 import { amountOf, ControlRefusal, limitsOf, microsOf, takeRules } from "./units.js";
@@ -39,7 +39,9 @@ async function foundBy(act) {
 }
 
 class Page {
-  constructor() {
+  /** `ready` is kept once the module makes settings: no trace is taken before. */
+  constructor(ready) {
+    this.ready = ready;
     this.state = stateIn(location.hash);
     this.isGiven = location.hash.length > 1;
     this.chosen = new Set();
@@ -63,7 +65,7 @@ class Page {
       this.takeFiles(files);
     });
     for (const button of document.querySelectorAll("[data-example]")) {
-      button.addEventListener("click", () => this.desk.takeExample(button.dataset.example, {}));
+      button.addEventListener("click", () => this.takeExample(button.dataset.example));
     }
     for (const button of document.querySelectorAll("[data-copies]")) {
       button.addEventListener("click", () => this.copy(button));
@@ -89,19 +91,26 @@ class Page {
     });
   }
 
-  takeFiles(files) {
-    return this.desk.takeFiles(files, { isGiven: this.isGiven && this.desk.trace === null });
+  async takeExample(example) {
+    await this.ready;
+    await this.desk.takeExample(example, {});
+  }
+
+  async takeFiles(files) {
+    await this.ready;
+    await this.desk.takeFiles(files, { isGiven: this.isGiven && this.desk.trace === null });
   }
 
   async open() {
     this.listen();
+    await this.ready;
     const example = this.state.example ?? (this.isGiven ? null : FIRST_EXAMPLE);
     if (example) {
       await this.desk.takeExample(example, { isGiven: this.isGiven });
     } else {
       const { print } = this.state;
       const whose = print ? `the trace whose SHA-256 begins with ${print}` : "a trace";
-      byId("trace-state").textContent = `This address has settings for ${whose}. Choose it, or an example.`;
+      this.desk.want(`This address has settings for ${whose}. Choose it, or an example.`);
     }
   }
 
@@ -112,8 +121,8 @@ class Page {
   take(trace, { isGiven = false, isRecordOnly = false }) {
     const { example } = trace.source;
     if (!isGiven) {
-      const settings = example ? presetOf(example) : this.state.settings;
-      this.state.settings = example ? settings : fittedSettings(settings, this.chosen, trace.sizes, trace.record);
+      this.state.settings = example ? presetOf(example)
+        : fittedSettings(this.settingsToFit(), this.chosen, trace.sizes, trace.record);
     }
     const kept = isGiven || isRecordOnly ? this.state.kept : [];
     const wanted = isGiven ? this.state.print : null;
@@ -129,6 +138,12 @@ class Page {
     this.controls.fit(trace.sizes, trace.record?.start ?? 0);
     this.planSoon();
     this.settle();
+  }
+
+  /** The settings that are fitted to another trace. Those of an example go with it. */
+  settingsToFit() {
+    const { settings, example } = this.state;
+    return example ? withoutPreset(settings, example, this.chosen) : settings;
   }
 
   /** Takes settings that the user has changed, with the names of those that were chosen. */
@@ -154,7 +169,7 @@ class Page {
     }
     this.startBefore = before;
     this.controls.set("start", start);
-    const at = (ticks) => timeText(microsOf({ tick: amountOf(before.tick) }, ticks));
+    const at = (ticks) => timeText(microsOf({ tick: amountOf(before.tick) }, ticks)).replace(" ", "\u00a0");
     byId("moved-words").textContent = `The start is moved from ${at(before.start)} to ${at(start)}.`;
     byId("moved").hidden = false;
   }
@@ -327,14 +342,15 @@ class Page {
       const { scale } = prediction;
       const limits = limitsOf(settings);
       const noun = scale.isSample ? "sample page" : "page";
-      const pages = `${noun}s`;
-      words.link = `${rateText(limits.link)}: ${counted(max)} ${pages} per 1,000 ticks`;
-      words.first = `${rateText(limits.first)}: ${counted(min)} ${pages} per 1,000 ticks`;
-      words.increase = `${counted(increment)} ${pages} per 1,000 ticks`;
-      words.reserve = `${timeText(limits.downtime - limits.reserve)} for pages`;
-      words.downtime = `stops at fewer than ${countOf(threshold, noun)}`;
+      const rateWords = (pages) => `${countOf(pages, noun)} per 1,000 ticks`;
+      words.link = `${rateText(limits.link)}: ${rateWords(max)}`;
+      words.first = `${rateText(limits.first)}: ${rateWords(min)}`;
+      words.increase = `+${rateWords(increment)} a round`;
+      words.reserve = `leaves ${timeText(limits.downtime - limits.reserve)} for pages`;
+      words.downtime = threshold === 1 ? `stops when no ${noun} is left`
+        : `stops at fewer than ${countOf(threshold, noun)}`;
       words.sample = scale.isSample ? `${counted(scale.sampled)} of ${counted(scale.guest)} pages, `
-        + bytesText(scale.guest * scale.page) : `itself: the trace has all ${countOf(sizes.pages, "page")}`;
+        + bytesText(scale.guest * scale.page) : `the trace has the whole guest, ${countOf(sizes.pages, "page")}`;
     }
     return words;
   }
@@ -391,8 +407,8 @@ async function open() {
     document.body.classList.add("unable");
     return;
   }
-  takeRules(await Planner.withoutTrace(await embeddedBytes("planner-module")));
-  await new Page().open();
+  const ready = embeddedBytes("planner-module").then((bytes) => Planner.withoutTrace(bytes)).then(takeRules);
+  await new Page(ready).open();
 }
 
 if (typeof document === "undefined") {

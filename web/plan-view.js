@@ -46,7 +46,8 @@ class RoundsFigure {
   constructor(name, title) {
     this.title = html("figcaption", {}, title);
     this.plot = html("div", { class: "plot", id: `rounds-plot-${name}` });
-    this.readout = html("p", { class: "readout", "data-hint": "Point at a round, or step with the arrow keys." });
+    this.readout = html("p", { class: "readout", "data-hint": "Point at a round, or step with the arrow keys.",
+      "data-touch": "Tap a round to read it." });
     this.table = html("div", { class: "scrolls", id: `rounds-table-${name}` });
     this.details = html("details", { open: true }, html("summary", {}, `Table of rounds${title && `, ${title}`}`),
       this.table);
@@ -104,9 +105,20 @@ export class PlanView {
       byId("verdict").replaceChildren(...this.refusedParts(found.refusal));
     }
     byId("summary").textContent = found.value ? this.summaryOf(found.value) : "No plan with these settings";
+    this.noteUnknown();
     this.drawPlans(settings, kept);
     for (const button of document.querySelectorAll("#outcome .saves button, #rounds .saves button")) {
       button.disabled = !found.value;
+    }
+  }
+
+  /** Says of rounds that go on after the trace what they are of. */
+  noteUnknown() {
+    const isBeyond = this.last !== null && isUnknown(this.last);
+    byId("rounds-note").hidden = !isBeyond;
+    if (isBeyond) {
+      byId("rounds-note").textContent = `The trace ends ${timeText(this.last.cost.recorded)} after the start. What is `
+        + "drawn later is of a guest that writes nothing from then on.";
     }
   }
 

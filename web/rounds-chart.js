@@ -4,7 +4,8 @@ import { area, label } from "./elements.js";
 import { counted, pagesText, timeText } from "./numbers.js";
 import { axisOf, axisLabels, barOf, frameOf, panelOf, pictureOf } from "./plot.js";
 import { reasonWords } from "./predictions.js";
-import { microsOf } from "./units.js";
+import { inFittingUnit, unitName } from "./quantities.js";
+import { microsOf, RATE_UNITS } from "./units.js";
 
 const PAGES_TOP = 26;
 const PAGES_HEIGHT = 130;
@@ -20,6 +21,15 @@ export function reachOf(predictions) {
     reach.rate = Math.max(reach.rate, settings.max);
   }
   return reach;
+}
+
+/** The rates of a plan in a unit of the link's family: its name, and what a rate in pages per 1,000 ticks is in it. */
+function rateUnit({ state, scale }) {
+  const { unit } = inFittingUnit(state.link.amount, state.link.unit, RATE_UNITS);
+  const { page, guest, sampled, tick } = scale;
+  const size = Number(page * guest * 1_000n) / (Number(sampled * tick) * Number(RATE_UNITS[unit]));
+  const text = (rate) => counted(rate * size < 100 ? Number((rate * size).toPrecision(3)) : Math.round(rate * size));
+  return { name: unitName(unit, RATE_UNITS), text };
 }
 
 /** The pages that are dirtied, as a mark over the bar of the round, with a halo that parts it from what it lies on. */
@@ -49,14 +59,16 @@ function stopParts(axis, panel, stop, down) {
 }
 
 /** The picture of a plan within a reach. */
-export function roundsPicture(width, { plan, settings, scale }, reach) {
+export function roundsPicture(width, prediction, reach) {
+  const { plan, settings, scale } = prediction;
+  const unit = rateUnit(prediction);
   const axis = axisOf(width, 0, reach.ticks);
   const pages = panelOf(PAGES_TOP, PAGES_HEIGHT, reach.pages);
   const rates = panelOf(RATES_TOP, RATES_HEIGHT, reach.rate);
   const stop = plan.stop - settings.start;
   const parts = [
     ...frameOf(axis, pages, scale.isSample ? "Sample pages of a round" : "Pages of a round"),
-    ...frameOf(axis, rates, `${scale.isSample ? "Sample" : "Rate, in"} pages per 1,000 ticks`),
+    ...frameOf(axis, rates, `Rate of a round, in ${unit.name}`, unit.text),
     ...plan.rounds.flatMap((round) => roundParts(axis, pages, rates, round, settings.start)),
     area("link", axis.place(0), rates.level(settings.max) - 0.5, axis.room, 1),
     ...stopParts(axis, pages, stop, plan.down), ...stopParts(axis, rates, stop, plan.down),
@@ -75,7 +87,8 @@ function wordsOf(prediction, at) {
       + `sent in ${timeText(microsOf(scale, plan.down))}`;
   }
   const round = plan.rounds[at];
-  return `Round ${at}, ${since(round.from)} to ${since(round.to)}, at ${counted(round.rate)} pages per 1,000 ticks: `
+  const unit = rateUnit(prediction);
+  return `Round ${at}, ${since(round.from)} to ${since(round.to)}, at ${unit.text(round.rate)} ${unit.name}: `
     + `${pagesText(scale, round.pages)}, ${counted(round.sent)} sent, ${counted(round.dirtied)} dirtied meanwhile`;
 }
 

@@ -1,7 +1,7 @@
 // The picture of when to move: downtime, time and bytes by the start of the migration, on the axis of the windows. Of
 // starts whose migration ends after the trace nothing is drawn but where they lie.
 
-import { area, label, svg } from "./elements.js";
+import { area, grounded, label, svg } from "./elements.js";
 import { bytesText, counted, timeText } from "./numbers.js";
 import { axisLabels, frameOf, panelOf, pictureOf } from "./plot.js";
 import { keptWords } from "./predictions.js";
@@ -16,6 +16,9 @@ const LATE_HEIGHT = 6;
 const FAR_ABOVE = 4;
 const ROOM_ABOVE = 1.25;
 
+/** A curve with a limit has its unit up to so many times the limit. */
+const MOST_OF_UNIT = 1_000;
+
 /** The unit of times up to a greatest one, in microseconds: that in which the page's words say it. */
 function timeUnit(most) {
   return most < 1e3 ? [1, "\u00b5s"] : most < 1e6 ? [1e3, "ms"] : [1e6, "s"];
@@ -26,7 +29,7 @@ function sizeUnit(most) {
     : [2 ** 30, "GiB"];
 }
 
-/** The curves: what each shows of a start, as a number, and the unit of a greatest one. */
+/** The curves: what each shows of a start, as a number, and the unit of a greatest one, or of the limit. */
 const CURVES = [
   { name: "Downtime", number: ({ cost }) => Number(cost.downtime), unit: timeUnit, hasLimit: true },
   { name: "Total time", number: ({ cost }) => Number(cost.time), unit: timeUnit },
@@ -63,7 +66,7 @@ function lineOf(axis, panel, stretch, number) {
     return svg("polyline", { class: "known", points: points.join(" ") });
   }
   const [only] = stretch;
-  return area("knownkey", axis.place(only.start) - 1.5, panel.level(number(only)) - 1.5, 3, 3);
+  return area("knownkey", axis.place(only.start) - 2.5, panel.level(number(only)) - 2.5, 5, 5);
 }
 
 /** Where starts lie whose migration ends after the trace, as one area from the first of each row of them. */
@@ -95,10 +98,10 @@ function startMark(axis, panel, className, chosen) {
 
 /** The number of a start that is cut off, beside its top. */
 function cutStart(axis, panel, known, number, text) {
-  return known.filter((at) => number(at) > panel.most).slice(0, 1).map((at) => {
+  return known.filter((at) => number(at) > panel.most).slice(0, 1).flatMap((at) => {
     const x = axis.place(at.start);
-    const isRight = x < axis.width - 140;
-    return label(isRight ? "cut" : "cut end", isRight ? x + 6 : x - 6, panel.top + 12, `\u2191 ${text(number(at))}`);
+    const isAtEnd = x >= axis.width - 140;
+    return grounded(isAtEnd, isAtEnd ? x - 7 : x + 7, panel.top + 13, `\u2191 ${text(number(at))}`);
   });
 }
 
@@ -107,11 +110,11 @@ function curveParts(axis, { name, number, unit, hasLimit }, place, asked) {
   const known = stretchesOf(axis, asked.costs);
   const level = levelFor(known.flat().map(number), limit);
   const panel = panelOf(CURVE_TOP + place * CURVE_STEP, CURVE_HEIGHT, level);
-  const [size, unitName] = unit(level);
+  const [size, unitName] = unit(limit ? Math.max(limit, level / MOST_OF_UNIT) : level);
   const text = (amount) => (level > 0 || amount === 0 ? shortNumber(amount / size) : "");
   return [
     ...latePart(axis, panel, asked.costs),
-    ...frameOf(axis, panel, `${name} by start, in ${unitName}`, text),
+    ...frameOf(axis, panel, level > 0 ? `${name} by start, in ${unitName}` : `${name} by start`, text),
     ...startMark(axis, panel, "worst", asked.chosen.worst), ...startMark(axis, panel, "best", asked.chosen.best),
     ...(hasLimit ? [area("limit", axis.place(axis.first), panel.level(limit) - 1, axis.room, 2)] : []),
     ...known.map((stretch) => lineOf(axis, panel, stretch, number)),

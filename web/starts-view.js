@@ -1,7 +1,7 @@
 // The section on when to move: it asks the worker what the migration costs from many starts, and draws the answer.
 
 import { byId, html } from "./elements.js";
-import { bytesText, counted, signed, timeText } from "./numbers.js";
+import { bytesText, countOf, signed, timeText } from "./numbers.js";
 import { firstStartOf, startCosts, startRows, startTicks } from "./starts.js";
 import { startsLook, startsPicture, startWords } from "./starts-chart.js";
 import { saveButtons } from "./exports.js";
@@ -51,7 +51,7 @@ export class StartsView {
       this.ticks = startTicks(this.trace.sizes.last, first);
     }
     byId("ask").disabled = !prediction && !this.isAsking;
-    byId("ask").textContent = this.isAsking ? "Cancel" : `Plan ${counted(this.ticks?.length ?? 0)} starts`;
+    byId("ask").textContent = this.isAsking ? "Cancel" : `Plan ${countOf(this.ticks?.length ?? 0, "start")}`;
     const isOld = this.asked !== null && (!prediction || keyOf(prediction, this.ticks) !== this.asked.key);
     byId("starts").classList.toggle("old", isOld);
     byId("starts-old").hidden = !isOld;
@@ -141,10 +141,10 @@ export class StartsView {
     if (cost.kept === "unknown") {
       return [html("p", { id: "saving" }, "This plan ends after the trace: what the best saves is unknown.")];
     }
-    const saved = (text, name) => signed(best.cost[name] - cost[name], text);
+    const saved = (text, name) => signed(best.cost[name] - cost[name], text).replace(" ", "\u00a0");
     const words = prediction.settings.start === best.start ? "This plan starts there."
-      : `The best against this plan: time ${saved(timeText, "time")}, sent ${saved(bytesText, "bytes")}, downtime `
-        + `${saved(timeText, "downtime")}.`;
+      : `At the best start instead of this one: time ${saved(timeText, "time")}, sent ${saved(bytesText, "bytes")}, `
+        + `downtime ${saved(timeText, "downtime")}.`;
     return [html("p", { id: "saving" }, words)];
   }
 

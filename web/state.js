@@ -13,7 +13,7 @@ const time = (count, unit) => quantityOf(String(count), unit, TIME_UNITS);
  */
 const DEFAULTS = {
   link: rate(10, "Gbit"),
-  first: 10,
+  first: 100,
   increase: 10,
   downtime: time(300, "ms"),
   reserve: time(0, "ms"),
@@ -131,6 +131,14 @@ export function stateIn(fragment) {
     example,
     print: /^[0-9a-f]{12}$/.test(words.get("of") ?? "") ? words.get("of") : null,
   };
+}
+
+/** Settings over an example, of which only that stays which was chosen, or is not the example's. */
+export function withoutPreset(settings, example, chosen) {
+  const preset = presetOf(example);
+  const isOwn = (name) => chosen.has(name) || JSON.stringify(settings[name]) !== JSON.stringify(preset[name]);
+  return Object.fromEntries(Object.entries(structuredClone(DEFAULTS)).map(([name, value]) =>
+    [name, isOwn(name) ? settings[name] : value]));
 }
 
 /** The settings for an example. */

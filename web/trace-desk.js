@@ -64,6 +64,13 @@ export class TraceDesk {
     this.early = null;
     this.said = null;
     this.sources = new Map();
+    this.wanted = "Choose a trace, or an example.";
+  }
+
+  /** Says what is waited for while no trace is open. */
+  want(words) {
+    this.wanted = words;
+    byId("trace-state").textContent = words;
   }
 
   /** Takes files: the first trace, and the record beside it. The others are named. */
@@ -176,7 +183,7 @@ export class TraceDesk {
     if (words !== null) {
       byId("trace-state").textContent = words;
     } else if (!this.trace) {
-      byId("trace-state").textContent = "Choose a trace, or an example.";
+      byId("trace-state").textContent = this.wanted;
     } else if (this.said) {
       this.tell(...this.said);
     }
@@ -195,11 +202,11 @@ export class TraceDesk {
     const { sizes, source } = this.trace;
     const { pages, pageBytes, writes, last } = sizes;
     const scale = scaleOf(settings, sizes);
-    const sample = scale.isSample ? `, a sample of a guest of ${counted(scale.guest)}: `
-      + bytesText(scale.guest * scale.page) : `: ${bytesText(BigInt(pages) * BigInt(pageBytes))}`;
+    const sample = scale.isSample ? `, a sample of a guest of ${countOf(scale.guest, "page")} `
+      + `(${bytesText(scale.guest * scale.page)})` : ` (${bytesText(BigInt(pages) * BigInt(pageBytes))})`;
+    const whence = this.trace.record ? `, as ${source.record.name} says` : "";
     const words = `${source.name}: ${countOf(pages, "page")} of ${counted(pageBytes)} bytes${sample}; `
-      + `${countOf(writes, "write")} in ${timeText(microsOf(scale, last))}`
-      + (this.trace.record ? `, as ${source.record.name} says` : "");
+      + `${countOf(writes, "write")} in ${timeText(microsOf(scale, last))}${whence}`;
     if (byId("trace-state").textContent !== words) {
       byId("trace-state").textContent = words;
     }

@@ -1,6 +1,6 @@
 // The picture of the working set: the pages of each window, and where a plan's rounds and its stop lie.
 
-import { area, box, label, svg } from "./elements.js";
+import { area, box, grounded, svg } from "./elements.js";
 import { counted, countOf, pagesText, timeText } from "./numbers.js";
 import { axisOf, axisLabels, barOf, frameOf, panelOf, pictureOf } from "./plot.js";
 import { firstPlace } from "./search.js";
@@ -42,10 +42,10 @@ function reachOfPages(windows, [begin, end]) {
 
 /** The number of the bar that is cut off, beside its top. */
 function cutLabels(axis, drawn, windows, panel) {
-  return drawn.filter(({ row }) => windows.pages[row] > panel.most).slice(0, 1).map(({ row, left, right }) => {
-    const isRight = right < axis.width - 160;
-    return label(isRight ? "cut" : "cut end", isRight ? right + 5 : left - 5, panel.top + 14,
-      `\u2191 ${counted(windows.pages[row])} pages`);
+  return drawn.filter(({ row }) => windows.pages[row] > panel.most).slice(0, 1).flatMap(({ row, left, right }) => {
+    const isAtEnd = right >= axis.width - 160;
+    const words = `\u2191 ${countOf(windows.pages[row], "page")}`;
+    return grounded(isAtEnd, isAtEnd ? left - 6 : right + 6, panel.top + 14, words);
   });
 }
 
@@ -128,7 +128,7 @@ export function planMarks(axis, panel, settings, plan) {
   }
   marks.push(...markAt(axis, panel, "stop", plan.stop));
   if (plan.stop > axis.last) {
-    marks.push(label("end past", axis.width - 14, panel.top + 30, "stop to the right \u2192"));
+    marks.push(...grounded(true, axis.width - 18, panel.top + 32, "stop to the right \u2192"));
   }
   return marks;
 }
@@ -145,7 +145,8 @@ export function windowWords(windows, row, length, scale) {
   const earlier = windows.pages[row] - windows.fresh[row] - windows.again[row];
   return `Window ${windows.number[row]}, ${timeText(from)} to ${timeText(to)}: `
     + `${countOf(windows.writes[row], "write")}, ${pagesText(scale, windows.pages[row])}; `
-    + `again ${counted(windows.again[row])}, earlier ${counted(earlier)}, fresh ${counted(windows.fresh[row])}`;
+    + `${counted(windows.again[row])} also in the window before, ${counted(earlier)} earlier, `
+    + `${counted(windows.fresh[row])} never before`;
 }
 
 /** The item of `drawn` at a place in pixels. */
