@@ -125,7 +125,7 @@ def try_library(tally, folder, files):
 
 
 def try_loaded(tally, tree):
-    line = "import ctypes; it = ctypes.CDLL('libprecopy.so.1').precopy_version; it.restype = ctypes.c_char_p"
+    line = "import ctypes; it = ctypes.CDLL('libprecopy.so.2').precopy_version; it.restype = ctypes.c_char_p"
     ran = in_tree(tree, f'python3 -c "{line}; print(it().decode())"')
     tally.add(ran.stdout == f"{contents.version.VERSION}\n", f"in a fresh tree: the library loaded: {ran.stdout}")
     line = "import precopy; trace = open('/usr/share/doc/precopy/examples/gzip.pcwt', 'rb').read()"

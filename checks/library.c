@@ -78,71 +78,78 @@ struct guest {
     uint32_t stamp; /* the last version of page 0 */
 };
 
-/* What a call writes: its long buffer, its states of pages, and what it reports. */
+/* What a call writes: its long buffer, what it reports, and the record for which it refuses a trace. */
 struct outputs {
-    struct room room, states, told;
+    struct room room, told, record;
 };
 
 typedef uint32_t call_of(const struct guest *guest, struct outputs *out);
 
 static uint32_t check_trace(const struct guest *g, struct outputs *out) {
-    struct precopy_sizes *sizes = (struct precopy_sizes *)out->told.at;
-    return precopy_check_trace(g->trace.at, g->trace.length, sizes, (uint32_t *)(out->told.at + sizeof *sizes));
+    return precopy_check_trace(g->trace.at, g->trace.length, (void *)out->told.at, (void *)out->record.at);
 }
 
 static uint32_t plan(const struct guest *g, struct outputs *out) {
-    return precopy_plan(g->trace.at, g->trace.length, (void *)g->settings.at, (void *)out->told.at);
+    return precopy_plan(g->trace.at, g->trace.length, (void *)g->settings.at, (void *)out->told.at,
+                        (void *)out->record.at);
 }
 
 static uint32_t rounds(const struct guest *g, struct outputs *out) {
     return precopy_rounds(g->trace.at, g->trace.length, (void *)g->settings.at, (void *)out->room.at,
-                          out->room.length / sizeof(struct precopy_round), (void *)out->told.at);
+                          out->room.length / sizeof(struct precopy_round), (void *)out->told.at,
+                          (void *)out->record.at);
 }
 
 static uint32_t report(const struct guest *g, struct outputs *out) {
     return precopy_report(g->trace.at, g->trace.length, (void *)g->settings.at, out->room.at, out->room.length,
-                          (void *)out->told.at);
+                          (void *)out->told.at, (void *)out->record.at);
 }
 
 static uint32_t sweep(const struct guest *g, struct outputs *out) {
     return precopy_sweep(g->trace.at, g->trace.length, (void *)g->cases.at,
                          g->cases.length / sizeof(struct precopy_settings), (void *)out->room.at,
-                         out->room.length / sizeof(struct precopy_sums), (void *)out->told.at);
+                         out->room.length / sizeof(struct precopy_sums), (void *)out->told.at, (void *)out->record.at);
 }
 
 static uint32_t memory(const struct guest *g, struct outputs *out) {
-    return precopy_memory(g->trace.at, g->trace.length, out->room.at, out->room.length, (void *)out->told.at);
+    return precopy_memory(g->trace.at, g->trace.length, out->room.at, out->room.length, (void *)out->told.at,
+                          (void *)out->record.at);
 }
 
 static uint32_t memory_before(const struct guest *g, struct outputs *out) {
     return precopy_memory_before(g->trace.at, g->trace.length, g->tick, out->room.at, out->room.length,
-                                 (void *)out->told.at);
+                                 (void *)out->told.at, (void *)out->record.at);
 }
 
 static uint32_t writes_before(const struct guest *g, struct outputs *out) {
-    return precopy_writes_before(g->trace.at, g->trace.length, g->tick, (void *)out->told.at);
+    return precopy_writes_before(g->trace.at, g->trace.length, g->tick, (void *)out->told.at, (void *)out->record.at);
 }
 
 static uint32_t memory_step(const struct guest *g, struct outputs *out) {
-    return precopy_memory_step(g->trace.at, g->trace.length, 0, UINT32_MAX, out->room.at, out->room.length);
+    return precopy_memory_step(g->trace.at, g->trace.length, 0, UINT32_MAX, out->room.at, out->room.length,
+                               (void *)out->record.at);
 }
 
 static uint32_t version_after(const struct guest *g, struct outputs *out) {
-    return precopy_version_after(g->trace.at, g->trace.length, 0, UINT32_MAX, (void *)out->told.at);
+    return precopy_version_after(g->trace.at, g->trace.length, 0, UINT32_MAX, (void *)out->told.at,
+                                 (void *)out->record.at);
 }
 
 static uint32_t page_at(const struct guest *g, struct outputs *out) {
-    return precopy_page_at(g->trace.at, g->trace.length, 0, g->stamp, out->room.at, out->room.length);
+    return precopy_page_at(g->trace.at, g->trace.length, 0, g->stamp, out->room.at, out->room.length,
+                           (void *)out->record.at);
 }
 
 static uint32_t page_writes(const struct guest *g, struct outputs *out) {
     return precopy_page_writes(g->trace.at, g->trace.length, 0, (void *)out->room.at,
-                               out->room.length / sizeof(struct precopy_write), (void *)out->told.at);
+                               out->room.length / sizeof(struct precopy_write), (void *)out->told.at,
+                               (void *)out->record.at);
 }
 
 static uint32_t check_streams(const struct guest *g, struct outputs *out) {
     return precopy_check_streams(g->trace.at, g->trace.length, UINT32_MAX, g->streams.at, g->streams.length,
-                                 (void *)g->lengths.at, g->lengths.length / sizeof(size_t), (void *)out->told.at);
+                                 (void *)g->lengths.at, g->lengths.length / sizeof(size_t), (void *)out->told.at,
+                                 (void *)out->record.at);
 }
 
 static uint32_t encode(const struct guest *g, struct outputs *out) {
@@ -164,14 +171,14 @@ struct trial {
 };
 
 static struct outputs outputs_of(size_t room, size_t told) {
-    struct outputs out = {fenced(room), fenced(0), fenced(told)};
+    struct outputs out = {fenced(room), fenced(told), fenced(sizeof(uint32_t))};
     return out;
 }
 
 static void drop_outputs(struct outputs *out) {
     drop(&out->room);
-    drop(&out->states);
     drop(&out->told);
+    drop(&out->record);
 }
 
 /* Refuses one request for memory after the other, until none is left. */
@@ -184,6 +191,7 @@ static void try_refusals(const struct guest *guest, const struct trial *trial) {
         int came = atomic_load(&asked) >= number;
         atomic_store(&refused_at, 0);
         expect(atomic_load(&live) == 0, trial->name, "memory is not given back");
+        expect(is_untouched(&out.record, 0), trial->name, "a record of a trace that is not refused");
         if (came) {
             expect(status == PRECOPY_NO_MEMORY, trial->name, "a refused request for memory is not told");
             expect(is_untouched(&out.room, 0) && is_untouched(&out.told, 0), trial->name, "it writes without memory");
@@ -348,20 +356,21 @@ static void take_cut(const struct precopy_sizes *sizes, const uint8_t *stream, s
 static void try_steps(const struct guest *guest, const struct precopy_sizes *sizes, const uint8_t *whole) {
     const uint8_t *trace = guest->trace.at;
     size_t length = guest->trace.length, bytes = (size_t)sizes->pages << sizes->shift;
-    uint32_t half = sizes->writes / 2;
+    uint32_t half = sizes->writes / 2, record = 9;
     struct room room = fenced(bytes), longer = fenced(bytes + 1);
-    expect(precopy_memory_step(trace, length, 1, 0, room.at, bytes) == PRECOPY_BACKWARDS, "memory_step", "backwards");
-    expect(precopy_memory_step(trace, length, 0, half, room.at, bytes - 1) == PRECOPY_MEMORY_LENGTH, "memory_step",
-           "of short memory");
-    uint32_t status = precopy_memory_step(trace, length, 0, half, longer.at, bytes + 1);
+    expect(precopy_memory_step(trace, length, 1, 0, room.at, bytes, &record) == PRECOPY_BACKWARDS, "memory_step",
+           "backwards");
+    expect(precopy_memory_step(trace, length, 0, half, room.at, bytes - 1, &record) == PRECOPY_MEMORY_LENGTH,
+           "memory_step", "of short memory");
+    uint32_t status = precopy_memory_step(trace, length, 0, half, longer.at, bytes + 1, &record);
     expect(status == PRECOPY_MEMORY_LENGTH && is_untouched(&longer, 0), "memory_step", "of long memory");
     expect(is_untouched(&room, 0), "memory_step", "that is refused");
     memset(room.at, 0, bytes);
-    status = precopy_memory_step(trace, length, 0, half, room.at, bytes);
+    status = precopy_memory_step(trace, length, 0, half, room.at, bytes, &record);
     expect(status == PRECOPY_OK, "memory_step", "to the half");
-    status = precopy_memory_step(trace, length, half, sizes->writes, room.at, bytes);
+    status = precopy_memory_step(trace, length, half, sizes->writes, room.at, bytes, &record);
     expect(status == PRECOPY_OK && !memcmp(room.at, whole, bytes), "memory_step", "to the end");
-    expect(is_untouched(&room, bytes), "memory_step", "in front of memory");
+    expect(is_untouched(&room, bytes) && record == 9, "memory_step", "beside memory");
     drop(&room);
     drop(&longer);
 }
@@ -389,14 +398,15 @@ static struct precopy_settings settings_of(uint64_t min, uint64_t max, uint64_t 
     return settings;
 }
 
-/* Each call over a trace that is refused: the same number, and nothing written. */
-static void try_refused(const struct guest *guest, uint32_t status) {
+/* Each call over a trace that is refused: the same number and record, and nothing else written. */
+static void try_refused(const struct guest *guest, uint32_t status, const struct room *record) {
     call_of *calls[] = {plan,        rounds,        report,  sweep,       memory,       memory_before, writes_before,
                         memory_step, version_after, page_at, page_writes, check_streams};
     for (size_t i = 0; i < sizeof calls / sizeof *calls; i++) {
         struct outputs out = outputs_of(1920, 40);
         uint32_t told = calls[i](guest, &out);
         expect(told == status && is_untouched(&out.room, 0) && is_untouched(&out.told, 0), "a refused trace", "a call");
+        expect(!memcmp(out.record.at, record->at, record->length), "a refused trace", "its record");
         drop_outputs(&out);
     }
 }
@@ -422,7 +432,7 @@ static void try_all(struct guest *guest, const struct precopy_sizes *sizes) {
     page_writes(guest, &none);
     memcpy(&writes, none.told.at, sizeof writes);
     struct trial trials[] = {
-        {"check_trace", check_trace, 0, sizeof(struct precopy_sizes) + 4, 1},
+        {"check_trace", check_trace, 0, sizeof(struct precopy_sizes), 1},
         {"plan", plan, 0, sizeof(struct precopy_sums), 1},
         {"rounds", rounds, count * sizeof(struct precopy_round), sizeof(size_t), sizeof(struct precopy_round)},
         {"report", report, text, sizeof(size_t), 1},
@@ -467,13 +477,13 @@ int main(int argc, char **argv) {
     __real_free(bytes);
     guest.cases = input_of(cases, sizeof cases);
     guest.tick = strtoull(argv[2], NULL, 10);
-    struct outputs out = outputs_of(0, sizeof(struct precopy_sizes) + 4);
+    struct outputs out = outputs_of(0, sizeof(struct precopy_sizes));
     uint32_t status = check_trace(&guest, &out);
     struct precopy_sizes sizes;
     memcpy(&sizes, out.told.at, sizeof sizes);
     if (status != PRECOPY_OK) {
         expect(precopy_strerror(status)[0] != 0, "strerror", "of a status");
-        try_refused(&guest, status);
+        try_refused(&guest, status, &out.record);
     } else if ((size_t)sizes.pages << sizes.shift <= MOST_MEMORY) {
         guest.sizes = input_of(&sizes, sizeof sizes);
         try_all(&guest, &sizes);

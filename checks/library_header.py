@@ -29,7 +29,8 @@ MISUSES = [
     ("(void)it; (void)page; precopy_is_zero(NULL, 0);", b"unused-result"),
     ("(void)it; if (precopy_check_settings(NULL)) *page = 0;", b"nonnull"),
     ("(void)it; (void)page; if (precopy_missing(NULL, 0, NULL)) return;", b"nonnull"),
-    ("(void)it; if (precopy_memory(NULL, 0, NULL, 0, NULL)) *page = 0;", b"nonnull"),
+    ("(void)it; size_t n; if (precopy_memory(NULL, 0, NULL, 0, &n, NULL)) *page = n;", b"nonnull"),
+    ("(void)it; if (precopy_memory(NULL, 0, NULL, 0, NULL, NULL)) *page = 0;", b"nonnull"),
 ]
 
 

@@ -19,7 +19,7 @@ import precopy
 from tally import left_out
 
 TOP = os.path.dirname(os.path.dirname(os.path.abspath(__file__)))
-LIBRARY = os.path.join(TOP, "out", "library", "libprecopy.so.1")
+LIBRARY = os.path.join(TOP, "out", "library", "libprecopy.so.2")
 SECONDS = 300
 HOSTILE = [-1, 1 << 31, 1 << 32, (1 << 32) + 1, (1 << 32) + 4, 1 << 63, 1 << 64, (1 << 64) + 1, 10**5000]
 HOSTILE += [-(1 << 31), -(1 << 32), -(1 << 63), -(1 << 64), -(10**30)]

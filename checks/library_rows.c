@@ -17,6 +17,9 @@ static const uint8_t trace[102] = {
     0xc4, 9,    0,    0,    0, 0, 0, 0, 1, 0, 0, 0, 0, 0, 1, 0, 0,
 };
 
+/* The record of a refused trace; the calls that do not refuse it leave it. */
+static uint32_t record = 9;
+
 static const struct precopy_settings slow = {2, 4, 1, 1, 8, 0, 1000, 2, 0, 0, 0};
 
 static int are(const struct precopy_sums *sums, uint64_t rounds, uint64_t reason, uint64_t stop, uint64_t down,
@@ -29,17 +32,17 @@ static void plans(void) {
     struct precopy_sums sums;
     struct precopy_round rounds[3];
     size_t count = 0;
-    ROW(precopy_plan(trace, sizeof trace, &slow, &sums) == PRECOPY_OK);
+    ROW(precopy_plan(trace, sizeof trace, &slow, &sums, &record) == PRECOPY_OK);
     ROW(are(&sums, 3, PRECOPY_FEW, 3667, 0, 8));
-    ROW(precopy_rounds(trace, sizeof trace, &slow, rounds, 2, &count) == PRECOPY_SHORT_BUFFER && count == 3);
-    ROW(precopy_rounds(trace, sizeof trace, &slow, rounds, 3, &count) == PRECOPY_OK && count == 3);
+    ROW(precopy_rounds(trace, sizeof trace, &slow, rounds, 2, &count, &record) == PRECOPY_SHORT_BUFFER && count == 3);
+    ROW(precopy_rounds(trace, sizeof trace, &slow, rounds, 3, &count, &record) == PRECOPY_OK && count == 3);
     ROW(rounds[0].from == 0 && rounds[0].to == 2000 && rounds[0].rate == 2 && rounds[0].pages == 4);
     ROW(rounds[1].from == 2000 && rounds[1].to == 3000 && rounds[1].sent == 2 && rounds[1].dirtied == 2);
     ROW(rounds[2].from == 3000 && rounds[2].to == 3667 && rounds[2].rate == 3 && rounds[2].dirtied == 0);
     /* A warm start: the destination lacks only page 1 at tick 1201, and what is written at tick 2500 remains. */
     struct precopy_settings warm = slow;
     warm.start = 1201, warm.has_base = 1, warm.base = 6;
-    ROW(precopy_rounds(trace, sizeof trace, &warm, rounds, 3, &count) == PRECOPY_OK && rounds[0].pages == 1);
+    ROW(precopy_rounds(trace, sizeof trace, &warm, rounds, 3, &count, &record) == PRECOPY_OK && rounds[0].pages == 1);
     ROW(rounds[0].from == 1201 && rounds[0].to == 1701 && rounds[0].dirtied == 0 && count == 1);
 }
 
@@ -56,9 +59,9 @@ static void reports(void) {
                                  "stop few at 3667 pages 0 down 0 total 8\n";
     uint8_t text[400];
     size_t needed = 0;
-    ROW(precopy_report(trace, sizeof trace, &slow, text, sizeof report - 2, &needed) == PRECOPY_SHORT_BUFFER);
+    ROW(precopy_report(trace, sizeof trace, &slow, text, sizeof report - 2, &needed, &record) == PRECOPY_SHORT_BUFFER);
     ROW(needed == sizeof report - 1);
-    ROW(precopy_report(trace, sizeof trace, &slow, text, sizeof text, &needed) == PRECOPY_OK);
+    ROW(precopy_report(trace, sizeof trace, &slow, text, sizeof text, &needed, &record) == PRECOPY_OK);
     ROW(needed == sizeof report - 1 && !memcmp(text, report, needed));
 }
 
@@ -67,27 +70,27 @@ static void sweeps(void) {
     struct precopy_sums sums[3];
     size_t best = 9;
     cases[0].threshold = 3, cases[1].max = 2;
-    ROW(precopy_sweep(trace, sizeof trace, cases, 3, sums, 3, &best) == PRECOPY_OK && best == 2);
+    ROW(precopy_sweep(trace, sizeof trace, cases, 3, sums, 3, &best, &record) == PRECOPY_OK && best == 2);
     ROW(are(&sums[0], 1, PRECOPY_FEW, 2000, 500, 6) && are(&sums[1], 2, PRECOPY_FAST, 3000, 1000, 8));
     ROW(are(&sums[2], 3, PRECOPY_FEW, 3667, 0, 8));
     cases[1].max = 1;
-    ROW(precopy_sweep(trace, sizeof trace, cases, 3, sums, 3, &best) == PRECOPY_BAD_MAX && best == 2);
+    ROW(precopy_sweep(trace, sizeof trace, cases, 3, sums, 3, &best, &record) == PRECOPY_BAD_MAX && best == 2);
     ROW(precopy_check_settings(&cases[1]) == PRECOPY_BAD_MAX && precopy_check_settings(&slow) == PRECOPY_OK);
-    ROW(precopy_sweep(trace, sizeof trace, cases, 0, sums, 0, &best) == PRECOPY_OK && best == 0);
+    ROW(precopy_sweep(trace, sizeof trace, cases, 0, sums, 0, &best, &record) == PRECOPY_OK && best == 0);
 }
 
 static void memories(void) {
     uint8_t memory[64], wanted[64] = {0};
     size_t needed = 0;
     wanted[0] = 1, wanted[16] = 3, wanted[31] = 2;
-    ROW(precopy_memory_before(trace, sizeof trace, 2500, memory, 64, &needed) == PRECOPY_OK);
+    ROW(precopy_memory_before(trace, sizeof trace, 2500, memory, 64, &needed, &record) == PRECOPY_OK);
     ROW(needed == 64 && !memcmp(memory, wanted, 64));
     wanted[16] = 0, wanted[50] = 4, wanted[51] = 5;
-    ROW(precopy_memory_before(trace, sizeof trace, 2501, memory, 64, &needed) == PRECOPY_OK);
+    ROW(precopy_memory_before(trace, sizeof trace, 2501, memory, 64, &needed, &record) == PRECOPY_OK);
     ROW(!memcmp(memory, wanted, 64));
     memset(memory, 9, sizeof memory);
-    ROW(precopy_memory(trace, sizeof trace, memory, 64, &needed) == PRECOPY_OK && !memcmp(memory, wanted, 64));
-    ROW(precopy_memory(trace, sizeof trace, memory, 63, &needed) == PRECOPY_SHORT_BUFFER && needed == 64);
+    ROW(precopy_memory(trace, sizeof trace, memory, 64, &needed, &record) == PRECOPY_OK && !memcmp(memory, wanted, 64));
+    ROW(precopy_memory(trace, sizeof trace, memory, 63, &needed, &record) == PRECOPY_SHORT_BUFFER && needed == 64);
 }
 
 static void pages(void) {
@@ -96,47 +99,51 @@ static void pages(void) {
     uint8_t content[17], memory[64] = {0}, wanted[64] = {0};
     uint32_t version = 9;
     size_t count = 9;
-    ROW(precopy_version_after(trace, sizeof trace, 1, 0, &version) == PRECOPY_OK && version == 0);
-    ROW(precopy_version_after(trace, sizeof trace, 1, 4, &version) == PRECOPY_OK && version == 3);
-    ROW(precopy_version_after(trace, sizeof trace, 1, 5, &version) == PRECOPY_OK && version == 5);
-    ROW(precopy_version_after(trace, sizeof trace, 1, UINT32_MAX, &version) == PRECOPY_OK && version == 5);
-    ROW(precopy_version_after(trace, sizeof trace, 2, 5, &version) == PRECOPY_OK && version == 0);
-    ROW(precopy_version_after(trace, sizeof trace, 4, 5, &version) == PRECOPY_NO_PAGE && version == 0);
+    ROW(precopy_version_after(trace, sizeof trace, 1, 0, &version, &record) == PRECOPY_OK && version == 0);
+    ROW(precopy_version_after(trace, sizeof trace, 1, 4, &version, &record) == PRECOPY_OK && version == 3);
+    ROW(precopy_version_after(trace, sizeof trace, 1, 5, &version, &record) == PRECOPY_OK && version == 5);
+    ROW(precopy_version_after(trace, sizeof trace, 1, UINT32_MAX, &version, &record) == PRECOPY_OK && version == 5);
+    ROW(precopy_version_after(trace, sizeof trace, 2, 5, &version, &record) == PRECOPY_OK && version == 0);
+    ROW(precopy_version_after(trace, sizeof trace, 4, 5, &version, &record) == PRECOPY_NO_PAGE && version == 0);
     memset(content, 9, sizeof content);
-    ROW(precopy_page_at(trace, sizeof trace, 0, 1, content, 17) == PRECOPY_OK);
+    ROW(precopy_page_at(trace, sizeof trace, 0, 1, content, 17, &record) == PRECOPY_OK);
     ROW(!memcmp(content, first, 16) && content[16] == 9);
-    ROW(precopy_page_at(trace, sizeof trace, 1, 3, content, 16) == PRECOPY_OK && content[0] == 3 && content[15] == 2);
-    ROW(precopy_page_at(trace, sizeof trace, 1, 5, content, 16) == PRECOPY_OK && content[0] == 0 && content[15] == 2);
-    ROW(precopy_page_at(trace, sizeof trace, 1, 0, content, 16) == PRECOPY_OK && precopy_is_zero(content, 16));
+    ROW(precopy_page_at(trace, sizeof trace, 1, 3, content, 16, &record) == PRECOPY_OK && content[0] == 3
+        && content[15] == 2);
+    ROW(precopy_page_at(trace, sizeof trace, 1, 5, content, 16, &record) == PRECOPY_OK && content[0] == 0
+        && content[15] == 2);
+    ROW(precopy_page_at(trace, sizeof trace, 1, 0, content, 16, &record) == PRECOPY_OK && precopy_is_zero(content, 16));
     memset(content, 9, sizeof content);
-    ROW(precopy_page_at(trace, sizeof trace, 1, 4, content, 16) == PRECOPY_NO_VERSION);
-    ROW(precopy_page_at(trace, sizeof trace, 1, 6, content, 16) == PRECOPY_NO_VERSION);
-    ROW(precopy_page_at(trace, sizeof trace, 4, 0, content, 16) == PRECOPY_NO_PAGE);
-    ROW(precopy_page_at(trace, sizeof trace, 1, 3, content, 15) == PRECOPY_SHORT_BUFFER && content[0] == 9);
-    ROW(precopy_page_writes(trace, sizeof trace, 1, writes, 2, &count) == PRECOPY_SHORT_BUFFER && count == 3);
+    ROW(precopy_page_at(trace, sizeof trace, 1, 4, content, 16, &record) == PRECOPY_NO_VERSION);
+    ROW(precopy_page_at(trace, sizeof trace, 1, 6, content, 16, &record) == PRECOPY_NO_VERSION);
+    ROW(precopy_page_at(trace, sizeof trace, 4, 0, content, 16, &record) == PRECOPY_NO_PAGE);
+    ROW(precopy_page_at(trace, sizeof trace, 1, 3, content, 15, &record) == PRECOPY_SHORT_BUFFER && content[0] == 9);
+    ROW(precopy_page_writes(trace, sizeof trace, 1, writes, 2, &count, &record) == PRECOPY_SHORT_BUFFER && count == 3);
     ROW(writes[0].size == 9);
-    ROW(precopy_page_writes(trace, sizeof trace, 1, writes, 4, &count) == PRECOPY_OK && count == 3);
+    ROW(precopy_page_writes(trace, sizeof trace, 1, writes, 4, &count, &record) == PRECOPY_OK && count == 3);
     ROW(writes[0].place == 2 && writes[0].tick == 5 && writes[0].offset == 15 && writes[0].size == 1);
     ROW(writes[1].place == 3 && writes[1].tick == 1200 && writes[1].offset == 0 && writes[1].size == 1);
     ROW(writes[2].place == 5 && writes[2].tick == 2500 && writes[2].offset == 0 && writes[3].size == 9);
-    ROW(precopy_page_writes(trace, sizeof trace, 2, writes, 0, &count) == PRECOPY_OK && count == 0);
-    ROW(precopy_page_writes(trace, sizeof trace, 4, writes, 4, &count) == PRECOPY_NO_PAGE && count == 0);
+    ROW(precopy_page_writes(trace, sizeof trace, 2, writes, 0, &count, &record) == PRECOPY_OK && count == 0);
+    ROW(precopy_page_writes(trace, sizeof trace, 4, writes, 4, &count, &record) == PRECOPY_NO_PAGE && count == 0);
     wanted[0] = 1, wanted[31] = 2;
-    ROW(precopy_memory_step(trace, sizeof trace, 0, 2, memory, 64) == PRECOPY_OK && !memcmp(memory, wanted, 64));
-    ROW(precopy_memory_step(trace, sizeof trace, 2, 2, memory, 64) == PRECOPY_OK && !memcmp(memory, wanted, 64));
+    ROW(precopy_memory_step(trace, sizeof trace, 0, 2, memory, 64, &record) == PRECOPY_OK
+        && !memcmp(memory, wanted, 64));
+    ROW(precopy_memory_step(trace, sizeof trace, 2, 2, memory, 64, &record) == PRECOPY_OK
+        && !memcmp(memory, wanted, 64));
     wanted[16] = 3, wanted[50] = 4, wanted[51] = 5;
-    ROW(precopy_memory_step(trace, sizeof trace, 2, 4, memory, 64) == PRECOPY_OK && !memcmp(memory, wanted, 64));
-    ROW(precopy_memory_step(trace, sizeof trace, 4, 3, memory, 64) == PRECOPY_BACKWARDS);
-    ROW(precopy_memory_step(trace, sizeof trace, 4, 5, memory, 63) == PRECOPY_MEMORY_LENGTH);
+    ROW(precopy_memory_step(trace, sizeof trace, 2, 4, memory, 64, &record) == PRECOPY_OK
+        && !memcmp(memory, wanted, 64));
+    ROW(precopy_memory_step(trace, sizeof trace, 4, 3, memory, 64, &record) == PRECOPY_BACKWARDS);
+    ROW(precopy_memory_step(trace, sizeof trace, 4, 5, memory, 63, &record) == PRECOPY_MEMORY_LENGTH);
     ROW(!memcmp(memory, wanted, 64));
     wanted[16] = 0;
-    ROW(precopy_memory_step(trace, sizeof trace, 4, UINT32_MAX, memory, 64) == PRECOPY_OK);
+    ROW(precopy_memory_step(trace, sizeof trace, 4, UINT32_MAX, memory, 64, &record) == PRECOPY_OK);
     ROW(!memcmp(memory, wanted, 64));
 }
 
 static void traces(void) {
     struct precopy_sizes sizes = {0, 0, 0};
-    uint32_t record = 9;
     ROW(precopy_check_trace(trace, sizeof trace, &sizes, &record) == PRECOPY_OK && record == 9);
     ROW(sizes.shift == 4 && sizes.pages == 4 && sizes.writes == 5);
     ROW(precopy_check_trace(trace, 101, &sizes, &record) == PRECOPY_SHORT_RECORD && record == 4);
@@ -211,30 +218,31 @@ static void streams(void) {
     struct precopy_finding found = {9, 9, 9, 9, 9, 9, 9, 9};
     uint32_t count = 9;
     uint8_t other[93];
-    ROW(precopy_writes_before(trace, sizeof trace, 2500, &count) == PRECOPY_OK && count == 3);
-    ROW(precopy_writes_before(trace, sizeof trace, 5, &count) == PRECOPY_OK && count == 1);
-    ROW(precopy_writes_before(trace, sizeof trace, 1ull << 40, &count) == PRECOPY_OK && count == 5);
-    ROW(precopy_check_streams(trace, sizeof trace, 3, sent, 93, right, 1, &found) == PRECOPY_OK);
-    ROW(precopy_check_streams(trace, sizeof trace, 3, sent, 118, two, 2, &found) == PRECOPY_OK && found.offset == 9);
-    ROW(precopy_check_streams(trace, sizeof trace, 3, sent, 92, right, 1, &found) == PRECOPY_STREAM_SIZES);
-    ROW(precopy_check_streams(trace, sizeof trace, 3, sent, 93, cut, 1, &found) == PRECOPY_STREAM_SIZES);
+    ROW(precopy_writes_before(trace, sizeof trace, 2500, &count, &record) == PRECOPY_OK && count == 3);
+    ROW(precopy_writes_before(trace, sizeof trace, 5, &count, &record) == PRECOPY_OK && count == 1);
+    ROW(precopy_writes_before(trace, sizeof trace, 1ull << 40, &count, &record) == PRECOPY_OK && count == 5);
+    ROW(precopy_check_streams(trace, sizeof trace, 3, sent, 93, right, 1, &found, &record) == PRECOPY_OK);
+    ROW(precopy_check_streams(trace, sizeof trace, 3, sent, 118, two, 2, &found, &record) == PRECOPY_OK
+        && found.offset == 9);
+    ROW(precopy_check_streams(trace, sizeof trace, 3, sent, 92, right, 1, &found, &record) == PRECOPY_STREAM_SIZES);
+    ROW(precopy_check_streams(trace, sizeof trace, 3, sent, 93, cut, 1, &found, &record) == PRECOPY_STREAM_SIZES);
     ROW(found.stream == 9 && found.tick == 9);
-    ROW(precopy_check_streams(trace, sizeof trace, 3, sent, 118, late, 1, &found) == PRECOPY_OLDER);
+    ROW(precopy_check_streams(trace, sizeof trace, 3, sent, 118, late, 1, &found, &record) == PRECOPY_OLDER);
     ROW(is_frame(&found, 0, 5, 93, 1, 2, 3));
-    ROW(precopy_check_streams(trace, sizeof trace, 3, sent, 92, cut, 1, &found) == PRECOPY_FRAME_SHORT);
+    ROW(precopy_check_streams(trace, sizeof trace, 3, sent, 92, cut, 1, &found, &record) == PRECOPY_FRAME_SHORT);
     ROW(is_frame(&found, 0, 4, 68, 0, 0, 0));
-    ROW(precopy_check_streams(trace, sizeof trace, 2, sent, 93, right, 1, &found) == PRECOPY_AFTER_STOP);
+    ROW(precopy_check_streams(trace, sizeof trace, 2, sent, 93, right, 1, &found, &record) == PRECOPY_AFTER_STOP);
     ROW(is_frame(&found, 0, 4, 68, 1, 3, 2));
     memcpy(other, sent, sizeof other);
     other[92] = 7;
-    ROW(precopy_check_streams(trace, sizeof trace, 3, other, 93, right, 1, &found) == PRECOPY_OTHER_BYTES);
+    ROW(precopy_check_streams(trace, sizeof trace, 3, other, 93, right, 1, &found, &record) == PRECOPY_OTHER_BYTES);
     ROW(is_frame(&found, 0, 4, 68, 1, 3, 3));
     other[72] = 4;
-    ROW(precopy_check_streams(trace, sizeof trace, 3, other, 93, right, 1, &found) == PRECOPY_NO_VERSION);
+    ROW(precopy_check_streams(trace, sizeof trace, 3, other, 93, right, 1, &found, &record) == PRECOPY_NO_VERSION);
     ROW(is_frame(&found, 0, 4, 68, 1, 4, 3));
-    ROW(precopy_check_streams(trace, sizeof trace, 3, sent, 68, four, 1, &found) == PRECOPY_PAGE_BEHIND);
+    ROW(precopy_check_streams(trace, sizeof trace, 3, sent, 68, four, 1, &found, &record) == PRECOPY_PAGE_BEHIND);
     ROW(is_page(&found, 1, 2, 3, 3, 1200));
-    ROW(precopy_check_streams(trace, sizeof trace, 3, sent + 25, 68, few, 2, &found) == PRECOPY_PAGE_MISSING);
+    ROW(precopy_check_streams(trace, sizeof trace, 3, sent + 25, 68, few, 2, &found, &record) == PRECOPY_PAGE_MISSING);
     ROW(is_page(&found, 0, 0, 1, 1, 0));
 }
 

@@ -9,7 +9,7 @@
  *
  *     struct precopy_settings settings = PRECOPY_SETTINGS_DEFAULT;
  *     struct precopy_sums sums;
- *     uint32_t status = precopy_plan(trace, trace_length, &settings, &sums);
+ *     uint32_t record = 0, status = precopy_plan(trace, trace_length, &settings, &sums, &record);
  *     if (status == PRECOPY_OK)
  *         printf("the guest stands still for %u ticks\n", (unsigned)sums.down);
  *     else
@@ -24,6 +24,8 @@
  * - Of several causes it returns the first in this order: the settings or sizes, then the trace or what its comment
  *   names, and last a buffer that is too short. Only precopy_sweep tests its buffer first. PRECOPY_NO_MEMORY comes as
  *   soon as memory runs out, before what is tested later.
+ * - If it takes a trace, it takes `record` too. Of a trace that is refused for a record, PRECOPY_SHORT_RECORD to
+ *   PRECOPY_OUT_OF_PAGE, *record is the number of that record, from 0. Otherwise *record stays as it was.
  * - It keeps nothing between two calls, starts no thread, and doesn't block. Any number of threads may call at
  *   once.
  * - All memory is the caller's. A function that needs memory of its own gets it from malloc, frees it before it
@@ -50,8 +52,8 @@
 extern "C" {
 #endif
 
-/* The number in the name libprecopy.so.1: it changes when programs must be recompiled. */
-#define PRECOPY_ABI 1
+/* The number in the name libprecopy.so.2: it changes when programs must be recompiled. */
+#define PRECOPY_ABI 2
 
 /* The version of this header as a number, which is 10203 for 1.2.3. */
 #define PRECOPY_VERSION_NUMBER 600
@@ -146,17 +148,15 @@ struct precopy_sizes {
 };
 
 /*
- * Tests the bytes of a trace, and sets *sizes.
- *
- * If they are refused for a record, PRECOPY_SHORT_RECORD to PRECOPY_OUT_OF_PAGE, *record is its number, from 0. Of
- * several causes the first is returned. It takes no memory.
+ * Tests the bytes of a trace, and sets *sizes. Of several causes the first is returned. It takes no memory.
  */
 PRECOPY_ANSWERS PRECOPY_NOT_NULL(3, 4)
 uint32_t precopy_check_trace(const uint8_t *trace, size_t trace_length, struct precopy_sizes *sizes, uint32_t *record);
 
 /* Sets *count to the number of writes before a tick: those with a lower tick. It takes no memory. */
-PRECOPY_ANSWERS PRECOPY_NOT_NULL(4)
-uint32_t precopy_writes_before(const uint8_t *trace, size_t trace_length, uint64_t tick, uint32_t *count);
+PRECOPY_ANSWERS PRECOPY_NOT_NULL(4, 5)
+uint32_t precopy_writes_before(const uint8_t *trace, size_t trace_length, uint64_t tick, uint32_t *count,
+                               uint32_t *record);
 
 /* ---- plans */
 
@@ -213,9 +213,9 @@ uint32_t precopy_check_settings(const struct precopy_settings *settings);
  *
  * It takes 16 bytes for each write, and 8 for each page of each round.
  */
-PRECOPY_ANSWERS PRECOPY_NOT_NULL(3, 4)
+PRECOPY_ANSWERS PRECOPY_NOT_NULL(3, 4, 5)
 uint32_t precopy_plan(const uint8_t *trace, size_t trace_length, const struct precopy_settings *settings,
-                      struct precopy_sums *sums);
+                      struct precopy_sums *sums, uint32_t *record);
 
 /*
  * Plans the migration of a trace, and writes its rounds into an array, in order. *count is how many there are.
@@ -223,9 +223,9 @@ uint32_t precopy_plan(const uint8_t *trace, size_t trace_length, const struct pr
  * If the array has fewer elements, it returns PRECOPY_SHORT_BUFFER and writes only *count. There are at most 64 rounds.
  * It takes memory as precopy_plan does.
  */
-PRECOPY_ANSWERS PRECOPY_NOT_NULL(3, 6)
+PRECOPY_ANSWERS PRECOPY_NOT_NULL(3, 6, 7)
 uint32_t precopy_rounds(const uint8_t *trace, size_t trace_length, const struct precopy_settings *settings,
-                        struct precopy_round *rounds, size_t rounds_length, size_t *count);
+                        struct precopy_round *rounds, size_t rounds_length, size_t *count, uint32_t *record);
 
 /*
  * At least as many bytes as the report on a trace of this length has, as a constant if the length is one. A write has
@@ -248,9 +248,9 @@ uint32_t precopy_rounds(const uint8_t *trace, size_t trace_length, const struct 
  * buffer of PRECOPY_REPORT_BOUND(trace_length) bytes is never too short, so with it one call does. It takes memory as
  * precopy_plan does, and for the text.
  */
-PRECOPY_ANSWERS PRECOPY_NOT_NULL(3, 6)
+PRECOPY_ANSWERS PRECOPY_NOT_NULL(3, 6, 7)
 uint32_t precopy_report(const uint8_t *trace, size_t trace_length, const struct precopy_settings *settings,
-                        uint8_t *text, size_t text_length, size_t *needed);
+                        uint8_t *text, size_t text_length, size_t *needed, uint32_t *record);
 
 /*
  * Plans the migration of a trace with each of some settings. sums[i] are the sums of the plan of cases[i]. *best is the
@@ -261,9 +261,10 @@ uint32_t precopy_report(const uint8_t *trace, size_t trace_length, const struct 
  * as cases. It refuses the first case that is out of range; precopy_check_settings finds which that is. It takes 20
  * bytes for each write, and memory for each case.
  */
-PRECOPY_ANSWERS PRECOPY_NOT_NULL(7)
+PRECOPY_ANSWERS PRECOPY_NOT_NULL(7, 8)
 uint32_t precopy_sweep(const uint8_t *trace, size_t trace_length, const struct precopy_settings *cases,
-                       size_t cases_length, struct precopy_sums *sums, size_t sums_length, size_t *best);
+                       size_t cases_length, struct precopy_sums *sums, size_t sums_length, size_t *best,
+                       uint32_t *record);
 
 /* ---- memory */
 
@@ -273,17 +274,17 @@ uint32_t precopy_sweep(const uint8_t *trace, size_t trace_length, const struct p
  *
  * If the buffer is shorter, it returns PRECOPY_SHORT_BUFFER and writes only *needed. It takes no memory.
  */
-PRECOPY_ANSWERS PRECOPY_NOT_NULL(5)
+PRECOPY_ANSWERS PRECOPY_NOT_NULL(5, 6)
 uint32_t precopy_memory(const uint8_t *trace, size_t trace_length, uint8_t *memory, size_t memory_length,
-                        size_t *needed);
+                        size_t *needed, uint32_t *record);
 
 /*
  * Writes the memory before a tick, after the writes of all lower ticks; otherwise like precopy_memory. A migration that
  * stops its guest at that tick must leave this memory.
  */
-PRECOPY_ANSWERS PRECOPY_NOT_NULL(6)
+PRECOPY_ANSWERS PRECOPY_NOT_NULL(6, 7)
 uint32_t precopy_memory_before(const uint8_t *trace, size_t trace_length, uint64_t tick, uint8_t *memory,
-                               size_t memory_length, size_t *needed);
+                               size_t memory_length, size_t *needed, uint32_t *record);
 
 /*
  * Brings memory after the first `from` writes of a trace on to that after the first `to` writes, in place. Memory after
@@ -292,9 +293,9 @@ uint32_t precopy_memory_before(const uint8_t *trace, size_t trace_length, uint64
  * It first returns PRECOPY_BACKWARDS if `to` is below `from`. Of a trace with fewer writes than `to` it applies all. If
  * the memory has not as many bytes as all pages, it returns PRECOPY_MEMORY_LENGTH. It takes no memory.
  */
-PRECOPY_ANSWERS
+PRECOPY_ANSWERS PRECOPY_NOT_NULL(7)
 uint32_t precopy_memory_step(const uint8_t *trace, size_t trace_length, uint32_t from, uint32_t to, uint8_t *memory,
-                             size_t memory_length);
+                             size_t memory_length, uint32_t *record);
 
 /* ---- pages */
 
@@ -304,9 +305,9 @@ uint32_t precopy_memory_step(const uint8_t *trace, size_t trace_length, uint32_t
  *
  * After the trace the page is tested, with PRECOPY_NO_PAGE. It takes no memory.
  */
-PRECOPY_ANSWERS PRECOPY_NOT_NULL(5)
+PRECOPY_ANSWERS PRECOPY_NOT_NULL(5, 6)
 uint32_t precopy_version_after(const uint8_t *trace, size_t trace_length, uint32_t page, uint32_t count,
-                               uint32_t *version);
+                               uint32_t *version, uint32_t *record);
 
 /*
  * Writes the bytes of a page at a stamp: as the write to it with this place leaves them, or zeros for 0.
@@ -314,9 +315,9 @@ uint32_t precopy_version_after(const uint8_t *trace, size_t trace_length, uint32
  * After the trace the page is tested, with PRECOPY_NO_PAGE, and then the stamp, with PRECOPY_NO_VERSION. If `content`
  * is shorter than a page, it returns PRECOPY_SHORT_BUFFER. It takes no memory.
  */
-PRECOPY_ANSWERS
+PRECOPY_ANSWERS PRECOPY_NOT_NULL(7)
 uint32_t precopy_page_at(const uint8_t *trace, size_t trace_length, uint32_t page, uint32_t stamp, uint8_t *content,
-                         size_t content_length);
+                         size_t content_length, uint32_t *record);
 
 /* A write to a page. */
 struct precopy_write {
@@ -332,9 +333,9 @@ struct precopy_write {
  * If the array has fewer elements, it returns PRECOPY_SHORT_BUFFER and writes only *count. After the trace the page is
  * tested, with PRECOPY_NO_PAGE. It takes no memory.
  */
-PRECOPY_ANSWERS PRECOPY_NOT_NULL(6)
+PRECOPY_ANSWERS PRECOPY_NOT_NULL(6, 7)
 uint32_t precopy_page_writes(const uint8_t *trace, size_t trace_length, uint32_t page, struct precopy_write *writes,
-                             size_t writes_length, size_t *count);
+                             size_t writes_length, size_t *count, uint32_t *record);
 
 /* ---- frames */
 
@@ -437,10 +438,10 @@ struct precopy_finding {
  * Any other status leaves *found as it was. The sizes are tested first, with PRECOPY_STREAM_SIZES. It takes memory for
  * a copy of the trace, and some 50 bytes for each write and 30 for each page.
  */
-PRECOPY_ANSWERS PRECOPY_NOT_NULL(8)
+PRECOPY_ANSWERS PRECOPY_NOT_NULL(8, 9)
 uint32_t precopy_check_streams(const uint8_t *trace, size_t trace_length, uint32_t stop, const uint8_t *bytes,
                                size_t bytes_length, const size_t *sizes, size_t sizes_length,
-                               struct precopy_finding *found);
+                               struct precopy_finding *found, uint32_t *record);
 
 /* Returns whether each byte is 0; with no bytes it is true. It takes no memory. */
 PRECOPY_ANSWERS

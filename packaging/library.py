@@ -1,4 +1,4 @@
-"""The library for C: libprecopy.a and libprecopy.so.1, made of the proved archive of crates/precopy_c.
+"""The library for C: libprecopy.a and libprecopy.so.2, made of the proved archive of crates/precopy_c.
 
 Both hold the same object, in which only the functions of include/precopy.h have names that others see.
 """
@@ -14,9 +14,9 @@ import contents
 
 ARCHIVE = os.path.join(contents.TOP, "crates", "precopy_c", "out", "libprecopy_c.a")
 FOLDER = os.path.join(contents.TOP, "out", "library")
-NAME = "libprecopy.so.1"
+NAME = "libprecopy.so.2"
 # The packages that it goes into: for programs that are linked with it, and for those who link them.
-RUNTIME, DEVELOPMENT = "libprecopy1", "libprecopy-dev"
+RUNTIME, DEVELOPMENT = "libprecopy2", "libprecopy-dev"
 # What it is made of besides the archive.
 PARTS = ("include/precopy.h", "packaging/messages.c", "packaging/library.map", "tools/version.py")
 CRATE = "bindings/rust"

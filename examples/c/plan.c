@@ -70,13 +70,17 @@ int main(int argc, char **argv) {
     struct precopy_round rounds[MOST_ROUNDS];
     struct precopy_sums sums;
     size_t count = 0;
-    uint32_t status = precopy_plan(trace, length, &settings, &sums);
+    uint32_t record = UINT32_MAX, status = precopy_plan(trace, length, &settings, &sums, &record);
     if (status == PRECOPY_OK) {
-        status = precopy_rounds(trace, length, &settings, rounds, MOST_ROUNDS, &count);
+        status = precopy_rounds(trace, length, &settings, rounds, MOST_ROUNDS, &count, &record);
     }
     free(trace);
     if (status != PRECOPY_OK) {
-        fprintf(stderr, "plan: %s\n", precopy_strerror(status));
+        fprintf(stderr, "plan: %s", precopy_strerror(status));
+        if (record != UINT32_MAX) {
+            fprintf(stderr, ", record %" PRIu32, record);
+        }
+        fprintf(stderr, "\n");
         return 1;
     }
     print_plan(rounds, count, &sums);

@@ -1,4 +1,4 @@
-"""Plans of pre-copy live migrations, memory of recorded guests, and frames of pages: the library libprecopy.so.1.
+"""Plans of pre-copy live migrations, memory of recorded guests, and frames of pages: the library libprecopy.so.2.
 
     import precopy
 
@@ -97,21 +97,20 @@ def _check(status: int) -> None:
         raise next((kind for numbers, kind in _KINDS if status in numbers), Refused)(status)
 
 
-def _call_over(call: Any, trace: Bytes, *words: Any) -> None:
-    """Makes a call whose first words are a trace. A refusal of the trace has the record that is named."""
+def _call_over(call: Any, trace: Bytes, *words: Any) -> int:
+    """Makes a call whose first words are a trace, and whose last is the record for which it is refused. Returns a status
+    of what is wrong in streams, or 0."""
+    record = ctypes.c_uint32(_calls.NO_RECORD)
     with _lent(trace) as (start, length):
-        status = call(start, length, *words)
-        if status in _KINDS[0][0]:
-            _check_trace(start, length)
-        _check(status)
+        status: int = call(start, length, *words, record)
+    if status in _KINDS[0][0]:
+        raise TraceRefused(status, record.value if record.value != _calls.NO_RECORD else None)
+    return status
 
 
-def _check_trace(start: int, length: int) -> Sizes:
-    sizes, record = _calls.Sizes(), ctypes.c_uint32(0xFFFFFFFF)
-    status = _LIBRARY.precopy_check_trace(start, length, sizes, record)
-    if status:
-        raise TraceRefused(status, record.value if record.value != 0xFFFFFFFF else None)
-    return Sizes(sizes.shift, sizes.pages, sizes.writes)
+def _check_over(call: Any, trace: Bytes, *words: Any) -> None:
+    """Makes such a call, and raises what any other status than 0 means."""
+    _check(_call_over(call, trace, *words))
 
 
 class Reason(enum.IntEnum):
@@ -261,8 +260,9 @@ def version() -> str:
 
 def check_trace(trace: Bytes) -> Sizes:
     """Returns the sizes of a trace, or raises `TraceRefused`."""
-    with _lent(trace) as (start, length):
-        return _check_trace(start, length)
+    sizes = _calls.Sizes()
+    _check_over(_LIBRARY.precopy_check_trace, trace, sizes)
+    return Sizes(sizes.shift, sizes.pages, sizes.writes)
 
 
 def check_settings(settings: Settings) -> None:
@@ -277,14 +277,14 @@ def _sums(found: _calls.Sums) -> Sums:
 def plan(trace: Bytes, settings: Settings) -> Sums:
     """Returns the sums of the plan of a trace."""
     found = _calls.Sums()
-    _call_over(_LIBRARY.precopy_plan, trace, settings._as_c(), found)
+    _check_over(_LIBRARY.precopy_plan, trace, settings._as_c(), found)
     return _sums(found)
 
 
 def rounds(trace: Bytes, settings: Settings) -> List[Round]:
     """Returns the rounds of the plan of a trace, in order."""
     found, count = (_calls.Round * _calls.MOST_ROUNDS)(), ctypes.c_size_t()
-    _call_over(_LIBRARY.precopy_rounds, trace, settings._as_c(), found, _calls.MOST_ROUNDS, count)
+    _check_over(_LIBRARY.precopy_rounds, trace, settings._as_c(), found, _calls.MOST_ROUNDS, count)
     return [Round(*(getattr(it, name) for name, _ in _calls.Round._fields_)) for it in found[: count.value]]
 
 
@@ -306,7 +306,7 @@ def report(trace: Bytes, settings: Settings) -> str:
             raise NoMemory(_calls.NO_MEMORY) from fault
     with room:
         with _lent(room, _calls.WRITABLE) as (text, text_length):
-            _call_over(_LIBRARY.precopy_report, trace, settings._as_c(), text, text_length, needed)
+            _check_over(_LIBRARY.precopy_report, trace, settings._as_c(), text, text_length, needed)
         return room[: needed.value].decode("ascii")
 
 
@@ -314,7 +314,7 @@ def sweep(trace: Bytes, cases: Sequence[Settings]) -> Tuple[List[Sums], int]:
     """Returns the sums of the plan of each case, and the number of the best case."""
     asked, best = (_calls.Settings * len(cases))(*(case._as_c() for case in cases)), ctypes.c_size_t()
     found = (_calls.Sums * len(cases))()
-    _call_over(_LIBRARY.precopy_sweep, trace, asked, len(cases), found, len(cases), best)
+    _check_over(_LIBRARY.precopy_sweep, trace, asked, len(cases), found, len(cases), best)
     return [_sums(it) for it in found], best.value
 
 
@@ -323,7 +323,7 @@ def _memory(call: Any, trace: Bytes, *words: Any) -> bytearray:
     sizes, needed = check_trace(trace), ctypes.c_size_t()
     room = bytearray(sizes.pages << sizes.shift)
     with _lent(room, _calls.WRITABLE) as (start, length):
-        _call_over(call, trace, *words, start, length, needed)
+        _check_over(call, trace, *words, start, length, needed)
     return room
 
 
@@ -340,7 +340,7 @@ def memory_before(trace: Bytes, tick: int) -> bytearray:
 def writes_before(trace: Bytes, tick: int) -> int:
     """Returns how many writes of a trace are before a tick."""
     count = ctypes.c_uint32()
-    _call_over(_LIBRARY.precopy_writes_before, trace, _number("tick", tick, 64), count)
+    _check_over(_LIBRARY.precopy_writes_before, trace, _number("tick", tick, 64), count)
     return count.value
 
 
@@ -348,14 +348,14 @@ def memory_step(trace: Bytes, start: int, end: int, memory: Bytes) -> None:
     """Brings memory after the first `start` writes of a trace on to that after the first `end` writes, in place."""
     where = _number("start", start, 32), _number("end", end, 32)
     with _lent(memory, _calls.WRITABLE) as (room, length):
-        _call_over(_LIBRARY.precopy_memory_step, trace, *where, room, length)
+        _check_over(_LIBRARY.precopy_memory_step, trace, *where, room, length)
 
 
 def version_after(trace: Bytes, page: int, count: int) -> int:
     """Returns the version of a page after the first `count` writes of a trace: the place of the last of them that is to
     the page, or 0."""
     version, where = ctypes.c_uint32(), (_number("page", page, 32), _number("count", count, 32))
-    _call_over(_LIBRARY.precopy_version_after, trace, *where, version)
+    _check_over(_LIBRARY.precopy_version_after, trace, *where, version)
     return version.value
 
 
@@ -363,7 +363,7 @@ def page_at(trace: Bytes, page: int, stamp: int) -> bytes:
     """Returns the bytes of a page at a stamp: as the write to it with this place leaves them, or zeros for 0."""
     room = ctypes.create_string_buffer(check_trace(trace).page_length)
     where = _number("page", page, 32), _number("stamp", stamp, 32)
-    _call_over(_LIBRARY.precopy_page_at, trace, *where, ctypes.addressof(room), len(room))
+    _check_over(_LIBRARY.precopy_page_at, trace, *where, ctypes.addressof(room), len(room))
     return room.raw
 
 
@@ -371,10 +371,10 @@ def page_writes(trace: Bytes, page: int) -> List[Write]:
     """Returns the writes to a page, in their order."""
     where, count, found = _number("page", page, 32), ctypes.c_size_t(), (_calls.Write * 0)()
     try:
-        _call_over(_LIBRARY.precopy_page_writes, trace, where, found, 0, count)
+        _check_over(_LIBRARY.precopy_page_writes, trace, where, found, 0, count)
     except BufferRefused:
         found = (_calls.Write * count.value)()
-        _call_over(_LIBRARY.precopy_page_writes, trace, where, found, len(found), count)
+        _check_over(_LIBRARY.precopy_page_writes, trace, where, found, len(found), count)
     return [Write(it.place, it.tick, it.offset, it.size) for it in found]
 
 
@@ -383,10 +383,9 @@ def check_streams(trace: Bytes, stop: int, streams: Sequence[Bytes]) -> Optional
     trace, or None. It takes memory for a copy of the streams."""
     sizes, found = (ctypes.c_size_t * len(streams))(*(memoryview(it).nbytes for it in streams)), _calls.Finding()
     where = _number("stop", stop, 32)
-    with _lent(trace) as (start, length), _lent(b"".join(streams)) as (bytes_at, total):
-        status = _LIBRARY.precopy_check_streams(start, length, where, bytes_at, total, sizes, len(sizes), found)
-        if status in _KINDS[0][0]:
-            _check_trace(start, length)
+    with _lent(b"".join(streams)) as (start, total):
+        words = (where, start, total, sizes, len(sizes), found)
+        status = _call_over(_LIBRARY.precopy_check_streams, trace, *words)
     if status not in _calls.WRONG:
         _check(status)
         return None

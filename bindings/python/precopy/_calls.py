@@ -8,7 +8,7 @@ import operator
 import os
 from typing import Any, Iterator, Tuple
 
-ABI_NUMBER = 1
+ABI_NUMBER = 2
 ABI = f"libprecopy.so.{ABI_NUMBER}"
 NO_MEMORY, FRAME_PAGE, SHORT_BUFFER, MEMORY_LENGTH, PAGE_MISSING = 16, 42, 61, 63, 65
 # The statuses of what is wrong in streams.
@@ -16,6 +16,8 @@ NO_VERSION, PAGE_BEHIND = 71, 75
 NO_FRAME = range(41, 46)
 WRONG = (*NO_FRAME, PAGE_MISSING, *range(NO_VERSION, PAGE_BEHIND + 1))
 MOST_ROUNDS = 64
+# No trace has a record of this number.
+NO_RECORD = 0xFFFFFFFF
 WRITABLE = 1  # CPython's PyBUF_WRITABLE
 
 
@@ -69,24 +71,24 @@ class Write(ctypes.Structure):
 
 
 _BYTES, _LENGTH, _NUMBER = ctypes.c_void_p, ctypes.c_size_t, ctypes.c_uint32
-_COUNT = ctypes.POINTER(ctypes.c_size_t)
+_COUNT, _RECORD = ctypes.POINTER(ctypes.c_size_t), ctypes.POINTER(ctypes.c_uint32)
 _pointer = ctypes.POINTER
 
 _CALLS = {
-    "check_trace": [_BYTES, _LENGTH, _pointer(Sizes), _pointer(_NUMBER)],
+    "check_trace": [_BYTES, _LENGTH, _pointer(Sizes), _RECORD],
     "check_settings": [_pointer(Settings)],
-    "plan": [_BYTES, _LENGTH, _pointer(Settings), _pointer(Sums)],
-    "rounds": [_BYTES, _LENGTH, _pointer(Settings), _pointer(Round), _LENGTH, _COUNT],
-    "report": [_BYTES, _LENGTH, _pointer(Settings), _BYTES, _LENGTH, _COUNT],
-    "sweep": [_BYTES, _LENGTH, _pointer(Settings), _LENGTH, _pointer(Sums), _LENGTH, _COUNT],
-    "memory": [_BYTES, _LENGTH, _BYTES, _LENGTH, _COUNT],
-    "memory_before": [_BYTES, _LENGTH, ctypes.c_uint64, _BYTES, _LENGTH, _COUNT],
-    "writes_before": [_BYTES, _LENGTH, ctypes.c_uint64, _pointer(_NUMBER)],
-    "memory_step": [_BYTES, _LENGTH, _NUMBER, _NUMBER, _BYTES, _LENGTH],
-    "version_after": [_BYTES, _LENGTH, _NUMBER, _NUMBER, _pointer(_NUMBER)],
-    "page_at": [_BYTES, _LENGTH, _NUMBER, _NUMBER, _BYTES, _LENGTH],
-    "page_writes": [_BYTES, _LENGTH, _NUMBER, _pointer(Write), _LENGTH, _COUNT],
-    "check_streams": [_BYTES, _LENGTH, _NUMBER, _BYTES, _LENGTH, _COUNT, _LENGTH, _pointer(Finding)],
+    "plan": [_BYTES, _LENGTH, _pointer(Settings), _pointer(Sums), _RECORD],
+    "rounds": [_BYTES, _LENGTH, _pointer(Settings), _pointer(Round), _LENGTH, _COUNT, _RECORD],
+    "report": [_BYTES, _LENGTH, _pointer(Settings), _BYTES, _LENGTH, _COUNT, _RECORD],
+    "sweep": [_BYTES, _LENGTH, _pointer(Settings), _LENGTH, _pointer(Sums), _LENGTH, _COUNT, _RECORD],
+    "memory": [_BYTES, _LENGTH, _BYTES, _LENGTH, _COUNT, _RECORD],
+    "memory_before": [_BYTES, _LENGTH, ctypes.c_uint64, _BYTES, _LENGTH, _COUNT, _RECORD],
+    "writes_before": [_BYTES, _LENGTH, ctypes.c_uint64, _pointer(_NUMBER), _RECORD],
+    "memory_step": [_BYTES, _LENGTH, _NUMBER, _NUMBER, _BYTES, _LENGTH, _RECORD],
+    "version_after": [_BYTES, _LENGTH, _NUMBER, _NUMBER, _pointer(_NUMBER), _RECORD],
+    "page_at": [_BYTES, _LENGTH, _NUMBER, _NUMBER, _BYTES, _LENGTH, _RECORD],
+    "page_writes": [_BYTES, _LENGTH, _NUMBER, _pointer(Write), _LENGTH, _COUNT, _RECORD],
+    "check_streams": [_BYTES, _LENGTH, _NUMBER, _BYTES, _LENGTH, _COUNT, _LENGTH, _pointer(Finding), _RECORD],
     "encode_frame": [_pointer(Sizes), _NUMBER, _NUMBER, _BYTES, _LENGTH, _BYTES, _LENGTH, _COUNT],
     "decode_frame": [_pointer(Sizes), _BYTES, _LENGTH, _pointer(Frame), _BYTES, _LENGTH],
     "accept": [_pointer(Sizes), _BYTES, _LENGTH, _BYTES, _LENGTH, _pointer(Page), _LENGTH, _pointer(Taken)],

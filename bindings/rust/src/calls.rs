@@ -64,7 +64,13 @@ extern "C" {
     pub fn precopy_abi() -> u32;
     pub fn precopy_check_trace(trace: *const u8, trace_length: usize, sizes: *mut Sizes, record: *mut u32) -> u32;
     pub fn precopy_check_settings(settings: *const Settings) -> u32;
-    pub fn precopy_plan(trace: *const u8, trace_length: usize, settings: *const Settings, sums: *mut Sums) -> u32;
+    pub fn precopy_plan(
+        trace: *const u8,
+        trace_length: usize,
+        settings: *const Settings,
+        sums: *mut Sums,
+        record: *mut u32,
+    ) -> u32;
     pub fn precopy_rounds(
         trace: *const u8,
         trace_length: usize,
@@ -72,6 +78,7 @@ extern "C" {
         rounds: *mut Round,
         rounds_length: usize,
         count: *mut usize,
+        record: *mut u32,
     ) -> u32;
     pub fn precopy_report(
         trace: *const u8,
@@ -80,6 +87,7 @@ extern "C" {
         text: *mut u8,
         text_length: usize,
         needed: *mut usize,
+        record: *mut u32,
     ) -> u32;
     pub fn precopy_sweep(
         trace: *const u8,
@@ -89,6 +97,7 @@ extern "C" {
         sums: *mut Sums,
         sums_length: usize,
         best: *mut usize,
+        record: *mut u32,
     ) -> u32;
     pub fn precopy_memory(
         trace: *const u8,
@@ -96,6 +105,7 @@ extern "C" {
         memory: *mut u8,
         memory_length: usize,
         needed: *mut usize,
+        record: *mut u32,
     ) -> u32;
     pub fn precopy_memory_before(
         trace: *const u8,
@@ -104,8 +114,15 @@ extern "C" {
         memory: *mut u8,
         memory_length: usize,
         needed: *mut usize,
+        record: *mut u32,
     ) -> u32;
-    pub fn precopy_writes_before(trace: *const u8, trace_length: usize, tick: u64, count: *mut u32) -> u32;
+    pub fn precopy_writes_before(
+        trace: *const u8,
+        trace_length: usize,
+        tick: u64,
+        count: *mut u32,
+        record: *mut u32,
+    ) -> u32;
     pub fn precopy_memory_step(
         trace: *const u8,
         trace_length: usize,
@@ -113,6 +130,7 @@ extern "C" {
         to: u32,
         memory: *mut u8,
         memory_length: usize,
+        record: *mut u32,
     ) -> u32;
     pub fn precopy_version_after(
         trace: *const u8,
@@ -120,6 +138,7 @@ extern "C" {
         page: u32,
         count: u32,
         version: *mut u32,
+        record: *mut u32,
     ) -> u32;
     pub fn precopy_page_at(
         trace: *const u8,
@@ -128,6 +147,7 @@ extern "C" {
         stamp: u32,
         content: *mut u8,
         content_length: usize,
+        record: *mut u32,
     ) -> u32;
     pub fn precopy_page_writes(
         trace: *const u8,
@@ -136,6 +156,7 @@ extern "C" {
         writes: *mut Write,
         writes_length: usize,
         count: *mut usize,
+        record: *mut u32,
     ) -> u32;
     pub fn precopy_check_streams(
         trace: *const u8,
@@ -146,6 +167,7 @@ extern "C" {
         sizes: *const usize,
         sizes_length: usize,
         found: *mut Finding,
+        record: *mut u32,
     ) -> u32;
     pub fn precopy_encode_frame(
         sizes: *const Sizes,

@@ -15,7 +15,7 @@ pub use places::{memory_step, page_at, page_at_into, page_writes, page_writes_in
 pub use refusals::{status, Refused};
 pub use streams::{check_streams, writes_before, Finding, FramePlace};
 
-use refusals::{checked, checked_buffer};
+use refusals::{checked, checked_buffer, with_record, NO_RECORD};
 use std::ffi::CStr;
 
 /// The most rounds that a plan has.
@@ -29,7 +29,7 @@ pub fn version() -> &'static str {
 }
 
 /// The number of the interface that this crate was written for.
-pub const ABI: u32 = 1;
+pub const ABI: u32 = 2;
 
 /// Returns the number of the library's interface. If it is not [`ABI`], call nothing else.
 pub fn abi() -> u32 {
@@ -234,43 +234,32 @@ pub struct Sweep {
 
 /// Returns the sizes of a trace, or why and at which record its bytes are refused.
 pub fn check_trace(trace: &[u8]) -> Result<Sizes, Refused> {
-    let (mut found, mut record) = (calls::Sizes::default(), u32::MAX);
+    let mut found = calls::Sizes::default();
+    let mut record = NO_RECORD;
     // SAFETY: the slice is there for its length; what is written is this function's.
     let status = unsafe { calls::precopy_check_trace(trace.as_ptr(), trace.len(), &mut found, &mut record) };
-    match Refused::of(status) {
-        _ if status == status::OK => Ok(Sizes {
-            shift: found.shift,
-            pages: found.pages,
-            writes: found.writes,
-        }),
-        Refused::Trace { status, .. } => Err(Refused::Trace {
-            status,
-            record: (record != u32::MAX).then_some(record),
-        }),
-        refused => Err(refused),
-    }
-}
-
-/// Adds to the refusal of a trace the record that is named.
-fn with_record<T>(trace: &[u8], answer: Result<T, Refused>) -> Result<T, Refused> {
-    match answer {
-        Err(Refused::Trace { .. }) => check_trace(trace).and(answer),
-        answer => answer,
-    }
+    let sizes = checked(status).map(|()| Sizes {
+        shift: found.shift,
+        pages: found.pages,
+        writes: found.writes,
+    });
+    with_record(record, sizes)
 }
 
 /// Returns the sums of the plan of a trace.
 pub fn plan(trace: &[u8], settings: &Settings) -> Result<Sums, Refused> {
     let mut found = calls::Sums::default();
+    let mut record = NO_RECORD;
     // SAFETY: as in `check_trace`.
-    let status = unsafe { calls::precopy_plan(trace.as_ptr(), trace.len(), &settings.as_c(), &mut found) };
-    with_record(trace, checked(status).map(|()| Sums::of(&found)))
+    let status = unsafe { calls::precopy_plan(trace.as_ptr(), trace.len(), &settings.as_c(), &mut found, &mut record) };
+    with_record(record, checked(status).map(|()| Sums::of(&found)))
 }
 
 /// Writes the rounds of the plan of a trace to the front of a slice, in order, and returns how many there are: at most
 /// [`MOST_ROUNDS`].
 pub fn rounds_into(trace: &[u8], settings: &Settings, rounds: &mut [Round]) -> Result<usize, Refused> {
     let mut count = 0;
+    let mut record = NO_RECORD;
     // SAFETY: as in `check_trace`; no other reference reaches the slice that is written.
     let status = unsafe {
         calls::precopy_rounds(
@@ -280,9 +269,10 @@ pub fn rounds_into(trace: &[u8], settings: &Settings, rounds: &mut [Round]) -> R
             rounds.as_mut_ptr(),
             rounds.len(),
             &mut count,
+            &mut record,
         )
     };
-    with_record(trace, checked_buffer(status, count))
+    with_record(record, checked_buffer(status, count))
 }
 
 /// Returns the rounds of the plan of a trace, in order.
@@ -298,6 +288,7 @@ pub fn sweep(trace: &[u8], cases: &[Settings]) -> Result<Sweep, Refused> {
     let mut asked = room::empty(cases.len())?;
     asked.extend(cases.iter().map(Settings::as_c));
     let (mut found, mut best) = (room::filled(cases.len(), calls::Sums::default())?, 0);
+    let mut record = NO_RECORD;
     // SAFETY: as in `rounds_into`.
     let status = unsafe {
         calls::precopy_sweep(
@@ -308,9 +299,10 @@ pub fn sweep(trace: &[u8], cases: &[Settings]) -> Result<Sweep, Refused> {
             found.as_mut_ptr(),
             found.len(),
             &mut best,
+            &mut record,
         )
     };
-    with_record(trace, checked(status))?;
+    with_record(record, checked(status))?;
     let mut sums = room::empty(cases.len())?;
     sums.extend(found.iter().map(Sums::of));
     Ok(Sweep { sums, best })
@@ -320,6 +312,7 @@ pub fn sweep(trace: &[u8], cases: &[Settings]) -> Result<Sweep, Refused> {
 /// [`longest_report`].
 pub fn report_into(trace: &[u8], settings: &Settings, text: &mut [u8]) -> Result<usize, Refused> {
     let mut needed = 0;
+    let mut record = NO_RECORD;
     // SAFETY: as in `rounds_into`.
     let status = unsafe {
         calls::precopy_report(
@@ -329,9 +322,10 @@ pub fn report_into(trace: &[u8], settings: &Settings, text: &mut [u8]) -> Result
             text.as_mut_ptr(),
             text.len(),
             &mut needed,
+            &mut record,
         )
     };
-    with_record(trace, checked_buffer(status, needed))
+    with_record(record, checked_buffer(status, needed))
 }
 
 /// At least as many bytes as the report on a trace of this length has: a line for each window with a write and for each
@@ -354,6 +348,7 @@ pub fn report(trace: &[u8], settings: &Settings) -> Result<String, Refused> {
 /// Writes the memory after all writes of a trace to the front of a slice, and returns its length.
 pub fn memory_into(trace: &[u8], memory: &mut [u8]) -> Result<usize, Refused> {
     let mut needed = 0;
+    let mut record = NO_RECORD;
     // SAFETY: as in `rounds_into`.
     let status = unsafe {
         calls::precopy_memory(
@@ -362,15 +357,17 @@ pub fn memory_into(trace: &[u8], memory: &mut [u8]) -> Result<usize, Refused> {
             memory.as_mut_ptr(),
             memory.len(),
             &mut needed,
+            &mut record,
         )
     };
-    with_record(trace, checked_buffer(status, needed))
+    with_record(record, checked_buffer(status, needed))
 }
 
 /// Writes the memory before a tick to the front of a slice, and returns its length. A migration that stops its guest at
 /// that tick must leave this memory.
 pub fn memory_before_into(trace: &[u8], tick: u64, memory: &mut [u8]) -> Result<usize, Refused> {
     let mut needed = 0;
+    let mut record = NO_RECORD;
     // SAFETY: as in `rounds_into`.
     let status = unsafe {
         calls::precopy_memory_before(
@@ -380,9 +377,10 @@ pub fn memory_before_into(trace: &[u8], tick: u64, memory: &mut [u8]) -> Result<
             memory.as_mut_ptr(),
             memory.len(),
             &mut needed,
+            &mut record,
         )
     };
-    with_record(trace, checked_buffer(status, needed))
+    with_record(record, checked_buffer(status, needed))
 }
 
 /// Returns the memory after all writes of a trace.

@@ -1,7 +1,7 @@
 //! The versions and the writes of a page, and memory that is brought on from place to place.
 
-use crate::refusals::{checked, checked_buffer, Refused};
-use crate::{calls, check_trace, room, with_record};
+use crate::refusals::{checked, checked_buffer, with_record, Refused, NO_RECORD};
+use crate::{calls, check_trace, room};
 
 /// A write to a page.
 #[repr(C)]
@@ -19,25 +19,38 @@ pub struct Write {
 
 /// Brings memory after the first `from` writes of a trace on to that after the first `to` writes, in place.
 pub fn memory_step(trace: &[u8], from: u32, to: u32, memory: &mut [u8]) -> Result<(), Refused> {
+    let mut record = NO_RECORD;
     // SAFETY: each slice is there for its length, and no other reference reaches the one that is written.
-    let status =
-        unsafe { calls::precopy_memory_step(trace.as_ptr(), trace.len(), from, to, memory.as_mut_ptr(), memory.len()) };
-    with_record(trace, checked(status))
+    let status = unsafe {
+        calls::precopy_memory_step(
+            trace.as_ptr(),
+            trace.len(),
+            from,
+            to,
+            memory.as_mut_ptr(),
+            memory.len(),
+            &mut record,
+        )
+    };
+    with_record(record, checked(status))
 }
 
 /// Returns the version of a page after the first `count` writes of a trace: the place of the last of them that is to
 /// the page, or 0.
 pub fn version_after(trace: &[u8], page: u32, count: u32) -> Result<u32, Refused> {
     let mut version = 0;
+    let mut record = NO_RECORD;
     // SAFETY: as in `memory_step`.
-    let status = unsafe { calls::precopy_version_after(trace.as_ptr(), trace.len(), page, count, &mut version) };
-    with_record(trace, checked(status).map(|()| version))
+    let status =
+        unsafe { calls::precopy_version_after(trace.as_ptr(), trace.len(), page, count, &mut version, &mut record) };
+    with_record(record, checked(status).map(|()| version))
 }
 
 /// Writes the bytes of a page at a stamp to the front of a slice, and returns how many they are: as the write to the
 /// page with this place leaves them, or zeros for 0.
 pub fn page_at_into(trace: &[u8], page: u32, stamp: u32, content: &mut [u8]) -> Result<usize, Refused> {
     let size = check_trace(trace)?.page_length();
+    let mut record = NO_RECORD;
     // SAFETY: as in `memory_step`.
     let status = unsafe {
         calls::precopy_page_at(
@@ -47,9 +60,10 @@ pub fn page_at_into(trace: &[u8], page: u32, stamp: u32, content: &mut [u8]) -> 
             stamp,
             content.as_mut_ptr(),
             content.len(),
+            &mut record,
         )
     };
-    checked_buffer(status, size)
+    with_record(record, checked_buffer(status, size))
 }
 
 /// Returns the bytes of a page at a stamp.
@@ -61,6 +75,7 @@ pub fn page_at(trace: &[u8], page: u32, stamp: u32) -> Result<Vec<u8>, Refused> 
 /// Writes the writes to a page to the front of a slice, in their order, and returns how many there are.
 pub fn page_writes_into(trace: &[u8], page: u32, writes: &mut [Write]) -> Result<usize, Refused> {
     let mut count = 0;
+    let mut record = NO_RECORD;
     // SAFETY: as in `memory_step`.
     let status = unsafe {
         calls::precopy_page_writes(
@@ -70,9 +85,10 @@ pub fn page_writes_into(trace: &[u8], page: u32, writes: &mut [Write]) -> Result
             writes.as_mut_ptr(),
             writes.len(),
             &mut count,
+            &mut record,
         )
     };
-    with_record(trace, checked_buffer(status, count))
+    with_record(record, checked_buffer(status, count))
 }
 
 /// Returns the writes to a page, in their order.

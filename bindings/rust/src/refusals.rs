@@ -141,3 +141,17 @@ pub(crate) fn checked_buffer(status: u32, needed: usize) -> Result<usize, Refuse
         status => checked(status).map(|()| needed),
     }
 }
+
+/// No trace has a record of this number.
+pub(crate) const NO_RECORD: u32 = u32::MAX;
+
+/// Adds to the refusal of a trace the record that was told, if one was.
+pub(crate) fn with_record<T>(told: u32, answer: Result<T, Refused>) -> Result<T, Refused> {
+    answer.map_err(|refused| match refused {
+        Refused::Trace { status, .. } => Refused::Trace {
+            status,
+            record: (told != NO_RECORD).then_some(told),
+        },
+        refused => refused,
+    })
+}

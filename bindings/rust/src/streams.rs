@@ -1,7 +1,7 @@
 //! Streams of a migration, checked against a trace.
 
-use crate::refusals::{checked, status, Refused};
-use crate::{calls, with_record};
+use crate::calls;
+use crate::refusals::{checked, status, with_record, Refused, NO_RECORD};
 
 /// A frame of some streams.
 #[derive(Clone, Copy, Debug, PartialEq, Eq)]
@@ -68,15 +68,17 @@ impl Finding {
 /// Returns how many writes of a trace are before a tick.
 pub fn writes_before(trace: &[u8], tick: u64) -> Result<u32, Refused> {
     let mut count = 0;
+    let mut record = NO_RECORD;
     // SAFETY: the slice is there for its length; what is written is this function's.
-    let status = unsafe { calls::precopy_writes_before(trace.as_ptr(), trace.len(), tick, &mut count) };
-    with_record(trace, checked(status).map(|()| count))
+    let status = unsafe { calls::precopy_writes_before(trace.as_ptr(), trace.len(), tick, &mut count, &mut record) };
+    with_record(record, checked(status).map(|()| count))
 }
 
 /// Returns what is wrong first in the streams of a migration that stops its guest after the first `stop` writes of a
 /// trace, or `None`. `bytes` are those of all streams, one after the other, and `sizes` is how many each has.
 pub fn check_streams(trace: &[u8], stop: u32, bytes: &[u8], sizes: &[usize]) -> Result<Option<Finding>, Refused> {
     let mut found = calls::Finding::default();
+    let mut record = NO_RECORD;
     // SAFETY: as in `writes_before`.
     let status = unsafe {
         calls::precopy_check_streams(
@@ -88,10 +90,11 @@ pub fn check_streams(trace: &[u8], stop: u32, bytes: &[u8], sizes: &[usize]) -> 
             sizes.as_ptr(),
             sizes.len(),
             &mut found,
+            &mut record,
         )
     };
     match Finding::of(status, &found) {
         Some(finding) => Ok(Some(finding)),
-        None => with_record(trace, checked(status).map(|()| None)),
+        None => with_record(record, checked(status).map(|()| None)),
     }
 }

@@ -1,6 +1,6 @@
 -- The numbers that C sees for refusals. Those of traces are the numbers of their names in fault lines, E1 to E17; those
 -- of settings, S1 to S10, begin at 21, and those of frames, F1 to F5, at 41. This project's own.
-use Rattle.std.specs.Prelude.{◌≡◌, ℕ, Option, Some, None}
+use Rattle.std.specs.Prelude.{◌≡◌, ℕ, Option, Some, None, unwrap_or}
 use Rattle.trace_codec.specs.declared.error.TraceError.{TraceError}
 use Rattle.trace_codec.specs.declared.error.TraceError.TheVariants as traces
 use Rattle.rate_limit.specs.declared.error.SettingsError.{SettingsError}
@@ -60,10 +60,6 @@ number_of refusals.MemoryLength = 63
 number_of refusals.PageCount = 64
 number_of refusals.PageMissing = 65
 
--- this is the number of a refusal for which that holds
-abbrev pub IsNumberOf : ℕ → (Refusal → Type 0) → Type 0
-IsNumberOf number Holds = (refusal : Refusal) × (number ≡ number_of refusal) × Holds refusal
-
 -- the record that a refusal of a trace names
 abbrev pub record_in : TraceError → Option ℕ
 record_in traces.ShortHeader = None
@@ -83,3 +79,28 @@ record_in traces.TrailingBytes = None
 record_in traces.TooLong = None
 record_in traces.Memory = None
 record_in traces.ReadFault = None
+
+-- the record that C is told of a refused trace: the one that is named, or else what was there before
+abbrev pub record_after : TraceError → ℕ → ℕ
+record_after e old = unwrap_or (record_in e) old
+
+-- the same of any refusal
+abbrev pub record_told : Refusal → ℕ → ℕ
+record_told (refusals.Trace e) old = record_after e old
+record_told (refusals.Settings e) old = old
+record_told (refusals.Frame e) old = old
+record_told refusals.Memory old = old
+record_told refusals.ShortBuffer old = old
+record_told refusals.PageLength old = old
+record_told refusals.MemoryLength old = old
+record_told refusals.PageCount old = old
+record_told refusals.PageMissing old = old
+
+-- this is the number of a refusal for which that holds
+abbrev pub IsNumberOf : ℕ → (Refusal → Type 0) → Type 0
+IsNumberOf number Holds = (refusal : Refusal) × (number ≡ number_of refusal) × Holds refusal
+
+-- and its record is told
+abbrev pub IsToldBy : ℕ → ℕ → ℕ → (Refusal → Type 0) → Type 0
+IsToldBy number old new Holds =
+    (refusal : Refusal) × (number ≡ number_of refusal) × (new ≡ record_told refusal old) × Holds refusal

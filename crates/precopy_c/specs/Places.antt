@@ -6,7 +6,7 @@ use Rattle.migration_model.specs.Memory.{apply, image_after, memory_with}
 use Rattle.migration_model.specs.Trace.{GuestTrace, GuestWrite, Spells}
 use Rattle.page_versions.specs.Index.{version_after}
 use Rattle.trace_codec.specs.Refusals.{Refuses}
-use Rattle.precopy_c.specs.Answers.{number_of_trace}
+use Rattle.precopy_c.specs.Answers.{number_of_trace, record_after}
 use Rattle.precopy_c.specs.Memories.{memory_length}
 use Rattle.precopy_c.specs.declared.page_writes.PageWrite.{PageWrite}
 use Rattle.precopy_c.specs.declared.place_answers.PlaceRefusal.{PlaceRefusal}
@@ -19,6 +19,19 @@ number_of_place refusals.Backwards = 68
 number_of_place refusals.NoVersion = 71
 number_of_place refusals.MemoryLength = 63
 number_of_place refusals.ShortBuffer = 61
+
+abbrev pub record_of_place : PlaceRefusal → ℕ → ℕ
+record_of_place (refusals.Trace e) old = record_after e old
+record_of_place refusals.NoPage old = old
+record_of_place refusals.Backwards old = old
+record_of_place refusals.NoVersion old = old
+record_of_place refusals.MemoryLength old = old
+record_of_place refusals.ShortBuffer old = old
+
+-- this is the number of a refusal for which that holds, and its record is told
+abbrev pub IsToldOf : ℕ → ℕ → ℕ → (PlaceRefusal → Type 0) → Type 0
+IsToldOf number old new Holds =
+    (refusal : PlaceRefusal) × (number ≡ number_of_place refusal) × (new ≡ record_of_place refusal old) × Holds refusal
 
 -- the guest has the page, and the page a version with this stamp: 0, or the place of a write to it
 pub record IsVersion (trace : GuestTrace) (page stamp : ℕ) : Type 0 where

@@ -12,7 +12,7 @@ use Rattle.stream_check.specs.declared.faults.WrongPage.{WrongPage}
 use Rattle.precopy_c.specs.declared.checking.StreamsRefusal.{StreamsRefusal}
 use Rattle.precopy_c.specs.declared.checking.StreamsRefusal.TheVariants as refusals
 use Rattle.precopy_c.specs.declared.checking.StreamFinding.{StreamFinding}
-use Rattle.precopy_c.specs.Answers.{number_of_frame, number_of_trace}
+use Rattle.precopy_c.specs.Answers.{number_of_frame, number_of_trace, record_after}
 
 abbrev pub number_of_cause : FrameCause → ℕ
 number_of_cause (causes.Refused e) = number_of_frame e
@@ -74,6 +74,12 @@ finding_after (refusals.Trace e) old = old
 finding_after refusals.Sizes old = old
 finding_after refusals.Memory old = old
 finding_after (refusals.Wrong thing) old = finding_of thing old
+
+abbrev pub record_beside : StreamsRefusal → ℕ → ℕ
+record_beside (refusals.Trace e) old = record_after e old
+record_beside refusals.Sizes old = old
+record_beside refusals.Memory old = old
+record_beside (refusals.Wrong thing) old = old
 
 -- nothing is wrong in these streams of a guest that is stopped after the first `stop` writes
 pub record AreAllRight (trace : List ℕ) (stop : ℕ) (bytes sizes : List ℕ) : Type 0 where

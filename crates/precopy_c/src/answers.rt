@@ -1,7 +1,8 @@
 //! What calls return.
 
 ghost use Rattle.std.specs.Prelude.{◌≡◌, ◌≤◌};
-ghost use Rattle.precopy_c.specs.Answers.{number_of_frame, number_of_settings, number_of_trace};
+ghost use Rattle.precopy_c.specs.Answers.{number_of_frame, number_of_settings, number_of_trace, record_after};
+ghost use Rattle.precopy_c.specs.Answers.{record_in};
 ghost use Rattle.precopy_c.specs.declared.answers.Refusal.TheVariants.{Frame as OfFrame, Memory as OutOfMemory};
 ghost use Rattle.precopy_c.specs.declared.answers.Refusal.TheVariants.{Settings as OfSettings, Trace as OfTrace};
 
@@ -126,6 +127,33 @@ fn trace_number(error: TraceError) -> u32
     }
 }
 
+/// Returns the record that a refusal names.
+fn record_of(error: TraceError) -> Option<u32>
+    ensures { result ≡ record_in error }
+{
+    match error {
+        TraceError::ShortRecord(record) => Some(record),
+        TraceError::TickOrder(record) => Some(record),
+        TraceError::TickTooLarge(record) => Some(record),
+        TraceError::PageOutOfRange(record) => Some(record),
+        TraceError::EmptyWrite(record) => Some(record),
+        TraceError::OutOfPage(record) => Some(record),
+        _ => None,
+    }
+}
+
+/// Tells C of a refused trace: sets `record` to the record that is named, if one is, and returns the refusal's number.
+pub(crate) fn refuse_trace(error: TraceError, record: &mut u32) -> u32
+    ensures number { result ≡ number_of_trace error }
+    ensures some { 1 ≤ result }
+    ensures record { record.new ≡ record_after error record.old }
+{
+    if let Some(number) = record_of(error) {
+        *record = number;
+    }
+    trace_number(error)
+}
+
 /// Returns the number of a refusal of settings.
 fn settings_number(error: SettingsError) -> u32
     ensures number { result ≡ number_of_settings error }
@@ -162,7 +190,7 @@ fn frame_number(error: FrameError) -> u32
 
 impl Refusal {
     ghost use Rattle.std.specs.Prelude.{◌≡◌, ◌≤◌};
-    ghost use Rattle.precopy_c.specs.Answers.{number_of};
+    ghost use Rattle.precopy_c.specs.Answers.{number_of, record_told};
 
     /// Returns the number that C sees.
     pub(crate) fn number(self) -> u32
@@ -179,6 +207,18 @@ impl Refusal {
             Refusal::MemoryLength => 63,
             Refusal::PageCount => 64,
             Refusal::PageMissing => 65,
+        }
+    }
+
+    /// Tells C of this refusal: sets `record` to the record that it names, if it names one, and returns its number.
+    pub(crate) fn told(self, record: &mut u32) -> u32
+        ensures number { result ≡ number_of self }
+        ensures some { 1 ≤ result }
+        ensures record { record.new ≡ record_told self record.old }
+    {
+        match self {
+            Refusal::Trace(error) => refuse_trace(error, record),
+            other => other.number(),
         }
     }
 }

@@ -5,11 +5,11 @@ ghost use Rattle.migration_model.specs.Trace.{GuestTrace, Spells};
 ghost use Rattle.stream_check.specs.Streams.{IsAllRight, cut_by};
 ghost use Rattle.precopy_c.specs.StreamChecks.{AreAllRight, RefusesStreams, finding_after, finding_of, frame_finding};
 ghost use Rattle.precopy_c.specs.StreamChecks.{number_of_cause, number_of_stamp, number_of_streams, number_of_thing};
-ghost use Rattle.precopy_c.specs.StreamChecks.{page_finding};
+ghost use Rattle.precopy_c.specs.StreamChecks.{page_finding, record_beside};
 ghost use Rattle.precopy_c.specs.declared.checking.StreamsRefusal.TheVariants.{Memory as OutOfMemory};
 ghost use Rattle.precopy_c.specs.declared.checking.StreamsRefusal.TheVariants.{Trace as OfTrace, Wrong as OfThing};
 
-use crate::answers::Refusal;
+use crate::answers::{Refusal, refuse_trace};
 use page_versions::{IndexError, PageIndex};
 use std::alloc::{AllocError, AllocFailed, Global};
 use stream_check::{FrameCause, StreamsError, WrongFrame, WrongPage, check_streams};
@@ -128,24 +128,6 @@ fn thing_number(thing: StreamsError) -> u32
     }
 }
 
-impl StreamsRefusal {
-    ghost use Rattle.std.specs.Prelude.{◌≡◌, ◌≤◌};
-    ghost use Rattle.precopy_c.specs.StreamChecks.{number_of_streams};
-
-    /// Returns the number that C sees.
-    fn number(self) -> u32
-        ensures number { result ≡ number_of_streams self }
-        ensures some { 1 ≤ result }
-    {
-        match self {
-            StreamsRefusal::Sizes => 66,
-            StreamsRefusal::Trace(error) => Refusal::Trace(error).number(),
-            StreamsRefusal::Memory => Refusal::Memory.number(),
-            StreamsRefusal::Wrong(thing) => thing_number(thing),
-        }
-    }
-}
-
 /// Returns a wrong frame as C sees it.
 fn finding_of_frame(stream: usize, found: &WrongFrame) -> StreamFinding
     ensures { result ≡ frame_finding stream found.now }
@@ -186,6 +168,30 @@ fn tell(thing: StreamsError, found: &mut StreamFinding)
         StreamsError::Memory => (),
         StreamsError::Frame(stream, wrong) => *found = finding_of_frame(stream, &wrong),
         StreamsError::Page(wrong) => *found = finding_of_page(&wrong),
+    }
+}
+
+impl StreamsRefusal {
+    ghost use Rattle.std.specs.Prelude.{◌≡◌, ◌≤◌};
+    ghost use Rattle.precopy_c.specs.StreamChecks.{finding_after, number_of_streams, record_beside};
+
+    /// Tells C of this refusal: sets `found` to what is wrong, or `record` to the record of a trace that is named. It
+    /// returns the number of the refusal.
+    fn told(self, found: &mut StreamFinding, record: &mut u32) -> u32
+        ensures number { result ≡ number_of_streams self }
+        ensures some { 1 ≤ result }
+        ensures found { found.new ≡ finding_after self found.old }
+        ensures record { record.new ≡ record_beside self record.old }
+    {
+        match self {
+            StreamsRefusal::Sizes => 66,
+            StreamsRefusal::Trace(error) => refuse_trace(error, record),
+            StreamsRefusal::Memory => Refusal::Memory.number(),
+            StreamsRefusal::Wrong(thing) => {
+                tell(thing, found);
+                thing_number(thing)
+            }
+        }
     }
 }
 
@@ -238,20 +244,18 @@ pub extern "C" fn precopy_check_streams(
     bytes: &[u8],
     sizes: &[usize],
     found: &mut StreamFinding,
+    record: &mut u32,
 ) -> u32
     ensures right { result ≡ 0 → AreAllRight trace.now stop bytes.now sizes.now × (found.new ≡ found.old) }
     ensures refused { result ≢ 0 → (refusal : StreamsRefusal) × (result ≡ number_of_streams refusal)
-        × RefusesStreams trace.now stop bytes.now sizes.now refusal × (found.new ≡ finding_after refusal found.old) }
+        × RefusesStreams trace.now stop bytes.now sizes.now refusal × (found.new ≡ finding_after refusal found.old)
+        × (record.new ≡ record_beside refusal record.old) }
+    ensures not_told { result ≡ 0 → record.new ≡ record.old }
     ensures only { (t : GuestTrace) → Spells trace.now t → sum sizes.now ≡ length bytes.now
         → IsAllRight t stop (cut_by sizes.now bytes.now) → (result ≡ 0) ⊎ (result ≡ 16) }
 {
     match checked(alloc, trace, stop, bytes, sizes) {
         Ok(()) => 0,
-        Err(refusal) => {
-            if let StreamsRefusal::Wrong(thing) = refusal {
-                tell(thing, found);
-            }
-            refusal.number()
-        }
+        Err(refusal) => refusal.told(found, record),
     }
 }

@@ -6,11 +6,11 @@ ghost use Rattle.migration_model.specs.Trace.{GuestTrace, Spells};
 ghost use Rattle.guest_log.specs.Writes.{shown};
 ghost use Rattle.trace_codec.specs.Refusals.{Refuses};
 ghost use Rattle.trace_codec.specs.declared.error.TraceError.{TraceError};
-ghost use Rattle.precopy_c.specs.Answers.{number_of_trace};
+ghost use Rattle.precopy_c.specs.Answers.{number_of_trace, record_after};
 ghost use Rattle.precopy_c.specs.Buffers.{over};
 ghost use Rattle.precopy_c.specs.Memories.{memory_length, writes_before};
 
-use crate::answers::Refusal;
+use crate::answers::{Refusal, refuse_trace};
 use guest_log::{Shape, WriteView};
 use trace_codec::TraceView;
 
@@ -68,13 +68,20 @@ fn answer_memory(
 }
 
 /// Writes the memory after the writes before a tick, for both calls.
-fn answer_before(trace: &[u8], tick: u64, memory: &mut [u8], needed: &mut usize) -> u32
+fn answer_before(
+    trace: &[u8],
+    tick: u64,
+    memory: &mut [u8],
+    needed: &mut usize,
+    record: &mut u32,
+) -> u32
     ensures made { result ≡ 0 → (t : GuestTrace) × Spells trace.now t × (needed.new ≡ memory_length t)
         × (memory.new ≡ over (image_before t tick).bytes memory.old) }
     ensures short { result ≡ 61 → (t : GuestTrace) × Spells trace.now t × (needed.new ≡ memory_length t)
         × (length memory.old < needed.new) }
     ensures refused { result ≢ 0 → result ≢ 61 → (e : TraceError) × Refuses trace.now e × (result ≡ number_of_trace e)
-        × (needed.new ≡ needed.old) }
+        × (needed.new ≡ needed.old) × (record.new ≡ record_after e record.old) }
+    ensures not_told { (result ≡ 0) ⊎ (result ≡ 61) → record.new ≡ record.old }
     ensures only { (t : GuestTrace) → Spells trace.now t → (result ≡ 0) ⊎ (result ≡ 61) }
     ensures unchanged { result ≢ 0 → memory.new ≡ memory.old }
 {
@@ -83,24 +90,30 @@ fn answer_before(trace: &[u8], tick: u64, memory: &mut [u8], needed: &mut usize)
             Ok(()) => 0,
             Err(refusal) => refusal.number(),
         },
-        Err(error) => Refusal::Trace(error).number(),
+        Err(error) => refuse_trace(error, record),
     }
 }
 
 /// Writes the memory after all writes of a trace, page after page, over the front of a buffer, and sets `needed` to its
 /// length. If the buffer is too short, it sets only that. It allocates nothing.
 #[unsafe(no_mangle)]
-pub extern "C" fn precopy_memory(trace: &[u8], memory: &mut [u8], needed: &mut usize) -> u32
+pub extern "C" fn precopy_memory(
+    trace: &[u8],
+    memory: &mut [u8],
+    needed: &mut usize,
+    record: &mut u32,
+) -> u32
     ensures made { result ≡ 0 → (t : GuestTrace) × Spells trace.now t × (needed.new ≡ memory_length t)
         × (memory.new ≡ over (image_of t).bytes memory.old) }
     ensures short { result ≡ 61 → (t : GuestTrace) × Spells trace.now t × (needed.new ≡ memory_length t)
         × (length memory.old < needed.new) }
     ensures refused { result ≢ 0 → result ≢ 61 → (e : TraceError) × Refuses trace.now e × (result ≡ number_of_trace e)
-        × (needed.new ≡ needed.old) }
+        × (needed.new ≡ needed.old) × (record.new ≡ record_after e record.old) }
+    ensures not_told { (result ≡ 0) ⊎ (result ≡ 61) → record.new ≡ record.old }
     ensures only { (t : GuestTrace) → Spells trace.now t → (result ≡ 0) ⊎ (result ≡ 61) }
     ensures unchanged { result ≢ 0 → memory.new ≡ memory.old }
 {
-    answer_before(trace, END, memory, needed)
+    answer_before(trace, END, memory, needed, record)
 }
 
 /// Writes the memory after the writes before a tick, as [`precopy_memory`] does after all of them.
@@ -110,17 +123,19 @@ pub extern "C" fn precopy_memory_before(
     tick: u64,
     memory: &mut [u8],
     needed: &mut usize,
+    record: &mut u32,
 ) -> u32
     ensures made { result ≡ 0 → (t : GuestTrace) × Spells trace.now t × (needed.new ≡ memory_length t)
         × (memory.new ≡ over (image_before t tick).bytes memory.old) }
     ensures short { result ≡ 61 → (t : GuestTrace) × Spells trace.now t × (needed.new ≡ memory_length t)
         × (length memory.old < needed.new) }
     ensures refused { result ≢ 0 → result ≢ 61 → (e : TraceError) × Refuses trace.now e × (result ≡ number_of_trace e)
-        × (needed.new ≡ needed.old) }
+        × (needed.new ≡ needed.old) × (record.new ≡ record_after e record.old) }
+    ensures not_told { (result ≡ 0) ⊎ (result ≡ 61) → record.new ≡ record.old }
     ensures only { (t : GuestTrace) → Spells trace.now t → (result ≡ 0) ⊎ (result ≡ 61) }
     ensures unchanged { result ≢ 0 → memory.new ≡ memory.old }
 {
-    answer_before(trace, tick, memory, needed)
+    answer_before(trace, tick, memory, needed, record)
 }
 
 /// Returns how many writes have a tick below this one.
@@ -141,11 +156,16 @@ fn count_before(trace: &TraceView<'_>, tick: u64) -> u32
 
 /// Sets `count` to the number of writes before a tick: after so many writes memory is as before the tick.
 #[unsafe(no_mangle)]
-pub extern "C" fn precopy_writes_before(trace: &[u8], tick: u64, count: &mut u32) -> u32
+pub extern "C" fn precopy_writes_before(
+    trace: &[u8],
+    tick: u64,
+    count: &mut u32,
+    record: &mut u32,
+) -> u32
     ensures found { result ≡ 0 → (t : GuestTrace) × Spells trace.now t × (count.new ≡ writes_before t tick)
-        × (image_after t count.new ≡ image_before t tick) }
+        × (image_after t count.new ≡ image_before t tick) × (record.new ≡ record.old) }
     ensures refused { result ≢ 0 → (e : TraceError) × Refuses trace.now e × (result ≡ number_of_trace e)
-        × (count.new ≡ count.old) }
+        × (count.new ≡ count.old) × (record.new ≡ record_after e record.old) }
     ensures only { (t : GuestTrace) → Spells trace.now t → result ≡ 0 }
 {
     match TraceView::parse(trace) {
@@ -153,6 +173,6 @@ pub extern "C" fn precopy_writes_before(trace: &[u8], tick: u64, count: &mut u32
             *count = count_before(&view, tick);
             0
         }
-        Err(error) => Refusal::Trace(error).number(),
+        Err(error) => refuse_trace(error, record),
     }
 }

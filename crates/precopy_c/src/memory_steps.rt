@@ -3,7 +3,7 @@
 ghost use Rattle.std.specs.Prelude.{◌≡◌, ◌≢◌, ◌≤◌, IfErr, IsOk, OnErr, OnOk, length};
 ghost use Rattle.migration_model.specs.Trace.{GuestTrace, Spells};
 ghost use Rattle.precopy_c.specs.Memories.{memory_length};
-ghost use Rattle.precopy_c.specs.Places.{IsStep, RefusesStep, number_of_place};
+ghost use Rattle.precopy_c.specs.Places.{IsStep, IsToldOf, RefusesStep};
 
 use crate::memories::write_over;
 use crate::place_answers::PlaceRefusal;
@@ -51,16 +51,23 @@ fn answer_step(trace: &[u8], from: u32, to: u32, memory: &mut [u8]) -> Result<()
 /// Brings memory after the first `from` writes of a trace on, in place, to that after the first `to` writes. It
 /// allocates nothing.
 #[unsafe(no_mangle)]
-pub extern "C" fn precopy_memory_step(trace: &[u8], from: u32, to: u32, memory: &mut [u8]) -> u32
+pub extern "C" fn precopy_memory_step(
+    trace: &[u8],
+    from: u32,
+    to: u32,
+    memory: &mut [u8],
+    record: &mut u32,
+) -> u32
     ensures made { result ≡ 0 → (t : GuestTrace) × Spells trace.now t × IsStep t from to memory.old memory.new }
-    ensures refused { result ≢ 0 → (refusal : PlaceRefusal) × (result ≡ number_of_place refusal)
-        × RefusesStep trace.now from to (length memory.old) refusal }
+    ensures refused { result ≢ 0
+        → IsToldOf result record.old record.new (RefusesStep trace.now from to (length memory.old)) }
+    ensures not_told { result ≡ 0 → record.new ≡ record.old }
     ensures only { (t : GuestTrace) → Spells trace.now t → from ≤ to → length memory.old ≡ memory_length t
         → result ≡ 0 }
     ensures unchanged { result ≢ 0 → memory.new ≡ memory.old }
 {
     match answer_step(trace, from, to, memory) {
         Ok(()) => 0,
-        Err(refusal) => refusal.number(),
+        Err(refusal) => refusal.told(record),
     }
 }

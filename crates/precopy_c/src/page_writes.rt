@@ -4,7 +4,7 @@ ghost use Rattle.std.specs.Prelude.{◌≡◌, ◌≢◌, ◌<◌, ◌≤◌, �
 ghost use Rattle.migration_model.specs.Trace.{GuestTrace, Spells};
 ghost use Rattle.guest_log.specs.Writes.{shown};
 ghost use Rattle.precopy_c.specs.Buffers.{over};
-ghost use Rattle.precopy_c.specs.Places.{RefusesPage, number_of_place, row_at, rows_of};
+ghost use Rattle.precopy_c.specs.Places.{IsToldOf, RefusesPage, row_at, rows_of};
 
 use crate::place_answers::{PlaceRefusal, trace_with_page};
 use guest_log::WriteView;
@@ -77,13 +77,15 @@ pub extern "C" fn precopy_page_writes(
     page: u32,
     writes: &mut [PageWrite],
     count: &mut usize,
+    record: &mut u32,
 ) -> u32
     ensures made { result ≡ 0 → (t : GuestTrace) × Spells trace.now t × (page < t.pages)
         × (count.new ≡ length (rows_of t page)) × (writes.new ≡ over (rows_of t page) writes.old) }
     ensures short { result ≡ 61 → (t : GuestTrace) × Spells trace.now t × (page < t.pages)
         × (count.new ≡ length (rows_of t page)) × (length writes.old < count.new) }
-    ensures refused { result ≢ 0 → result ≢ 61 → (refusal : PlaceRefusal) × (result ≡ number_of_place refusal)
-        × RefusesPage trace.now page refusal × (count.new ≡ count.old) }
+    ensures refused { result ≢ 0 → result ≢ 61
+        → IsToldOf result record.old record.new (RefusesPage trace.now page) × (count.new ≡ count.old) }
+    ensures not_told { (result ≡ 0) ⊎ (result ≡ 61) → record.new ≡ record.old }
     ensures only { (t : GuestTrace) → Spells trace.now t → page < t.pages → (result ≡ 0) ⊎ (result ≡ 61) }
     ensures unchanged { result ≢ 0 → writes.new ≡ writes.old }
 {
@@ -91,11 +93,11 @@ pub extern "C" fn precopy_page_writes(
         Ok(view) => {
             *count = count_writes(&view, page);
             if writes.len() < *count {
-                return PlaceRefusal::ShortBuffer.number();
+                return PlaceRefusal::ShortBuffer.told(record);
             }
             put_writes(&view, page, writes);
             0
         }
-        Err(refusal) => refusal.number(),
+        Err(refusal) => refusal.told(record),
     }
 }

@@ -5,7 +5,7 @@ ghost use Rattle.migration_model.specs.Trace.{GuestTrace, Spells};
 ghost use Rattle.precopy_c.specs.Places.{RefusesPage};
 ghost use Rattle.precopy_c.specs.declared.place_answers.PlaceRefusal.TheVariants.{Trace as OfTrace};
 
-use crate::answers::Refusal;
+use crate::answers::{Refusal, refuse_trace};
 use trace_codec::{TraceError, TraceView};
 
 /// Why a call about a page or a place of a trace refuses.
@@ -35,15 +35,17 @@ impl From<TraceError> for PlaceRefusal {
 
 impl PlaceRefusal {
     ghost use Rattle.std.specs.Prelude.{◌≡◌, ◌≤◌};
-    ghost use Rattle.precopy_c.specs.Places.{number_of_place};
+    ghost use Rattle.precopy_c.specs.Places.{number_of_place, record_of_place};
 
-    /// Returns the number that C sees.
-    pub(crate) fn number(self) -> u32
+    /// Tells C of this refusal: sets `record` to the record of a trace that it names, if it names one, and returns its
+    /// number.
+    pub(crate) fn told(self, record: &mut u32) -> u32
         ensures number { result ≡ number_of_place self }
         ensures some { 1 ≤ result }
+        ensures record { record.new ≡ record_of_place self record.old }
     {
         match self {
-            PlaceRefusal::Trace(error) => Refusal::Trace(error).number(),
+            PlaceRefusal::Trace(error) => refuse_trace(error, record),
             PlaceRefusal::NoPage => 67,
             PlaceRefusal::Backwards => 68,
             PlaceRefusal::NoVersion => 71,

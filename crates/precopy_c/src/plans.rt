@@ -6,7 +6,7 @@ ghost use Rattle.migration_model.specs.Rounds.{MigrationPlan};
 ghost use Rattle.migration_model.specs.Sweeps.{outcome_of};
 ghost use Rattle.migration_model.specs.Trace.{GuestTrace, Spells};
 ghost use Rattle.rate_limit.specs.Pacing.{reason_of};
-ghost use Rattle.precopy_c.specs.Answers.{IsNumberOf, number_of};
+ghost use Rattle.precopy_c.specs.Answers.{IsToldBy, number_of};
 ghost use Rattle.precopy_c.specs.Buffers.{over};
 ghost use Rattle.precopy_c.specs.Plans.{IsPlanOf, RefusesPlan, reason_number, row_of, sums_of};
 ghost use Rattle.precopy_c.specs.Settings.{settings_in};
@@ -109,20 +109,23 @@ pub extern "C" fn precopy_plan(
     trace: &[u8],
     settings: &PlanSettings,
     found: &mut PlanSums,
+    record: &mut u32,
 ) -> u32
     ensures made { result ≡ 0 → (plan : MigrationPlan) × IsPlanOf trace.now (settings_in settings.now) plan
         × (found.new ≡ sums_of (outcome_of plan)) }
-    ensures refused { result ≢ 0 → IsNumberOf result (RefusesPlan trace.now (settings_in settings.now)) }
+    ensures refused { result ≢ 0
+        → IsToldBy result record.old record.new (RefusesPlan trace.now (settings_in settings.now)) }
     ensures only { (t : GuestTrace) → Spells trace.now t → AreSettings (settings_in settings.now)
         → (result ≡ 0) ⊎ (result ≡ 16) }
     ensures unchanged { result ≢ 0 → found.new ≡ found.old }
+    ensures not_told { result ≡ 0 → record.new ≡ record.old }
 {
     match planned(alloc, trace, settings) {
         Ok(plan) => {
             *found = sums(&plan.outcome());
             0
         }
-        Err(refusal) => refusal.number(),
+        Err(refusal) => refusal.told(record),
     }
 }
 
@@ -145,13 +148,16 @@ pub extern "C" fn precopy_rounds(
     settings: &PlanSettings,
     rounds: &mut [PlanRound],
     count: &mut usize,
+    record: &mut u32,
 ) -> u32
     ensures made { result ≡ 0 → (plan : MigrationPlan) × IsPlanOf trace.now (settings_in settings.now) plan
         × (count.new ≡ length plan.rounds) × (rounds.new ≡ over (map row_of plan.rounds) rounds.old) }
     ensures short { result ≡ 61 → (plan : MigrationPlan) × IsPlanOf trace.now (settings_in settings.now) plan
         × (count.new ≡ length plan.rounds) × (length rounds.old < count.new) }
     ensures refused { result ≢ 0 → result ≢ 61
-        → IsNumberOf result (RefusesPlan trace.now (settings_in settings.now)) × (count.new ≡ count.old) }
+        → IsToldBy result record.old record.new (RefusesPlan trace.now (settings_in settings.now))
+        × (count.new ≡ count.old) }
+    ensures not_told { (result ≡ 0) ⊎ (result ≡ 61) → record.new ≡ record.old }
     ensures only { (t : GuestTrace) → Spells trace.now t → AreSettings (settings_in settings.now)
         → (result ≡ 0) ⊎ (result ≡ 16) ⊎ (result ≡ 61) }
     ensures unchanged { result ≢ 0 → rounds.new ≡ rounds.old }
@@ -165,6 +171,6 @@ pub extern "C" fn precopy_rounds(
             put_rounds(&plan.rounds, rounds);
             0
         }
-        Err(refusal) => refusal.number(),
+        Err(refusal) => refusal.told(record),
     }
 }

@@ -3,7 +3,7 @@
 ghost use Rattle.std.specs.Prelude.{◌≡◌, ◌≢◌, ◌<◌, ◌⊎◌, ℕ, List, IfErr, IfOk, length};
 ghost use Rattle.migration_model.specs.Rates.{AreSettings};
 ghost use Rattle.migration_model.specs.Trace.{GuestTrace, Spells};
-ghost use Rattle.precopy_c.specs.Answers.{IsNumberOf, number_of};
+ghost use Rattle.precopy_c.specs.Answers.{IsToldBy, number_of};
 ghost use Rattle.precopy_c.specs.Buffers.{over};
 ghost use Rattle.precopy_c.specs.Plans.{IsReportOf, RefusesPlan};
 ghost use Rattle.precopy_c.specs.Settings.{settings_in};
@@ -40,13 +40,16 @@ pub extern "C" fn precopy_report(
     settings: &PlanSettings,
     text: &mut [u8],
     needed: &mut usize,
+    record: &mut u32,
 ) -> u32
     ensures made { result ≡ 0 → (report : List ℕ) × IsReportOf trace.now (settings_in settings.now) report
         × (needed.new ≡ length report) × (text.new ≡ over report text.old) }
     ensures short { result ≡ 61 → (report : List ℕ) × IsReportOf trace.now (settings_in settings.now) report
         × (needed.new ≡ length report) × (length text.old < needed.new) }
     ensures refused { result ≢ 0 → result ≢ 61
-        → IsNumberOf result (RefusesPlan trace.now (settings_in settings.now)) × (needed.new ≡ needed.old) }
+        → IsToldBy result record.old record.new (RefusesPlan trace.now (settings_in settings.now))
+        × (needed.new ≡ needed.old) }
+    ensures not_told { (result ≡ 0) ⊎ (result ≡ 61) → record.new ≡ record.old }
     ensures only { (t : GuestTrace) → Spells trace.now t → AreSettings (settings_in settings.now)
         → (result ≡ 0) ⊎ (result ≡ 16) ⊎ (result ≡ 61) }
     ensures unchanged { result ≢ 0 → text.new ≡ text.old }
@@ -56,6 +59,6 @@ pub extern "C" fn precopy_report(
             Ok(()) => 0,
             Err(refusal) => refusal.number(),
         },
-        Err(refusal) => refusal.number(),
+        Err(refusal) => refusal.told(record),
     }
 }

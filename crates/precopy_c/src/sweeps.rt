@@ -5,7 +5,7 @@ ghost use Rattle.std.specs.List.{All};
 ghost use Rattle.migration_model.specs.Rates.{AreSettings};
 ghost use Rattle.migration_model.specs.Sweeps.{SweepLine, best_of};
 ghost use Rattle.migration_model.specs.Trace.{GuestTrace, Spells};
-ghost use Rattle.precopy_c.specs.Answers.{IsNumberOf, number_of};
+ghost use Rattle.precopy_c.specs.Answers.{IsToldBy, number_of};
 ghost use Rattle.precopy_c.specs.Buffers.{over};
 ghost use Rattle.precopy_c.specs.Settings.{settings_in};
 ghost use Rattle.precopy_c.specs.Sweeps.{IsSweepOf, RefusesSweep, line_sums};
@@ -93,13 +93,15 @@ pub extern "C" fn precopy_sweep(
     cases: &[PlanSettings],
     found: &mut [PlanSums],
     chosen: &mut usize,
+    record: &mut u32,
 ) -> u32
     ensures made { result ≡ 0 → (lines : List SweepLine) × IsSweepOf trace.now (map settings_in cases.now) lines
         × (found.new ≡ over (map line_sums lines) found.old) × (chosen.new ≡ best_of lines) }
     ensures short { length found.old < length cases.now → result ≡ 61 }
     ensures long { result ≡ 61 → length found.old < length cases.now }
     ensures refused { result ≢ 0 → result ≢ 61
-        → IsNumberOf result (RefusesSweep trace.now (map settings_in cases.now)) }
+        → IsToldBy result record.old record.new (RefusesSweep trace.now (map settings_in cases.now)) }
+    ensures not_told { (result ≡ 0) ⊎ (result ≡ 61) → record.new ≡ record.old }
     ensures only { (t : GuestTrace) → Spells trace.now t → All AreSettings (map settings_in cases.now)
         → length cases.now ≤ length found.old → (result ≡ 0) ⊎ (result ≡ 16) }
     ensures unchanged { result ≢ 0 → (found.new ≡ found.old) × (chosen.new ≡ chosen.old) }
@@ -113,6 +115,6 @@ pub extern "C" fn precopy_sweep(
             *chosen = best(&lines);
             0
         }
-        Err(refusal) => refusal.number(),
+        Err(refusal) => refusal.told(record),
     }
 }

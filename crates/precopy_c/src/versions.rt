@@ -5,7 +5,7 @@ ghost use Rattle.migration_model.specs.Trace.{GuestTrace, Spells};
 ghost use Rattle.migration_model.specs.Versions.{page_at};
 ghost use Rattle.page_versions.specs.Index.{version_after};
 ghost use Rattle.precopy_c.specs.Buffers.{over};
-ghost use Rattle.precopy_c.specs.Places.{IsVersion, RefusesPage, RefusesVersion, number_of_place};
+ghost use Rattle.precopy_c.specs.Places.{IsToldOf, IsVersion, RefusesPage, RefusesVersion};
 
 use crate::place_answers::{PlaceRefusal, trace_with_page};
 use trace_codec::TraceView;
@@ -36,11 +36,13 @@ pub extern "C" fn precopy_version_after(
     page: u32,
     count: u32,
     version: &mut u32,
+    record: &mut u32,
 ) -> u32
     ensures found { result ≡ 0 → (t : GuestTrace) × Spells trace.now t × (page < t.pages)
         × (version.new ≡ version_after t page count) }
-    ensures refused { result ≢ 0 → (refusal : PlaceRefusal) × (result ≡ number_of_place refusal)
-        × RefusesPage trace.now page refusal × (version.new ≡ version.old) }
+    ensures refused { result ≢ 0
+        → IsToldOf result record.old record.new (RefusesPage trace.now page) × (version.new ≡ version.old) }
+    ensures not_told { result ≡ 0 → record.new ≡ record.old }
     ensures only { (t : GuestTrace) → Spells trace.now t → page < t.pages → result ≡ 0 }
 {
     match trace_with_page(trace, page) {
@@ -48,7 +50,7 @@ pub extern "C" fn precopy_version_after(
             *version = version_to(&view, page, count);
             0
         }
-        Err(refusal) => refusal.number(),
+        Err(refusal) => refusal.told(record),
     }
 }
 
@@ -97,17 +99,24 @@ fn answer_page(trace: &[u8], page: u32, stamp: u32, content: &mut [u8]) -> Resul
 /// Writes the bytes of a page at a version, which is 0 or the place of a write to it, over the front of a buffer. It
 /// allocates nothing.
 #[unsafe(no_mangle)]
-pub extern "C" fn precopy_page_at(trace: &[u8], page: u32, stamp: u32, content: &mut [u8]) -> u32
+pub extern "C" fn precopy_page_at(
+    trace: &[u8],
+    page: u32,
+    stamp: u32,
+    content: &mut [u8],
+    record: &mut u32,
+) -> u32
     ensures made { result ≡ 0 → (t : GuestTrace) × Spells trace.now t × IsVersion t page stamp
         × (content.new ≡ over (page_at t page stamp) content.old) }
-    ensures refused { result ≢ 0 → (refusal : PlaceRefusal) × (result ≡ number_of_place refusal)
-        × RefusesVersion trace.now page stamp (length content.old) refusal }
+    ensures refused { result ≢ 0
+        → IsToldOf result record.old record.new (RefusesVersion trace.now page stamp (length content.old)) }
+    ensures not_told { result ≡ 0 → record.new ≡ record.old }
     ensures only { (t : GuestTrace) → Spells trace.now t → IsVersion t page stamp
         → 2 ^ t.shift ≤ length content.old → result ≡ 0 }
     ensures unchanged { result ≢ 0 → content.new ≡ content.old }
 {
     match answer_page(trace, page, stamp, content) {
         Ok(()) => 0,
-        Err(refusal) => refusal.number(),
+        Err(refusal) => refusal.told(record),
     }
 }
