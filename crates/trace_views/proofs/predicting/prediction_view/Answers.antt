@@ -34,8 +34,8 @@ pub returns-clause-made : goal.returns-clause-made
 returns-clause-made c =
     let settings = c.args.asked.now.settings in
     let is_plan : IsPlan c.args.log.now.pages c.args.log.now.touches settings c.in_ok-plan.plan = search rules in
-    let numbers = c.asked.view_is ∙ c.asked-2.ensures.value in
-    let start : c.asked.inside.start ≡ settings.start = ap (λ (s : MigrationSettings). s.start) numbers in
+    let numbers = c.behind-asked.view_is ∙ c.asked.ensures.value in
+    let start : c.behind-asked.inside.start ≡ settings.start = ap (λ (s : MigrationSettings). s.start) numbers in
     viewed c.args.log.now c.args.asked.now c.in_ok-written.field-0.items c.kept.result c.in_ok-plan.plan
-    c.new-prediction.result c.in_ok-errors.errors c.asked.inside.start c.last_tick.result is_plan
+    c.new-prediction.result c.in_ok-errors.errors c.behind-asked.inside.start c.last_tick.result is_plan
     c.new-prediction.ensures start c.last_tick.ensures c.in_ok-errors.ensures c.in_ok-written.ensures c.kept.ensures
