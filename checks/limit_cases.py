@@ -129,22 +129,61 @@ def error_of(limits, total, squares):
     return root_above(-(-spread // (sampled * sampled * (sampled - 1))))
 
 
-def errors_of(limits, start, known):
+def settings_of(limits, start, base):
+    rates = [int(word.split("=")[1]) for word in limits.settings()]
+    return redrawn.Settings(*rates, rounds=30, start=start, base=base)
+
+
+def errors_of(limits, start, base, known):
     """Returns the standard errors of what is sent, in bytes, and of time and downtime, in microseconds, if there are
     any: by plans of redrawn pages, page by page."""
     if not 2 <= limits.sampled <= 65_536 or limits.sampled >= limits.guest:
         return None
-    rates = [int(word.split("=")[1]) for word in limits.settings()]
     scale = redrawn.Scale(limits.tick, limits.page, limits.sampled, limits.guest)
-    return redrawn.errors(known.guest, redrawn.Settings(*rates, rounds=30, start=start), scale)
+    return redrawn.errors(known.guest, settings_of(limits, start, base), scale)
 
 
-def predicted_document(limits, report, start, last, errors):
+class Ranges:
+    """What a migration costs from each of at most 21 starts: planned page by page."""
+
+    def __init__(self, limits, base, known):
+        first = base or 0
+        last = max(first, known.last)
+        ticks = range(first, last + 1, max(1, -(-(last - first) // 20)))
+        self.limits, self.count = limits, len(ticks)
+        plans = [(tick, redrawn.planned(known.guest, settings_of(limits, tick, base))) for tick in ticks]
+        self.known = [(tick, plan) for tick, plan in plans if plan.stop <= known.last]
+        facts = [{"at": plan.stop, "down": plan.down, "total": plan.total} for _, plan in self.known]
+        costs = [costs_of(limits, tick, plan) for (tick, _), plan in zip(self.known, facts)]
+        self.times, self.downs, self.sizes = zip(*costs) if costs else ((), (), ())
+        self.converging = sum(plan.reason == "few" for _, plan in self.known)
+        self.kept = sum(down <= limits.downtime for down in self.downs)
+
+    def lines(self):
+        if not self.known:
+            return []
+        spans = [f"{text(min(numbers))} to {text(max(numbers))}" for text, numbers in
+                 ((size_text, self.sizes), (seconds, self.times), (seconds, self.downs))]
+        return [f"starts: {self.count}, known: {len(self.known)}, converging: {self.converging}, "
+                f"limit kept: {self.kept}",
+                f"over known starts: sent {spans[0]}, time {spans[1]}, downtime {spans[2]}"]
+
+    def member(self):
+        if not self.known:
+            return {}
+        costs = {name: {"time_seconds": of(self.times) / 1e6, "sent_bytes": of(self.sizes),
+                        "down_seconds": of(self.downs) / 1e6} for name, of in (("least", min), ("greatest", max))}
+        return {"starts": {"count": self.count, "known": len(self.known), "converging": self.converging,
+                           "kept": self.kept, **costs}}
+
+
+def predicted_document(limits, report, asked, last, errors, ranges):
     """Returns the document of a prediction, from the facts of a report."""
-    stop = report["stop"]
+    (start, base), stop = asked, report["stop"]
     time, down, sent = costs_of(limits, start, stop)
     settings = {name: int(value) for name, value in (word[2:].split("=") for word in limits.settings())}
     first = {"first_bytes": limits.first[1]} if limits.first else {}
+    warm = {} if base is None else {"base": base}
     migration = {"why": stop["why"], "rounds": len(report["rounds"]), "time_seconds": time / 1e6, "sent_bytes": sent,
                  "down_seconds": down / 1e6, "left_pages": stop["pages"]}
     if errors:
@@ -160,9 +199,10 @@ def predicted_document(limits, report, start, last, errors):
                   "guest_pages": limits.guest},
         "limits": {"link_bytes": limits.link[1], **first, "down_seconds": limits.downtime / 1e6,
                    "reserve_seconds": limits.reserve / 1e6},
-        "settings": {**settings, "limit": 30, "skip": False, "start": start},
+        "settings": {**settings, "limit": 30, "skip": False, "start": start, **warm},
         "converges": answer(stop["why"] == "few"), "kept": answer(down <= limits.downtime),
         "recorded_seconds": max(0, last - start) * limits.tick / 1e6, **({"migration": migration} if is_known else {}),
+        **ranges.member(),
         "hosts": {"bandwidth_bytes": limits.link[1], "bandwidth_mib": max(1, limits.link[1] >> 20),
                   "down_milliseconds": (limits.downtime - limits.reserve) // 1_000},
     }
@@ -179,15 +219,18 @@ def ran_in_range(view, command, words, limits, known):
     return None, text
 
 
-def check_prediction(view, precopy, limits, start, known):
-    words = [*limits.words, f"--start={start}"]
+def check_prediction(view, precopy, limits, asked, known):
+    start, base = asked
+    pace = [f"--start={start}"] + ([] if base is None else [f"--base={base}"])
+    words = [*limits.words, *pace]
     status, text = ran_in_range(view, "predict", words, limits, known)
     if status is None:
         return
     settings = limits.settings()
-    report = report_facts(told(precopy, ["report", *settings, f"--start={start}"], known.path))
+    report = report_facts(told(precopy, ["report", *settings, *pace], known.path))
     lines, warnings, wanted = predicted_lines(limits, report, start, known.last)
-    errors = errors_of(limits, start, known) if wanted != 4 else None
+    errors = errors_of(limits, start, base, known) if wanted != 4 else None
+    ranges = Ranges(limits, base, known)
     if errors:
         sent, time, down = errors
         lines.append(f"standard errors: sent {size_text(sent)}, time {seconds(time)}, downtime {seconds(down)}")
@@ -195,17 +238,17 @@ def check_prediction(view, precopy, limits, start, known):
     told_warnings = [line for line in found if line.startswith("warning: ")]
     if status != wanted or found[: len(lines)] != lines or len(told_warnings) != warnings:
         raise Failure(f"{words}: status {status}, {found} in place of {lines} and {warnings} warnings")
-    live = " ".join(["precopy live", *(" ".join(word.split("=")) for word in settings), f"--rounds 30 --start {start}"])
+    live = " ".join(["precopy live", *settings[:4], "--rounds 30", *pace]).replace("=", " ")
     millis = (limits.downtime - limits.reserve) // 1_000
     hosts = [f"QEMU: migrate_set_parameter max-bandwidth {limits.link[1]}B",
              f"QEMU: migrate_set_parameter downtime-limit {millis}",
              f"libvirt: virsh migrate-setspeed DOMAIN {max(1, limits.link[1] >> 20)}",
              f"libvirt: virsh migrate-setmaxdowntime DOMAIN {millis}"]
-    rest = found[len(lines) + warnings:]
-    if rest != [live, *hosts]:
-        raise Failure(f"{words}: {rest} in place of {[live, *hosts]}")
+    rest = [*ranges.lines(), live, *hosts]
+    if found[len(lines) + warnings:] != rest:
+        raise Failure(f"{words}: {found[len(lines) + warnings:]} in place of {rest}")
     status, text, _ = ran(view, ["json", "predict", *words], known.path)
-    document = predicted_document(limits, report, start, known.last, errors)
+    document = predicted_document(limits, report, asked, known.last, errors, ranges)
     if status != wanted or document_of("predict", text) != document:
         raise Failure(f"{words}: status {status}, {text} in place of {document}")
 
@@ -347,7 +390,8 @@ def limit_tries(traces):
     for _ in range(CASES_OF_LIMITS):
         some = draw.choice(known)
         limits, start = Limits(draw, some), draw.randrange(some.last + 2)
-        yield check_prediction, limits, start, some
+        base = draw.choice([None, None, draw.randrange(start + 1)])
+        yield check_prediction, limits, (start, base), some
         yield check_measured, limits, start, some
 
 

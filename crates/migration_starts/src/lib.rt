@@ -3,12 +3,18 @@
 
 mod choosing;
 mod error;
+mod range_text;
+mod ranges;
+mod spread;
 mod starting;
 mod starts;
 mod table;
 
 pub use choosing::{best_start, is_better_known, is_worse_known, known_starts, worst_start};
 pub use error::StartsError;
+pub use range_text::push_ranges;
+pub use ranges::{CostNumbers, StartRanges, ranges_over};
+pub use spread::spread_cases;
 pub use starting::{StartCost, start_costs};
 pub use starts::Starts;
 pub use table::{push_right, starts_text};

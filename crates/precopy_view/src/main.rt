@@ -4,6 +4,8 @@
 #[cfg(test)]
 mod advice_tests;
 mod faults;
+#[cfg(test)]
+mod range_tests;
 mod starting;
 #[cfg(test)]
 mod tests;

@@ -220,6 +220,8 @@ sent: 0.00 MiB
 downtime: 0.135 s, limit: 0.200 s, kept
 standard errors: sent 0.00 MiB, time 0.054 s, downtime 0.060 s
 warning: fewer than 100 pages decided the stop; chance moves it
+starts: 21, known: 19, converging: 19, limit kept: 19
+over known starts: sent 0.00 MiB to 0.00 MiB, time 0.260 s to 0.385 s, downtime 0.010 s to 0.135 s
 precopy live --min 16 --max 16 --inc 0 --threshold 4 --rounds 30 --start 0
 QEMU: migrate_set_parameter max-bandwidth 1024B
 QEMU: migrate_set_parameter downtime-limit 190
@@ -245,6 +247,8 @@ fn predicts_a_migration(rt: HostRuntime) -> Result<(), Fail> {
 /// From tick 2400 on the trace has 100 ticks, and the first round takes 250.
 static UNKNOWN: &str = "converges: unknown, the trace ends before the migration does; record longer
 total time: more than 0.100 s
+starts: 21, known: 19, converging: 19, limit kept: 19
+over known starts: sent 0.00 MiB to 0.00 MiB, time 0.260 s to 0.385 s, downtime 0.010 s to 0.135 s
 precopy live --min 16 --max 16 --inc 0 --threshold 4 --rounds 30 --start 2400
 QEMU: migrate_set_parameter max-bandwidth 1024B
 QEMU: migrate_set_parameter downtime-limit 190

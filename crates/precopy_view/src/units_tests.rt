@@ -157,6 +157,9 @@ static PREDICTED: &str =
 \"migration\":{\"why\":\"few\",\"rounds\":1,\"time_seconds\":0.385000,\"sent_bytes\":384,\
 \"down_seconds\":0.135000,\"left_pages\":2,\"errors\":{\"sent_bytes\":64,\
 \"time_seconds\":0.054082,\"down_seconds\":0.060686}},\
+\"starts\":{\"count\":21,\"known\":19,\"converging\":19,\"kept\":19,\
+\"least\":{\"time_seconds\":0.260000,\"sent_bytes\":256,\"down_seconds\":0.010000},\
+\"greatest\":{\"time_seconds\":0.385000,\"sent_bytes\":384,\"down_seconds\":0.135000}},\
 \"hosts\":{\"bandwidth_bytes\":1024,\"bandwidth_mib\":1,\"down_milliseconds\":190}}\n";
 
 /// The same from a tick from which the trace ends before the migration does.
@@ -165,6 +168,9 @@ static UNKNOWN: &str =
 \"guest_pages\":16},\"limits\":{\"link_bytes\":1024,\"down_seconds\":0.200000,\"reserve_seconds\":0.010000},\
 \"settings\":{\"min\":16,\"max\":16,\"inc\":0,\"threshold\":4,\"limit\":30,\"skip\":false,\"start\":2400},\
 \"converges\":\"unknown\",\"kept\":\"unknown\",\"recorded_seconds\":0.100000,\
+\"starts\":{\"count\":21,\"known\":19,\"converging\":19,\"kept\":19,\
+\"least\":{\"time_seconds\":0.260000,\"sent_bytes\":256,\"down_seconds\":0.010000},\
+\"greatest\":{\"time_seconds\":0.385000,\"sent_bytes\":384,\"down_seconds\":0.135000}},\
 \"hosts\":{\"bandwidth_bytes\":1024,\"bandwidth_mib\":1,\"down_milliseconds\":190}}\n";
 
 #[test]

@@ -3,6 +3,8 @@ pub mod Advice
 pub mod AdviceText
 pub mod Views
 pub mod PredictionJson
+pub mod RangesJson
+pub mod Outlooks
 pub mod PredictionViews
 pub mod StartsJson
 pub mod StartViews

@@ -9,7 +9,9 @@ use Rattle.predictions.specs.Predictions.{GuestPrediction, kept_of, verdict_of, 
 use Rattle.redrawn_pages.specs.Errors.{SampleErrors}
 use Rattle.trace_views.specs.Json.{member_of, number_member, object_of, scale_object, seconds_member, settings_members}
 use Rattle.trace_views.specs.Json.{text_member}
+use Rattle.trace_views.specs.RangesJson.{ranges_member}
 use Rattle.trace_views.specs.StartsJson.{cost_numbers}
+use Rattle.trace_views.specs.declared.outlook.Outlook.{Outlook}
 
 -- what a migration may take
 abbrev pub first_member : Option ℕ → List Token
@@ -74,8 +76,12 @@ asked_members settings scale limits =
     (codes "settings") (settings_object settings)
     ∷ []
 
--- what was asked, the answers, the migration if it is known, and the same limits for others
-abbrev pub prediction_object : MigrationSettings → TraceScale → Limits → GuestPrediction → Option SampleErrors
-    → List Token
-prediction_object settings scale limits p errors = object_of (asked_members settings scale limits
-    ++ (answer_members p ++ migration_member p errors ∷ member_of (codes "hosts") (hosts_object limits) ∷ []))
+-- what is predicted: the answers, the migration if it is known, and the ranges over starts if there are any
+abbrev pub outlook_members : Outlook → List (List Token)
+outlook_members outlook = answer_members outlook.prediction
+    ++ migration_member outlook.prediction outlook.errors ∷ ranges_member outlook.ranges ∷ []
+
+-- what was asked, what is predicted, and the same limits for others
+abbrev pub prediction_object : MigrationSettings → TraceScale → Limits → Outlook → List Token
+prediction_object settings scale limits outlook = object_of (asked_members settings scale limits
+    ++ (outlook_members outlook ++ member_of (codes "hosts") (hosts_object limits) ∷ []))

@@ -4,10 +4,14 @@ ghost use Rattle.std.specs.Prelude.{◌≡◌, ◌++◌, IfOk, OnOk, codes};
 ghost use Rattle.std.specs.List.{flat_map};
 ghost use Rattle.trace_views.specs.Json.{line_of, member_of};
 ghost use Rattle.trace_views.specs.PredictionJson.{answer_members, asked_members, base_member, errors_member};
-ghost use Rattle.trace_views.specs.PredictionJson.{errors_object, first_member, hosts_object, limits_object, migration_member};
-ghost use Rattle.trace_views.specs.PredictionJson.{migration_object, prediction_object, settings_object};
+ghost use Rattle.trace_views.specs.PredictionJson.{errors_object, first_member, hosts_object, limits_object};
+ghost use Rattle.trace_views.specs.PredictionJson.{migration_member};
+ghost use Rattle.trace_views.specs.PredictionJson.{migration_object, outlook_members, prediction_object};
+ghost use Rattle.trace_views.specs.PredictionJson.{settings_object};
 
 use crate::document::Document;
+use crate::outlook::Outlook;
+use crate::ranges_document::write_ranges;
 use crate::starts_document::write_cost_numbers;
 use crate::sweep_document::{write_scale, write_settings};
 use guest_units::{Limits, Scale};
@@ -185,6 +189,17 @@ fn write_asked(
     Ok(())
 }
 
+/// Writes what is predicted: the answers, the migration if the trace does not end before it, and the ranges over starts
+/// if there are any, as members.
+fn write_outlook(alloc: Global, out: &mut Document, outlook: &Outlook) -> Result<(), AllocError>
+    ensures { OnOk result (out.new ≡ out.old ++ flat_map (λ m. m) (outlook_members outlook.now)) }
+{
+    write_answers(alloc, out, &outlook.prediction)?;
+    write_migration(alloc, out, &outlook.prediction, &outlook.errors)?;
+    write_ranges(alloc, out, &outlook.ranges)?;
+    Ok(())
+}
+
 /// Writes a prediction.
 fn write_prediction(
     alloc: Global,
@@ -192,16 +207,14 @@ fn write_prediction(
     settings: &Settings,
     scale: &Scale,
     limits: &Limits,
-    prediction: &Prediction,
-    errors: &Option<Errors>,
+    outlook: &Outlook,
 ) -> Result<(), AllocError>
     ensures { OnOk result (out.new ≡ out.old
-        ++ prediction_object settings.now scale.now limits.now prediction.now errors.now) }
+        ++ prediction_object settings.now scale.now limits.now outlook.now) }
 {
     out.begin_object()?;
     write_asked(alloc, out, settings, scale, limits)?;
-    write_answers(alloc, out, prediction)?;
-    write_migration(alloc, out, prediction, errors)?;
+    write_outlook(alloc, out, outlook)?;
     out.key("hosts")?;
     write_hosts(out, limits)?;
     out.end_object()?;
@@ -209,19 +222,18 @@ fn write_prediction(
 }
 
 /// Returns a prediction as a JSON document, in one line: what was asked, the answers, the migration if the trace does
-/// not end before it, and the same limits for QEMU and libvirt.
+/// not end before it, the ranges over starts, and the same limits for QEMU and libvirt.
 pub fn json_prediction(
     alloc: Global,
     settings: &Settings,
     scale: &Scale,
     limits: &Limits,
-    prediction: &Prediction,
-    errors: &Option<Errors>,
+    outlook: &Outlook,
 ) -> Result<Vec<u8>, AllocError>
     ensures { IfOk result (λ text. text.items
-        ≡ line_of (prediction_object settings.now scale.now limits.now prediction.now errors.now)) }
+        ≡ line_of (prediction_object settings.now scale.now limits.now outlook.now)) }
 {
     let mut out = Document::new(alloc);
-    write_prediction(alloc, &mut out, settings, scale, limits, prediction, errors)?;
+    write_prediction(alloc, &mut out, settings, scale, limits, outlook)?;
     out.into_line()
 }

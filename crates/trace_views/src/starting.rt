@@ -5,7 +5,7 @@ ghost use Rattle.trace_views.specs.StartViews.{AreStartsOf, IsStartsText, IsStar
 ghost use Rattle.trace_views.specs.StartViews.{kept_from};
 
 use crate::error::ViewError;
-use crate::predicting::last_tick;
+use crate::outlook::last_tick;
 use crate::starts_document::json_starts;
 use crate::sweeping::planned;
 use crate::view::{AskedStarts, StartsForm, ViewText};

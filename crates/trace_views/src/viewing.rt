@@ -9,7 +9,8 @@ use crate::budget::Budget;
 use crate::choosing::advise;
 use crate::error::ViewError;
 use crate::grid::Grid;
-use crate::predicting::{last_tick, prediction_view};
+use crate::outlook::last_tick;
+use crate::predicting::prediction_view;
 use crate::report_document::json_report;
 use crate::starting::starts_view;
 use crate::sweep_document::json_sweep;
@@ -166,6 +167,6 @@ pub fn view_text<R: Threads + Sync>(
             style,
         } => shown(screen_view(alloc, settings, scale, style, log)),
         View::When(asked) => starts_view(rt, alloc, asked, log),
-        View::Predict(asked) => prediction_view(alloc, asked, log),
+        View::Predict(asked) => prediction_view(rt, alloc, asked, log),
     }
 }

@@ -5,44 +5,41 @@ use Rattle.std.specs.List.{flat_map}
 use Rattle.std.specs.Prelude.{codes}
 use Rattle.json.specs.Token.{Token, begin_object, end_object, key}
 use Rattle.trace_views.specs.Json.{object_of}
-use Rattle.trace_views.specs.PredictionJson.{answer_members, asked_members, hosts_object, migration_member}
+use Rattle.trace_views.specs.PredictionJson.{asked_members, hosts_object, outlook_members}
 use Rattle.trace_views.proofs.prediction_document.write_prediction.Goals as goal
 
 abbrev joined : List (List Token) → List Token
 joined members = flat_map (λ (m : List Token). m) members
 
 -- the tokens of an object with these members, one after another
-in_a_row : (asked answers : List (List Token)) (migration hosts : List Token) (name : Token)
-    → object_of (asked ++ (answers ++ migration ∷ (name ∷ hosts) ∷ [])) ≡ begin_object
-    ∷ (joined asked ++ (joined answers ++ (migration ++ (name ∷ (hosts ++ end_object ∷ [])))))
-in_a_row asked answers migration hosts name =
-    let rest = migration ∷ (name ∷ hosts) ∷ [] in
-    let last : joined rest ≡ migration ++ (name ∷ hosts) =
-    ap (λ (l : List Token). migration ++ (name ∷ l)) (append-nil hosts) in
-    let both : joined (asked ++ (answers ++ rest)) ≡ joined asked ++ (joined answers ++ (migration ++ (name ∷ hosts))) =
-    flat_map-append (λ (m : List Token). m) asked (answers ++ rest)
-    ∙ ap (λ (l : List Token). joined asked ++ l) (flat_map-append (λ (m : List Token). m) answers rest
-    ∙ ap (λ (l : List Token). joined answers ++ l) last) in
+in_a_row : (asked told : List (List Token)) (hosts : List Token) (name : Token)
+    → object_of (asked ++ (told ++ (name ∷ hosts) ∷ [])) ≡ begin_object
+    ∷ (joined asked ++ (joined told ++ (name ∷ (hosts ++ end_object ∷ []))))
+in_a_row asked told hosts name =
+    let rest = (name ∷ hosts) ∷ [] in
+    let last : joined rest ≡ name ∷ hosts = ap (λ (l : List Token). name ∷ l) (append-nil hosts) in
+    let both : joined (asked ++ (told ++ rest)) ≡ joined asked ++ (joined told ++ (name ∷ hosts)) =
+    flat_map-append (λ (m : List Token). m) asked (told ++ rest)
+    ∙ ap (λ (l : List Token). joined asked ++ l) (flat_map-append (λ (m : List Token). m) told rest
+    ∙ ap (λ (l : List Token). joined told ++ l) last) in
     ap (λ (l : List Token). begin_object ∷ (l ++ end_object ∷ [])) both
     ∙ ap (λ (l : List Token). begin_object ∷ l) (simp append_assoc)
 
 -- what is written piece by piece
-written : (old a b c d e f g n1 n2 n3 n4 n5 n6 n7 : List Token)
-    → n1 ≡ old ++ a → n2 ≡ n1 ++ b → n3 ≡ n2 ++ c → n4 ≡ n3 ++ d → n5 ≡ n4 ++ e → n6 ≡ n5 ++ f → n7 ≡ n6 ++ g
-    → n7 ≡ old ++ (a ++ (b ++ (c ++ (d ++ (e ++ (f ++ g))))))
-written old a b c d e f g n1 n2 n3 n4 n5 n6 n7 e1 e2 e3 e4 e5 e6 e7 = rw (e7, e6, e5, e4, e3, e2, e1) (simp append_assoc)
+written : (old a b c d e f n1 n2 n3 n4 n5 n6 : List Token)
+    → n1 ≡ old ++ a → n2 ≡ n1 ++ b → n3 ≡ n2 ++ c → n4 ≡ n3 ++ d → n5 ≡ n4 ++ e → n6 ≡ n5 ++ f
+    → n6 ≡ old ++ (a ++ (b ++ (c ++ (d ++ (e ++ f)))))
+written old a b c d e f n1 n2 n3 n4 n5 n6 e1 e2 e3 e4 e5 e6 = rw (e6, e5, e4, e3, e2, e1) (simp append_assoc)
 
 pub returns : goal.returns
 returns c =
     let old = c.args.out.now in
     let asked = asked_members c.args.settings.now c.args.scale.now c.args.limits.now in
-    let answers = answer_members c.args.prediction.now in
-    let migration = migration_member c.args.prediction.now c.args.errors.now in
+    let told = outlook_members c.args.outlook.now in
     let hosts = hosts_object c.args.limits.now in
     let name = key (codes "hosts") in
-    written old (begin_object ∷ []) (joined asked) (joined answers) migration (name ∷ []) hosts (end_object ∷ [])
-    c.begin_object.new.self c.write_asked.new.out c.write_answers.new.out c.write_migration.new.out c.key.new.self
-    c.write_hosts.new.out c.end_object.new.self c.in_ok-begin_object.ensures c.in_ok-write_asked.ensures
-    c.in_ok-write_answers.ensures c.in_ok-write_migration.ensures c.in_ok-key.ensures c.in_ok-write_hosts.ensures
-    c.in_ok-end_object.ensures
-    ∙ ap (λ (l : List Token). old ++ l) (sym (in_a_row asked answers migration hosts name))
+    written old (begin_object ∷ []) (joined asked) (joined told) (name ∷ []) hosts (end_object ∷ [])
+    c.begin_object.new.self c.write_asked.new.out c.write_outlook.new.out c.key.new.self c.write_hosts.new.out
+    c.end_object.new.self c.in_ok-begin_object.ensures c.in_ok-write_asked.ensures c.in_ok-write_outlook.ensures
+    c.in_ok-key.ensures c.in_ok-write_hosts.ensures c.in_ok-end_object.ensures
+    ∙ ap (λ (l : List Token). old ++ l) (sym (in_a_row asked told hosts name))

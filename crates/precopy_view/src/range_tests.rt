@@ -1,0 +1,99 @@
+//! Worked examples of the ranges over starts. The numbers come from the plans of `bench/redrawn.py`, which shares no
+//! code with the crates.
+
+use crate::tests::told;
+use std::test::Fail;
+
+/// From 1200 to 2500 there is a start at each 65th tick. From the first the destination has all, from the last the
+/// first round ends after the trace, and from the others one page is sent.
+static WARM: &str = "converges: yes, rounds: 1
+total time: 0.073 s
+sent: 0.00 MiB
+downtime: 0.010 s, limit: 0.200 s, kept
+standard errors: sent 0.00 MiB, time 0.052 s, downtime 0.000 s
+warning: fewer than 100 pages decided the stop; chance moves it
+starts: 21, known: 20, converging: 20, limit kept: 20
+over known starts: sent 0.00 MiB to 0.00 MiB, time 0.010 s to 0.073 s, downtime 0.010 s to 0.010 s
+precopy live --min 16 --max 16 --inc 0 --threshold 4 --rounds 30 --start 1250 --base 1200
+QEMU: migrate_set_parameter max-bandwidth 1024B
+QEMU: migrate_set_parameter downtime-limit 190
+libvirt: virsh migrate-setspeed DOMAIN 1
+libvirt: virsh migrate-setmaxdowntime DOMAIN 190
+";
+
+#[test]
+fn starts_of_a_warm_start_come_after_its_copy(rt: HostRuntime) -> Result<(), Fail> {
+    let words = [
+        "predict",
+        "--link=1KiB",
+        "--downtime=200ms",
+        "--reserve=10ms",
+        "--page=16",
+        "--sampled=4/16",
+        "--base=1200",
+        "--start=1250",
+    ];
+    let (status, output, _) = told(&rt, rt.alloc(), 102, &words)?;
+    assert!(rt; status == 0 && output.bytes() == WARM.as_bytes());
+    Ok(())
+}
+
+/// A first round of 4,000 ticks, in a trace of 2,500.
+static NONE_KNOWN: &str =
+    "converges: unknown, the trace ends before the migration does; record longer
+total time: more than 2.500 s
+precopy live --min 1 --max 1 --inc 0 --threshold 1 --rounds 30 --start 0
+QEMU: migrate_set_parameter max-bandwidth 125B
+QEMU: migrate_set_parameter downtime-limit 190
+libvirt: virsh migrate-setspeed DOMAIN 1
+libvirt: virsh migrate-setmaxdowntime DOMAIN 190
+";
+
+#[test]
+fn no_range_is_told_of_no_known_start(rt: HostRuntime) -> Result<(), Fail> {
+    let words = [
+        "predict",
+        "--link=1Kbit",
+        "--downtime=200ms",
+        "--reserve=10ms",
+        "--page=16",
+        "--sampled=4/16",
+    ];
+    let (status, output, _) = told(&rt, rt.alloc(), 102, &words)?;
+    assert!(rt; status == 4 && output.bytes() == NONE_KNOWN.as_bytes());
+    Ok(())
+}
+
+/// There is a start at each 125th tick. From three of those that are known, pages are left after the only round, and
+/// the limit has no time for them.
+static MISSED: &str = "converges: no, all rounds that are allowed are done; rounds: 1
+total time: 0.525 s
+sent: 0.00 MiB
+downtime: 0.275 s, limit: 0.200 s, not kept
+standard errors: sent 0.00 MiB, time 0.054 s, downtime 0.054 s
+warning: fewer than 100 pages decided the stop; chance moves it
+warning: the plan ends with `rounds`, so nothing bounds the downtime; allow more rounds
+starts: 21, known: 19, converging: 16, limit kept: 16
+over known starts: sent 0.00 MiB to 0.00 MiB, time 0.400 s to 0.525 s, downtime 0.150 s to 0.275 s
+precopy live --min 16 --max 16 --inc 0 --threshold 1 --rounds 1 --start 0
+QEMU: migrate_set_parameter max-bandwidth 1024B
+QEMU: migrate_set_parameter downtime-limit 50
+libvirt: virsh migrate-setspeed DOMAIN 1
+libvirt: virsh migrate-setmaxdowntime DOMAIN 50
+";
+
+#[test]
+fn starts_that_miss_the_limit_are_counted(rt: HostRuntime) -> Result<(), Fail> {
+    let words = [
+        "predict",
+        "--link=1KiB",
+        "--downtime=200ms",
+        "--reserve=150ms",
+        "--page=16",
+        "--sampled=4/16",
+        "--rounds=1",
+    ];
+    let (status, output, _) = told(&rt, rt.alloc(), 102, &words)?;
+    assert!(rt; status == 3 && output.bytes() == MISSED.as_bytes());
+    Ok(())
+}

@@ -1,0 +1,27 @@
+-- What is predicted of a migration over a log.
+use Rattle.std.specs.Prelude.{◌≡◌, List, Option}
+use Rattle.migration_model.specs.Rounds.{IsPlan, MigrationPlan}
+use Rattle.migration_model.specs.Sweeps.{AreLines, SweepLine}
+use Rattle.migration_model.specs.Touches.{GuestTouches}
+use Rattle.migration_starts.specs.Ranges.{AreRanges, RangesOfStarts, spread_starts}
+use Rattle.migration_starts.specs.Starts.{cases_from}
+use Rattle.predictions.specs.Predictions.{last_tick_of, prediction_of}
+use Rattle.redrawn_pages.specs.Errors.{AreErrors}
+use Rattle.trace_views.specs.declared.outlook.Outlook.{Outlook}
+use Rattle.trace_views.specs.declared.view.AskedPrediction.{AskedPrediction}
+
+-- the ranges of what the migration costs from several starts, from each by its own plan
+pub record AreRangesOver (log : GuestTouches) (asked : AskedPrediction) (ranges : Option RangesOfStarts) : Type 0 where
+  pub lines : List SweepLine
+  pub are_lines : AreLines log.pages log.touches (cases_from asked.settings
+      (spread_starts asked.settings (last_tick_of log.touches)) (last_tick_of log.touches)) lines
+  pub are_ranges : AreRanges asked.scale asked.limits (last_tick_of log.touches) lines ranges
+
+-- what the plan predicts, how far chance moves that if pages were sampled, and the ranges over starts
+pub record IsOutlook (log : GuestTouches) (asked : AskedPrediction) (outlook : Outlook) : Type 0 where
+  pub plan : MigrationPlan
+  pub is_plan : IsPlan log.pages log.touches asked.settings plan
+  pub prediction_is : outlook.prediction
+      ≡ prediction_of asked.scale asked.limits asked.settings.start plan (last_tick_of log.touches)
+  pub are_errors : AreErrors log.pages log.touches asked.settings asked.scale outlook.errors
+  pub are_ranges : AreRangesOver log asked outlook.ranges

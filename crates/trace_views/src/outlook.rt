@@ -1,0 +1,79 @@
+//! What is predicted of a migration over a log of touches.
+
+ghost use Rattle.std.specs.Prelude.{◌≡◌, ◌<◌, ◌^◌, IfErr, IfOk};
+ghost use Rattle.predictions.specs.Predictions.{last_tick_of};
+ghost use Rattle.trace_views.specs.Outlooks.{AreRangesOver, IsOutlook};
+
+use crate::error::ViewError;
+use crate::sweeping::planned;
+use crate::view::AskedPrediction;
+use guest_log::Timeline;
+use migration_starts::{StartRanges, ranges_over, spread_cases};
+use predictions::Prediction;
+use redrawn_pages::Errors;
+use round_planner::plan;
+use std::alloc::Global;
+use std::thread::Threads;
+use trace_readers::TouchLog;
+
+/// What is predicted of a migration.
+#[derive(Debug, Drop)]
+pub struct Outlook {
+    /// What its plan predicts.
+    pub prediction: Prediction,
+    /// How far chance moves that, if pages were sampled.
+    pub errors: Option<Errors>,
+    /// What it costs from several starts, if it is known from any.
+    pub ranges: Option<StartRanges>,
+}
+
+/// Returns the tick of the last touch, or 0 if there is none.
+pub(crate) fn last_tick(log: &TouchLog) -> u64
+    ensures value { result ≡ last_tick_of log.now.touches }
+    ensures low { result < 2 ^ 40 }
+{
+    match log.touch_count() {
+        0 => 0,
+        count => log.touch(count - 1).tick,
+    }
+}
+
+/// Returns the ranges of what a migration over a log costs from several starts.
+fn ranges_from<R: Threads + Sync>(
+    rt: &R,
+    alloc: Global,
+    asked: &AskedPrediction,
+    log: &TouchLog,
+) -> Result<Option<StartRanges>, ViewError>
+    ensures made { IfOk result (AreRangesOver log.now asked.now) }
+    ensures refused { IfErr result (λ e. e ≡ ViewError.Memory) }
+{
+    let last = last_tick(log);
+    let cases = spread_cases(alloc, &asked.settings, last)?;
+    let workers = asked.settings.asked().workers as usize;
+    let lines = planned(rt, alloc, &cases, workers, log)?;
+    Ok(ranges_over(alloc, &asked.scale, &asked.limits, &lines, last)?)
+}
+
+/// Returns what is predicted of a migration over a log.
+pub(crate) fn outlook_over<R: Threads + Sync>(
+    rt: &R,
+    alloc: Global,
+    asked: &AskedPrediction,
+    log: &TouchLog,
+) -> Result<Outlook, ViewError>
+    ensures made { IfOk result (IsOutlook log.now asked.now) }
+    ensures refused { IfErr result (λ e. e ≡ ViewError.Memory) }
+{
+    let (scale, limits) = (&asked.scale, &asked.limits);
+    let plan = plan(alloc, log, &asked.settings).or(Err(ViewError::Memory))?;
+    let start = asked.settings.asked().start;
+    let prediction = Prediction::new(scale, limits, start, &plan, last_tick(log));
+    let errors = Errors::of_trace(alloc, log, &asked.settings, scale)?;
+    let ranges = ranges_from(rt, alloc, asked, log)?;
+    Ok(Outlook {
+        prediction,
+        errors,
+        ranges,
+    })
+}
