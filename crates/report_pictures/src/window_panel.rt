@@ -1,5 +1,9 @@
 //! The panel of the working set: the pages of each window.
 
+ghost use Rattle.std.specs.Prelude.{◌≡◌, ◌×◌, ◌++◌, ℕ, List, OnOk};
+ghost use Rattle.report_pictures.specs.Panels.{IsPanel, parted_of};
+ghost use Rattle.report_pictures.specs.ReportCharts.{windows_frame, windows_keys, windows_panel};
+
 use crate::axis::{Axis, window_end, window_start};
 use crate::panel::Panel;
 use std::alloc::AllocError;
@@ -39,13 +43,18 @@ fn merged(column: &Column, next: &Column) -> Column {
 }
 
 /// Returns where a bar begins and ends, with a gap after it if there is room for one.
-pub(crate) fn parted(from: u64, to: u64) -> (u64, u64) {
+pub(crate) fn parted(from: u64, to: u64) -> (u64, u64)
+    ensures { result ≡ parted_of from to }
+{
     let is_wide = to.saturating_sub(from) > 3;
     (from, if is_wide { to.saturating_sub(1) } else { to })
 }
 
 /// Appends the bar of a column: the pages of its window, by when they were written before.
-fn push_column(text: &mut Vec<u8>, panel: &Panel, column: &Column) -> Result<(), AllocError> {
+fn push_column(text: &mut Vec<u8>, panel: &Panel, column: &Column) -> Result<(), AllocError>
+    requires small { IsPanel panel.now }
+    ensures { OnOk result ((bars : List ℕ) × (text.new.items ≡ text.old.items ++ bars)) }
+{
     let window = &column.window;
     let place = parted(column.from, column.to);
     let old = window.pages.saturating_sub(window.fresh);
@@ -63,7 +72,10 @@ fn push_columns(
     panel: &Panel,
     length: u64,
     windows: &[Window],
-) -> Result<(), AllocError> {
+) -> Result<(), AllocError>
+    requires small { IsPanel panel.now }
+    ensures { OnOk result ((bars : List ℕ) × (text.new.items ≡ text.old.items ++ bars)) }
+{
     let mut pending: Option<Column> = None;
     for window in windows {
         let column = column_of(axis, length, window);
@@ -83,7 +95,9 @@ fn push_columns(
 }
 
 /// Returns the panel of the working set: its greatest number is that of the window with the most pages.
-pub(crate) fn panel_of_windows(windows: &[Window]) -> Panel {
+pub(crate) fn panel_of_windows(windows: &[Window]) -> Panel
+    ensures { result ≡ windows_panel windows.now }
+{
     let mut most = 1;
     for window in windows {
         most = (window.pages as u64).max(most);
@@ -95,6 +109,26 @@ pub(crate) fn panel_of_windows(windows: &[Window]) -> Panel {
     }
 }
 
+/// Appends what the colors of windows mean.
+#[tactic(auto, unfolding(crate::specs::ReportCharts::windows_keys))]
+fn push_window_keys(text: &mut Vec<u8>, panel: &Panel) -> Result<(), AllocError>
+    ensures { OnOk result (text.new.items ≡ text.old.items ++ windows_keys panel.now) }
+{
+    panel.push_key(text, "again", 480, "also in the window before")?;
+    panel.push_key(text, "earlier", 680, "earlier")?;
+    panel.push_key(text, "fresh", 770, "never before")
+}
+
+/// Appends the frame of the panel of the working set, and what its colors mean.
+#[tactic(auto, unfolding(crate::specs::ReportCharts::windows_frame))]
+fn push_windows_frame(text: &mut Vec<u8>, panel: &Panel) -> Result<(), AllocError>
+    requires small { IsPanel panel.now }
+    ensures { OnOk result (text.new.items ≡ text.old.items ++ windows_frame panel.now) }
+{
+    panel.push_frame(text, "Working set: pages written in a window")?;
+    push_window_keys(text, panel)
+}
+
 /// Appends the panel of the working set. If windows are narrower than a unit of the picture, the one with the most
 /// pages is drawn.
 pub(crate) fn push_windows(
@@ -103,10 +137,11 @@ pub(crate) fn push_windows(
     panel: &Panel,
     length: u64,
     windows: &[Window],
-) -> Result<(), AllocError> {
-    panel.push_frame(text, "Working set: pages written in a window")?;
-    panel.push_key(text, "again", 480, "also in the window before")?;
-    panel.push_key(text, "earlier", 680, "earlier")?;
-    panel.push_key(text, "fresh", 770, "never before")?;
+) -> Result<(), AllocError>
+    requires small { IsPanel panel.now }
+    ensures { OnOk result ((bars : List ℕ)
+        × (text.new.items ≡ text.old.items ++ (windows_frame panel.now ++ bars))) }
+{
+    push_windows_frame(text, panel)?;
     push_columns(text, axis, panel, length, windows)
 }

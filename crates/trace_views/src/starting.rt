@@ -1,6 +1,8 @@
 //! The same migration over a log, started at many ticks.
 
 ghost use Rattle.std.specs.Prelude.{◌≡◌, IfErr, IfOk};
+ghost use Rattle.migration_model.specs.Windows.{working_sets_of};
+ghost use Rattle.report_pictures.specs.StartCharts.{IsStartsChart};
 ghost use Rattle.trace_views.specs.StartViews.{AreStartsOf, IsStartsText, IsStartsView, RefusesStartsView};
 ghost use Rattle.trace_views.specs.StartViews.{kept_from};
 
@@ -65,7 +67,10 @@ fn chart(
     found: &Found,
     log: &TouchLog,
 ) -> Result<Vec<u8>, ViewError>
-    ensures { IfErr result (λ e. e ≡ ViewError.Memory) }
+    ensures made { IfOk result (λ text. IsStartsChart asked.now.settings asked.now.scale asked.now.limits
+        (working_sets_of log.now.pages log.now.touches asked.now.settings) found.now.costs.items found.now.best
+        found.now.worst text.items) }
+    ensures refused { IfErr result (λ e. e ≡ ViewError.Memory) }
 {
     let AskedStarts {
         settings,
@@ -93,8 +98,8 @@ fn formed(
     found: &Found,
     log: &TouchLog,
 ) -> Result<Vec<u8>, ViewError>
-    ensures made { IfOk result (λ text. IsStartsText asked.now.form asked.now.scale asked.now.limits
-        found.now.costs.items found.now.best found.now.worst text.items) }
+    ensures made { IfOk result (λ text. IsStartsText asked.now.form log.now asked.now found.now.costs.items
+        found.now.best found.now.worst text.items) }
     ensures refused { IfErr result (λ e. e ≡ ViewError.Memory) }
 {
     let Found { costs, best, worst } = found;
