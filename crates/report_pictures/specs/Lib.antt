@@ -6,5 +6,7 @@ pub mod MeasuredScreens
 pub mod Svg
 pub mod Panels
 pub mod Labels
+pub mod Spans
+pub mod WindowBars
 pub mod ReportCharts
 pub mod StartCharts

@@ -1,5 +1,4 @@
--- A report as a picture: the working set by window, and the rounds below it on an axis of their own. Where windows are
--- drawn is only tested. This project's own.
+-- A report as a picture: the working set by window, and the rounds below it on an axis of their own. This project's own.
 use Rattle.std.specs.Prelude.{◌≡◌, ℕ, ◌+◌, ◌-◌, ◌*◌, ◌×◌, max, min, List, [], ◌++◌, length, codes}
 use Rattle.std.specs.Prelude.{Option, None, Some}
 use Rattle.std.specs.List.{flat_map, fold}
@@ -13,15 +12,11 @@ use Rattle.report_pictures.specs.Labels.{AreLabels, capped, place_on}
 use Rattle.report_pictures.specs.MeasuredScreens.{named_size, named_time}
 use Rattle.report_pictures.specs.Panels.{bar_height, bar_mark, bottom_of, frame_text, key_mark, level_of, parted_of}
 use Rattle.report_pictures.specs.Panels.{span_mark}
+use Rattle.report_pictures.specs.Spans.{axis_over, axis_with, panel_with}
 use Rattle.report_pictures.specs.Svg.{area_of, rect_text, text_end, text_head}
+use Rattle.report_pictures.specs.WindowBars.{window_bars}
 use Rattle.report_pictures.specs.declared.axis.Axis.{Axis}
 use Rattle.report_pictures.specs.declared.panel.Panel.{Panel}
-
-abbrev pub axis_with : ℕ → ℕ → Axis
-axis_with first last = record { first = first; last = last }
-
-abbrev pub panel_with : ℕ → ℕ → ℕ → Panel
-panel_with top height most = record { top = top; height = height; most = most }
 
 -- the end of a migration, and the axis of its rounds
 abbrev pub end_of : MigrationPlan → ℕ
@@ -29,17 +24,6 @@ end_of plan = capped (plan.stop + plan.down)
 
 abbrev pub rounds_axis : MigrationSettings → MigrationPlan → Axis
 rounds_axis settings plan = axis_with settings.start (end_of plan)
-
--- where windows of a length begin and end, and an axis that covers them too
-abbrev pub window_from : ℕ → WindowRow → ℕ
-window_from length row = capped (row.number * length)
-
-abbrev pub window_to : ℕ → WindowRow → ℕ
-window_to length row = capped (capped (row.number + 1) * length)
-
-abbrev pub axis_over : Axis → ℕ → List WindowRow → Axis
-axis_over axis length rows = axis_with (fold (λ first row. min (window_from length row) first) axis.first rows)
-    (fold (λ last row. max (window_to length row) last) axis.last rows)
 
 -- the line on the trace
 unfoldable pub sizes_words : ℕ → ℕ → List ℕ
@@ -64,6 +48,10 @@ windows_keys panel = key_mark panel (codes "again") 480 (codes "also in the wind
 
 unfoldable pub windows_frame : Panel → List ℕ
 windows_frame panel = frame_text panel (codes "Working set: pages written in a window") ++ windows_keys panel
+
+unfoldable pub windows_marks : Axis → ℕ → List WindowRow → List ℕ
+windows_marks axis length rows =
+    windows_frame (windows_panel rows) ++ window_bars axis length (windows_panel rows) rows
 
 -- where the rounds lie, and the stop, on the windows
 unfoldable pub place_marks : Axis → Axis → Panel → MigrationPlan → List ℕ
@@ -151,18 +139,17 @@ abbrev pub units_mark : Option TraceScale → MigrationPlan → List ℕ
 units_mark None plan = []
 units_mark (Some scale) plan = units_of scale plan
 
--- This is a whole picture of a report. Of its head, its colors and the bars of windows nothing is said.
+-- This is a whole picture of a report. Of its head, which has its size and its colors, nothing is said.
 pub record IsReportChart (pages size writes : ℕ) (settings : MigrationSettings) (scale : Option TraceScale)
     (sets : WorkingSets) (plan : MigrationPlan) (text : List ℕ) : Type 0 where
   pub head : List ℕ
-  pub bars : List ℕ
   pub upper : List ℕ
   pub are_upper : AreLabels (axis_over (rounds_axis settings plan) settings.window sets.windows) scale 240 upper
   pub lower : List ℕ
   pub are_lower : AreLabels (rounds_axis settings plan) scale 610 lower
   pub text_is : text ≡ head ++ (trace_mark pages size writes settings.window
-      ++ (windows_frame (windows_panel sets.windows) ++ (bars
+      ++ (windows_marks (axis_over (rounds_axis settings plan) settings.window sets.windows) settings.window sets.windows
       ++ (place_marks (axis_over (rounds_axis settings plan) settings.window sets.windows) (rounds_axis settings plan)
       (windows_panel sets.windows) plan ++ (upper ++ (rounds_marks (rounds_axis settings plan)
       (pages_panel plan.rounds) (rates_panel plan.rounds) plan ++ (lower ++ (stop_mark plan
-      ++ (units_mark scale plan ++ codes "</svg>\n")))))))))
+      ++ (units_mark scale plan ++ codes "</svg>\n"))))))))

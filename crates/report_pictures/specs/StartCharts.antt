@@ -12,7 +12,8 @@ use Rattle.predictions.specs.Quantities.{bytes_text, seconds_text}
 use Rattle.sweep_report.specs.Lines.{field}
 use Rattle.report_pictures.specs.Labels.{AreLabels, place_on}
 use Rattle.report_pictures.specs.Panels.{frame_text, key_mark, level_of, span_mark}
-use Rattle.report_pictures.specs.ReportCharts.{axis_over, axis_with, panel_with, windows_frame, windows_panel}
+use Rattle.report_pictures.specs.ReportCharts.{windows_marks}
+use Rattle.report_pictures.specs.Spans.{axis_over, axis_with, panel_with}
 use Rattle.report_pictures.specs.Svg.{area_of, placed_text, rect_text, text_end, text_head}
 use Rattle.report_pictures.specs.declared.axis.Axis.{Axis}
 use Rattle.report_pictures.specs.declared.panel.Panel.{Panel}
@@ -123,15 +124,14 @@ abbrev pub chosen_words : TraceScale → List ℕ → ℕ → Option CostAtStart
 chosen_words scale name y None = []
 chosen_words scale name y (Some at) = chosen_line scale name y at
 
--- This is a whole picture of starts. Of its head, its colors and the bars of windows nothing is said.
+-- This is a whole picture of starts. Of its head, which has its size and its colors, nothing is said.
 pub record IsStartsChart (settings : MigrationSettings) (scale : TraceScale) (limits : Limits) (sets : WorkingSets)
     (costs : List CostAtStart) (best worst : Option CostAtStart) (text : List ℕ) : Type 0 where
   pub head : List ℕ
-  pub bars : List ℕ
   pub labels : List ℕ
   pub are_labels : AreLabels (axis_over (starts_axis costs) settings.window sets.windows) (Some scale) 670 labels
   pub text_is : text ≡ head ++ (placed_text (codes "head") 90 36 (codes "When to migrate")
-      ++ (windows_frame (windows_panel sets.windows) ++ (bars
+      ++ (windows_marks (axis_over (starts_axis costs) settings.window sets.windows) settings.window sets.windows
       ++ (curves_marks (axis_over (starts_axis costs) settings.window sets.windows) (limits.downtime / 1_000) costs
       best worst ++ (labels ++ (chosen_words scale (codes "Best start at ") 746 best
-      ++ (chosen_words scale (codes "Worst start at ") 768 worst ++ codes "</svg>\n")))))))
+      ++ (chosen_words scale (codes "Worst start at ") 768 worst ++ codes "</svg>\n"))))))

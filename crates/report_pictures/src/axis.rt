@@ -4,7 +4,8 @@ ghost use Rattle.std.specs.Prelude.{◌≡◌, ◌≤◌, ◌-◌, ◌×◌, ◌
 ghost use Rattle.guest_units.specs.Scales.{micros_of};
 ghost use Rattle.report_pictures.specs.Axes.{IsStep, place_of, share_of};
 ghost use Rattle.report_pictures.specs.Labels.{AreLabels, label_at, label_mark, label_words, time_label, title_of};
-ghost use Rattle.report_pictures.specs.ReportCharts.{axis_over, rounds_axis, window_from, window_to};
+ghost use Rattle.report_pictures.specs.ReportCharts.{rounds_axis};
+ghost use Rattle.report_pictures.specs.Spans.{axis_over, window_from, window_to};
 ghost use Rattle.std.specs.List.{flat_map, range_with_len};
 
 use crate::svg::{Area, begin_text, end_text, push_rect, push_text};

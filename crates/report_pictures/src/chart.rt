@@ -170,7 +170,7 @@ pub fn report_chart(
     let mut text = Vec::new(alloc);
     begin_picture(&mut text, 720)?;
     push_trace(&mut text, shape, length)?;
-    push_windows(&mut text, &axis, &windows, length, &tables.windows)?;
+    push_windows(&mut text, &axis, length, &tables.windows)?;
     push_place(&mut text, &axis, &rounds_axis, &windows, plan)?;
     axis.push_labels(&mut text, scale, windows.bottom())?;
     push_rounds(&mut text, &rounds_axis, &pages, &rates, plan)?;

@@ -13,7 +13,7 @@ ghost use Rattle.report_pictures.specs.StartCharts.{title_words};
 use crate::axis::{Axis, LEFT, SPAN};
 use crate::panel::Panel;
 use crate::svg::{Area, begin_picture, begin_text, end_picture, end_text, push_rect, push_text};
-use crate::window_panel::{panel_of_windows, push_windows};
+use crate::window_panel::push_windows;
 use crate::words::push_words;
 use guest_units::{Limits, Scale};
 use migration_starts::StartCost;
@@ -351,7 +351,6 @@ pub fn starts_chart(
     let length = settings.asked().window;
     let axis = axis_of(costs).with_windows(length, &tables.windows);
     let known = Some(*scale);
-    let windows = panel_of_windows(&tables.windows);
     let (best, worst) = chosen;
     let chosen = Chosen {
         best: *best,
@@ -360,7 +359,7 @@ pub fn starts_chart(
     let mut text = Vec::new(alloc);
     begin_picture(&mut text, 800)?;
     push_text(&mut text, "head", LEFT, 36, "When to migrate")?;
-    push_windows(&mut text, &axis, &windows, length, &tables.windows)?;
+    push_windows(&mut text, &axis, length, &tables.windows)?;
     push_curves(&mut text, &axis, limits.downtime / 1000, costs, &chosen)?;
     axis.push_labels(&mut text, &known, 670)?;
     push_chosen(&mut text, scale, "Best start at ", 746, &chosen.best)?;

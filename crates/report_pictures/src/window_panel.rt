@@ -1,8 +1,10 @@
 //! The panel of the working set: the pages of each window.
 
-ghost use Rattle.std.specs.Prelude.{◌≡◌, ◌×◌, ◌++◌, ℕ, List, OnOk};
+ghost use Rattle.std.specs.Prelude.{◌≡◌, ◌≤◌, ◌×◌, ◌++◌, OnOk, map};
 ghost use Rattle.report_pictures.specs.Panels.{IsPanel, parted_of};
-ghost use Rattle.report_pictures.specs.ReportCharts.{windows_frame, windows_keys, windows_panel};
+ghost use Rattle.report_pictures.specs.ReportCharts.{windows_frame, windows_keys, windows_marks, windows_panel};
+ghost use Rattle.report_pictures.specs.WindowBars.{column_marks, column_of, columns_from, columns_marks, joined};
+ghost use Rattle.report_pictures.specs.WindowBars.{window_bars, window_marks};
 
 use crate::axis::{Axis, window_end, window_start};
 use crate::panel::Panel;
@@ -11,14 +13,16 @@ use working_sets::Window;
 
 /// The windows that fall in the same units of the picture: the one with the most pages stands for all.
 #[derive(Clone, Copy)]
-struct Column {
-    from: u64,
-    to: u64,
-    window: Window,
+pub(crate) struct Column {
+    pub(crate) from: u64,
+    pub(crate) to: u64,
+    pub(crate) window: Window,
 }
 
 /// Returns the units of the picture that a window takes.
-fn column_of(axis: &Axis, length: u64, window: &Window) -> Column {
+fn column(axis: &Axis, length: u64, window: &Window) -> Column
+    ensures { result ≡ column_of axis.now length window.now }
+{
     let from = axis.place(window_start(window, length));
     let to = axis.place(window_end(window, length)).max(from + 1);
     Column {
@@ -29,7 +33,9 @@ fn column_of(axis: &Axis, length: u64, window: &Window) -> Column {
 }
 
 /// Returns the column for two that fall in the same units.
-fn merged(column: &Column, next: &Column) -> Column {
+fn merged(column: &Column, next: &Column) -> Column
+    ensures { result ≡ joined column.now next.now }
+{
     let window = if next.window.pages > column.window.pages {
         next.window
     } else {
@@ -50,13 +56,17 @@ pub(crate) fn parted(from: u64, to: u64) -> (u64, u64)
     (from, if is_wide { to.saturating_sub(1) } else { to })
 }
 
-/// Appends the bar of a column: the pages of its window, by when they were written before.
-fn push_column(text: &mut Vec<u8>, panel: &Panel, column: &Column) -> Result<(), AllocError>
+/// Appends the bar of a window: its pages, by when they were written before.
+#[tactic(auto, unfolding(crate::specs::WindowBars::window_marks))]
+fn push_window(
+    text: &mut Vec<u8>,
+    panel: &Panel,
+    place: (u64, u64),
+    window: &Window,
+) -> Result<(), AllocError>
     requires small { IsPanel panel.now }
-    ensures { OnOk result ((bars : List ℕ) × (text.new.items ≡ text.old.items ++ bars)) }
+    ensures { OnOk result (text.new.items ≡ text.old.items ++ window_marks panel.now place window.now) }
 {
-    let window = &column.window;
-    let place = parted(column.from, column.to);
     let old = window.pages.saturating_sub(window.fresh);
     let earlier = old.saturating_sub(window.again);
     let high = panel.push_bar(text, "again", place, 0, window.again as u64)?;
@@ -65,8 +75,42 @@ fn push_column(text: &mut Vec<u8>, panel: &Panel, column: &Column) -> Result<(),
     Ok(())
 }
 
-/// Appends the bars of all windows.
+/// Appends the bar of a column.
+fn push_column(text: &mut Vec<u8>, panel: &Panel, column: &Column) -> Result<(), AllocError>
+    requires small { IsPanel panel.now }
+    ensures { OnOk result (text.new.items ≡ text.old.items ++ column_marks panel.now column.now) }
+{
+    push_window(text, panel, parted(column.from, column.to), &column.window)
+}
+
+/// Appends the bars from a column on, of which these windows follow.
 fn push_columns(
+    text: &mut Vec<u8>,
+    axis: &Axis,
+    panel: &Panel,
+    length: u64,
+    first: Column,
+    windows: &[Window],
+) -> Result<(), AllocError>
+    requires small { IsPanel panel.now }
+    ensures { OnOk result (text.new.items ≡ text.old.items
+        ++ columns_marks panel.now (columns_from first (map (column_of axis.now length) windows.now))) }
+{
+    let mut last = first;
+    for window in windows {
+        let next = column(axis, length, window);
+        if next.from < last.to {
+            last = merged(&last, &next);
+        } else {
+            push_column(text, panel, &last)?;
+            last = next;
+        }
+    }
+    push_column(text, panel, &last)
+}
+
+/// Appends the bars of all windows.
+fn push_bars(
     text: &mut Vec<u8>,
     axis: &Axis,
     panel: &Panel,
@@ -74,24 +118,15 @@ fn push_columns(
     windows: &[Window],
 ) -> Result<(), AllocError>
     requires small { IsPanel panel.now }
-    ensures { OnOk result ((bars : List ℕ) × (text.new.items ≡ text.old.items ++ bars)) }
+    ensures { OnOk result (text.new.items ≡ text.old.items ++ window_bars axis.now length panel.now windows.now) }
 {
-    let mut pending: Option<Column> = None;
-    for window in windows {
-        let column = column_of(axis, length, window);
-        match pending {
-            Some(last) if column.from < last.to => pending = Some(merged(&last, &column)),
-            Some(last) => {
-                push_column(text, panel, &last)?;
-                pending = Some(column);
-            }
-            None => pending = Some(column),
+    match windows.split_first() {
+        Some((first, rest)) => {
+            let first = column(axis, length, first);
+            push_columns(text, axis, panel, length, first, rest)
         }
+        None => Ok(()),
     }
-    if let Some(last) = pending {
-        push_column(text, panel, &last)?;
-    }
-    Ok(())
 }
 
 /// Returns the panel of the working set: its greatest number is that of the window with the most pages.
@@ -131,17 +166,16 @@ fn push_windows_frame(text: &mut Vec<u8>, panel: &Panel) -> Result<(), AllocErro
 
 /// Appends the panel of the working set. If windows are narrower than a unit of the picture, the one with the most
 /// pages is drawn.
+#[tactic(auto, unfolding(crate::specs::ReportCharts::windows_marks))]
 pub(crate) fn push_windows(
     text: &mut Vec<u8>,
     axis: &Axis,
-    panel: &Panel,
     length: u64,
     windows: &[Window],
 ) -> Result<(), AllocError>
-    requires small { IsPanel panel.now }
-    ensures { OnOk result ((bars : List ℕ)
-        × (text.new.items ≡ text.old.items ++ (windows_frame panel.now ++ bars))) }
+    ensures { OnOk result (text.new.items ≡ text.old.items ++ windows_marks axis.now length windows.now) }
 {
-    push_windows_frame(text, panel)?;
-    push_columns(text, axis, panel, length, windows)
+    let panel = panel_of_windows(windows);
+    push_windows_frame(text, &panel)?;
+    push_bars(text, axis, &panel, length, windows)
 }
