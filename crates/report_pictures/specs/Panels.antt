@@ -1,6 +1,6 @@
 -- Panels of a picture: a plot with a title above it, and marks in it. A panel is as high as the number `most`. This
 -- project's own.
-use Rattle.std.specs.Prelude.{ℕ, ◌+◌, ◌-◌, ◌×◌, ◌≤◌, ◌==◌, nat_lt, max, if◌then◌else◌, List, [], ◌++◌, codes}
+use Rattle.std.specs.Prelude.{ℕ, ◌+◌, ◌-◌, ◌≤◌, ◌==◌, nat_lt, max, if◌then◌else◌, List, [], ◌++◌, codes}
 use Rattle.std.specs.Fmt.{decimal}
 use Rattle.report_pictures.specs.Axes.{share_of}
 use Rattle.report_pictures.specs.Svg.{area_of, placed_text, rect_text}

@@ -1,5 +1,5 @@
 -- A report as a picture: the working set by window, and the rounds below it on an axis of their own. This project's own.
-use Rattle.std.specs.Prelude.{◌≡◌, ℕ, ◌+◌, ◌-◌, ◌*◌, ◌×◌, max, min, List, [], ◌++◌, length, codes}
+use Rattle.std.specs.Prelude.{◌≡◌, ℕ, ◌+◌, ◌-◌, ◌*◌, max, min, List, [], ◌++◌, length, codes}
 use Rattle.std.specs.Prelude.{Option, None, Some}
 use Rattle.std.specs.List.{flat_map, fold}
 use Rattle.guest_units.specs.Scales.{TraceScale}

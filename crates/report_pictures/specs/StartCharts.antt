@@ -1,6 +1,6 @@
 -- What a migration costs from each start as a picture: the working set by window, and curves below it on the same axis.
 -- This project's own.
-use Rattle.std.specs.Prelude.{◌≡◌, ℕ, ◌-◌, ◌/◌, ◌^◌, max, min, Bool, true, false, not, if◌then◌else◌}
+use Rattle.std.specs.Prelude.{◌≡◌, ℕ, ◌+◌, ◌-◌, ◌/◌, ◌^◌, max, min, Bool, true, false, not, if◌then◌else◌}
 use Rattle.std.specs.Prelude.{List, [], ◌++◌, codes, Option, None, Some}
 use Rattle.std.specs.List.{flat_map, fold}
 use Rattle.guest_units.specs.Scales.{TraceScale, micros_of}

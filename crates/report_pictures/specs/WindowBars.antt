@@ -1,6 +1,6 @@
 -- The bars of windows. Windows that fall in the same units of a picture are drawn as one column, in which the window with
 -- the most pages stands for all. This project's own.
-use Rattle.std.specs.Prelude.{ℕ, ◌+◌, ◌-◌, nat_lt, max, ◌×◌, if◌then◌else◌, List, [], ◌∷◌, ◌++◌, codes, map}
+use Rattle.std.specs.Prelude.{ℕ, ◌+◌, ◌-◌, nat_lt, max, if◌then◌else◌, List, [], ◌∷◌, ◌++◌, codes, map}
 use Rattle.std.specs.List.{flat_map}
 use Rattle.migration_model.specs.Windows.{WindowRow}
 use Rattle.report_pictures.specs.Labels.{place_on}
@@ -27,7 +27,7 @@ joined column next = record {
 }
 
 -- the columns that are drawn: one that begins before the column before it has ended is joined to that
-pub columns_from : Column → List Column → List Column
+abbrev pub columns_from : Column → List Column → List Column
 columns_from last [] = last ∷ []
 columns_from last (next ∷ rest) =
     if nat_lt next.from last.to then columns_from (joined last next) rest else last ∷ columns_from next rest

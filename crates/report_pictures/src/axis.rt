@@ -1,6 +1,6 @@
 //! The axis of ticks that several panels share.
 
-ghost use Rattle.std.specs.Prelude.{◌≡◌, ◌≤◌, ◌-◌, ◌×◌, ◌++◌, ℕ, List, OnOk};
+ghost use Rattle.std.specs.Prelude.{◌≡◌, ◌≤◌, ◌-◌, ◌++◌, ℕ, List, OnOk};
 ghost use Rattle.guest_units.specs.Scales.{micros_of};
 ghost use Rattle.report_pictures.specs.Axes.{IsStep, place_of, share_of};
 ghost use Rattle.report_pictures.specs.Labels.{AreLabels, label_at, label_mark, label_words, time_label, title_of};
@@ -121,7 +121,8 @@ impl Axis {
         let step = self.step();
         self.push_steps(text, scale, bottom, step)?;
         let middle = LEFT + SPAN / 2;
-        push_text(text, "middle", middle, bottom.saturating_add(44), title(scale))
+        push_text(text, "middle", middle, bottom.saturating_add(44), title(scale))?;
+        Ok(())
     }
 
     /// Appends the labels at the multiples of a step.

@@ -1,6 +1,6 @@
 //! A panel of a picture: a plot with a title above it, and bars in it.
 
-ghost use Rattle.std.specs.Prelude.{◌≡◌, ◌≤◌, ◌+◌, ◌×◌, ◌++◌, IfOk, OnOk};
+ghost use Rattle.std.specs.Prelude.{◌≡◌, ◌≤◌, ◌+◌, ◌++◌, IfOk, OnOk};
 ghost use Rattle.report_pictures.specs.Axes.{share_of};
 ghost use Rattle.report_pictures.specs.Panels.{IsPanel, bar_height, bar_mark, bottom_of, frame_text, key_mark};
 ghost use Rattle.report_pictures.specs.Panels.{level_of, rule_mark, span_mark};

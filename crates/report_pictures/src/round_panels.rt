@@ -1,6 +1,6 @@
 //! The panels of the rounds: their pages and their rates, the stop and the downtime.
 
-ghost use Rattle.std.specs.Prelude.{◌≡◌, ◌×◌, ◌++◌, OnOk};
+ghost use Rattle.std.specs.Prelude.{◌≡◌, ◌++◌, OnOk};
 ghost use Rattle.report_pictures.specs.Panels.{IsPanel};
 ghost use Rattle.report_pictures.specs.ReportCharts.{bar_keys, dirtied_mark, downtime_marks, pages_panel, rates_panel};
 ghost use Rattle.report_pictures.specs.ReportCharts.{round_marks, rounds_bars, rounds_frame, rounds_marks, sent_marks};
@@ -138,7 +138,8 @@ fn push_bar_keys(text: &mut Vec<u8>, panel: &Panel) -> Result<(), AllocError>
 {
     panel.push_key(text, "sent", 330, "sent")?;
     panel.push_key(text, "skipped", 410, "skipped")?;
-    panel.push_key(text, "dirtied", 510, "dirtied meanwhile")
+    panel.push_key(text, "dirtied", 510, "dirtied meanwhile")?;
+    Ok(())
 }
 
 /// Appends what the colors of the stop mean.
@@ -160,7 +161,8 @@ fn push_rounds_frame(text: &mut Vec<u8>, pages: &Panel, rates: &Panel) -> Result
     pages.push_frame(text, "Rounds: pages")?;
     push_bar_keys(text, pages)?;
     push_stop_keys(text, pages)?;
-    rates.push_frame(text, "Rounds: rate, in pages per 1,000 ticks")
+    rates.push_frame(text, "Rounds: rate, in pages per 1,000 ticks")?;
+    Ok(())
 }
 
 /// Appends the panels of the rounds.

@@ -158,9 +158,11 @@ fn push_start(
 
 /// The best and the worst of some starts.
 #[derive(Clone, Copy)]
-struct Chosen {
-    best: Option<StartCost>,
-    worst: Option<StartCost>,
+pub struct Chosen {
+    /// The best, if there is one.
+    pub best: Option<StartCost>,
+    /// The worst, if there is one.
+    pub worst: Option<StartCost>,
 }
 
 /// Appends the lines of the best and of the worst start over a panel.
@@ -249,7 +251,8 @@ fn push_start_words(
     push_words(text, name)?;
     push_seconds(text, scale.micros(at.start))?;
     push_words(text, ": downtime ")?;
-    push_seconds(text, at.cost.downtime)
+    push_seconds(text, at.cost.downtime)?;
+    Ok(())
 }
 
 /// Appends the time from a start, and what is sent.
@@ -343,24 +346,19 @@ pub fn starts_chart(
     limits: &Limits,
     tables: &Tables,
     costs: &[StartCost],
-    chosen: (&Option<StartCost>, &Option<StartCost>),
+    chosen: &Chosen,
 ) -> Result<Vec<u8>, AllocError>
-    ensures { IfOk result (λ text. IsStartsChart settings.now scale.now limits.now tables.now costs.now chosen.0.now
-        chosen.1.now text.items) }
+    ensures { IfOk result (λ text. IsStartsChart settings.now scale.now limits.now tables.now costs.now
+        chosen.now.best chosen.now.worst text.items) }
 {
     let length = settings.asked().window;
     let axis = axis_of(costs).with_windows(length, &tables.windows);
     let known = Some(*scale);
-    let (best, worst) = chosen;
-    let chosen = Chosen {
-        best: *best,
-        worst: *worst,
-    };
     let mut text = Vec::new(alloc);
     begin_picture(&mut text, 800)?;
     push_text(&mut text, "head", LEFT, 36, "When to migrate")?;
     push_windows(&mut text, &axis, length, &tables.windows)?;
-    push_curves(&mut text, &axis, limits.downtime / 1000, costs, &chosen)?;
+    push_curves(&mut text, &axis, limits.downtime / 1000, costs, chosen)?;
     axis.push_labels(&mut text, &known, 670)?;
     push_chosen(&mut text, scale, "Best start at ", 746, &chosen.best)?;
     push_chosen(&mut text, scale, "Worst start at ", 768, &chosen.worst)?;

@@ -1,6 +1,6 @@
 //! The panel of the working set: the pages of each window.
 
-ghost use Rattle.std.specs.Prelude.{◌≡◌, ◌≤◌, ◌×◌, ◌++◌, OnOk, map};
+ghost use Rattle.std.specs.Prelude.{◌≡◌, ◌≤◌, ◌++◌, OnOk, map};
 ghost use Rattle.report_pictures.specs.Panels.{IsPanel, parted_of};
 ghost use Rattle.report_pictures.specs.ReportCharts.{windows_frame, windows_keys, windows_marks, windows_panel};
 ghost use Rattle.report_pictures.specs.WindowBars.{column_marks, column_of, columns_from, columns_marks, joined};
@@ -20,7 +20,7 @@ pub(crate) struct Column {
 }
 
 /// Returns the units of the picture that a window takes.
-fn column(axis: &Axis, length: u64, window: &Window) -> Column
+fn placed(axis: &Axis, length: u64, window: &Window) -> Column
     ensures { result ≡ column_of axis.now length window.now }
 {
     let from = axis.place(window_start(window, length));
@@ -98,7 +98,7 @@ fn push_columns(
 {
     let mut last = first;
     for window in windows {
-        let next = column(axis, length, window);
+        let next = placed(axis, length, window);
         if next.from < last.to {
             last = merged(&last, &next);
         } else {
@@ -106,7 +106,8 @@ fn push_columns(
             last = next;
         }
     }
-    push_column(text, panel, &last)
+    push_column(text, panel, &last)?;
+    Ok(())
 }
 
 /// Appends the bars of all windows.
@@ -122,7 +123,7 @@ fn push_bars(
 {
     match windows.split_first() {
         Some((first, rest)) => {
-            let first = column(axis, length, first);
+            let first = placed(axis, length, first);
             push_columns(text, axis, panel, length, first, rest)
         }
         None => Ok(()),
@@ -151,7 +152,8 @@ fn push_window_keys(text: &mut Vec<u8>, panel: &Panel) -> Result<(), AllocError>
 {
     panel.push_key(text, "again", 480, "also in the window before")?;
     panel.push_key(text, "earlier", 680, "earlier")?;
-    panel.push_key(text, "fresh", 770, "never before")
+    panel.push_key(text, "fresh", 770, "never before")?;
+    Ok(())
 }
 
 /// Appends the frame of the panel of the working set, and what its colors mean.
@@ -161,7 +163,8 @@ fn push_windows_frame(text: &mut Vec<u8>, panel: &Panel) -> Result<(), AllocErro
     ensures { OnOk result (text.new.items ≡ text.old.items ++ windows_frame panel.now) }
 {
     panel.push_frame(text, "Working set: pages written in a window")?;
-    push_window_keys(text, panel)
+    push_window_keys(text, panel)?;
+    Ok(())
 }
 
 /// Appends the panel of the working set. If windows are narrower than a unit of the picture, the one with the most
@@ -177,5 +180,6 @@ pub(crate) fn push_windows(
 {
     let panel = panel_of_windows(windows);
     push_windows_frame(text, &panel)?;
-    push_bars(text, axis, &panel, length, windows)
+    push_bars(text, axis, &panel, length, windows)?;
+    Ok(())
 }

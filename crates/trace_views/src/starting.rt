@@ -15,7 +15,7 @@ use migration_starts::{
     StartCost, best_start, known_starts, start_costs, starts_text, worst_start,
 };
 use predictions::Verdict;
-use report_pictures::starts_chart;
+use report_pictures::{Chosen, starts_chart};
 use std::alloc::Global;
 use std::thread::Threads;
 use trace_readers::TouchLog;
@@ -79,7 +79,10 @@ fn chart(
         ..
     } = asked;
     let tables = tables(alloc, log, settings).or(Err(ViewError::Memory))?;
-    let chosen = (&found.best, &found.worst);
+    let chosen = Chosen {
+        best: found.best,
+        worst: found.worst,
+    };
     Ok(starts_chart(
         alloc,
         settings,
@@ -87,7 +90,7 @@ fn chart(
         limits,
         &tables,
         &found.costs,
-        chosen,
+        &chosen,
     )?)
 }
 
