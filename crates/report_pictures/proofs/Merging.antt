@@ -28,7 +28,7 @@ window_joined panel place last next n rows row low is at overlaps =
     ap (λ (cs : List Column). columns_marks panel (columns_from last cs)) (one_more place n rows row low is
     ∙ ap (λ (c : Column). c ∷ rest) (sym at))
     ∙ ap (λ (b : Bool). columns_marks panel (if b then columns_from (joined last next) rest
-        else last ∷ columns_from next rest)) overlaps
+    else last ∷ columns_from next rest)) overlaps
 
 -- or it begins another
 pub window_apart : (panel : Panel) (place : WindowRow → Column) (last next : Column) (n : ℕ) (rows : List WindowRow)
@@ -40,7 +40,7 @@ window_apart panel place last next n rows row low is at follows =
     ap (λ (cs : List Column). columns_marks panel (columns_from last cs)) (one_more place n rows row low is
     ∙ ap (λ (c : Column). c ∷ rest) (sym at))
     ∙ ap (λ (b : Bool). columns_marks panel (if b then columns_from (joined last next) rest
-        else last ∷ columns_from next rest)) follows
+    else last ∷ columns_from next rest)) follows
 
 -- the last column stands alone
 pub last_alone : (panel : Panel) (place : WindowRow → Column) (last : Column) (n : ℕ) (rows : List WindowRow)

@@ -108,9 +108,9 @@ curves_marks axis limit costs best worst =
     ++ curve_marks axis (curve_panel quantities.Sent costs 1 580) quantities.Sent costs best worst))
 
 -- the line of a chosen start
-unfoldable pub start_words : TraceScale → List ℕ → CostAtStart → List ℕ
-start_words scale name at =
-    name ++ (seconds_text (micros_of scale at.start) ++ (codes ": downtime " ++ seconds_text at.cost.downtime))
+unfoldable pub start_words : TraceScale → List ℕ → ℕ → ℕ → List ℕ
+start_words scale name start downtime =
+    name ++ (seconds_text (micros_of scale start) ++ (codes ": downtime " ++ seconds_text downtime))
 
 unfoldable pub cost_words : CostAtStart → List ℕ
 cost_words at = codes ", time " ++ (seconds_text at.cost.time ++ (codes ", " ++ (bytes_text at.cost.bytes
@@ -118,7 +118,7 @@ cost_words at = codes ", time " ++ (seconds_text at.cost.time ++ (codes ", " ++ 
 
 unfoldable pub chosen_line : TraceScale → List ℕ → ℕ → CostAtStart → List ℕ
 chosen_line scale name y at =
-    text_head (codes "foot") 90 y ++ (start_words scale name at ++ (cost_words at ++ text_end))
+    text_head (codes "foot") 90 y ++ (start_words scale name at.start at.cost.downtime ++ (cost_words at ++ text_end))
 
 abbrev pub chosen_words : TraceScale → List ℕ → ℕ → Option CostAtStart → List ℕ
 chosen_words scale name y None = []

@@ -121,7 +121,13 @@ impl Axis {
         let step = self.step();
         self.push_steps(text, scale, bottom, step)?;
         let middle = LEFT + SPAN / 2;
-        push_text(text, "middle", middle, bottom.saturating_add(44), title(scale))?;
+        push_text(
+            text,
+            "middle",
+            middle,
+            bottom.saturating_add(44),
+            title(scale),
+        )?;
         Ok(())
     }
 

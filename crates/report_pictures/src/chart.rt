@@ -116,11 +116,7 @@ fn push_units(text: &mut Vec<u8>, scale: &Scale, plan: &Plan) -> Result<(), Allo
 }
 
 /// Appends that line, if it is known what ticks and pages stand for.
-fn push_units_if(
-    text: &mut Vec<u8>,
-    scale: &Option<Scale>,
-    plan: &Plan,
-) -> Result<(), AllocError>
+fn push_units_if(text: &mut Vec<u8>, scale: &Option<Scale>, plan: &Plan) -> Result<(), AllocError>
     ensures { OnOk result (text.new.items ≡ text.old.items ++ units_mark scale.now plan.now) }
 {
     match scale {

@@ -244,14 +244,15 @@ fn push_start_words(
     text: &mut Vec<u8>,
     scale: &Scale,
     name: &str,
-    at: &StartCost,
+    start: u64,
+    downtime: u128,
 ) -> Result<(), AllocError>
-    ensures { OnOk result (text.new.items ≡ text.old.items ++ start_words scale.now name.now at.now) }
+    ensures { OnOk result (text.new.items ≡ text.old.items ++ start_words scale.now name.now start downtime) }
 {
     push_words(text, name)?;
-    push_seconds(text, scale.micros(at.start))?;
+    push_seconds(text, scale.micros(start))?;
     push_words(text, ": downtime ")?;
-    push_seconds(text, at.cost.downtime)?;
+    push_seconds(text, downtime)?;
     Ok(())
 }
 
@@ -280,7 +281,7 @@ fn push_chosen_line(
     ensures { OnOk result (text.new.items ≡ text.old.items ++ chosen_line scale.now name.now y at.now) }
 {
     begin_text(text, "foot", LEFT, y)?;
-    push_start_words(text, scale, name, at)?;
+    push_start_words(text, scale, name, at.start, at.cost.downtime)?;
     push_cost_words(text, at)?;
     end_text(text)
 }

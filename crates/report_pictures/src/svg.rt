@@ -110,12 +110,7 @@ fn push_place(text: &mut Vec<u8>, x: u64, y: u64) -> Result<(), AllocError>
 
 /// Begins a text of a class, at a place.
 #[tactic(auto, unfolding(crate::specs::Svg::text_head))]
-pub(crate) fn begin_text(
-    text: &mut Vec<u8>,
-    class: &str,
-    x: u64,
-    y: u64,
-) -> Result<(), AllocError>
+pub(crate) fn begin_text(text: &mut Vec<u8>, class: &str, x: u64, y: u64) -> Result<(), AllocError>
     ensures { OnOk result (text.new.items ≡ text.old.items ++ text_head class.now x y) }
 {
     push_words(text, "<text class=\"")?;

@@ -7,5 +7,5 @@ unfolding windows_marks
 returns c = rw (
   c.in_ok-push_bars.ensures,
   c.in_ok-push_windows_frame.ensures,
-  c.panel_of_windows.ensures,
+  c.panel_of_windows-panel.ensures,
 ) (simp append_assoc)
