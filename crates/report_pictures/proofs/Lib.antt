@@ -1,3 +1,4 @@
 pub mod Rounds
 pub mod Cells
 pub mod Numbered
+pub mod Merging

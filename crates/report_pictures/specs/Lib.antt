@@ -3,3 +3,10 @@ pub mod Bars
 pub mod Columns
 pub mod Screens
 pub mod MeasuredScreens
+pub mod Svg
+pub mod Panels
+pub mod Labels
+pub mod Spans
+pub mod WindowBars
+pub mod ReportCharts
+pub mod StartCharts

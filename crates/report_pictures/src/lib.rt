@@ -17,5 +17,5 @@ mod words;
 
 pub use chart::report_chart;
 pub use screen::{measured_screen, report_screen};
-pub use start_curves::starts_chart;
+pub use start_curves::{Chosen, starts_chart};
 pub use table::Style;

@@ -1,10 +1,19 @@
 //! What a migration costs from each start as a picture: the working set by window, and curves below it on the same
 //! axis.
 
+ghost use Rattle.std.specs.Prelude.{◌≡◌, ◌≤◌, ◌++◌, Some, IfOk, OnOk};
+ghost use Rattle.report_pictures.specs.Labels.{place_on};
+ghost use Rattle.report_pictures.specs.Panels.{IsPanel};
+ghost use Rattle.report_pictures.specs.StartCharts.{IsStartsChart, belongs, chosen_line, chosen_marks, chosen_words};
+ghost use Rattle.report_pictures.specs.StartCharts.{cost_words, curve_head, curve_marks, curve_panel, curve_text};
+ghost use Rattle.report_pictures.specs.StartCharts.{curves_marks, limit_keys, limit_marks, point_if, point_text};
+ghost use Rattle.report_pictures.specs.StartCharts.{points_of, shown_of, start_mark, start_words, starts_axis};
+ghost use Rattle.report_pictures.specs.StartCharts.{title_words};
+
 use crate::axis::{Axis, LEFT, SPAN};
 use crate::panel::Panel;
 use crate::svg::{Area, begin_picture, begin_text, end_picture, end_text, push_rect, push_text};
-use crate::window_panel::{panel_of_windows, push_windows};
+use crate::window_panel::push_windows;
 use crate::words::push_words;
 use guest_units::{Limits, Scale};
 use migration_starts::StartCost;
@@ -26,7 +35,9 @@ enum Quantity {
 }
 
 /// Returns the number that a curve shows of a start.
-fn number_of(quantity: Quantity, at: &StartCost) -> u64 {
+fn number_of(quantity: Quantity, at: &StartCost) -> u64
+    ensures { result ≡ shown_of quantity at.now }
+{
     let number = match quantity {
         Quantity::Downtime => at.cost.downtime / 1000,
         Quantity::Time => at.cost.time / 1000,
@@ -36,7 +47,9 @@ fn number_of(quantity: Quantity, at: &StartCost) -> u64 {
 }
 
 /// Returns the panel of a curve, whose greatest number is a start's, but at least this one.
-fn panel_of(quantity: Quantity, costs: &[StartCost], least: u64, top: u64) -> Panel {
+fn panel_of(quantity: Quantity, costs: &[StartCost], least: u64, top: u64) -> Panel
+    ensures { result ≡ curve_panel quantity costs.now least top }
+{
     let mut most = least.max(1);
     for at in costs {
         most = number_of(quantity, at).max(most);
@@ -48,26 +61,81 @@ fn panel_of(quantity: Quantity, costs: &[StartCost], least: u64, top: u64) -> Pa
     }
 }
 
-/// Appends the points of a curve for the starts that are known, or for those that are not.
+/// Returns whether a start belongs to the curve of those whose migration outlasts the trace, or to that of the others.
+fn is_in(is_late: bool, at: &StartCost) -> bool
+    ensures { result ≡ belongs is_late at.now }
+{
+    if is_late {
+        at.cost.is_late
+    } else {
+        !at.cost.is_late
+    }
+}
+
+/// Appends the point of a start.
+#[tactic(auto, unfolding(crate::specs::StartCharts::point_text))]
+fn push_point(
+    text: &mut Vec<u8>,
+    axis: &Axis,
+    panel: &Panel,
+    quantity: Quantity,
+    at: &StartCost,
+) -> Result<(), AllocError>
+    requires small { IsPanel panel.now }
+    ensures { OnOk result (text.new.items ≡ text.old.items ++ point_text axis.now panel.now quantity at.now) }
+{
+    push_field(text, "", axis.place(at.start))?;
+    push_field(text, ",", panel.level(number_of(quantity, at)))?;
+    push_words(text, " ")
+}
+
+/// Appends the points of the starts that are known, or of those that are not.
 fn push_points(
     text: &mut Vec<u8>,
     axis: &Axis,
     panel: &Panel,
     quantity: Quantity,
-    costs: &[StartCost],
     is_late: bool,
-) -> Result<(), AllocError> {
-    let class = if is_late { "late" } else { "known" };
-    push_words(text, "<polyline class=\"")?;
-    push_words(text, class)?;
-    push_words(text, "\" points=\"")?;
+    costs: &[StartCost],
+) -> Result<(), AllocError>
+    requires small { IsPanel panel.now }
+    ensures { OnOk result (text.new.items
+        ≡ text.old.items ++ points_of axis.now panel.now quantity is_late costs.now) }
+{
     for at in costs {
-        if at.cost.is_late == is_late {
-            push_field(text, "", axis.place(at.start))?;
-            push_field(text, ",", panel.level(number_of(quantity, at)))?;
-            push_words(text, " ")?;
+        if is_in(is_late, at) {
+            push_point(text, axis, panel, quantity, at)?;
         }
     }
+    Ok(())
+}
+
+/// Begins a curve of the starts that are known, or of those that are not.
+#[tactic(auto, unfolding(crate::specs::StartCharts::curve_head))]
+fn begin_curve(text: &mut Vec<u8>, is_late: bool) -> Result<(), AllocError>
+    ensures { OnOk result (text.new.items ≡ text.old.items ++ curve_head is_late) }
+{
+    push_words(text, "<polyline class=\"")?;
+    push_words(text, if is_late { "late" } else { "known" })?;
+    push_words(text, "\" points=\"")
+}
+
+/// Appends a curve for the starts that are known, or for those that are not.
+#[tactic(auto, unfolding(crate::specs::StartCharts::curve_text))]
+fn push_line(
+    text: &mut Vec<u8>,
+    axis: &Axis,
+    panel: &Panel,
+    quantity: Quantity,
+    is_late: bool,
+    costs: &[StartCost],
+) -> Result<(), AllocError>
+    requires small { IsPanel panel.now }
+    ensures { OnOk result (text.new.items
+        ≡ text.old.items ++ curve_text axis.now panel.now quantity is_late costs.now) }
+{
+    begin_curve(text, is_late)?;
+    push_points(text, axis, panel, quantity, is_late, costs)?;
     push_words(text, "\"/>\n")
 }
 
@@ -78,7 +146,9 @@ fn push_start(
     panel: &Panel,
     class: &str,
     at: &Option<StartCost>,
-) -> Result<(), AllocError> {
+) -> Result<(), AllocError>
+    ensures { OnOk result (text.new.items ≡ text.old.items ++ start_mark axis.now panel.now class.now at.now) }
+{
     let Some(at) = at else {
         return Ok(());
     };
@@ -88,12 +158,41 @@ fn push_start(
 
 /// The best and the worst of some starts.
 #[derive(Clone, Copy)]
-struct Chosen {
-    best: Option<StartCost>,
-    worst: Option<StartCost>,
+pub struct Chosen {
+    /// The best, if there is one.
+    pub best: Option<StartCost>,
+    /// The worst, if there is one.
+    pub worst: Option<StartCost>,
+}
+
+/// Appends the lines of the best and of the worst start over a panel.
+#[tactic(auto, unfolding(crate::specs::StartCharts::chosen_marks))]
+fn push_chosen_starts(
+    text: &mut Vec<u8>,
+    axis: &Axis,
+    panel: &Panel,
+    chosen: &Chosen,
+) -> Result<(), AllocError>
+    ensures { OnOk result (text.new.items
+        ≡ text.old.items ++ chosen_marks axis.now panel.now chosen.now.best chosen.now.worst) }
+{
+    push_start(text, axis, panel, "best", &chosen.best)?;
+    push_start(text, axis, panel, "worst", &chosen.worst)
+}
+
+/// Returns the title of the panel of a curve.
+fn title(quantity: Quantity) -> &'static str
+    ensures { result.now ≡ title_words quantity }
+{
+    match quantity {
+        Quantity::Downtime => "Downtime by start, in ms",
+        Quantity::Time => "Time by start, in ms",
+        Quantity::Sent => "Sent by start, in MiB",
+    }
 }
 
 /// Appends a panel with a curve.
+#[tactic(auto, unfolding(crate::specs::StartCharts::curve_marks))]
 fn push_curve(
     text: &mut Vec<u8>,
     axis: &Axis,
@@ -101,21 +200,34 @@ fn push_curve(
     quantity: Quantity,
     costs: &[StartCost],
     chosen: &Chosen,
-) -> Result<(), AllocError> {
-    let title = match quantity {
-        Quantity::Downtime => "Downtime by start, in ms",
-        Quantity::Time => "Time by start, in ms",
-        Quantity::Sent => "Sent by start, in MiB",
-    };
-    panel.push_frame(text, title)?;
-    push_points(text, axis, panel, quantity, costs, true)?;
-    push_points(text, axis, panel, quantity, costs, false)?;
-    push_start(text, axis, panel, "best", &chosen.best)?;
-    push_start(text, axis, panel, "worst", &chosen.worst)
+) -> Result<(), AllocError>
+    requires small { IsPanel panel.now }
+    ensures { OnOk result (text.new.items ≡ text.old.items
+        ++ curve_marks axis.now panel.now quantity costs.now chosen.now.best chosen.now.worst) }
+{
+    panel.push_frame(text, title(quantity))?;
+    push_line(text, axis, panel, quantity, true, costs)?;
+    push_line(text, axis, panel, quantity, false, costs)?;
+    push_chosen_starts(text, axis, panel, chosen)
+}
+
+/// Appends what the colors of the curves mean.
+#[tactic(auto, unfolding(crate::specs::StartCharts::limit_keys))]
+fn push_limit_keys(text: &mut Vec<u8>, panel: &Panel) -> Result<(), AllocError>
+    ensures { OnOk result (text.new.items ≡ text.old.items ++ limit_keys panel.now) }
+{
+    panel.push_key(text, "limit", 330, "limit")?;
+    panel.push_key(text, "best", 420, "best start")?;
+    panel.push_key(text, "worst", 540, "worst start")?;
+    panel.push_key(text, "latekey", 670, "ends after the trace")
 }
 
 /// Appends the line of the limit over the panel of the downtime, and what the colors mean.
-fn push_limit(text: &mut Vec<u8>, panel: &Panel, limit: u64) -> Result<(), AllocError> {
+#[tactic(auto, unfolding(crate::specs::StartCharts::limit_marks))]
+fn push_limit(text: &mut Vec<u8>, panel: &Panel, limit: u64) -> Result<(), AllocError>
+    requires small { IsPanel panel.now }
+    ensures { OnOk result (text.new.items ≡ text.old.items ++ limit_marks panel.now limit) }
+{
     let line = Area {
         x: LEFT,
         y: panel.level(limit),
@@ -123,44 +235,85 @@ fn push_limit(text: &mut Vec<u8>, panel: &Panel, limit: u64) -> Result<(), Alloc
         height: 1,
     };
     push_rect(text, "limit", &line)?;
-    panel.push_key(text, "limit", 330, "limit")?;
-    panel.push_key(text, "best", 420, "best start")?;
-    panel.push_key(text, "worst", 540, "worst start")?;
-    panel.push_key(text, "latekey", 670, "ends after the trace")
+    push_limit_keys(text, panel)
 }
 
-/// Appends the line of a chosen start.
+/// Appends when a start is, and its downtime.
+#[tactic(auto, unfolding(crate::specs::StartCharts::start_words))]
+fn push_start_words(
+    text: &mut Vec<u8>,
+    scale: &Scale,
+    name: &str,
+    start: u64,
+    downtime: u128,
+) -> Result<(), AllocError>
+    ensures { OnOk result (text.new.items ≡ text.old.items ++ start_words scale.now name.now start downtime) }
+{
+    push_words(text, name)?;
+    push_seconds(text, scale.micros(start))?;
+    push_words(text, ": downtime ")?;
+    push_seconds(text, downtime)?;
+    Ok(())
+}
+
+/// Appends the time from a start, and what is sent.
+#[tactic(auto, unfolding(crate::specs::StartCharts::cost_words))]
+fn push_cost_words(text: &mut Vec<u8>, at: &StartCost) -> Result<(), AllocError>
+    ensures { OnOk result (text.new.items ≡ text.old.items ++ cost_words at.now) }
+{
+    push_words(text, ", time ")?;
+    push_seconds(text, at.cost.time)?;
+    push_words(text, ", ")?;
+    push_bytes(text, at.cost.bytes)?;
+    push_words(text, " sent")?;
+    Ok(())
+}
+
+/// Appends the line of a start.
+#[tactic(auto, unfolding(crate::specs::StartCharts::chosen_line))]
+fn push_chosen_line(
+    text: &mut Vec<u8>,
+    scale: &Scale,
+    name: &str,
+    y: u64,
+    at: &StartCost,
+) -> Result<(), AllocError>
+    ensures { OnOk result (text.new.items ≡ text.old.items ++ chosen_line scale.now name.now y at.now) }
+{
+    begin_text(text, "foot", LEFT, y)?;
+    push_start_words(text, scale, name, at.start, at.cost.downtime)?;
+    push_cost_words(text, at)?;
+    end_text(text)
+}
+
+/// Appends the line of a chosen start, if there is one.
 fn push_chosen(
     text: &mut Vec<u8>,
     scale: &Scale,
     name: &str,
     y: u64,
     at: &Option<StartCost>,
-) -> Result<(), AllocError> {
-    let Some(at) = at else {
-        return Ok(());
-    };
-    begin_text(text, "foot", LEFT, y)?;
-    push_words(text, name)?;
-    push_seconds(text, scale.micros(at.start))?;
-    push_words(text, ": downtime ")?;
-    push_seconds(text, at.cost.downtime)?;
-    push_words(text, ", time ")?;
-    push_seconds(text, at.cost.time)?;
-    push_words(text, ", ")?;
-    push_bytes(text, at.cost.bytes)?;
-    push_words(text, " sent")?;
-    end_text(text)
+) -> Result<(), AllocError>
+    ensures { OnOk result (text.new.items ≡ text.old.items ++ chosen_words scale.now name.now y at.now) }
+{
+    match at {
+        Some(at) => push_chosen_line(text, scale, name, y, at),
+        None => Ok(()),
+    }
 }
 
 /// Appends the curves below the windows, from the top down.
+#[tactic(auto, unfolding(crate::specs::StartCharts::curves_marks))]
 fn push_curves(
     text: &mut Vec<u8>,
     axis: &Axis,
     limit: u64,
     costs: &[StartCost],
     chosen: &Chosen,
-) -> Result<(), AllocError> {
+) -> Result<(), AllocError>
+    ensures { OnOk result (text.new.items ≡ text.old.items
+        ++ curves_marks axis.now limit costs.now chosen.now.best chosen.now.worst) }
+{
     let downtime = panel_of(Quantity::Downtime, costs, limit, 300);
     let time = panel_of(Quantity::Time, costs, 1, 440);
     let sent = panel_of(Quantity::Sent, costs, 1, 580);
@@ -171,7 +324,9 @@ fn push_curves(
 }
 
 /// Returns the axis that covers all starts.
-fn axis_of(costs: &[StartCost]) -> Axis {
+fn axis_of(costs: &[StartCost]) -> Axis
+    ensures { result ≡ starts_axis costs.now }
+{
     let mut axis = Axis {
         first: u64::MAX,
         last: 0,
@@ -192,22 +347,19 @@ pub fn starts_chart(
     limits: &Limits,
     tables: &Tables,
     costs: &[StartCost],
-    chosen: (&Option<StartCost>, &Option<StartCost>),
-) -> Result<Vec<u8>, AllocError> {
+    chosen: &Chosen,
+) -> Result<Vec<u8>, AllocError>
+    ensures { IfOk result (λ text. IsStartsChart settings.now scale.now limits.now tables.now costs.now
+        chosen.now.best chosen.now.worst text.items) }
+{
     let length = settings.asked().window;
-    let axis = axis_of(costs).with_windows(length, tables);
+    let axis = axis_of(costs).with_windows(length, &tables.windows);
     let known = Some(*scale);
-    let windows = panel_of_windows(&tables.windows);
-    let (best, worst) = chosen;
-    let chosen = Chosen {
-        best: *best,
-        worst: *worst,
-    };
     let mut text = Vec::new(alloc);
     begin_picture(&mut text, 800)?;
     push_text(&mut text, "head", LEFT, 36, "When to migrate")?;
-    push_windows(&mut text, &axis, &windows, length, &tables.windows)?;
-    push_curves(&mut text, &axis, limits.downtime / 1000, costs, &chosen)?;
+    push_windows(&mut text, &axis, length, &tables.windows)?;
+    push_curves(&mut text, &axis, limits.downtime / 1000, costs, chosen)?;
     axis.push_labels(&mut text, &known, 670)?;
     push_chosen(&mut text, scale, "Best start at ", 746, &chosen.best)?;
     push_chosen(&mut text, scale, "Worst start at ", 768, &chosen.worst)?;

@@ -1,6 +1,12 @@
 //! Pieces of an SVG picture.
 
+ghost use Rattle.std.specs.Prelude.{◌≡◌, ◌++◌, OnOk, codes};
+ghost use Rattle.std.specs.Fmt.{decimal};
+ghost use Rattle.report_pictures.specs.Svg.{corner_text, place_text, placed_text, rect_text, size_text, text_end};
+ghost use Rattle.report_pictures.specs.Svg.{text_head};
+
 use crate::words::push_words;
+use predictions::push_wide;
 use std::alloc::AllocError;
 use sweep_report::push_field;
 
@@ -56,62 +62,97 @@ pub(crate) fn begin_picture(text: &mut Vec<u8>, height: u64) -> Result<(), Alloc
 }
 
 /// Ends a picture.
-pub(crate) fn end_picture(text: &mut Vec<u8>) -> Result<(), AllocError> {
+pub(crate) fn end_picture(text: &mut Vec<u8>) -> Result<(), AllocError>
+    ensures { OnOk result (text.new.items ≡ text.old.items ++ codes "</svg>\n") }
+{
     push_words(text, "</svg>\n")
 }
 
-/// Appends a rectangle of a class.
-pub(crate) fn push_rect(text: &mut Vec<u8>, class: &str, area: &Area) -> Result<(), AllocError> {
-    push_words(text, "<rect class=\"")?;
-    push_words(text, class)?;
+/// Appends where a rectangle is.
+#[tactic(auto, unfolding(crate::specs::Svg::corner_text))]
+fn push_corner(text: &mut Vec<u8>, area: &Area) -> Result<(), AllocError>
+    ensures { OnOk result (text.new.items ≡ text.old.items ++ corner_text area.now) }
+{
     push_field(text, "\" x=\"", area.x)?;
-    push_field(text, "\" y=\"", area.y)?;
+    push_field(text, "\" y=\"", area.y)
+}
+
+/// Appends how large a rectangle is.
+#[tactic(auto, unfolding(crate::specs::Svg::size_text))]
+fn push_size(text: &mut Vec<u8>, area: &Area) -> Result<(), AllocError>
+    ensures { OnOk result (text.new.items ≡ text.old.items ++ size_text area.now) }
+{
     push_field(text, "\" width=\"", area.width)?;
     push_field(text, "\" height=\"", area.height)?;
     push_words(text, "\"/>\n")
 }
 
-/// Begins a text of a class, at a place.
-pub(crate) fn begin_text(
-    text: &mut Vec<u8>,
-    class: &str,
-    x: u64,
-    y: u64,
-) -> Result<(), AllocError> {
-    push_words(text, "<text class=\"")?;
+/// Appends a rectangle of a class.
+#[tactic(auto, unfolding(crate::specs::Svg::rect_text))]
+pub(crate) fn push_rect(text: &mut Vec<u8>, class: &str, area: &Area) -> Result<(), AllocError>
+    ensures { OnOk result (text.new.items ≡ text.old.items ++ rect_text class.now area.now) }
+{
+    push_words(text, "<rect class=\"")?;
     push_words(text, class)?;
+    push_corner(text, area)?;
+    push_size(text, area)
+}
+
+/// Appends where words are.
+#[tactic(auto, unfolding(crate::specs::Svg::place_text))]
+fn push_place(text: &mut Vec<u8>, x: u64, y: u64) -> Result<(), AllocError>
+    ensures { OnOk result (text.new.items ≡ text.old.items ++ place_text x y) }
+{
     push_field(text, "\" x=\"", x)?;
     push_field(text, "\" y=\"", y)?;
     push_words(text, "\">")
 }
 
+/// Begins a text of a class, at a place.
+#[tactic(auto, unfolding(crate::specs::Svg::text_head))]
+pub(crate) fn begin_text(text: &mut Vec<u8>, class: &str, x: u64, y: u64) -> Result<(), AllocError>
+    ensures { OnOk result (text.new.items ≡ text.old.items ++ text_head class.now x y) }
+{
+    push_words(text, "<text class=\"")?;
+    push_words(text, class)?;
+    push_place(text, x, y)
+}
+
 /// Ends a text.
-pub(crate) fn end_text(text: &mut Vec<u8>) -> Result<(), AllocError> {
+pub(crate) fn end_text(text: &mut Vec<u8>) -> Result<(), AllocError>
+    ensures { OnOk result (text.new.items ≡ text.old.items ++ text_end) }
+{
     push_words(text, "</text>\n")
 }
 
 /// Appends a text of a class, at a place.
+#[tactic(auto, unfolding(crate::specs::Svg::placed_text))]
 pub(crate) fn push_text(
     text: &mut Vec<u8>,
     class: &str,
     x: u64,
     y: u64,
     words: &str,
-) -> Result<(), AllocError> {
+) -> Result<(), AllocError>
+    ensures { OnOk result (text.new.items ≡ text.old.items ++ placed_text class.now x y words.now) }
+{
     begin_text(text, class, x, y)?;
     push_words(text, words)?;
     end_text(text)
 }
 
 /// Appends a number as a text of a class, at a place.
+#[tactic(auto, unfolding(crate::specs::Svg::placed_text))]
 pub(crate) fn push_number(
     text: &mut Vec<u8>,
     class: &str,
     x: u64,
     y: u64,
     number: u64,
-) -> Result<(), AllocError> {
+) -> Result<(), AllocError>
+    ensures { OnOk result (text.new.items ≡ text.old.items ++ placed_text class.now x y (decimal number)) }
+{
     begin_text(text, class, x, y)?;
-    push_field(text, "", number)?;
+    push_wide(text, number as u128)?;
     end_text(text)
 }

@@ -49,7 +49,7 @@ fn words_of_size(alloc: Global, scale: &Scale, pages: u64) -> Result<Vec<u8>, Al
 
 /// Appends some words, and ticks as a time after them.
 #[tactic(auto, unfolding(crate::specs::MeasuredScreens::named_time))]
-fn push_named_time(
+pub(crate) fn push_named_time(
     text: &mut Vec<u8>,
     name: &str,
     scale: &Scale,
@@ -63,7 +63,7 @@ fn push_named_time(
 
 /// Appends some words, and pages as a size after them.
 #[tactic(auto, unfolding(crate::specs::MeasuredScreens::named_size))]
-fn push_named_size(
+pub(crate) fn push_named_size(
     text: &mut Vec<u8>,
     name: &str,
     scale: &Scale,

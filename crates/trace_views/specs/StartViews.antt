@@ -1,9 +1,8 @@
 -- What the same migration costs from each of some starts.
 use Rattle.std.specs.Prelude.{◌≡◌, ℕ, ◌≤◌, List, Option, None, Some, ⊤}
-use Rattle.guest_units.specs.Scales.{TraceScale}
-use Rattle.guest_units.specs.declared.limits.Limits.{Limits}
 use Rattle.migration_model.specs.Sweeps.{SweepLine, AreLines}
 use Rattle.migration_model.specs.Touches.{GuestTouches}
+use Rattle.migration_model.specs.Windows.{working_sets_of}
 use Rattle.migration_starts.specs.Choices.{IsChosen, is_better_start, is_worse_start, known_of}
 use Rattle.migration_starts.specs.Costs.{CostAtStart, costs_at_starts}
 use Rattle.migration_starts.specs.Starts.{RefusesStarts, cases_from, count_of}
@@ -12,6 +11,7 @@ use Rattle.migration_starts.specs.declared.error.StartsError.TheVariants as refu
 use Rattle.predictions.specs.Predictions.{kept_of, last_tick_of}
 use Rattle.predictions.specs.declared.verdict.Verdict.{Verdict}
 use Rattle.predictions.specs.declared.verdict.Verdict.TheVariants.{Unknown}
+use Rattle.report_pictures.specs.StartCharts.{IsStartsChart}
 use Rattle.trace_views.specs.Json.{line_of}
 use Rattle.trace_views.specs.StartsJson.{starts_object}
 use Rattle.trace_views.specs.declared.error.ViewError.{ViewError}
@@ -31,13 +31,14 @@ pub record AreStartsOf (log : GuestTouches) (asked : AskedStarts) (costs : List 
   pub best_is : IsChosen is_better_start (known_of costs) best
   pub worst_is : IsChosen is_worse_start (known_of costs) worst
 
--- the starts in some form; nothing is said about a picture
-abbrev pub IsStartsText : StartsForm → TraceScale → Limits → List CostAtStart → Option CostAtStart → Option CostAtStart
-    → List ℕ → Type 0
-IsStartsText forms.Table scale limits costs best worst text = text ≡ starts_text_of scale costs best worst
-IsStartsText forms.Json scale limits costs best worst text =
-    text ≡ line_of (starts_object scale limits.downtime costs best worst)
-IsStartsText forms.Chart scale limits costs best worst text = ⊤
+-- the starts in some form
+abbrev pub IsStartsText : StartsForm → GuestTouches → AskedStarts → List CostAtStart → Option CostAtStart
+    → Option CostAtStart → List ℕ → Type 0
+IsStartsText forms.Table log asked costs best worst text = text ≡ starts_text_of asked.scale costs best worst
+IsStartsText forms.Json log asked costs best worst text =
+    text ≡ line_of (starts_object asked.scale asked.limits.downtime costs best worst)
+IsStartsText forms.Chart log asked costs best worst text = IsStartsChart asked.settings asked.scale asked.limits
+    (working_sets_of log.pages log.touches asked.settings) costs best worst text
 
 -- whether the best start keeps the limit, if a migration ends within the trace
 abbrev pub kept_from : Option CostAtStart → Verdict
@@ -50,7 +51,7 @@ pub record IsStartsView (log : GuestTouches) (asked : AskedStarts) (text : List 
   pub best : Option CostAtStart
   pub worst : Option CostAtStart
   pub are_starts : AreStartsOf log asked costs best worst
-  pub text_is : IsStartsText asked.form asked.scale asked.limits costs best worst text
+  pub text_is : IsStartsText asked.form log asked costs best worst text
   pub kept_is : kept ≡ kept_from best
 
 -- why the starts cannot be shown: memory ran out, or the starts are refused

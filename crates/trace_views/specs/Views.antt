@@ -10,6 +10,7 @@ use Rattle.predictions.specs.Predictions.{last_tick_of}
 use Rattle.predictions.specs.declared.verdict.Verdict.{Verdict}
 use Rattle.predictions.specs.declared.verdict.Verdict.TheVariants.{Yes}
 use Rattle.report_pictures.specs.MeasuredScreens.{IsMeasuredScreen}
+use Rattle.report_pictures.specs.ReportCharts.{IsReportChart}
 use Rattle.report_pictures.specs.Screens.{IsScreen}
 use Rattle.report_pictures.specs.declared.table.Style.{Style}
 use Rattle.trace_views.specs.Advice.{IsAdvice}
@@ -72,7 +73,15 @@ pub record IsShownView (log : GuestTouches) (settings : MigrationSettings) (scal
   pub is_plan : IsPlan log.pages log.touches settings plan
   pub screen : IsScreenOf style scale log settings plan text
 
--- What a view shows about a trace, and whether its limit is kept, if it has one. Nothing is said about pictures.
+-- the facts of a report, as a picture
+pub record IsChartView (log : GuestTouches) (settings : MigrationSettings) (scale : Option TraceScale)
+    (text : List ℕ) : Type 0 where
+  pub plan : MigrationPlan
+  pub is_plan : IsPlan log.pages log.touches settings plan
+  pub chart : IsReportChart log.pages (2 ^ log.shift) (length log.touches) settings scale
+      (working_sets_of log.pages log.touches settings) plan text
+
+-- what a view shows about a trace, and whether its limit is kept, if it has one
 abbrev pub IsView : GuestTouches → View → List ℕ → Verdict → Type 0
 IsView log (views.JsonReport settings scale) text kept = IsReportView log settings scale text × (kept ≡ Yes)
 IsView log (views.JsonSweep cases workers scale) text kept =
@@ -81,7 +90,7 @@ IsView log (views.Advise budget settings measured) text kept =
     IsAdviceView log settings budget measured text × (kept ≡ Yes)
 IsView log (views.Show settings scale style) text kept =
     IsShownView log settings scale style text × (kept ≡ Yes)
-IsView log (views.Chart settings scale) text kept = kept ≡ Yes
+IsView log (views.Chart settings scale) text kept = IsChartView log settings scale text × (kept ≡ Yes)
 IsView log (views.When asked) text kept = IsStartsView log asked text kept
 IsView log (views.Predict asked) text kept = IsPredictionView log asked text kept
 

@@ -1,6 +1,8 @@
 //! The same migration over a log, started at many ticks.
 
 ghost use Rattle.std.specs.Prelude.{◌≡◌, IfErr, IfOk};
+ghost use Rattle.migration_model.specs.Windows.{working_sets_of};
+ghost use Rattle.report_pictures.specs.StartCharts.{IsStartsChart};
 ghost use Rattle.trace_views.specs.StartViews.{AreStartsOf, IsStartsText, IsStartsView, RefusesStartsView};
 ghost use Rattle.trace_views.specs.StartViews.{kept_from};
 
@@ -13,7 +15,7 @@ use migration_starts::{
     StartCost, best_start, known_starts, start_costs, starts_text, worst_start,
 };
 use predictions::Verdict;
-use report_pictures::starts_chart;
+use report_pictures::{Chosen, starts_chart};
 use std::alloc::Global;
 use std::thread::Threads;
 use trace_readers::TouchLog;
@@ -65,7 +67,10 @@ fn chart(
     found: &Found,
     log: &TouchLog,
 ) -> Result<Vec<u8>, ViewError>
-    ensures { IfErr result (λ e. e ≡ ViewError.Memory) }
+    ensures made { IfOk result (λ text. IsStartsChart asked.now.settings asked.now.scale asked.now.limits
+        (working_sets_of log.now.pages log.now.touches asked.now.settings) found.now.costs.items found.now.best
+        found.now.worst text.items) }
+    ensures refused { IfErr result (λ e. e ≡ ViewError.Memory) }
 {
     let AskedStarts {
         settings,
@@ -74,7 +79,10 @@ fn chart(
         ..
     } = asked;
     let tables = tables(alloc, log, settings).or(Err(ViewError::Memory))?;
-    let chosen = (&found.best, &found.worst);
+    let chosen = Chosen {
+        best: found.best,
+        worst: found.worst,
+    };
     Ok(starts_chart(
         alloc,
         settings,
@@ -82,7 +90,7 @@ fn chart(
         limits,
         &tables,
         &found.costs,
-        chosen,
+        &chosen,
     )?)
 }
 
@@ -93,8 +101,8 @@ fn formed(
     found: &Found,
     log: &TouchLog,
 ) -> Result<Vec<u8>, ViewError>
-    ensures made { IfOk result (λ text. IsStartsText asked.now.form asked.now.scale asked.now.limits
-        found.now.costs.items found.now.best found.now.worst text.items) }
+    ensures made { IfOk result (λ text. IsStartsText asked.now.form log.now asked.now found.now.costs.items
+        found.now.best found.now.worst text.items) }
     ensures refused { IfErr result (λ e. e ≡ ViewError.Memory) }
 {
     let Found { costs, best, worst } = found;

@@ -2,7 +2,8 @@
 
 ghost use Rattle.std.specs.Prelude.{◌≡◌, Err, IfErr, IfOk, Ok};
 ghost use Rattle.trace_views.specs.AdviceText.{known_cost};
-ghost use Rattle.trace_views.specs.Views.{IsAdviceView, IsReportView, IsShownView, IsSweepView, IsView, RefusesView};
+ghost use Rattle.trace_views.specs.Views.{IsAdviceView, IsChartView, IsReportView, IsShownView, IsSweepView, IsView};
+ghost use Rattle.trace_views.specs.Views.{RefusesView};
 
 use crate::advice_writing::{advice_head, push_choice};
 use crate::budget::Budget;
@@ -49,7 +50,8 @@ fn chart_view(
     scale: &Option<Scale>,
     log: &TouchLog,
 ) -> Result<Vec<u8>, ViewError>
-    ensures { IfErr result (λ e. e ≡ ViewError.Memory) }
+    ensures made { IfOk result (λ v. IsChartView log.now settings.now scale.now v.items) }
+    ensures refused { IfErr result (λ e. e ≡ ViewError.Memory) }
 {
     let tables = tables(alloc, log, settings).or(Err(ViewError::Memory))?;
     let plan = plan(alloc, log, settings).or(Err(ViewError::Memory))?;

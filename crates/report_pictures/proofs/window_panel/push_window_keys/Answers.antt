@@ -1,0 +1,11 @@
+use Rattle.std.proofs.Common.{append_assoc}
+use Rattle.report_pictures.specs.ReportCharts.{windows_keys}
+use Rattle.report_pictures.proofs.window_panel.push_window_keys.Goals as goal
+
+pub returns : goal.returns
+unfolding windows_keys
+returns c = rw (
+  c.in_ok-push_key-3.ensures,
+  c.in_ok-push_key-2.ensures,
+  c.in_ok-push_key.ensures,
+) (simp append_assoc)
