@@ -1,10 +1,10 @@
 -- Words that are not a number followed by a unit.
-use Rattle.std.proofs.Common.{◌≡◌, ℕ, zero, suc, map, ◌*◌, ◌/◌, ◌<◌, ◌≤◌, ◌^◌, List, [], ◌∷◌, ◌++◌, length, get_or, Option}
+use Rattle.std.proofs.Common.{◌≡◌, ℕ, zero, suc, map, ◌*◌, ◌/◌, ◌<◌, ◌^◌, List, [], ◌∷◌, ◌++◌, length, get_or, Option}
 use Rattle.std.proofs.Common.{Some, None, sym, ap, subst, ◌∙◌, arith, inl, inr}
 use Rattle.std.specs.Prelude.{◌≢◌, IfNone, MatchOption}
 use Rattle.std.specs.Borrow.{Bor}
 use Rattle.std.specs.Str.Pattern.{FindsTextSuffix, StripsSuffix}
-use Rattle.std.specs.Str.Parse.{IsNumeral, digits_value, without_leading_plus}
+use Rattle.std.specs.Str.Parse.{IsNumeral}
 use Rattle.std.proofs.lemmas.Bool.{cases_eq}
 use Rattle.std.proofs.lemmas.List.{append_cancel_right, get_or_default, get_or-map, length-map}
 use Rattle.std.proofs.lemmas.Str.Parse.{digit_at, without_leading_plus_none, without_leading_plus_plus}

@@ -1,5 +1,5 @@
 use Rattle.std.proofs.Common.{◌≡◌, ℕ, List, get_or, Option, Some, None, sym, ◌∙◌, arith}
-use Rattle.std.specs.Prelude.{◌≢◌, Bool, IfNone, IfSome, false, true}
+use Rattle.std.specs.Prelude.{◌≢◌, Bool, IfNone, IfSome, false}
 use Rattle.std.specs.Bool.{Decides}
 use Rattle.std.proofs.lemmas.Bool.{true≢false}
 use Rattle.std.proofs.lemmas.Str.Pattern.{starts_char}
