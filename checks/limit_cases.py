@@ -1,6 +1,5 @@
 """Cases of checks/view about limits in time and bytes: precopy-view's answers, computed again from precopy's lines."""
 
-import math
 import os
 import random
 import struct
@@ -116,17 +115,6 @@ def predicted_lines(limits, report, start, last):
              f"downtime: {seconds(down)}, limit: {seconds(limits.downtime)}, {'kept' if kept else 'not kept'}"]
     warnings = [stop["pages"] < 100, stop["why"] != "few"]
     return lines, sum(warnings), 0 if kept else 3
-
-
-def root_above(number):
-    return math.isqrt(number - 1) + 1 if number else 0
-
-
-def error_of(limits, total, squares):
-    """A standard error in pages of the guest, rounded up, from the sum of a number of each sampled page."""
-    sampled, guest = limits.sampled, limits.guest
-    spread = guest * (guest - sampled) * (sampled * squares - total * total)
-    return root_above(-(-spread // (sampled * sampled * (sampled - 1))))
 
 
 def settings_of(limits, start, base):
