@@ -1,6 +1,8 @@
 //! Views of a log of touches.
 
 ghost use Rattle.std.specs.Prelude.{◌≡◌, Err, IfErr, IfOk, Ok};
+ghost use Rattle.migration_model.specs.Rounds.{IsPlan};
+ghost use Rattle.migration_model.specs.Windows.{working_sets_of};
 ghost use Rattle.trace_views.specs.AdviceText.{known_cost};
 ghost use Rattle.trace_views.specs.Views.{IsAdviceView, IsChartView, IsReportView, IsShownView, IsSweepView, IsView};
 ghost use Rattle.trace_views.specs.Views.{RefusesView};
@@ -21,12 +23,12 @@ use guest_units::Scale;
 use predictions::{Cost, Verdict};
 use rate_limit::Settings;
 use report_pictures::{Style, measured_screen, report_chart, report_screen};
-use round_planner::plan;
+use round_planner::{Plan, plan};
 use std::alloc::Global;
 use std::thread::Threads;
 use sweep_report::Line;
 use trace_readers::TouchLog;
-use working_sets::tables;
+use working_sets::{Tables, tables};
 
 /// Returns the report on a log as a JSON document.
 fn report_view(
@@ -43,6 +45,24 @@ fn report_view(
     json_report(alloc, &log.shape(), settings, scale, &tables, &plan)
 }
 
+/// What a report tells: the working sets, and the plan.
+#[derive(Drop)]
+struct Facts {
+    tables: Tables,
+    plan: Plan,
+}
+
+/// Returns what a report on a log tells.
+fn facts_of(alloc: Global, settings: &Settings, log: &TouchLog) -> Result<Facts, ViewError>
+    ensures made { IfOk result (λ facts. (facts.tables ≡ working_sets_of log.now.pages log.now.touches settings.now)
+        × IsPlan log.now.pages log.now.touches settings.now facts.plan) }
+    ensures refused { IfErr result (λ e. e ≡ ViewError.Memory) }
+{
+    let tables = tables(alloc, log, settings).or(Err(ViewError::Memory))?;
+    let plan = plan(alloc, log, settings).or(Err(ViewError::Memory))?;
+    Ok(Facts { tables, plan })
+}
+
 /// Returns the report on a log as a picture.
 fn chart_view(
     alloc: Global,
@@ -53,9 +73,15 @@ fn chart_view(
     ensures made { IfOk result (λ v. IsChartView log.now settings.now scale.now v.items) }
     ensures refused { IfErr result (λ e. e ≡ ViewError.Memory) }
 {
-    let tables = tables(alloc, log, settings).or(Err(ViewError::Memory))?;
-    let plan = plan(alloc, log, settings).or(Err(ViewError::Memory))?;
-    Ok(report_chart(alloc, &log.shape(), settings, scale, &tables, &plan)?)
+    let facts = facts_of(alloc, settings, log)?;
+    Ok(report_chart(
+        alloc,
+        &log.shape(),
+        settings,
+        scale,
+        &facts.tables,
+        &facts.plan,
+    )?)
 }
 
 /// Returns the report on a log for a terminal.
