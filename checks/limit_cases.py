@@ -175,8 +175,8 @@ def predicted_document(limits, report, asked, last, errors, ranges):
     migration = {"why": stop["why"], "rounds": len(report["rounds"]), "time_seconds": time / 1e6, "sent_bytes": sent,
                  "down_seconds": down / 1e6, "left_pages": stop["pages"]}
     if errors:
-        sent, time, down = errors
-        migration["errors"] = {"sent_bytes": sent, "time_seconds": time / 1e6, "down_seconds": down / 1e6}
+        migration["errors"] = {"sent_bytes": errors[0], "time_seconds": errors[1] / 1e6,
+                               "down_seconds": errors[2] / 1e6}
     is_known = stop["at"] <= last
 
     def answer(holds):
