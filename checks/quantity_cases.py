@@ -47,7 +47,7 @@ def quantities():
 def words_for(kind, word, amount):
     """Options that say a word where its amount, if it has one, is in its range."""
     if kind == "time":
-        return ["--link=0.1KB", f"--downtime={word}", "--tick=1s"]
+        return ["--link=0.005KB", f"--downtime={word}", "--tick=1s"]
     fits = (name for name, tick in TIMES.items() if 1 <= (amount or 0) * tick // (1_000 * PAGE_BYTES) <= 1_000_000)
     return [f"--link={word}", "--downtime=0s", f"--tick=1{next(fits, 'ms')}"]
 
