@@ -389,7 +389,7 @@ def check_words(view, _, words, status, trace):
         raise Failure(f"{words}: status {found}, {faults!r}")
 
 
-TAKEN = ["--tick=1us", "--tick=1s", "--tick=1.5ms", "--tick=1000000us", "--sampled=1/1", "--sampled=+1/0004",
+TAKEN = ["--tick=1us", "--tick=1s", "--tick=1.5ms", "--tick=1000000us", "--sampled=1/1", "--sampled=+25/0100",
          "--sampled=4294967296/4294967296", "--sampled=65536/4294967296", "--page=4096"]
 REFUSED = ["--tick=0us", "--tick=0.9us", "--tick=1000001us", "--tick=1.000001s", "--tick=2s", "--tick=1m", "--tick=1",
            "--reserve=1", "--first=1", "--sampled=0/1", "--sampled=2/1", "--sampled=1/4294967297", "--sampled=1",
