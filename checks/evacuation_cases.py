@@ -137,13 +137,13 @@ def random_costs(programs: Programs, folder: str) -> None:
     for number in range(SETS):
         guests = [random_guest(draw) for _ in range(draw.randrange(1, 4))]
         link, downtime = draw.choice([1, 4, 16, 64, 1000]) * (1 << 20), draw.choice([0.01, 0.1, 0.3, 0.335, 2.0])
-        asked = host_costs.Asked(programs.view, float(link), host_schedules.numbers_up_to(len(guests)), 3, 0.001)
+        asked = host_costs.Asked(programs.view, float(link), host_schedules.numbers_up_to(len(guests)), 0.001)
         for place, guest in enumerate(guests):
             path = write_record(folder, f"guest{place}", guest)
             base = draw.choice([None, None, 0, draw.randint(0, guest.first)])
             told = host_costs.guest_of(path, asked, host_costs.Wanted(downtime, base=base))
             for at_once in asked.numbers:
-                wanted = model.costs(guest, link / at_once, round(1e6 * downtime), base, asked.starts)
+                wanted = model.costs(guest, link / at_once, round(1e6 * downtime), base)
                 cost = told.costs.get(at_once)
                 compared += wanted is not None
                 where = f"set {number}, {guest._replace(writes=[])}, {base}, {at_once} at once"
@@ -402,7 +402,7 @@ def refused_words(programs: Programs, folder: str) -> None:
     web, *_ = four_guests(folder)
     link = ["--link", LINK]
     for words in (["--link", "fast"], [], [*link, "--at-once", "0"], [*link, "--downtime", "300"], [*link, "--costs"],
-                  [*link, "--starts", "5000"], [*link, "--lines", "ssh"], [*link, "--program", "none"]):
+                  [*link, "--lines", "ssh"], [*link, "--program", "none"]):
         run_tool(programs, web, *words, status=2)
 
 

@@ -130,15 +130,14 @@ def planned(guest: Guest, rates: Rates, start: int, base: int | None) -> Plan:
     return Plan((at - start) * tick + down, size, down, at <= guest.last // factor, is_few, down <= limit)
 
 
-def costs(guest: Guest, bandwidth: float, downtime: int, base: int | None, most: int) -> tuple | None:
+def costs(guest: Guest, bandwidth: float, downtime: int, base: int | None) -> tuple | None:
     """What a migration from the beginning of the record on costs: time, bytes and downtime, the shortest and the
-    longest time and the fewest bytes over at most so many starts, whether it converges, and whether the limit is
-    kept."""
+    longest time and the fewest bytes over at most 21 starts, whether it converges, and whether the limit is kept."""
     found = rates(guest, bandwidth, downtime)
     if found is None:
         return None
     first, last = guest.first // found.factor, guest.last // found.factor
-    every = math.ceil((last - first + 1) / most)
+    every = max(1, math.ceil((last - first) / 20))
     plans = [planned(guest, found, start, base) for start in range(first, last + 1, every)]
     cold, known = plans[0], [plan for plan in plans if plan.is_known] or plans[:1]
     times = [plan.time for plan in known]

@@ -40,7 +40,6 @@ class Forecast:
     def __init__(self, program: str, sample: samples.Sample, page_size: int, records: list[tuple[int, int]]):
         self.program, self.sample, self.page_size = program, sample, page_size
         self.writes = [(tick - sample.first_tick, page) for tick, page in records if tick >= sample.first_tick]
-        self.found = {page for tick, page in records if tick < sample.first_tick}
         self.start, self.base, self.texts = 0, None, {}
 
     def begin_after(self, seconds: float) -> None:
@@ -48,15 +47,13 @@ class Forecast:
         self.start = round(seconds / self.sample.tick_seconds)
 
     def begin_with(self, base: int | None) -> None:
-        """The destination has a copy of the guest, of a tick up to the first look. One of tick 0 is of before the
-        recording, so it lacks the pages that were found."""
-        self.base = base
+        """The destination has a copy of the guest, of a tick up to the first look. One of tick 0 is of before what a
+        recorder finds, so it is none."""
+        self.base = None if base == 0 < self.sample.first_tick else base
 
-    def looks(self, factor: int) -> tuple[int, int]:
-        """The ticks of the first and of the last look, in longer ticks. Before the first there is only what was
-        found, if a copy lacks it."""
-        first = int(self.base == 0)
-        return first, first + (self.sample.last_tick - self.sample.first_tick) // factor
+    def last(self, factor: int) -> int:
+        """The tick of the last look, in longer ticks."""
+        return (self.sample.last_tick - self.sample.first_tick) // factor
 
     def tick(self) -> int:
         """The length of a tick of the recording, in microseconds."""
@@ -84,9 +81,8 @@ class Forecast:
         """The trace in longer ticks. Of several writes to a page in a tick one stays. A write at the last look, which
         no plan that stops by then counts, says that the recording lasts so long."""
         if factor not in self.texts:
-            first, last = self.looks(factor)
-            writes = [(0, page) for page in sorted(self.found)] * first
-            writes += dict.fromkeys((first + tick // factor, page) for tick, page in self.writes)
+            last = self.last(factor)
+            writes = list(dict.fromkeys((tick // factor, page) for tick, page in self.writes))
             if len(writes) < traces.Limits().writes and (not writes or writes[-1][0] < last):
                 writes.append((last, 0))
             self.texts[factor] = encoded(self.sample.trace_pages, writes, self.page_size)
@@ -101,7 +97,7 @@ class Forecast:
     def words(self, link: Link) -> tuple[int, list[str]]:
         """The same, and the words of the start."""
         factor, words = self.limits(link)
-        return factor, [*words, "--start", str(self.looks(factor)[0] + self.start // factor)]
+        return factor, [*words, "--start", str(self.start // factor)]
 
     def lines(self, link: Link) -> tuple[int, list[str]]:
         """The status and the lines of `precopy-view predict`, but for the words of a live run. If the downtime limit is
@@ -118,17 +114,16 @@ class Forecast:
         factor, words = self.words(link)
         return plans.document(self.program, ["predict", *words], self.text(factor))
 
-    def rounds(self, link: Link) -> list[float]:
-        """When the rounds of the plan end, in seconds from its start on."""
+    def plan(self, link: Link) -> dict:
+        """What `precopy-view json report` tells of the rounds and the stop, also if the recording ends before."""
         factor, words = self.words(link)
-        told = plans.document(self.program, ["report", *words, "--window", str(1 << 40)], self.text(factor))
-        return [each["to_seconds"] - told["rounds"][0]["from_seconds"] for each in told["rounds"]]
+        return plans.document(self.program, ["report", *words, "--window", str(1 << 40)], self.text(factor))
 
     def starts(self, link: Link, most: int) -> dict:
         """What `precopy-view json when` tells of at most so many starts, which are evenly apart."""
         factor, words = self.limits(link)
-        first, last = self.looks(factor)
-        places = ["--from", str(first), "--to", str(last), "--every", str(-(-(last - first + 1) // most))]
+        last = self.last(factor)
+        places = ["--to", str(last), "--every", str(-(-(last + 1) // most))]
         return plans.document(self.program, ["when", *words, *places], self.text(factor))
 
     def moment(self, seconds: float) -> datetime.datetime:

@@ -1,7 +1,6 @@
 """What the migration of each of several guests costs at each share of a link, by the proved `precopy-view`.
 
-What it costs from the beginning of its record on is what `json predict` tells; the range over other starts, and the
-cost of a guest whose record ends before its migration does, are those of `json when`.
+It is what `json predict` tells; if a record ends before its migration does, it is the plan of `json report`.
 
 A record is a trace that tools/record has made, with NAME.json beside it, or a whole trace without that, whose guest is
 named by the file. Times are whole microseconds, and sizes bytes.
@@ -43,7 +42,7 @@ class Cost(NamedTuple):
 
     `least` and `most` are the shortest and the longest time over all starts whose migration ends within the recording,
     and `quiet` is the least bytes of them. `converges` is yes, no, or unknown if the recording ends before the
-    migration does: then the cost is that of a guest that writes nothing more. It is kept if the guest's limits are, and
+    migration does: then the cost is that of a guest that writes no more. It is kept if the guest's limits are, and
     `why` says what is not.
     """
 
@@ -81,7 +80,6 @@ class Asked(NamedTuple):
     program: str
     link: float
     numbers: tuple[int, ...]
-    starts: int
     tick: float
 
 
@@ -140,17 +138,27 @@ def missed(told: dict, limits: Wanted) -> str:
     return " and ".join(found)
 
 
+def numbers(told: dict) -> tuple[int, int, int]:
+    """Time, bytes and downtime."""
+    return micros(told["time_seconds"]), told["sent_bytes"], micros(told["down_seconds"])
+
+
+def numbers_of_plan(told: dict) -> tuple[int, int, int]:
+    """The same of a plan."""
+    stop = told["stop"]
+    time = stop["at_seconds"] - told["rounds"][0]["from_seconds"] + stop["down_seconds"]
+    return micros(time), stop["total_bytes"], micros(stop["down_seconds"])
+
+
 def cost_of(planner: Forecast, asked: Asked, limits: Wanted, at_once: int) -> Cost:
     share = asked.link / at_once
     link = Link(min(share, limits.link or share), limits.downtime)
-    told, starts = planner.told(link), planner.starts(link, asked.starts)["starts"]
-    cost = told.get("migration", starts[0])
-    known = [start for start in starts if start["kept"] != "unknown"] or starts[:1]
-    times, why = [micros(start["time_seconds"]) for start in known], missed(told, limits)
-    return Cost(
-        at_once, link.bandwidth, micros(cost["time_seconds"]), cost["sent_bytes"], micros(cost["down_seconds"]),
-        min(times), max(times), min(start["sent_bytes"] for start in known), told["converges"], not why, why,
-    )
+    told = planner.told(link)
+    cost = numbers(told["migration"]) if "migration" in told else numbers_of_plan(planner.plan(link))
+    ranges = told.get("starts")
+    least, most = (numbers(ranges[end]) if ranges else cost for end in ("least", "greatest"))
+    why = missed(told, limits)
+    return Cost(at_once, link.bandwidth, *cost, least[0], most[0], least[1], told["converges"], not why, why)
 
 
 def guest_of(path: str, asked: Asked, limits: Wanted) -> Guest:
@@ -196,8 +204,8 @@ def rounds_of(path: str, asked: Asked, share: float, limits: Wanted) -> list[int
     """When the rounds of one guest end, in microseconds from its start on. A record that is elsewhere has none."""
     if not os.path.exists(path):
         return []
-    ends = planner_of(path, asked, limits.base).rounds(Link(share, limits.downtime))
-    return [micros(seconds) for seconds in ends]
+    rounds = planner_of(path, asked, limits.base).plan(Link(share, limits.downtime))["rounds"]
+    return [micros(each["to_seconds"] - rounds[0]["from_seconds"]) for each in rounds]
 
 
 def line(guest: Guest, asked: Asked) -> str:
@@ -205,7 +213,7 @@ def line(guest: Guest, asked: Asked) -> str:
     fields = guest._asdict()
     fields["limits"] = guest.limits._asdict()
     fields["costs"] = [cost._asdict() for cost in guest.costs.values()]
-    return json.dumps({"format": FORMAT, "link": asked.link, "starts": asked.starts, **fields})
+    return json.dumps({"format": FORMAT, "link": asked.link, **fields})
 
 
 def lines_of(path: str, asked: Asked, limits_of) -> list[Guest | str]:
