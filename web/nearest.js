@@ -18,7 +18,7 @@ const COUNT = {
 const NUMBERS = { link: QUANTITY, downtime: QUANTITY, reserve: QUANTITY, tick: QUANTITY };
 
 /** The whole of a guest for a sample: at least its part, of which there are at least the trace's pages. */
-function sampleOf(sizes) {
+function sampleRange(sizes) {
   return {
     read: (settings) => settings.sample.whole,
     put: (settings, name, amount) => {
@@ -71,7 +71,7 @@ function nearestBy(settings, name, number, holds) {
  */
 export function nearestSettings(settings, refusal, sizes) {
   const name = refusal.control;
-  const number = name === "sample" ? sampleOf(sizes) : NUMBERS[name] ?? COUNT;
+  const number = name === "sample" ? sampleRange(sizes) : NUMBERS[name] ?? COUNT;
   const refusalFor = (amount) => refusalOf(number.put(settings, name, amount), sizes);
   const amount = nearestBy(settings, name, number, (some) => refusalFor(some) === null)
     ?? nearestBy(settings, name, number, (some) => refusalFor(some)?.control !== name);
