@@ -294,7 +294,7 @@ def check_looking(page):
         clientY: box.top + 60 }));
     })()""")
     said = page.browser.value("textOf('plan-this')")
-    require("Round 0, 0 ms to " in said, f"a finger on a round reads nothing: {said}")
+    require("Round 0, 0.000 s to " in said, f"a finger on a round reads nothing: {said}")
     page.browser.value("document.getElementById('zoom-out').click()")
 
 
