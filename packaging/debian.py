@@ -95,7 +95,7 @@ PACKAGES = [
         suggests="precopy",
         summary="plans and memory of recorded guests, as a library",
         text=f"{OF_THE_LIBRARY} This package has what a program needs that is linked with it.\n",
-        parts={"shlibs": f"libprecopy 1 {library.RUNTIME}\n", "triggers": "activate-noawait ldconfig\n"},
+        parts={"shlibs": f"libprecopy {library.INTERFACE} {library.RUNTIME}\n", "triggers": "activate-noawait ldconfig\n"},
     ),
     Package(
         name=library.DEVELOPMENT,

@@ -14,9 +14,11 @@ import contents
 
 ARCHIVE = os.path.join(contents.TOP, "crates", "precopy_c", "out", "libprecopy_c.a")
 FOLDER = os.path.join(contents.TOP, "out", "library")
-NAME = "libprecopy.so.2"
+# The number of the interface, which is PRECOPY_ABI.
+INTERFACE = 2
+NAME = f"libprecopy.so.{INTERFACE}"
 # The packages that it goes into: for programs that are linked with it, and for those who link them.
-RUNTIME, DEVELOPMENT = "libprecopy2", "libprecopy-dev"
+RUNTIME, DEVELOPMENT = f"libprecopy{INTERFACE}", "libprecopy-dev"
 # What it is made of besides the archive.
 PARTS = ("include/precopy.h", "packaging/messages.c", "packaging/library.map", "tools/version.py")
 CRATE = "bindings/rust"
