@@ -120,8 +120,6 @@ class Page(Door):
     def lacking(programs: Programs) -> str:
         if not programs.node:
             return "there is no node with 64-bit memory"
-        if not os.path.exists(os.path.join(programs.web, "questions.js")):
-            return "the page's planner takes no questions"
         return "" if os.path.exists(programs.module) else f"there is no {programs.module}; make page builds it"
 
     def all_told(self, some: list[Asked]) -> list[object]:

@@ -8,7 +8,7 @@ use std::mem;
 pub enum Remains {
     /// It is freed.
     Freed,
-    /// It is left to the system, for a process that ends next: page by page it takes a tenth of a live run to free.
+    /// It is left to the system, for a process that ends next.
     Left,
 }
 
