@@ -46,6 +46,19 @@ class Output:
         return True
 
 
+class Nowhere:
+    """Where output is not kept."""
+
+    def __init__(self):
+        self.number = os.open(os.devnull, os.O_WRONLY)
+
+    def rewind(self):
+        pass
+
+    def ended(self):
+        os.close(self.number)
+
+
 @dataclass
 class Run:
     """Times in seconds, memory in bytes."""

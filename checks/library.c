@@ -9,8 +9,7 @@
  * there were.
  */
 #define _GNU_SOURCE
-#include "library_fences.h"
-#include "precopy.h"
+#include "library_calls.h"
 
 #include <pthread.h>
 #include <stdatomic.h>
@@ -70,97 +69,7 @@ void __wrap_free(void *old) {
     __real_free(old);
 }
 
-/* ---- the calls, each over the inputs of a guest and three buffers */
-
-struct guest {
-    struct room trace, settings, cases, sizes, page, stream, streams, lengths;
-    uint64_t tick;
-    uint32_t stamp; /* the last version of page 0 */
-};
-
-/* What a call writes: its long buffer, what it reports, and the record for which it refuses a trace. */
-struct outputs {
-    struct room room, told, record;
-};
-
-typedef uint32_t call_of(const struct guest *guest, struct outputs *out);
-
-static uint32_t check_trace(const struct guest *g, struct outputs *out) {
-    return precopy_check_trace(g->trace.at, g->trace.length, (void *)out->told.at, (void *)out->record.at);
-}
-
-static uint32_t plan(const struct guest *g, struct outputs *out) {
-    return precopy_plan(g->trace.at, g->trace.length, (void *)g->settings.at, (void *)out->told.at,
-                        (void *)out->record.at);
-}
-
-static uint32_t rounds(const struct guest *g, struct outputs *out) {
-    return precopy_rounds(g->trace.at, g->trace.length, (void *)g->settings.at, (void *)out->room.at,
-                          out->room.length / sizeof(struct precopy_round), (void *)out->told.at,
-                          (void *)out->record.at);
-}
-
-static uint32_t report(const struct guest *g, struct outputs *out) {
-    return precopy_report(g->trace.at, g->trace.length, (void *)g->settings.at, out->room.at, out->room.length,
-                          (void *)out->told.at, (void *)out->record.at);
-}
-
-static uint32_t sweep(const struct guest *g, struct outputs *out) {
-    return precopy_sweep(g->trace.at, g->trace.length, (void *)g->cases.at,
-                         g->cases.length / sizeof(struct precopy_settings), (void *)out->room.at,
-                         out->room.length / sizeof(struct precopy_sums), (void *)out->told.at, (void *)out->record.at);
-}
-
-static uint32_t memory(const struct guest *g, struct outputs *out) {
-    return precopy_memory(g->trace.at, g->trace.length, out->room.at, out->room.length, (void *)out->told.at,
-                          (void *)out->record.at);
-}
-
-static uint32_t memory_before(const struct guest *g, struct outputs *out) {
-    return precopy_memory_before(g->trace.at, g->trace.length, g->tick, out->room.at, out->room.length,
-                                 (void *)out->told.at, (void *)out->record.at);
-}
-
-static uint32_t writes_before(const struct guest *g, struct outputs *out) {
-    return precopy_writes_before(g->trace.at, g->trace.length, g->tick, (void *)out->told.at, (void *)out->record.at);
-}
-
-static uint32_t memory_step(const struct guest *g, struct outputs *out) {
-    return precopy_memory_step(g->trace.at, g->trace.length, 0, UINT32_MAX, out->room.at, out->room.length,
-                               (void *)out->record.at);
-}
-
-static uint32_t version_after(const struct guest *g, struct outputs *out) {
-    return precopy_version_after(g->trace.at, g->trace.length, 0, UINT32_MAX, (void *)out->told.at,
-                                 (void *)out->record.at);
-}
-
-static uint32_t page_at(const struct guest *g, struct outputs *out) {
-    return precopy_page_at(g->trace.at, g->trace.length, 0, g->stamp, out->room.at, out->room.length,
-                           (void *)out->record.at);
-}
-
-static uint32_t page_writes(const struct guest *g, struct outputs *out) {
-    return precopy_page_writes(g->trace.at, g->trace.length, 0, (void *)out->room.at,
-                               out->room.length / sizeof(struct precopy_write), (void *)out->told.at,
-                               (void *)out->record.at);
-}
-
-static uint32_t check_streams(const struct guest *g, struct outputs *out) {
-    return precopy_check_streams(g->trace.at, g->trace.length, UINT32_MAX, g->streams.at, g->streams.length,
-                                 (void *)g->lengths.at, g->lengths.length / sizeof(size_t), (void *)out->told.at,
-                                 (void *)out->record.at);
-}
-
-static uint32_t encode(const struct guest *g, struct outputs *out) {
-    return precopy_encode_frame((void *)g->sizes.at, 0, 0, g->page.at, g->page.length, out->room.at, out->room.length,
-                                (void *)out->told.at);
-}
-
-static uint32_t decode(const struct guest *g, struct outputs *out) {
-    return precopy_decode_frame((void *)g->sizes.at, g->stream.at, g->stream.length, (void *)out->told.at, out->room.at,
-                                out->room.length);
-}
+/* ---- trials of the calls */
 
 /* Each call that writes through a buffer or allocates: its name, the lengths that it writes, and how long an element of
  * its buffer is. */
@@ -398,12 +307,21 @@ static struct precopy_settings settings_of(uint64_t min, uint64_t max, uint64_t 
     return settings;
 }
 
+/* What is asked of a guest of which every third page was recorded. */
+static struct precopy_question question_of(uint64_t size, uint64_t pages) {
+    struct precopy_question question = PRECOPY_QUESTION_DEFAULT;
+    question.link = 3 * 4000 * size, question.downtime = 1000, question.page = size;
+    question.sampled = pages, question.guest = 3 * pages;
+    return question;
+}
+
 /* Each call over a trace that is refused: the same number and record, and nothing else written. */
 static void try_refused(const struct guest *guest, uint32_t status, const struct room *record) {
-    call_of *calls[] = {plan,        rounds,        report,  sweep,       memory,       memory_before, writes_before,
-                        memory_step, version_after, page_at, page_writes, check_streams};
+    call_of *calls[] = {plan,          rounds,      report,        sweep,   predict,     memory,       memory_before,
+                        writes_before, memory_step, version_after, page_at, page_writes, check_streams,
+                        check_piece};
     for (size_t i = 0; i < sizeof calls / sizeof *calls; i++) {
-        struct outputs out = outputs_of(1920, 40);
+        struct outputs out = outputs_of(1920, sizeof(struct precopy_prediction) + sizeof(struct precopy_errors));
         uint32_t told = calls[i](guest, &out);
         expect(told == status && is_untouched(&out.room, 0) && is_untouched(&out.told, 0), "a refused trace", "a call");
         expect(!memcmp(out.record.at, record->at, record->length), "a refused trace", "its record");
@@ -418,6 +336,8 @@ static void try_all(struct guest *guest, const struct precopy_sizes *sizes) {
     expect(memory(guest, &whole) == PRECOPY_OK && memory_before(guest, &earlier) == PRECOPY_OK, "memory", "of a trace");
     uint8_t frame[9 + 4096];
     size_t needed = 0, text = 0, count = 0, writes = 0;
+    struct precopy_question question = question_of(size, sizes->pages);
+    guest->question = input_of(&question, sizeof question);
     guest->page = input_of(whole.room.at, size);
     uint32_t status = precopy_encode_frame(sizes, 0, 0, guest->page.at, size, frame, sizeof frame, &needed);
     expect(status == PRECOPY_OK, "encode_frame", "of page 0");
@@ -437,6 +357,7 @@ static void try_all(struct guest *guest, const struct precopy_sizes *sizes) {
         {"rounds", rounds, count * sizeof(struct precopy_round), sizeof(size_t), sizeof(struct precopy_round)},
         {"report", report, text, sizeof(size_t), 1},
         {"sweep", sweep, 3 * sizeof(struct precopy_sums), sizeof(size_t), sizeof(struct precopy_sums)},
+        {"predict", predict, 0, sizeof(struct precopy_prediction) + sizeof(struct precopy_errors), 1},
         {"memory", memory, bytes, sizeof(size_t), 1},
         {"memory_before", memory_before, bytes, sizeof(size_t), 1},
         {"writes_before", writes_before, 0, sizeof(uint32_t), 1},
@@ -444,6 +365,7 @@ static void try_all(struct guest *guest, const struct precopy_sizes *sizes) {
         {"page_at", page_at, size, 0, 1},
         {"page_writes", page_writes, writes * row, sizeof(size_t), row},
         {"check_streams", check_streams, 0, sizeof(struct precopy_finding), 1},
+        {"check_piece", check_piece, 0, 2 * sizes->pages * sizeof(struct precopy_page), 1},
         {"encode_frame", encode, needed, sizeof(size_t), 1},
         {"decode_frame", decode, size, sizeof(struct precopy_frame), 1},
     };
@@ -475,7 +397,9 @@ int main(int argc, char **argv) {
     struct precopy_settings cases[] = {settings, settings_of(100, 4000, 2, 1), settings_of(2, 4, 3, 0)};
     struct guest guest = {.trace = input_of(bytes, length), .settings = input_of(&settings, sizeof settings)};
     __real_free(bytes);
+    struct precopy_question question = question_of(4096, 1);
     guest.cases = input_of(cases, sizeof cases);
+    guest.question = input_of(&question, sizeof question);
     guest.tick = strtoull(argv[2], NULL, 10);
     struct outputs out = outputs_of(0, sizeof(struct precopy_sizes));
     uint32_t status = check_trace(&guest, &out);

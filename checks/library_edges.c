@@ -13,7 +13,8 @@ static const uint8_t page[16] = {5};
 /* The page at stamp 1. */
 static const uint8_t frame[25] = {0, 0, 0, 0, 1, 0, 0, 0, 1, 5};
 static const struct precopy_settings good = PRECOPY_SETTINGS_DEFAULT;
-static const struct precopy_settings bad = {1000, 5000, 500, 0, 30, 0, 1000, 2, 0, 0, 0};
+static const struct precopy_settings bad = {sizeof bad, 1000, 5000, 500, 0, 30, 0, 1000, 2, 0, 0, 0};
+static const struct precopy_question asked = {sizeof asked, 16000, 0, 0, 0, 1000, 16, 1, 1, 0, 30, 0, 0, 0, 0, 0, 0};
 static const struct precopy_sizes sizes = {4, 1, 1}, no_sizes = {4, 0, 1};
 
 static uint32_t record = 9;
@@ -28,6 +29,8 @@ static uint32_t forget(void) {
 static void nulls_of_traces(void) {
     struct precopy_sizes found;
     struct precopy_sums sums;
+    struct precopy_prediction told;
+    struct precopy_errors errors;
     uint32_t written;
     size_t count = 9;
     ROW(precopy_check_trace(NULL, 0, &found, &record) == PRECOPY_SHORT_HEADER);
@@ -36,6 +39,7 @@ static void nulls_of_traces(void) {
     ROW(precopy_rounds(trace, sizeof trace, &good, NULL, 0, &count, &record) == PRECOPY_SHORT_BUFFER && count == 1);
     ROW(precopy_report(NULL, 0, &good, NULL, 0, &count, &record) == PRECOPY_SHORT_HEADER && count == 1);
     ROW(precopy_report(trace, sizeof trace, &good, NULL, 0, &count, &record) == PRECOPY_SHORT_BUFFER && count > 100);
+    ROW(precopy_predict(NULL, 0, &asked, &told, &errors, &record) == PRECOPY_SHORT_HEADER);
     ROW(precopy_sweep(NULL, 0, NULL, 0, NULL, 0, &count, &record) == PRECOPY_SHORT_HEADER);
     ROW(precopy_sweep(trace, sizeof trace, NULL, 0, NULL, 0, &count, &record) == PRECOPY_OK && count == 0);
     ROW(precopy_sweep(trace, sizeof trace, &good, 1, NULL, 0, &count, &record) == PRECOPY_SHORT_BUFFER && count == 0);
@@ -60,6 +64,8 @@ static void nulls_of_frames(void) {
     struct precopy_taken taken = {9, 9};
     struct precopy_page state = {0, 0};
     struct precopy_finding found = {9, 9, 9, 9, 9, 9, 9, 9};
+    struct precopy_progress progress = {0, 0, 0, 1};
+    struct precopy_page states[2] = {{0, 0}, {0, 0}};
     uint8_t memory[16] = {0};
     size_t needed = 9;
     ROW(precopy_encode_frame(&sizes, 0, 1, NULL, 0, NULL, 0, &needed) == PRECOPY_PAGE_LENGTH && needed == 9);
@@ -73,12 +79,17 @@ static void nulls_of_frames(void) {
         && found.offset == 9);
     ROW(precopy_check_streams(trace, sizeof trace, 1, NULL, 0, NULL, 0, &found, &record) == PRECOPY_PAGE_MISSING);
     ROW(found.missing == 1 && found.tick == 7);
+    ROW(precopy_check_piece(NULL, 0, NULL, 0, &progress, NULL, 0, &found, &record) == PRECOPY_SHORT_HEADER);
+    ROW(precopy_check_piece(trace, sizeof trace, NULL, 0, &progress, NULL, 0, &found, &record) == PRECOPY_PAGE_COUNT);
+    ROW(precopy_check_piece(trace, sizeof trace, NULL, 0, &progress, states, 2, &found, &record) == PRECOPY_OK);
+    ROW(precopy_check_pages(NULL, 0, &progress, NULL, 0, &found, &record) == PRECOPY_SHORT_HEADER);
+    ROW(precopy_check_pages(trace, sizeof trace, &progress, NULL, 0, &found, &record) == PRECOPY_PAGE_COUNT);
     ROW(precopy_missing(NULL, 0, &needed) == PRECOPY_OK && needed == 25);
     ROW(precopy_is_zero(NULL, 0));
 }
 
 static void order_of_traces(void) {
-    static const struct precopy_settings cases[2] = {PRECOPY_SETTINGS_DEFAULT, {0, 0, 0, 0, 0, 0, 0, 0, 0, 0, 0}};
+    static const struct precopy_settings cases[2] = {PRECOPY_SETTINGS_DEFAULT, {.size = sizeof good}};
     struct precopy_sums sums[2];
     size_t count;
     ROW(precopy_plan(trace, 5, &bad, sums, &record) == PRECOPY_BAD_THRESHOLD);
@@ -91,6 +102,20 @@ static void order_of_traces(void) {
     ROW(precopy_sweep(trace, 5, cases, 1, sums, 2, &count, &record) == PRECOPY_SHORT_HEADER);
     ROW(precopy_memory(trace, 32, NULL, 0, &count, &record) == PRECOPY_SHORT_RECORD && forget() == 0);
     ROW(precopy_memory_before(trace, 32, 8, NULL, 0, &count, &record) == PRECOPY_SHORT_RECORD && forget() == 0);
+}
+
+static void order_of_questions(void) {
+    struct precopy_question other = asked;
+    struct precopy_prediction told;
+    struct precopy_errors errors;
+    ROW(precopy_predict(trace, sizeof trace, &asked, &told, &errors, &record) == PRECOPY_OK && told.left == 0);
+    other.size = 0, other.tick = 0;
+    ROW(precopy_predict(trace, 5, &other, &told, &errors, &record) == PRECOPY_BAD_SIZE);
+    other.size = sizeof other;
+    ROW(precopy_predict(trace, 5, &other, &told, &errors, &record) == PRECOPY_BAD_TICK);
+    other = asked, other.page = 32, other.link = 32000;
+    ROW(precopy_predict(trace, 32, &other, &told, &errors, &record) == PRECOPY_SHORT_RECORD && forget() == 0);
+    ROW(precopy_predict(trace, sizeof trace, &other, &told, &errors, &record) == PRECOPY_OTHER_PAGES);
 }
 
 static void order_of_places(void) {
@@ -137,6 +162,7 @@ int main(void) {
     nulls_of_traces();
     nulls_of_frames();
     order_of_traces();
+    order_of_questions();
     order_of_places();
     order_of_frames();
     printf("%d passed, %d failed\n", passed, failed);

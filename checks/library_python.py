@@ -23,6 +23,7 @@ LIBRARY = os.path.join(TOP, "out", "library", "libprecopy.so.2")
 SECONDS = 300
 HOSTILE = [-1, 1 << 31, 1 << 32, (1 << 32) + 1, (1 << 32) + 4, 1 << 63, 1 << 64, (1 << 64) + 1, 10**5000]
 HOSTILE += [-(1 << 31), -(1 << 32), -(1 << 63), -(1 << 64), -(10**30)]
+OPTIONAL = ("base", "first", "increment of a question")
 NO_NUMBERS = [1.0, 0.5, -1.0, 2.0**32, float("nan"), float("inf"), "1", b"1", None, [], 1j]
 NO_BYTES = [5, -1, 1 << 64, 1.5, None, "text", [1, 2], object()]
 SIZES, PAGE = precopy.Sizes(4, 3, 20), bytes(15) + b"\1"
@@ -51,10 +52,29 @@ def taking_numbers(trace):
     yield "page_writes, page", lambda it: precopy.page_writes(trace, it), (0, pages - 1)
     yield "memory_step, start", lambda it: precopy.memory_step(trace, it, 7, memory), (0, 7)
     yield "memory_step, end", lambda it: precopy.memory_step(trace, 7, it, memory), (7, (1 << 32) - 1)
+    yield from numbers_of_questions(trace)
     yield "check_streams, stop", lambda it: precopy.check_streams(trace, it, []), (0, (1 << 32) - 1)
     yield "encode_frame, page", lambda it: precopy.encode_frame(SIZES, it, 0, PAGE), (0, 2)
     yield "encode_frame, stamp", lambda it: precopy.encode_frame(SIZES, 0, it, PAGE), (0, 20)
     yield "stamp, page", precopy.FlatMemory(SIZES).stamp, (0, 2)
+
+
+def numbers_of_questions(trace):
+    """Each number of a question about a trace, all of whose pages were recorded, of 1,000 pages per 1,000 ticks."""
+    sizes = precopy.check_trace(trace)
+    page, pages = sizes.page_length, sizes.pages
+    ends = {"link": (page, 1_000_001 * page - 1), "first": (page, 1_001 * page - 1), "downtime": (0, 65_535_999)}
+    ends |= {"reserve": (0, 0), "tick": (1, 1_000_000), "page": (page, page), "sampled": (pages, pages)}
+    ends |= {"guest": (pages, 1_000 * pages), "increment of a question": (0, 1_000_000), "rounds": (1, 64)}
+    ends |= {"start": (0, (1 << 40) - 1), "base": (0, 0), "skip": (0, 1)}
+    asked = {"link": 1_000 * page, "downtime": 0, "page": page, "sampled": pages, "guest": pages}
+    for name, each in ends.items():
+        yield f"predict, {name}", predicted_with(trace, asked, name.split()[0]), each
+
+
+def predicted_with(trace, asked, name):
+    """The prediction of a question, by one more of its numbers."""
+    return lambda it: precopy.predict(trace, precopy.Question(**{**asked, name: it}))
 
 
 def of_setting(name, value):
@@ -94,7 +114,7 @@ def check_numbers(tally):
             tally.add(found in wanted, f"{name} {str(hex(number))[:40]}: {found}, not {wanted}")
         for value in NO_NUMBERS:
             found = outcome(call, value)
-            wanted = "answered" if value is None and name.endswith(" base") else "TypeError"
+            wanted = "answered" if value is None and name.endswith(OPTIONAL) else "TypeError"
             tally.add(found == wanted, f"{name} {value!r}: {found}")
     good = precopy.memory_before(trace, 1 << 40) == precopy.memory(trace) == precopy.memory_before(trace, 1 << 63)
     tally.add(good, "memory before a tick after all writes")
@@ -109,6 +129,9 @@ def taking_bytes(trace, stream):
     for call in (precopy.plan, precopy.rounds, precopy.report):
         yield call.__name__, trace, lambda it, c=call: c(it, settings)
     yield "sweep", trace, lambda it: precopy.sweep(it, [settings, settings])
+    page = 1 << trace[5] if trace[5:6] and 4 <= trace[5] <= 12 else 4096
+    question = precopy.Question(link=100 * page, downtime=5000, page=page)
+    yield "predict", trace, lambda it: precopy.predict(it, question)
     for call in (precopy.check_trace, precopy.memory, precopy.is_zero):
         yield call.__name__, trace, call
     yield "memory_before", trace, lambda it: precopy.memory_before(it, 700)

@@ -20,7 +20,7 @@ static const uint8_t trace[102] = {
 /* The record of a refused trace; the calls that do not refuse it leave it. */
 static uint32_t record = 9;
 
-static const struct precopy_settings slow = {2, 4, 1, 1, 8, 0, 1000, 2, 0, 0, 0};
+static const struct precopy_settings slow = {sizeof slow, 2, 4, 1, 1, 8, 0, 1000, 2, 0, 0, 0};
 
 static int are(const struct precopy_sums *sums, uint64_t rounds, uint64_t reason, uint64_t stop, uint64_t down,
                uint64_t total) {
@@ -77,6 +77,107 @@ static void sweeps(void) {
     ROW(precopy_sweep(trace, sizeof trace, cases, 3, sums, 3, &best, &record) == PRECOPY_BAD_MAX && best == 2);
     ROW(precopy_check_settings(&cases[1]) == PRECOPY_BAD_MAX && precopy_check_settings(&slow) == PRECOPY_OK);
     ROW(precopy_sweep(trace, sizeof trace, cases, 0, sums, 0, &best, &record) == PRECOPY_OK && best == 0);
+    cases[0] = cases[1] = slow, cases[1].size = 0;
+    ROW(precopy_sweep(trace, sizeof trace, cases, 3, sums, 3, &best, &record) == PRECOPY_BAD_SIZE && best == 0);
+}
+
+static void sizes_of_settings(void) {
+    static const uint64_t sizes[] = {0, sizeof slow - 1, sizeof slow + 1, UINT64_MAX};
+    struct precopy_settings other = slow;
+    struct precopy_sums sums;
+    struct precopy_round rounds[3];
+    uint8_t text[400];
+    size_t count = 9;
+    other.min = 0;
+    for (int i = 0; i < 4; i++) {
+        other.size = sizes[i];
+        ROW(precopy_check_settings(&other) == PRECOPY_BAD_SIZE);
+        ROW(precopy_plan(trace, sizeof trace, &other, &sums, &record) == PRECOPY_BAD_SIZE);
+        ROW(precopy_rounds(trace, sizeof trace, &other, rounds, 3, &count, &record) == PRECOPY_BAD_SIZE);
+        ROW(precopy_report(trace, sizeof trace, &other, text, sizeof text, &count, &record) == PRECOPY_BAD_SIZE);
+    }
+    ROW(count == 9);
+}
+
+/* Rounds of 2 and 4 pages per 1,000 ticks of 1 ms; the rates are in bytes a second of a guest of 8 pages, half of which
+ * were recorded. */
+static const struct precopy_question half = {sizeof half, 128, 64, 600000, 100000, 1000, 16, 4, 8,
+                                             1,           8,   0,  0,      1,      1,    0,  0};
+
+static int is_told(const struct precopy_prediction *told, uint64_t time, uint64_t bytes, uint64_t downtime,
+                   uint64_t left, uint32_t verdict) {
+    return told->time == time && told->bytes == bytes && told->downtime == downtime && told->left == left
+           && told->recorded == 2500000 && told->converges == verdict && told->kept == verdict;
+}
+
+static int are_errors(const struct precopy_errors *errors, uint64_t bytes, uint64_t time, uint64_t downtime,
+                      uint32_t has_errors) {
+    return errors->bytes == bytes && errors->time == time && errors->downtime == downtime
+           && errors->has_errors == has_errors;
+}
+
+static void predictions(void) {
+    struct precopy_prediction told;
+    struct precopy_errors errors;
+    struct precopy_question asked = half;
+    ROW(precopy_predict(trace, sizeof trace, &asked, &told, &errors, &record) == PRECOPY_OK);
+    ROW(told.rounds == 1 && told.reason == PRECOPY_FEW && told.stop == 2000 && told.down == 500 && told.total == 6);
+    ROW(is_told(&told, 2600000, 192, 600000, 2, PRECOPY_YES));
+    /* The standard errors are those of bench/redrawn.py. */
+    ROW(are_errors(&errors, 48, 430565, 129524, 1));
+    asked.guest = 4, asked.link = 64, asked.first = 32;
+    ROW(precopy_predict(trace, sizeof trace, &asked, &told, &errors, &record) == PRECOPY_OK);
+    ROW(is_told(&told, 2600000, 96, 600000, 2, PRECOPY_YES) && are_errors(&errors, 0, 0, 0, 0));
+    asked.rounds = 1, asked.downtime = asked.reserve = 0;
+    ROW(precopy_predict(trace, sizeof trace, &asked, &told, &errors, &record) == PRECOPY_OK);
+    ROW(is_told(&told, 2500000, 96, 500000, 2, PRECOPY_NO) && told.reason == PRECOPY_ALL_ROUNDS);
+    /* The plan stops at tick 3667, after the last write. */
+    asked.rounds = 8, asked.downtime = 100000, asked.reserve = 50000;
+    ROW(precopy_predict(trace, sizeof trace, &asked, &told, &errors, &record) == PRECOPY_OK);
+    ROW(is_told(&told, 3717000, 128, 50000, 0, PRECOPY_UNKNOWN) && told.stop == 3667);
+    /* A warm start, of which only page 1 is sent, and after which page 1 and page 3 are left at tick 2500. */
+    asked.has_base = 1, asked.base = 6, asked.start = 1201;
+    ROW(precopy_predict(trace, sizeof trace, &asked, &told, &errors, &record) == PRECOPY_OK);
+    ROW(told.rounds == 1 && told.stop == 1701 && told.recorded == 1299000 && told.kept == PRECOPY_YES);
+}
+
+/* Returns what is told of a question with one other number. */
+static uint32_t refused(struct precopy_question asked) {
+    struct precopy_prediction told = {9, 9, 9, 9, 9, 9, 9, 9, 9, 9, 9, 9};
+    struct precopy_errors errors = {9, 9, 9, 9};
+    uint32_t status = precopy_predict(trace, sizeof trace, &asked, &told, &errors, &record);
+    ROW(told.time == 9 && told.kept == 9 && are_errors(&errors, 9, 9, 9, 9) && record == 9);
+    return status;
+}
+
+static void questions(void) {
+    struct precopy_question asked = half;
+    asked.size--;
+    ROW(refused(asked) == PRECOPY_BAD_SIZE);
+    asked.size += 2;
+    ROW(refused(asked) == PRECOPY_BAD_SIZE);
+    asked = half, asked.tick = 0;
+    ROW(refused(asked) == PRECOPY_BAD_TICK);
+    asked = half, asked.page = 15;
+    ROW(refused(asked) == PRECOPY_BAD_PAGE);
+    asked = half, asked.sampled = 9;
+    ROW(refused(asked) == PRECOPY_BAD_SAMPLE);
+    asked = half, asked.link = 31;
+    ROW(refused(asked) == PRECOPY_BAD_LINK);
+    asked = half, asked.first = 160;
+    ROW(refused(asked) == PRECOPY_BAD_FIRST);
+    asked = half, asked.reserve = 600001;
+    ROW(refused(asked) == PRECOPY_BAD_RESERVE);
+    asked = half, asked.downtime = 20000000000;
+    ROW(refused(asked) == PRECOPY_BAD_DOWNTIME);
+    asked = half, asked.rounds = 65;
+    ROW(refused(asked) == PRECOPY_BAD_ROUNDS);
+    asked = half, asked.has_base = 1, asked.base = 1;
+    ROW(refused(asked) == PRECOPY_BAD_BASE);
+    asked = half, asked.page = 32, asked.link = 256, asked.first = 128;
+    ROW(refused(asked) == PRECOPY_OTHER_PAGES);
+    asked = half, asked.sampled = 3;
+    ROW(refused(asked) == PRECOPY_MORE_PAGES);
 }
 
 static void memories(void) {
@@ -246,12 +347,39 @@ static void streams(void) {
     ROW(is_page(&found, 0, 0, 1, 1, 0));
 }
 
+/* The same streams, in pieces. */
+static void pieces(void) {
+    struct precopy_finding found = {9, 9, 9, 9, 9, 9, 9, 9};
+    for (size_t cut = 0; cut <= 93; cut++) {
+        struct precopy_progress progress = {0, 0, 0, 3};
+        struct precopy_page states[8] = {{0, 0}};
+        ROW(precopy_check_piece(trace, sizeof trace, sent, cut, &progress, states, 8, &found, &record) == PRECOPY_OK);
+        uint32_t ends = precopy_check_pages(trace, sizeof trace, &progress, states, 8, &found, &record);
+        ROW(progress.bytes <= cut && (ends == PRECOPY_OK) == (progress.frames == 5));
+        size_t taken = progress.bytes;
+        ROW(precopy_check_piece(trace, sizeof trace, sent + taken, 118 - taken, &progress, states, 8, &found, &record)
+            == PRECOPY_OLDER);
+        ROW(is_frame(&found, 0, 5, 93, 1, 2, 3) && progress.bytes == taken);
+        ROW(precopy_check_pages(trace, sizeof trace, &progress, states, 8, &found, &record) == PRECOPY_OK);
+    }
+    struct precopy_progress progress = {0, 0, 0, 3};
+    struct precopy_page states[8] = {{0, 0}};
+    ROW(precopy_check_piece(trace, sizeof trace, sent, 93, &progress, states, 7, &found, &record)
+        == PRECOPY_PAGE_COUNT);
+    ROW(precopy_check_pages(trace, sizeof trace, &progress, states, 8, &found, &record) == PRECOPY_PAGE_MISSING);
+    ROW(is_page(&found, 0, 0, 1, 1, 0));
+}
+
 int main(void) {
     ROW(precopy_abi() == PRECOPY_ABI);
     streams();
+    pieces();
     plans();
     reports();
     sweeps();
+    sizes_of_settings();
+    predictions();
+    questions();
     memories();
     pages();
     traces();

@@ -12,7 +12,7 @@ from library_runs import EXAMPLES, LIBRARY, TOP, is_done, program_says, read, ru
 from tally import left_out
 
 HEADER, CRATE = "include/precopy.h", "bindings/rust"
-SOURCES = ("flat.rs", "lib.rs", "places.rs", "refusals.rs", "streams.rs")
+SOURCES = ("flat.rs", "lib.rs", "places.rs", "predictions.rs", "refusals.rs", "streams.rs")
 
 
 def receive(tally, folder, path, trace):
@@ -41,7 +41,7 @@ def check_statuses(tally):
     """The numbers of the crate's statuses are those of the header."""
     pattern = r"\b(?:PRECOPY_|pub const )(\w+)(?:: u32)? = (\d+)"
     header, crate = (dict(re.findall(pattern, read(path, "r"))) for path in (HEADER, f"{CRATE}/src/refusals.rs"))
-    reasons = {"FEW", "FAST", "ALL_ROUNDS"}
+    reasons = {"FEW", "FAST", "ALL_ROUNDS", "YES", "NO", "UNKNOWN"}
     header = {name: number for name, number in header.items() if name not in reasons}
     differ = header.items() ^ crate.items()
     tally.add(not differ and len(crate) > 30, f"statuses of header and crate differ: {differ}")
@@ -52,6 +52,23 @@ def check_statuses(tally):
 
 def sums_line(it):
     return f"{it.rounds} {it.reason.name.capitalize()} {it.stop} {it.down} {it.total}"
+
+
+def question(sizes, settings):
+    """What examples/answers.rs asks: its numbers do not grow beyond 64 bits."""
+    page, most = sizes.page_length, (1 << 64) - 1
+    asked = {name: getattr(settings, name) for name in ("rounds", "start", "base", "skip")}
+    asked |= {"link": min(most, 3 * page * settings.max), "first": min(most, 3 * page * settings.min)}
+    asked |= {"downtime": min(most, 1000 * settings.threshold), "reserve": 500, "page": page}
+    return precopy.Question(sampled=sizes.pages, guest=3 * sizes.pages, **asked)
+
+
+def prediction_lines(it):
+    yield f"plan {sums_line(it)} {it.left}"
+    verdicts = f"{it.converges.name.capitalize()} {it.kept.name.capitalize()}"
+    yield f"migration {it.time} {it.bytes} {it.downtime} {it.recorded} {verdicts}"
+    if it.errors:
+        yield f"errors {it.errors.bytes} {it.errors.time} {it.errors.downtime}"
 
 
 def answer_lines(trace, settings):
@@ -69,6 +86,7 @@ def answer_lines(trace, settings):
         yield f"best {best}"
         yield f"memory {precopy.memory(trace).hex()}"
         yield f"before {precopy.memory_before(trace, sums.stop).hex()}"
+        yield from prediction_lines(precopy.predict(trace, question(sizes, settings)))
     except precopy.Refused as refused:
         yield f"refused {refused.status} {refused}"
 

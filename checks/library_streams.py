@@ -163,11 +163,27 @@ def trial(chosen, tally, number):
     told = told_by_library(precopy.check_streams(trace, stop, sent))
     name = f"streams {number}: {mistake.__name__} in frame {place} of stream {at}"
     tally.add(told == told_by_model(wrong), f"{name}: the library tells {told}, and the model {wrong}")
+    pieces = told_by_library(in_pieces(chosen, trace, stop, sent))
+    tally.add(pieces == told, f"{name}: in pieces the library tells {pieces}, and at once {told}")
     if wrong is None:
         return None
     named = told and is_named(told, streams[at][place][0], at, place, offset, len(texts[at][place]))
     tally.add(named, f"{name}, and the library tells {told}")
     return mistake.__name__
+
+
+def in_pieces(chosen, trace, stop, streams):
+    """What is wrong first in streams that come in pieces of random lengths, or None."""
+    check = precopy.StreamCheck(trace, stop)
+    for stream in streams:
+        while stream:
+            length = chosen.choice([1, 8, 30, 500])
+            if found := check.take(stream[:length]):
+                return found
+            stream = stream[length:]
+        if found := check.end_stream():
+            return found
+    return check.finish()
 
 
 def told_by_tool(folder, streams, *words):

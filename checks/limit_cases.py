@@ -5,10 +5,12 @@ import random
 import struct
 import sys
 
+import remedy_model
 from view_texts import TOP, Failure, document_of, ran, report_facts, sweep_facts, told
 
 sys.path.insert(0, os.path.join(TOP, "bench"))
 import redrawn  # noqa: E402
+import remedies  # noqa: E402
 
 TIMES = {"us": 1, "ms": 1_000, "s": 1_000_000}
 RATES = {"Kbit": 125, "Mbit": 125_000, "Gbit": 125_000_000, "KB": 1_000, "MB": 10**6, "GB": 10**9,
@@ -131,6 +133,15 @@ def errors_of(limits, start, base, known):
     return redrawn.errors(known.guest, settings_of(limits, start, base), scale)
 
 
+def enough_of(limits, start, base, known, is_late):
+    """Returns what is enough for the limit: by plans with other limits, page by page."""
+    scale = redrawn.Scale(limits.tick, limits.page, limits.sampled, limits.guest)
+    first = limits.first and limits.first[1]
+    asked = remedies.Limits(limits.link[1], limits.downtime, first, limits.reserve)
+    trial = remedies.Trial(scale, asked, remedies.Others(start=start, base=base))
+    return remedy_model.found_of(known.guest, trial, is_late)
+
+
 class Ranges:
     """What a migration costs from each of at most 21 starts: planned page by page."""
 
@@ -165,7 +176,7 @@ class Ranges:
                            "kept": self.kept, **costs}}
 
 
-def predicted_document(limits, report, asked, last, errors, ranges):
+def predicted_document(limits, report, asked, last, errors, ranges, enough):
     """Returns the document of a prediction, from the facts of a report."""
     (start, base), stop = asked, report["stop"]
     time, down, sent = costs_of(limits, start, stop)
@@ -190,7 +201,7 @@ def predicted_document(limits, report, asked, last, errors, ranges):
         "settings": {**settings, "limit": 30, "skip": False, "start": start, **warm},
         "converges": answer(stop["why"] == "few"), "kept": answer(down <= limits.downtime),
         "recorded_seconds": max(0, last - start) * limits.tick / 1e6, **({"migration": migration} if is_known else {}),
-        **ranges.member(),
+        **ranges.member(), "enough": remedy_model.enough_member(enough, lambda micros: micros / 1e6),
         "hosts": {"bandwidth_bytes": limits.link[1], "bandwidth_mib": max(1, limits.link[1] >> 20),
                   "down_milliseconds": (limits.downtime - limits.reserve) // 1_000},
     }
@@ -219,6 +230,7 @@ def check_prediction(view, precopy, limits, asked, known):
     lines, warnings, wanted = predicted_lines(limits, report, start, known.last)
     errors = errors_of(limits, start, base, known) if wanted != 4 else None
     ranges = Ranges(limits, base, known)
+    enough = enough_of(limits, start, base, known, wanted == 4)
     if errors:
         sent, time, down = errors
         lines.append(f"standard errors: sent {size_text(sent)}, time {seconds(time)}, downtime {seconds(down)}")
@@ -232,11 +244,11 @@ def check_prediction(view, precopy, limits, asked, known):
              f"QEMU: migrate_set_parameter downtime-limit {millis}",
              f"libvirt: virsh migrate-setspeed DOMAIN {max(1, limits.link[1] >> 20)}",
              f"libvirt: virsh migrate-setmaxdowntime DOMAIN {millis}"]
-    rest = [*ranges.lines(), live, *hosts]
+    rest = [*ranges.lines(), *remedy_model.enough_lines(enough), live, *hosts]
     if found[len(lines) + warnings:] != rest:
         raise Failure(f"{words}: {found[len(lines) + warnings:]} in place of {rest}")
     status, text, _ = ran(view, ["json", "predict", *words], known.path)
-    document = predicted_document(limits, report, asked, known.last, errors, ranges)
+    document = predicted_document(limits, report, asked, known.last, errors, ranges, enough)
     if status != wanted or document_of("predict", text) != document:
         raise Failure(f"{words}: status {status}, {text} in place of {document}")
 

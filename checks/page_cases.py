@@ -3,19 +3,25 @@
 The facts are worked out from the lines of `precopy report` and `precopy sweep`, by the rules of docs/COMMANDS.md.
 """
 
+import math
 import os
 import random
+import re
+from fractions import Fraction
 
 import page_shapes
 from limit_cases import RATES, TIMES, Known, redrawn, seconds
 from limit_cases import size_text as told_size
+from remedies import Limits, Others, Remedies, Trial, remedies
 from view_texts import TOP, Failure, document_of, ran, report_facts, sweep_facts, told
 
 TRACES = ["a.pcwt", "gzip.pcwt", "released.pcwt", "guests/mid.light.pcwt", "guests/sqlite.light.pcwt"]
 ROWS_SHOWN = 1000
 SHAPES, SETTINGS = 15, 20
-# Of how many pages the standard errors are worked out here too.
+# Of how many pages the standard errors, and what is enough for the limit, are worked out here too.
 SMALL = 2_000
+# The page takes smaller amounts than this.
+MOST_OF_PAGE = 1 << 53
 
 
 def example(name):
@@ -214,6 +220,55 @@ def errors(asked, document):
     if is_small and document["kept"] != "unknown" and told_by_program != drawn_errors(asked):
         raise Failure(f"errors of {told_by_program} in place of {drawn_errors(asked)}")
     return told_by_program
+
+
+def remedies_of(asked, first, increment):
+    """What keeps the limit by `bench/remedies.py`, the link in bytes a second. `first` and `increment` may be None."""
+    link, _, downtime, reserve = asked.limits()
+    others = Others(asked.rounds, asked.start, bool(asked.skip), asked.base, increment)
+    scale = redrawn.Scale(asked.tick, asked.page, asked.sampled, asked.guest)
+    found = remedies(asked.known.guest, Trial(scale, Limits(link, downtime, first, reserve), others))
+    return found._replace(link=found.link and found.link * 125)
+
+
+def amount_in(lines, words, units):
+    """The amount of the line that begins with these words, in bytes a second or microseconds."""
+    line = next((line for line in lines if line.startswith(words)), None)
+    if line is None:
+        return None
+    count, unit = re.match(r"([\d.]+) (\S+?)(?:/s)?(?:,|$)", line.removeprefix(words)).groups()
+    return math.floor(Fraction(count) * units[unit.replace("\u00b5", "u")])
+
+
+def enough_in(lines):
+    """What lines of the page say of what is enough for the limit."""
+    slowed = [re.fullmatch(r"the guest slowed to (\d+) per cent of its speed", line) for line in lines]
+    speeds = [int(found[1]) for found in slowed if found]
+    return Remedies(lines[0].startswith("Enough: what is asked"), amount_in(lines, "link rate ", RATES),
+                    amount_in(lines, "downtime limit ", TIMES), speeds[0] if speeds else None)
+
+
+def enough_of(document):
+    """The same by a document of `json predict`, if it has that."""
+    told = document and document.get("enough")
+    if not told:
+        return None
+    down = told.get("down_seconds")
+    return Remedies(told["answer"] == "asked", told.get("link_bytes"), down if down is None else micros(down),
+                    told.get("guest_percent"))
+
+
+def check_enough(asked, lines, document):
+    """Tests what is enough for the limit: beside the model if the trace is small, and beside the program."""
+    if lines == ["Enough: unknown, since the trace ends before the migration does."]:
+        return
+    found, wanted = enough_in(lines), [enough_of(document)]
+    if asked.known.pages <= SMALL:
+        first = None if asked.first == 100 else asked.limits()[1]
+        wanted.append(remedies_of(asked, first, None if asked.increase == 10 else asked.settings()[2]))
+    for some in filter(None, wanted):
+        if max(some.link or 0, some.downtime or 0) < MOST_OF_PAGE and found != some:
+            raise Failure(f"enough: {lines} in place of {some}")
 
 
 def reason(asked, report):

@@ -32,6 +32,24 @@ CHANGES = """
 """
 SETTINGS = "link=10Gbit&first=50&downtime=50ms&window=500"
 
+# Changes the most rounds, and tells after how many milliseconds the plan is drawn, the standard errors, and what is
+# enough for the limit; and whether the errors were still to come when the plan was drawn.
+LATE = """
+(async () => {
+  const since = performance.now();
+  const field = document.getElementById("control-rounds");
+  field.value = "29";
+  field.dispatchEvent(new Event("input"));
+  const until = async (holds) => {
+    while (!holds()) { await new Promise((resume) => setTimeout(resume, 1)); }
+    return performance.now() - since;
+  };
+  const planned = await until(() => begun >= since);
+  const isBefore = !isTold("comparison");
+  return [planned, await until(() => isTold("comparison")), await until(() => isTold("limits-answer")), isBefore];
+})()
+"""
+
 
 # ---- Traces that are made.
 
@@ -161,6 +179,26 @@ def speed_over(page, folder, length):
     return plan
 
 
+def check_late(page, folder):
+    """Plans of a sample as large as may be do not wait for what takes long: that comes later, for the last of them."""
+    path = os.path.join(folder, "full.pcwt")
+    write_full(path, 32, 1)
+    page.open()
+    page.wait_for_plan()
+    _, more_memory = opened(page, path)
+    page.ask(f"{SETTINGS}&sample=65536/1000000")
+    require_free(page, "60 changes over a sample", lambda: page.browser.value(CHANGES))
+    middle = statistics.median(page.browser.value("times"))
+    page.rest()
+    planned, errors, enough, is_before = page.browser.value(LATE)
+    print(f"  a change takes {middle:.1f} ms in the middle; after one the plan is drawn in {planned:.0f} ms, its "
+          f"errors in {errors:.0f} ms, and what is enough in {enough:.0f} ms; {more_memory() / 1e6:.0f} MB")
+    if not is_before or "\u00b1 " not in page.shown()["comparison"]["time"][1]:
+        raise Failure("the plan waits for its errors, or has none")
+    if more_memory() > MOST_MEMORY:
+        raise Failure(f"{more_memory():,} bytes more than without the trace")
+
+
 def tell_starts(page, more_memory):
     begun = page.browser.value("performance.now()")
     require_free(page, "all starts", lambda: plan_starts(page))
@@ -226,6 +264,7 @@ def check_many_windows(page, folder):
 
 
 def check_loads(tally, page, folder):
-    for words, check in (("2^20 writes", check_speed), ("2^20 windows", check_many_windows),
+    for words, check in (("2^20 writes", check_speed), ("what takes long", check_late),
+                         ("2^20 windows", check_many_windows),
                          ("a trace of 2^28 bytes", check_long)):
         tried(tally, words, check, page, folder)

@@ -13,6 +13,7 @@ const answers = JSON.parse(readFileSync(0, "utf8")).map(({ settings, question })
   const { min, max, increment, threshold } = planner.settings(question);
   const answer = planner.predict(question);
   const errors = planner.errors(question);
+  const { isKept, link, downtime, speed } = planner.remedies(question);
   return {
     windows: Array.from({ length: windows.count }, (_, row) => columns.map((name) => windows[name][row])),
     rounds: plan.rounds.map((round) => Object.values(round)),
@@ -21,6 +22,7 @@ const answers = JSON.parse(readFileSync(0, "utf8")).map(({ settings, question })
     answer: ["time", "bytes", "downtime", "recorded", "kept", "converges"].map((name) => String(answer[name])),
     isSame: JSON.stringify(answer.rows) === JSON.stringify(plan.rounds) && answer.left === plan.left,
     errors: errors && [errors.bytes, errors.time, errors.downtime].map(Number),
+    remedies: [isKept, ...[link, downtime, speed].map((amount) => (amount === null ? null : String(amount)))],
   };
 });
 console.log(JSON.stringify(answers));

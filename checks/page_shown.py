@@ -24,13 +24,16 @@ new PerformanceObserver((list) => {
     if (name === "opened") { window.opened += 1; window.openedAt = startTime + duration; }
   }
 }).observe({ type: "measure" });
-window.isDrawn = () => begun >= openedAt;
+// Whether nothing that is shown is still to come: standard errors, and what is enough for the limit.
+window.isTold = (...ids) => ids.every((id) => document.getElementById(id).getAttribute("aria-busy") !== "true");
+window.isDrawn = () => begun >= openedAt && isTold("comparison");
+// The planner's workers, without that of what takes long.
 window.workers = [];
 if (typeof Worker === "function") {
   window.Worker = class extends Worker {
     constructor(...words) {
       super(...words);
-      workers.push(this);
+      if (words[1]?.name === "planner") { workers.push(this); }
       if (window.isDeadly) { setTimeout(() => { this.terminate(); this.onerror(); }); }
     }
   };
@@ -59,7 +62,7 @@ window.shown = () => {
 window.after = async (act) => {
   const since = performance.now();
   await act();
-  for (let count = 0; begun < since; count += 1) {
+  for (let count = 0; begun < since || !isTold("comparison"); count += 1) {
     if (count > 3000) { throw new Error("nothing was drawn"); }
     await new Promise((resume) => setTimeout(resume, 5));
   }
@@ -71,7 +74,8 @@ window.isFitted = () => [...document.querySelectorAll(".plot")].every((plot) => 
   return !picture || !plot.offsetParent || Math.abs(Number(picture.getAttribute("width")) - plot.clientWidth) < 1;
 });
 window.atRest = async () => {
-  for (let count = 0, since = null; since !== begun || !isFitted(); count += 1) {
+  for (let count = 0, since = null; since !== begun || !isFitted() || !isTold("comparison", "limits-answer");
+    count += 1) {
     if (count > 200) { throw new Error("the page does not come to rest"); }
     since = begun;
     await new Promise((resume) => setTimeout(resume, 150));
@@ -134,6 +138,12 @@ class Page:
 
     def shown(self):
         return self.browser.value("shown()")
+
+    def enough(self):
+        """What is said to be enough for the limit, a line each, once it is there."""
+        self.browser.wait('isTold("limits-answer")', 60)
+        return self.browser.value("[...document.querySelectorAll('#limits-answer p, #limits-answer li')]"
+                                  ".map((line) => line.textContent.replace(/ Take it$/, ''))")
 
     def rest(self):
         """Waits until the page draws nothing anew, and its pictures are as wide as their places."""

@@ -42,8 +42,7 @@ def first_look(page):
 def with_starts(page):
     open_with(page, "#trace=sqlite")
     plan_starts(page)
-    page.browser.value("document.getElementById('find-limits').click()")
-    page.browser.wait("document.querySelectorAll('#limits-answer b').length === 2", 60)
+    require(len(page.enough()) > 1, f"enough: {page.enough()}")
 
 
 def kept_plans(page):
@@ -86,6 +85,12 @@ def missed_limit(page):
     require(typed(page, "reserve", "2x")["stale"], "a plan of no number")
 
 
+def what_is_enough(page):
+    """A limit that is missed: what would keep it, a slower guest too."""
+    open_with(page, "#trace=gzip&link=2MB&downtime=4ms&first=40&increase=25&start=400")
+    require(len(page.enough()) == 4, f"enough: {page.enough()}")
+
+
 def warm_start(page):
     """A warm start, nearer, with ticks, after a click that has moved the start."""
     open_with(page, "#trace=sqlite&start=20000&base=15000&ticks=1&skip=1")
@@ -106,7 +111,7 @@ def nothing_fits(page):
 
 STATES = {"no-trace": no_trace, "first-look": first_look, "starts": with_starts, "kept": kept_plans,
           "refused-control": refused_control, "refused-files": refused_files, "refused-first": refused_first,
-          "missed": missed_limit, "warm": warm_start, "short": nothing_fits}
+          "missed": missed_limit, "enough": what_is_enough, "warm": warm_start, "short": nothing_fits}
 
 
 # ---- Looking.

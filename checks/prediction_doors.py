@@ -6,26 +6,34 @@ import importlib.util
 import io
 import json
 import os
+import shutil
 import subprocess
 from fractions import Fraction
 from typing import NamedTuple, Optional
 
 from prediction_model import TOP, Answer, document_of, host_lines, lines_of
 from prediction_questions import Asked
+from remedy_model import enough_lines
 from view_texts import Failure, ran
 
+LIBRARY = os.path.join(TOP, "out", "library")
 STATUSES = {"yes": 0, "no": 3, "unknown": 4}
 REFUSED = (1, 2)
-KINDS = ("converges: ", "total time: ", "sent: ", "downtime: ", "standard errors: ", "warning: ", "QEMU: ", "libvirt: ")
+# The statuses of the library for a question that is out of its range, or that is not about such a trace.
+QUESTION_REFUSED = (*range(21, 31), *range(81, 90))
+KINDS = ("converges: ", "total time: ", "sent: ", "downtime: ", "standard errors: ", "warning: ", "enough: ", "QEMU: ",
+         "libvirt: ")
 
 
 class Programs(NamedTuple):
-    """What is built: precopy-view, the page's module, and a folder with what the page's programs need in Node."""
+    """What is built: precopy-view, the page's module, and a folder with what the page's programs need in Node. `asker`
+    is the program that asks the library for C, or nothing."""
 
     view: str
     module: str
     web: str
     node: Optional[list[str]]
+    asker: str
 
 
 class Door:
@@ -66,7 +74,8 @@ class Lines(Door):
         return answered(status, faults) and [status, *known(text.splitlines())]
 
     def wanted(self, asked: Asked, answer: Answer) -> object:
-        return [STATUSES[answer.kept], *lines_of(asked.question, answer), *host_lines(asked.question)]
+        return [STATUSES[answer.kept], *lines_of(asked.question, answer), *enough_lines(answer.enough),
+                *host_lines(asked.question)]
 
 
 class Document(Door):
@@ -107,8 +116,8 @@ class Tool(Door):
     def wanted(self, asked: Asked, answer: Answer) -> object:
         """If the downtime is cut to what a plan takes, there is no word for a hypervisor."""
         is_whole = f"--downtime={asked.question.downtime}us" in asked.words
-        lines = lines_of(asked.question, answer) + (host_lines(asked.question) if is_whole else [])
-        return [STATUSES[answer.kept], *lines]
+        lines = lines_of(asked.question, answer) + enough_lines(answer.enough)
+        return [STATUSES[answer.kept], *lines, *(host_lines(asked.question) if is_whole else [])]
 
 
 class Page(Door):
@@ -138,10 +147,109 @@ class Page(Door):
                  "kept": answer.kept}
         large = {"time": answer.time, "bytes": answer.sent, "downtime": answer.downtime, "recorded": answer.recorded}
         errors = answer.errors and dict(zip(("bytes", "time", "downtime"), map(str, answer.errors)))
-        return {**plain, **{name: str(number) for name, number in large.items()}, "errors": errors}
+        large = {name: str(number) for name, number in large.items()}
+        return {**plain, **large, "errors": errors, "remedies": self.remedies(answer)}
+
+    @staticmethod
+    def remedies(answer: Answer) -> Optional[dict]:
+        """What is enough for the limit, with the link in bytes a second."""
+        found = answer.enough
+        if found is None:
+            return None
+        link = None if found.link is None else 125 * found.link
+        amounts = {"link": link, "downtime": found.downtime, "speed": found.speed}
+        words = {name: None if amount is None else str(amount) for name, amount in amounts.items()}
+        return {"isKept": found.is_kept, **words}
 
 
-DOORS = [Lines, Document, Tool, Page]
+class Library(Door):
+    """The library. It gives numbers, and standard errors of what is unknown too."""
+
+    LACKING = f"there is no {LIBRARY}; make lib builds it"
+
+    @staticmethod
+    def lacking(programs: Programs) -> str:
+        return "" if os.path.exists(LIBRARY) else Library.LACKING
+
+    def wanted(self, asked: Asked, answer: Answer) -> object:
+        numbers = {name: getattr(answer, name) for name in ("rounds", "time", "downtime", "left", "recorded")}
+        verdicts = {"reason": answer.why, "converges": answer.converges, "kept": answer.kept}
+        return {**numbers, **verdicts, "bytes": answer.sent, "errors": answer.errors}
+
+
+class Python(Library):
+    """The library in Python."""
+
+    name = "precopy.predict"
+
+    def told(self, asked: Asked) -> object:
+        import precopy  # noqa: PLC0415
+
+        with open(asked.trace.path, "rb") as file:
+            trace = file.read()
+        try:
+            it = precopy.predict(trace, precopy.Question(**vars(asked.question)))
+        except (precopy.QuestionRefused, precopy.SettingsRefused):
+            return None
+        errors = it.errors and (it.errors.bytes, it.errors.time, it.errors.downtime)
+        words = {name: getattr(it, name).name.lower() for name in ("reason", "converges", "kept")}
+        return {**vars(it), **words, "errors": errors if words["kept"] != "unknown" else None}
+
+
+class C(Library):
+    """The library in C, by a program that asks it."""
+
+    name = "precopy_predict"
+    NUMBERS = "link first downtime reserve tick page sampled guest increment rounds start base"
+    ANSWER = "rounds reason stop down total left time bytes downtime recorded converges kept"
+
+    @staticmethod
+    def lacking(programs: Programs) -> str:
+        if lacks := Library.lacking(programs):
+            return lacks
+        return "" if programs.asker else "there is no cc"
+
+    def all_told(self, some: list[Asked]) -> list[object]:
+        lines = "".join(f"{' '.join(map(str, self.numbers(asked)))}\n" for asked in some)
+        command = [self.programs.asker, some[0].trace.path]
+        done = subprocess.run(command, input=lines, capture_output=True, text=True, check=False)
+        told = [self.answer(list(map(int, line.split()))) for line in done.stdout.splitlines()]
+        if done.returncode or len(told) != len(some):
+            raise Failure(f"status {done.returncode}, {done.stderr[-300:]!r}, {len(told)} answers")
+        return told
+
+    def numbers(self, asked: Asked) -> list[int]:
+        """The numbers of a question in the order of struct precopy_question."""
+        given = vars(asked.question)
+        has = [int(given[name] is not None) for name in ("first", "increment", "base")]
+        return [given[name] or 0 for name in self.NUMBERS.split()] + has + [int(given["skip"])]
+
+    def answer(self, numbers: list[int]) -> object:
+        """What a line of the program tells: twelve numbers and four of standard errors, or a status."""
+        if len(numbers) == 1:
+            if numbers[0] in QUESTION_REFUSED:
+                return None
+            raise Failure(f"status {numbers[0]}")
+        found = dict(zip(self.ANSWER.split(), numbers))
+        verdicts = {name: ("yes", "no", "unknown")[found[name]] for name in ("converges", "kept")}
+        has_errors = numbers[-1] and verdicts["kept"] != "unknown"
+        errors = tuple(numbers[-4:-1]) if has_errors else None
+        return {**found, **verdicts, "reason": ("few", "fast", "rounds")[found["reason"]], "errors": errors}
+
+
+DOORS = [Lines, Document, Tool, Page, C, Python]
+
+
+def asker(folder: str) -> str:
+    """Compiles the program that asks the library for C, or returns nothing if there is no compiler or no library."""
+    archive, path = os.path.join(LIBRARY, "libprecopy.a"), os.path.join(folder, "prediction_answers")
+    if not shutil.which("cc") or not os.path.exists(LIBRARY):
+        return ""
+    words = ["-std=c99", "-O1", f"-I{TOP}/include", "-o", path, f"{TOP}/checks/prediction_answers.c", archive]
+    done = subprocess.run(["cc", *words], capture_output=True, text=True, check=False)
+    if done.returncode:
+        raise Failure(f"checks/prediction_answers.c is not compiled: {done.stderr[-300:]}")
+    return path
 
 
 def answered(status: int, faults: str) -> Optional[bool]:

@@ -12,6 +12,8 @@ from typing import NamedTuple, Optional
 TOP = os.path.dirname(os.path.dirname(os.path.abspath(__file__)))
 sys.path.append(os.path.join(TOP, "bench"))
 import redrawn  # noqa: E402
+import remedies  # noqa: E402
+import remedy_model  # noqa: E402
 
 REASONS = {
     "few": ("yes, rounds: ", ""),
@@ -88,12 +90,19 @@ class Question:
             return None
         return redrawn.Settings(least, most, increment, threshold, self.rounds, self.start, self.skip, self.base)
 
+    def trial(self) -> remedies.Trial:
+        """The same as a migration whose limits are changed."""
+        limits = remedies.Limits(self.link, self.downtime, self.first, self.reserve)
+        others = remedies.Others(self.rounds, self.start, self.skip, self.base, self.increment)
+        return remedies.Trial(redrawn.Scale(self.tick, self.page, self.sampled, self.guest), limits, others)
+
     def bytes_of(self, pages: int) -> int:
         return pages * self.page * self.guest // self.sampled
 
 
 class Answer(NamedTuple):
-    """What is predicted: times in microseconds. Errors are of bytes, time and downtime, if there are any."""
+    """What is predicted: times in microseconds. Errors are of bytes, time and downtime, if there are any. It is not
+    known what is enough if a migration ends late."""
 
     converges: str
     kept: str
@@ -105,6 +114,7 @@ class Answer(NamedTuple):
     left: int
     recorded: int
     errors: Optional[tuple[int, int, int]]
+    enough: Optional[remedies.Remedies]
 
 
 def answer_of(asked: Question, trace: Trace) -> Optional[Answer]:
@@ -123,6 +133,7 @@ def answer_of(asked: Question, trace: Trace) -> Optional[Answer]:
         plan.reason, plan.rounds, (plan.stop - asked.start) * asked.tick + down, asked.bytes_of(plan.total), down,
         plan.left, max(0, trace.last - asked.start) * asked.tick,
         redrawn.errors(trace.guest, settings, scale) if has_errors else None,
+        remedy_model.found_of(trace.guest, asked.trial(), is_late),
     )
 
 
@@ -189,6 +200,7 @@ def document_of(asked: Question, told: Answer) -> dict:
                      "threshold": settings.threshold, "limit": settings.rounds, "skip": settings.skip,
                      "start": settings.start, **base},
         "converges": told.converges, "kept": told.kept, "recorded_seconds": time(told.recorded),
+        "enough": remedy_model.enough_member(told.enough, time),
         "hosts": {"bandwidth_bytes": bandwidth, "bandwidth_mib": mib, "down_milliseconds": millis},
     }
     if told.kept == "unknown":

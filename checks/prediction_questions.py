@@ -1,6 +1,6 @@
 """Random questions for checks/predictions, over traces and records whose shapes come from elsewhere.
 
-Traces are examples, or from `page_shapes` and `library_traces`. Records are an example, one of tools/thin, and traces
+Traces are examples, or from `page_shapes` and `trace_bytes`. Records are an example, one of tools/thin, and traces
 of `page_shapes` with a NAME.json of random numbers.
 """
 
@@ -16,15 +16,10 @@ from fractions import Fraction
 from typing import NamedTuple, Optional
 
 import page_shapes
+import trace_bytes
 from prediction_model import TOP, Question, Trace, in_longer_ticks, trace_in
 
 import samples
-
-try:
-    import library_traces
-except (ImportError, OSError):
-    # It needs the built library.
-    library_traces = None
 
 EXAMPLES = os.path.join(TOP, "examples")
 SHAPES = 6
@@ -72,8 +67,7 @@ def shapes(folder: str, seed: int) -> list[str]:
 def small(folder: str, seed: int) -> list[str]:
     """Two small traces in both versions of the format."""
     chosen = random.Random(seed)
-    some = [library_traces.generated(chosen) for _ in range(100)] if library_traces else shapes_of(seed + 1)
-    found = filter(is_fit, some)
+    found = filter(is_fit, (trace_bytes.generated(chosen) for _ in range(100)))
     return [put(folder, f"small-{number}.pcwt", text) for number, text in zip(range(2), found)]
 
 

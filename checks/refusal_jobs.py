@@ -63,17 +63,19 @@ WRITE_FAILED = b"precopy: write\n"
 
 class Job:
     """A command over a trace, what it must write, and how many of its threads only save time: of a live run, one.
-    Some that it needs start before: the planner, and in a warm start the thread that makes memory."""
+    Some that it needs start before: the planner, and in a warm start the thread that makes memory. The last ones,
+    `makers`, make memory that is written; after them nothing is asked for but what starts them."""
 
     status, faults = 0, b""
 
-    def __init__(self, name, words, output, trace="a", is_live=False, savers=0):
+    def __init__(self, name, words, output, trace="a", is_live=False, savers=0, makers=0):
         self.name = name
         self.words = words
         self.output = output
         self.trace = trace
         self.is_live = is_live
-        self.savers = savers or (1 if is_live else 0)
+        self.savers = (savers or (1 if is_live else 0)) + makers
+        self.makers = makers
         self.needed_first = (2 if "--base" in words else 1) if is_live else 0
 
 
@@ -89,7 +91,8 @@ class Misuse(Job):
 
 
 IMAGE = Job("image", ["image"], A_IMAGE)
-LARGE_IMAGE = Job("image, 8,193 pages", ["image"], LARGE_MEMORY, "large", savers=1)
+# Four threads make 1,024 pages at a time, so all but the caller's start nine times.
+LARGE_IMAGE = Job("image, 8,193 pages", ["image"], LARGE_MEMORY, "large", savers=1, makers=27)
 REPORT = Job("report", ["report", *PLAN, *TABLES], A_REPORT)
 SWEEP = Job("sweep", ["sweep", *CASES], A_SWEEP)
 LIVE = Job("live", ["live", *PLAN, *THREADS], A_IMAGE, is_live=True)

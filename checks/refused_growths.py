@@ -63,6 +63,16 @@ def is_for_saver(job, run, whole):
     return not first.callers[0].startswith("rattle_") and run.counts["threads"] == whole.counts["threads"] - 1
 
 
+def is_for_makers(job, run):
+    """Whether what was refused first, with all after it, is room to start a thread that makes memory: then all other
+    threads were started, and none after it."""
+    first = run.refused
+    if not job.makers or not first or first.moves or not first.callers:
+        return False
+    rest = job.needed_first + job.savers - job.makers
+    return not first.callers[0].startswith("rattle_") and run.counts["threads"] == run.started >= rest
+
+
 # What starts the threads of a live run, as the compiler leaves it: the receivers, and those of a round. Each list of
 # their handles grows as lists do, first to four, and a handle is an address. A round's list of sent pages, of a page
 # and a stamp each, grows alike.

@@ -1,34 +1,51 @@
 """What is enough for the limit of a migration, by the model of bench/remedies.py, which makes plans page by page."""
 
-import functools
 import os
 import sys
 
 sys.path.insert(0, os.path.join(os.path.dirname(os.path.realpath(__file__)), "..", "bench"))
-from redrawn import Scale, by_page  # noqa: E402
-from remedies import Limits, Others, Trial, remedies  # noqa: E402
+from remedies import Remedies, Trial, remedies  # noqa: E402
+
+LINES = {
+    "asked": "enough: what is asked; also one of these, changed alone",
+    "other": "enough: one of these, changed alone",
+    "nothing": "enough: nothing that was tried",
+    "unknown": "enough: unknown, since the trace ends before the migration does",
+}
 
 
-@functools.lru_cache
-def guest_of(known):
-    """Returns when each page of a trace is written."""
-    return by_page(known.pages, known.writes)
+def found_of(guest: list[list[int]], trial: Trial, is_late: bool) -> Remedies | None:
+    """What is enough for a migration of a guest, by the ticks at which each page is written; None if it ends late."""
+    return None if is_late else remedies(guest, trial)
 
 
-def enough_of(limits, start, known):
-    """Returns the lines and the member of a document about what is enough for limits, from a start of a trace."""
-    first = limits.first[1] if limits.first else None
-    trial = Trial(Scale(limits.tick, limits.page, limits.sampled, limits.guest),
-                  Limits(limits.link[1], limits.downtime, first, limits.reserve), Others(start=start))
-    found = remedies(guest_of(known), trial)
-    lines, member = [], {}
-    if found.link is not None:
+def answer_of(found: Remedies | None) -> str:
+    if found is None:
+        return "unknown"
+    if found.is_kept:
+        return "asked"
+    return "nothing" if found[1:] == (None, None, None) else "other"
+
+
+def enough_lines(found: Remedies | None) -> list[str]:
+    """The lines of `precopy-view predict`."""
+    lines = [LINES[answer_of(found)]]
+    if found and found.link is not None:
         lines.append(f"enough: --link {found.link}Kbit")
-        member["link_bytes"] = found.link * 125
-    if found.downtime is not None:
+    if found and found.downtime is not None:
         lines.append(f"enough: --downtime {found.downtime}us")
-        member["down_seconds"] = found.downtime / 1e6
-    if found.speed is not None:
+    if found and found.speed is not None:
         lines.append(f"enough: the guest slowed to {found.speed} per cent of its speed")
+    return lines
+
+
+def enough_member(found: Remedies | None, seconds) -> dict:
+    """The member of `precopy-view json predict`, with times by a function of microseconds."""
+    member = {"answer": answer_of(found)}
+    if found and found.link is not None:
+        member["link_bytes"] = 125 * found.link
+    if found and found.downtime is not None:
+        member["down_seconds"] = seconds(found.downtime)
+    if found and found.speed is not None:
         member["guest_percent"] = found.speed
-    return lines, member
+    return member

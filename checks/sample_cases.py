@@ -310,6 +310,8 @@ def memory_runs_out(_, folder):
         for limit in (400, 64, 48, 40, 36, 34, 32, 30, 28):
             def limited(most=limit << 20):
                 resource.setrlimit(resource.RLIMIT_AS, (most, most))
+                # Python 3.11 unwinds for ever if it lacks the memory for a number meanwhile: then the kernel ends it.
+                resource.setrlimit(resource.RLIMIT_CPU, (2 * SECONDS, 2 * SECONDS))
 
             drawn = Drawn(folder, pages.source, ["--by", "writes", "--for", "200ms"], preexec_fn=limited)
             drawn.end()

@@ -21,9 +21,9 @@
  *
  * - It returns PRECOPY_OK, which is 0, or another number of enum precopy_status. If it isn't PRECOPY_OK, the
  *   function has written only what its comment names.
- * - Of several causes it returns the first in this order: the settings or sizes, then the trace or what its comment
- *   names, and last a buffer that is too short. Only precopy_sweep tests its buffer first. PRECOPY_NO_MEMORY comes as
- *   soon as memory runs out, before what is tested later.
+ * - Of several causes it returns the first in this order: the settings, the sizes or the question, then the trace or
+ *   what its comment names, and last a buffer that is too short. Only precopy_sweep tests its buffer first.
+ *   PRECOPY_NO_MEMORY comes as soon as memory runs out, before what is tested later.
  * - If it takes a trace, it takes `record` too. Of a trace that is refused for a record, PRECOPY_SHORT_RECORD to
  *   PRECOPY_OUT_OF_PAGE, *record is the number of that record, from 0. Otherwise *record stays as it was.
  * - It keeps nothing between two calls, starts no thread, and doesn't block. Any number of threads may call at
@@ -100,6 +100,7 @@ enum precopy_status {
     PRECOPY_BAD_HOT = 27,       /* S7: hot is not 1 to 1,048,576 */
     PRECOPY_BAD_START = 28,     /* S8: start is 2^40 or more */
     PRECOPY_BAD_BASE = 30,      /* S10: base is after start */
+    PRECOPY_BAD_SIZE = 31,      /* size is not that of the struct that begins with it; it is tested first */
 
     /* A frame is refused. */
     PRECOPY_FRAME_SHORT = 41, /* F1: a frame is cut off */
@@ -125,7 +126,20 @@ enum precopy_status {
     PRECOPY_AFTER_STOP = 72,  /* a stamp is of a write after the stop */
     PRECOPY_OLDER = 73,       /* a frame of the page with a greater stamp came before in the stream */
     PRECOPY_OTHER_BYTES = 74, /* the bytes are not those of the page at the stamp */
-    PRECOPY_PAGE_BEHIND = 75  /* a page is not at its version at the stop */
+    PRECOPY_PAGE_BEHIND = 75, /* a page is not at its version at the stop */
+
+    /* A question is refused. One that makes settings which are out of their range is refused for these, S1 to S10. */
+    PRECOPY_BAD_TICK = 81,     /* tick is not 1 to 1,000,000 */
+    PRECOPY_BAD_PAGE = 82,     /* page is not 16 to 4,096 */
+    PRECOPY_BAD_SAMPLE = 83,   /* sampled is not 1 to guest, or guest is more than 2^32 */
+    PRECOPY_BAD_LINK = 84,     /* link is not 1 to 1,000,000 pages per 1,000 ticks; another tick may do */
+    PRECOPY_BAD_FIRST = 85,    /* first is not 1 page per 1,000 ticks to the rate of link */
+    PRECOPY_BAD_RESERVE = 86,  /* reserve is more than downtime */
+    PRECOPY_BAD_DOWNTIME = 87, /* more than 65,535 pages go over the link within downtime */
+
+    /* A trace is not as a question says. */
+    PRECOPY_OTHER_PAGES = 88, /* its pages do not have so many bytes */
+    PRECOPY_MORE_PAGES = 89   /* it has more pages than were sampled */
 };
 
 /* A line about a status, in English. It never returns null, and the text stays. */
@@ -162,6 +176,7 @@ uint32_t precopy_writes_before(const uint8_t *trace, size_t trace_length, uint64
 
 /* The settings of a plan. Rates are in pages per 1,000 ticks. */
 struct precopy_settings {
+    uint64_t size;      /* sizeof(struct precopy_settings), which grows if a version has more settings */
     uint64_t min;       /* the rate of the first round, and the least one */
     uint64_t max;       /* the greatest rate; that of the final copy */
     uint64_t increment; /* what is added to a dirtying rate to get the next rate */
@@ -176,7 +191,7 @@ struct precopy_settings {
 };
 
 /* Settings to begin with: those that the program precopy uses if no option is given. */
-#define PRECOPY_SETTINGS_DEFAULT {1000, 5000, 500, 64, 30, 0, 1000, 2, 0, 0, 0}
+#define PRECOPY_SETTINGS_DEFAULT {sizeof(struct precopy_settings), 1000, 5000, 500, 64, 30, 0, 1000, 2, 0, 0, 0}
 
 /* Why pre-copying ends. */
 enum precopy_reason {
@@ -265,6 +280,85 @@ PRECOPY_ANSWERS PRECOPY_NOT_NULL(7, 8)
 uint32_t precopy_sweep(const uint8_t *trace, size_t trace_length, const struct precopy_settings *cases,
                        size_t cases_length, struct precopy_sums *sums, size_t sums_length, size_t *best,
                        uint32_t *record);
+
+/* ---- predictions */
+
+/*
+ * What is asked of a migration, in bytes a second and microseconds: how much it may take, what ticks and pages of the
+ * trace stand for, and where it begins.
+ */
+struct precopy_question {
+    uint64_t size;          /* sizeof(struct precopy_question), which grows if a version asks for more */
+    uint64_t link;          /* what the migration may use of the link, in bytes a second */
+    uint64_t first;         /* what its first round may use, if has_first isn't 0; else the whole link */
+    uint64_t downtime;      /* the longest downtime, in microseconds */
+    uint64_t reserve;       /* the part of it that goes to other things than pages, in microseconds */
+    uint64_t tick;          /* the length of a tick, in microseconds */
+    uint64_t page;          /* the bytes of a page of the trace */
+    uint64_t sampled;       /* how many of the guest's pages were recorded */
+    uint64_t guest;         /* how many pages the guest has; if as many were recorded, any equal numbers do */
+    uint64_t increment;     /* what is added to a dirtying rate, in pages per 1,000 ticks, if has_increment isn't 0 */
+    uint64_t rounds;        /* the most rounds */
+    uint64_t start;         /* the tick at which the first round begins */
+    uint64_t base;          /* the destination begins with the memory before this tick, if has_base isn't 0 */
+    uint32_t has_first;     /* 0: the first round uses the whole link */
+    uint32_t has_increment; /* 0: a tenth of what the link has above the first round */
+    uint32_t has_base;      /* 0: the destination begins with nothing */
+    uint32_t skip;          /* 0: all pages of a round are sent, even those that were written again */
+};
+
+/*
+ * A question to begin with: what `precopy-view predict` asks if no option is given, with pages of 4,096 bytes, of which
+ * all were recorded. The link and the downtime are 0, and the caller's to set.
+ */
+#define PRECOPY_QUESTION_DEFAULT                                                                                       \
+    {sizeof(struct precopy_question), 0, 0, 0, 0, 1000, 4096, 1, 1, 0, 30, 0, 0, 0, 0, 0, 0}
+
+/* An answer that a trace may be too short to give. */
+enum precopy_verdict {
+    PRECOPY_YES = 0,
+    PRECOPY_NO = 1,
+    PRECOPY_UNKNOWN = 2 /* the trace ends before the migration does */
+};
+
+/*
+ * What a migration will be. If a verdict is unknown, both are, and of the rest only `recorded` tells something: the
+ * other numbers are of a plan that goes on without writes after the trace has ended. A number that 64 bits do not hold
+ * is 2^64 - 1.
+ */
+struct precopy_prediction {
+    uint64_t rounds;    /* how many rounds there are */
+    uint64_t reason;    /* of enum precopy_reason */
+    uint64_t stop;      /* the tick at which the guest is stopped */
+    uint64_t down;      /* how long the pages that are left take, in ticks */
+    uint64_t total;     /* the pages of the trace that are sent, over all rounds and after the stop */
+    uint64_t left;      /* how many of them are sent after the stop */
+    uint64_t time;      /* from the start of the first round until the guest runs again, in microseconds */
+    uint64_t bytes;     /* how many bytes of the guest are sent */
+    uint64_t downtime;  /* how long the guest stands still, with the reserve, in microseconds */
+    uint64_t recorded;  /* how long the trace goes on after the start, in microseconds */
+    uint32_t converges; /* of enum precopy_verdict: whether rounds end since few pages are left */
+    uint32_t kept;      /* of enum precopy_verdict: whether the downtime is within its limit */
+};
+
+/* How far the draw of a sample moves a prediction: standard errors. */
+struct precopy_errors {
+    uint64_t bytes;      /* of the bytes */
+    uint64_t time;       /* of the time, in microseconds */
+    uint64_t downtime;   /* of the downtime, in microseconds */
+    uint32_t has_errors; /* 0: there are none, since fewer than 2 pages were sampled, more than 65,536, or all */
+};
+
+/*
+ * Predicts the migration of a trace with the limits of a question, as `precopy-view predict` does: sets *prediction,
+ * and *errors to its standard errors, or to zeros.
+ *
+ * The question is tested first, then the trace, and then whether its pages are those of the question. It takes memory
+ * as precopy_plan does, and for standard errors 4 bytes for each sampled page and the time of 20 more plans.
+ */
+PRECOPY_ANSWERS PRECOPY_NOT_NULL(3, 4, 5, 6)
+uint32_t precopy_predict(const uint8_t *trace, size_t trace_length, const struct precopy_question *question,
+                         struct precopy_prediction *prediction, struct precopy_errors *errors, uint32_t *record);
 
 /* ---- memory */
 
@@ -442,6 +536,42 @@ PRECOPY_ANSWERS PRECOPY_NOT_NULL(8, 9)
 uint32_t precopy_check_streams(const uint8_t *trace, size_t trace_length, uint32_t stop, const uint8_t *bytes,
                                size_t bytes_length, const size_t *sizes, size_t sizes_length,
                                struct precopy_finding *found, uint32_t *record);
+
+/* How far streams have come that are checked in pieces. It begins with the stop, and zeros. */
+struct precopy_progress {
+    size_t stream; /* the stream that comes now, from 0 */
+    size_t frames; /* how many of its frames came */
+    size_t bytes;  /* how many bytes these have */
+    uint32_t stop; /* after how many writes of the trace the guest is stopped */
+};
+
+/*
+ * Checks the next bytes of a stream, as they come: each whole frame of them. It finds what precopy_check_streams finds in
+ * all streams at once, however they are cut into pieces.
+ *
+ * `states` has two elements for each page of the guest, and begins as zeros: first the last stamps of the stream, and
+ * behind them the greatest of all streams. *progress says how far the stream has come. What is behind its whole frames
+ * is the beginning of one: keep it, and append the next bytes to it. If it is left when the stream ends, a frame is cut
+ * off. For the next stream set the first half of `states`, frames and bytes to 0, and add 1 to stream.
+ *
+ * If a frame is wrong, it returns why, PRECOPY_FRAME_PAGE to PRECOPY_FRAME_ZEROS or PRECOPY_NO_VERSION to
+ * PRECOPY_OTHER_BYTES, sets *found, and has taken the frames before it. Any other status leaves all as it was. If there
+ * are not so many states, it returns PRECOPY_PAGE_COUNT. It takes memory as precopy_check_streams does, and as long as
+ * an index of the trace, so a piece should have more than a few frames.
+ */
+PRECOPY_ANSWERS PRECOPY_NOT_NULL(5, 8, 9)
+uint32_t precopy_check_piece(const uint8_t *trace, size_t trace_length, const uint8_t *piece, size_t piece_length,
+                             struct precopy_progress *progress, struct precopy_page *states, size_t states_length,
+                             struct precopy_finding *found, uint32_t *record);
+
+/*
+ * Checks, when all streams have ended, that each page came at its version at the stop: returns PRECOPY_OK, or
+ * PRECOPY_PAGE_BEHIND or PRECOPY_PAGE_MISSING and sets *found. Otherwise like precopy_check_piece.
+ */
+PRECOPY_ANSWERS PRECOPY_NOT_NULL(3, 6, 7)
+uint32_t precopy_check_pages(const uint8_t *trace, size_t trace_length, const struct precopy_progress *progress,
+                             const struct precopy_page *states, size_t states_length, struct precopy_finding *found,
+                             uint32_t *record);
 
 /* Returns whether each byte is 0; with no bytes it is true. It takes no memory. */
 PRECOPY_ANSWERS

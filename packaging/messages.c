@@ -67,6 +67,8 @@ const char *precopy_strerror(uint32_t status) {
         return "settings S8: start is 2^40 or more";
     case PRECOPY_BAD_BASE:
         return "settings S10: base is after start";
+    case PRECOPY_BAD_SIZE:
+        return "a struct of settings or of a question has another size than the library knows";
     case PRECOPY_FRAME_SHORT:
         return "frame F1: a frame is cut off";
     case PRECOPY_FRAME_PAGE:
@@ -103,6 +105,24 @@ const char *precopy_strerror(uint32_t status) {
         return "the bytes are not those of the page at the stamp";
     case PRECOPY_PAGE_BEHIND:
         return "a page is not at its version at the stop";
+    case PRECOPY_BAD_TICK:
+        return "question: a tick is not 1 microsecond to 1 second";
+    case PRECOPY_BAD_PAGE:
+        return "question: a page does not have 16 to 4,096 bytes";
+    case PRECOPY_BAD_SAMPLE:
+        return "question: not 1 page to all of the guest were sampled, or it has more than 2^32";
+    case PRECOPY_BAD_LINK:
+        return "question: the rate of the link is not 1 to 1,000,000 pages per 1,000 ticks; take another tick";
+    case PRECOPY_BAD_FIRST:
+        return "question: the rate of the first round is not 1 page per 1,000 ticks to that of the link";
+    case PRECOPY_BAD_RESERVE:
+        return "question: the reserve is longer than the downtime";
+    case PRECOPY_BAD_DOWNTIME:
+        return "question: more than 65,535 pages go over the link within the downtime";
+    case PRECOPY_OTHER_PAGES:
+        return "the pages of the trace have another size than the question says";
+    case PRECOPY_MORE_PAGES:
+        return "the trace has more pages than the question says were sampled";
     default:
         return "no status of this library";
     }

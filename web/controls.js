@@ -3,7 +3,6 @@
 
 import { GROUPS } from "./control-list.js";
 import { byId, html } from "./elements.js";
-import { counted } from "./numbers.js";
 import {
   amountAt, countAt, placeOf, PLACES, quantityNear, quantityOf, quantityWords, shownCount, unitName,
 } from "./quantities.js";
@@ -80,7 +79,7 @@ export class Controls {
       return quantityOf(field.value, this.settings[name].unit, units);
     }
     const number = numberIn(field, !isPercent && !isSample);
-    if (number === null || (isPercent && (number > 100 || !/^\d+(\.\d{1,3})?$/.test(field.value)))) {
+    if (number === null || (isPercent && (number > 100 || !/^\d+(\.\d{1,6})?$/.test(field.value)))) {
       return null;
     }
     return isSample ? this.sampleFor(number) : number;
@@ -250,8 +249,8 @@ export class Controls {
     if (units) {
       return quantityWords(value, units);
     }
-    const number = counted(isSample ? weightOf(value || null) : value);
-    return isTick ? `tick ${number}` : unit ? `${number} ${unit}` : number;
+    const number = isSample ? weightOf(value || null) : value;
+    return isTick ? `tick ${number}` : unit ? `${number} ${unit}` : String(number);
   }
 
   /** Leads to the control that is refused. */

@@ -1,5 +1,5 @@
-// Numbers as text. Times and sizes are those of `precopy-view predict`, rounded down and without commas. But what would be
-// zeros there, though it is something, is told in microseconds or bytes.
+// Numbers as text. Times and sizes are those of `precopy-view predict`, rounded down and without commas. But what would
+// be zeros there, though it is something, is told in microseconds or bytes.
 
 const MIB = 1n << 20n;
 const GIB = 1n << 30n;
@@ -40,6 +40,11 @@ export function secondsText(micros) {
 /** A time, given in microseconds: below a millisecond in microseconds, else in seconds. */
 export function timeText(micros) {
   return micros > 0n && micros < 1_000n ? `${micros} \u00b5s` : secondsText(micros);
+}
+
+/** A time whose number and unit stay on one line. */
+export function wholeTime(micros) {
+  return timeText(micros).replace(" ", "\u00a0");
 }
 
 /** A size: in GiB if it has one, else in MiB, with two digits after the point; below a hundredth of a MiB in bytes. */

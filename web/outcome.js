@@ -2,7 +2,7 @@
 
 import { LABELS } from "./control-list.js";
 import { html } from "./elements.js";
-import { bytesText, counted, countOf, pagesText, signed, timeText } from "./numbers.js";
+import { bytesText, counted, countOf, pagesText, signed, timeText, wholeTime } from "./numbers.js";
 import { endingOf, isGood, isUnknown, keptWords, reasonWords, warningsOf } from "./predictions.js";
 import { WorkerEnded } from "./planner-client.js";
 import { Refusal } from "./planner.js";
@@ -23,8 +23,9 @@ function joined(...parts) {
   return parts.filter(Boolean).join("; ");
 }
 
+/** A standard error, or that it is still to come. */
 function errorText({ errors }, name, text) {
-  return errors && `\u00b1 ${text(errors[name])}`;
+  return errors === undefined ? "\u00b1 \u2026" : errors && `\u00b1 ${text(errors[name])}`;
 }
 
 /**
@@ -50,11 +51,6 @@ const ROWS = [
     more: (some) => tickWords(some, `tick ${counted(some.plan.stop)}`) },
 ];
 
-/** A time whose number and unit stay on one line. */
-function wholeTime(micros) {
-  return timeText(micros).replace(" ", "\u00a0");
-}
-
 /** The verdict on a prediction, in a line. */
 export function verdictOf(prediction) {
   const { cost, limits } = prediction;
@@ -70,7 +66,7 @@ export function verdictOf(prediction) {
 function verdictMark(prediction) {
   const { cost, plan } = prediction;
   if (isUnknown(prediction)) {
-    return ["mark bad", "Unknown"];
+    return ["mark", "Unknown"];
   }
   if (plan.total === 0) {
     return ["mark", "Nothing to send"];
@@ -107,7 +103,7 @@ function differenceOf(row, prediction, kept) {
   const difference = row.number(prediction) - row.number(kept);
   const words = signed(difference, (amount) => row.text(amount, prediction));
   const [className, mark] = difference == 0 || !row.isPrice ? ["difference", ""]
-    : difference < 0 ? ["difference better", " \u25bc better"] : ["difference worse", " \u25b2 worse"];
+    : difference < 0 ? ["difference better", " \u25bc\u00a0better"] : ["difference worse", " \u25b2\u00a0worse"];
   return html("span", { class: className }, `this: ${words}${mark}`);
 }
 

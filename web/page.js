@@ -1,13 +1,14 @@
 // The page: it holds the state, has each change planned by the worker, and has the sections drawn.
 
 import { Controls } from "./controls.js";
-import { byId, oncePerFrame } from "./elements.js";
+import { byId, html, oncePerFrame } from "./elements.js";
 import { fittedSettings } from "./fitting.js";
 import { nearestSettings } from "./nearest.js";
-import { countOf, counted, rateText, bytesText, timeText } from "./numbers.js";
+import { countOf, counted, rateText, bytesText, timeText, wholeTime } from "./numbers.js";
 import { WorkerEnded } from "./planner-client.js";
+import { LateAnswers } from "./late-answers.js";
 import { LimitsView } from "./limits-view.js";
-import { PlanView } from "./plan-view.js";
+import { keptPredictions, PlanView } from "./plan-view.js";
 import { serve } from "./planner-worker.js";
 import { watchWidths } from "./plot.js";
 import { hasWideMemory, Planner, Refusal } from "./planner.js";
@@ -25,6 +26,11 @@ const SETTLED = 400;
 
 /** The example that is shown if the address asks for nothing. */
 const FIRST_EXAMPLE = "sqlite";
+
+/** The parts of a text, whose words are not broken at their hyphens. */
+function wordsWhole(text) {
+  return text.split(/(\s+)/).map((part) => (/^\s/.test(part) ? part : html("span", { class: "word" }, part)));
+}
 
 /** Runs something, and has its value, or the refusal that it throws. */
 async function foundBy(act) {
@@ -54,7 +60,8 @@ class Page {
     this.windows = new WindowsView((tick) => this.startAt(tick), () => this.draw());
     this.plans = new PlanView((name) => this.controls.focus(name), () => this.fitAnew(), this.planSoon);
     this.starts = new StartsView((tick) => this.startAt(tick), () => this.draw());
-    this.limits = new LimitsView((name, value) => this.controls.set(name, value));
+    this.limits = new LimitsView((settings, name) => this.controls.take(settings, [name]));
+    this.late = new LateAnswers(() => this.drawLate());
     this.controls.show(this.state.settings);
   }
 
@@ -169,7 +176,7 @@ class Page {
     }
     this.startBefore = before;
     this.controls.set("start", start);
-    const at = (ticks) => timeText(microsOf({ tick: amountOf(before.tick) }, ticks)).replace(" ", "\u00a0");
+    const at = (ticks) => wholeTime(microsOf({ tick: amountOf(before.tick) }, ticks));
     byId("moved-words").textContent = `The start is moved from ${at(before.start)} to ${at(start)}.`;
     byId("moved").hidden = false;
   }
@@ -297,17 +304,50 @@ class Page {
     const nearest = found.refusal instanceof ControlRefusal ? this.nearest(found.refusal, settings, trace) : null;
     this.desk.tell(settings, this.otherTrace());
     this.windows.draw(settings, found.value);
+    this.askLate();
     this.plans.draw(settings, found, kept);
     byId("keep").disabled = !found.value;
     byId("keep").textContent = kept.length < MOST_KEPT ? "Keep this plan to compare"
       : "Keep this plan in place of the first";
-    this.limits.follow(trace, settings, found.value);
+    this.drawLimits();
     this.starts.follow(found.value, this.controls.begin);
     this.starts.draw(this.windows.axis);
     this.drawCommands(found.value, trace);
     this.controls.derive(this.derived(settings, found.value, trace));
     this.controls.refuse(found.refusal, nearest);
     this.found = found;
+  }
+
+  /** The predictions whose standard errors are shown: that of now, or else the last one, and the kept ones. */
+  predictionsShown({ found, kept }) {
+    return [found.value ?? this.plans.last, ...keptPredictions(kept)].filter(Boolean);
+  }
+
+  /** Asks for what takes long, and tells the predictions what is known of it. */
+  askLate() {
+    const { trace, found } = this.shown;
+    const predictions = this.predictionsShown(this.shown);
+    this.late.follow(trace, found.value ?? null, predictions);
+    predictions.forEach((some) => { some.errors = this.late.errorsOf(trace, some); });
+  }
+
+  /** Draws an answer that has come. If another trace is open meanwhile, its plan will draw it. */
+  drawLate() {
+    if (this.shown?.trace !== this.desk.trace) {
+      return;
+    }
+    const { settings, kept } = this.shown;
+    this.askLate();
+    if (this.plans.last) {
+      this.plans.drawComparison(settings, kept);
+    }
+    this.drawLimits();
+  }
+
+  drawLimits() {
+    const { trace, found } = this.shown;
+    const prediction = found.value ?? null;
+    this.limits.show(trace, prediction, prediction && this.late.remediesOf(trace, prediction));
   }
 
   nearest(refusal, settings, { sizes }) {
@@ -325,7 +365,7 @@ class Page {
     const first = firstStartOf(sizes, prediction.settings.base, this.controls.begin);
     const commands = commandsOf(prediction.state, sizes, prediction, first);
     for (const [name, words] of Object.entries(commands)) {
-      byId(`command-${name}`).textContent = words;
+      byId(`command-${name}`).replaceChildren(...wordsWhole(words));
     }
     byId("warm-note").hidden = prediction.settings.base === null;
   }

@@ -15,6 +15,11 @@ import { quantityWords } from "./quantities.js";
 import { reachOf, roundsLook, roundsPicture } from "./rounds-chart.js";
 import { amountOf, ControlRefusal, microsOf, RATE_UNITS, TIME_UNITS } from "./units.js";
 
+/** The predictions of kept plans that are not refused. */
+export function keptPredictions(kept) {
+  return kept.map(({ found }) => found.value).filter(Boolean);
+}
+
 function timeOf(ticks, { tick }) {
   return timeText(microsOf({ tick: amountOf(tick) }, ticks));
 }
@@ -79,7 +84,7 @@ export class PlanView {
     this.changed = changed;
     this.last = null;
     byId("plans").append(this.figures[0].whole);
-    byId("find-limits").after(saveButtons("prediction", "the prediction", {
+    byId("keep").after(saveButtons("prediction", "the prediction", {
       table: () => this.last && comparisonRows([this.last, ...this.others]),
     }));
     this.others = [];
@@ -124,10 +129,17 @@ export class PlanView {
 
   drawPlans(settings, kept) {
     if (this.last) {
-      const words = kept.map((some, place) => this.keptWords(settings, some, place));
-      byId("comparison").replaceChildren(comparisonOf(this.last, kept), ...words);
+      this.drawComparison(settings, kept);
       this.drawRounds(this.last, kept);
     }
+  }
+
+  /** Draws the numbers of the plans. Standard errors that are still to come make it busy. */
+  drawComparison(settings, kept) {
+    const words = kept.map((some, place) => this.keptWords(settings, some, place));
+    byId("comparison").replaceChildren(comparisonOf(this.last, kept), ...words);
+    const isAwaited = [this.last, ...keptPredictions(kept)].some(({ errors }) => errors === undefined);
+    byId("comparison").setAttribute("aria-busy", String(isAwaited));
   }
 
   /** Why there is no plan, with ways out. */
@@ -156,7 +168,8 @@ export class PlanView {
       return "Unknown: the trace ends before the migration does";
     }
     const downtime = `Downtime ${timeText(cost.downtime)}, ${keptWords(cost)}`;
-    return [downtime, timeText(cost.time), bytesText(cost.bytes)].join(" \u00b7 ");
+    const parts = [downtime, timeText(cost.time), bytesText(cost.bytes)];
+    return parts.map((part) => part.replaceAll(" ", "\u00a0")).join(" \u00b7 ");
   }
 
   /** The verdict for a screen reader, once the user has stopped changing. */

@@ -14,7 +14,8 @@ export class WorkerEnded extends Error {}
 
 export class PlannerClient {
   /** `rereading` is told the share of the trace that another worker has read, and null at the end. */
-  constructor(rereading) {
+  constructor(name, rereading) {
+    this.name = name;
     this.rereading = rereading;
     this.worker = null;
     this.waiting = new Map();
@@ -28,7 +29,7 @@ export class PlannerClient {
     this.bytes ??= await embeddedBytes("planner-module");
     const program = new Blob([document.getElementById("program").textContent], { type: "text/javascript" });
     const address = URL.createObjectURL(program);
-    const worker = new Worker(address);
+    const worker = new Worker(address, { name: this.name });
     URL.revokeObjectURL(address);
     worker.onmessage = ({ data }) => worker === this.worker && this.hear(data);
     worker.onerror = () => worker === this.worker && this.restart();

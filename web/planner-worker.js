@@ -10,8 +10,8 @@ import { piecesOf } from "./trace-source.js";
 /** What is refused if another worker could not read the trace of the first again. */
 const UNREAD = 17;
 
-/** The worker's own state: the module, the trace, and the kinds of many plans with the number that is asked for. */
-const held = { module: null, planner: null, asked: new Map() };
+/** The worker's own state: the module, the trace, and the number of the many answers that are asked for. */
+const held = { module: null, planner: null, many: null };
 
 /** The planner over the open trace. */
 function planner() {
@@ -38,22 +38,18 @@ async function openTrace({ number, blob }) {
   const opened = await Planner.open(held.module, blob.size, digested(blob, digest, number));
   const { sizes } = opened;
   held.planner = opened;
-  held.asked.clear();
+  held.many = null;
   const isShorter = 2 * lightLength(sizes) < blob.size;
   const light = isShorter ? lightTrace(writesIn(opened.traceBytes(), sizes.writes), sizes) : null;
   return { sizes, digest: digest.digest(), light: light && new Blob([light]) };
 }
 
-function predict({ question }) {
-  return { ...planner().predict(question), errors: planner().errors(question) };
-}
-
 /**
  * The answers to many questions, and which of them is the best and which the worst; a slice of time after another,
- * unless others of their kind are asked for meanwhile, or none.
+ * unless others are asked for meanwhile, or none.
  */
-async function manyAnswers({ number, kind, questions }) {
-  held.asked.set(kind, number);
+async function manyAnswers({ number, questions }) {
+  held.many = number;
   const answers = [];
   const slice = new Slice();
   for (const question of questions) {
@@ -61,7 +57,7 @@ async function manyAnswers({ number, kind, questions }) {
     if (slice.isOver()) {
       postMessage({ number, share: answers.length / questions.length });
       await slice.next();
-      if (held.asked.get(kind) !== number) {
+      if (held.many !== number) {
         return null;
       }
     }
@@ -76,10 +72,15 @@ const ANSWERS = {
     return true;
   },
   open: openTrace,
-  predict,
+  predict: ({ question }) => planner().predict(question),
+  errors: ({ question }) => planner().errors(question),
+  remedies: ({ question }) => planner().remedies(question),
   windows: ({ settings }) => planner().windows(settings),
   answers: manyAnswers,
-  cancel: ({ kind }) => held.asked.delete(kind),
+  cancel: () => {
+    held.many = null;
+    return true;
+  },
 };
 
 /** Columns of numbers go to the page as they are. Anything else is copied. */

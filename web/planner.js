@@ -2,7 +2,8 @@
 // touches that memory. Addresses and lengths are BigInt, since the memory has 64-bit addresses.
 
 import {
-  ANSWER_SIZE, CHOICE_SIZE, ERRORS_SIZE, QUESTION_SIZE, readAnswer, readErrors, REASONS, writeQuestion,
+  ANSWER_SIZE, CHOICE_SIZE, ERRORS_SIZE, QUESTION_SIZE, readAnswer, readErrors, readRemedies, REASONS, REMEDIES_SIZE,
+  writeQuestion,
 } from "./questions.js";
 
 /** The most bytes of a trace. */
@@ -68,6 +69,7 @@ function placesFrom(base) {
   const lengths = {
     record: 8, sizes: SIZES_SIZE, settings: SETTINGS_SIZE, sums: SUMS_SIZE, count: 8, rounds: MOST_ROUNDS * ROUND_SIZE,
     question: QUESTION_SIZE, answers: MOST_ANSWERS * ANSWER_SIZE, errors: ERRORS_SIZE, choice: CHOICE_SIZE,
+    remedies: REMEDIES_SIZE,
     marks: MOST_PAGES / 8, otherMarks: MOST_PAGES / 8, list: MOST_PAGES * 4, pageMarks: MOST_PAGES * PAGE_MARK_SIZE,
   };
   const places = {};
@@ -245,6 +247,13 @@ export class Planner {
       ...this.slice("otherMarks", words), BigInt(this.places.errors),
     ]);
     return readErrors(this.view(), this.places.errors);
+  }
+
+  /** Whether the limit of a question is kept, and what keeps it. It takes as long as 35 plans, and at most 98. */
+  remedies(question) {
+    writeQuestion(this.view(), this.places.question, question);
+    this.ask("lent_remedies", "question", [...this.planRoom(), BigInt(this.places.remedies)]);
+    return readRemedies(this.view(), this.places.remedies);
   }
 
   /** The places of the best and the worst of some answers, given as their bytes; null if none tells anything. */

@@ -58,7 +58,7 @@ function stepFor(span, most) {
 function timeLabel(micros, step) {
   const [unit, name] = step >= 1e5 ? [1e6, "s"] : step >= 100 ? [1e3, "ms"] : [1, "\u00b5s"];
   const digits = Math.max(0, Math.ceil(-Math.log10(step / unit) - 1e-9));
-  return `${counted((micros / unit).toFixed(Math.min(digits, 6)))} ${name}`;
+  return `${(micros / unit).toFixed(Math.min(digits, 6))} ${name}`;
 }
 
 /** The marks and labels below a plot that ends at `bottom`. A tick has `tick` microseconds. */

@@ -1,7 +1,7 @@
 // Predictions in words: how a plan ends, what speaks against it, and the words that set the same limits elsewhere. What
 // a migration comes to is the module's answer, as that of `precopy-view predict`.
 
-import { askedOf, limitsOf, RATE_UNITS, scaleOf, TIME_UNITS } from "./units.js";
+import { askedOf, limitsOf, OWN_INCREMENT, RATE_UNITS, scaleOf, TIME_UNITS } from "./units.js";
 import { countOf } from "./numbers.js";
 import { commandWord } from "./quantities.js";
 
@@ -16,15 +16,15 @@ export function costIn({ time, bytes, downtime, recorded, converges, kept }) {
   return { time, bytes, downtime, recorded, converges, kept };
 }
 
-/** Asks what the migration will be by the state of the controls. Throws a refusal. */
+/** Asks what the migration will be by the state of the controls. Throws a refusal. Its standard errors come later. */
 export async function predictionOf(guest, state) {
   const { sizes } = guest;
   const { question, settings } = askedOf(state, sizes);
-  const { rows, errors, ...answer } = await guest.predict(question);
+  const { rows, ...answer } = await guest.predict(question);
   const { reason, stop, down, total, left } = answer;
   return {
     state, question, settings, scale: scaleOf(state, sizes), limits: limitsOf(state),
-    plan: { rounds: rows, reason, stop, down, total, left }, cost: costIn(answer), errors,
+    plan: { rounds: rows, reason, stop, down, total, left }, cost: costIn(answer),
   };
 }
 
@@ -94,7 +94,10 @@ function limitWords(state, sizes, { limits, settings, scale }) {
   if (state.first !== 100) {
     words.push(`--first ${limits.first / RATE_UNITS.Kbit}Kbit`);
   }
-  words.push(`--inc ${settings.increment}`, `--downtime ${commandWord(state.downtime, TIME_UNITS)}`);
+  if (state.increase !== OWN_INCREMENT) {
+    words.push(`--inc ${settings.increment}`);
+  }
+  words.push(`--downtime ${commandWord(state.downtime, TIME_UNITS)}`);
   words.push(`--reserve ${commandWord(state.reserve, TIME_UNITS)}`, `--tick ${commandWord(state.tick, TIME_UNITS)}`);
   if (sizes.pageBytes !== 4096) {
     words.push(`--page ${sizes.pageBytes}`);

@@ -1,5 +1,6 @@
 // Rates and times as the controls say them: an amount in bytes a second or microseconds, and the unit that it is shown
-// in. A change of the unit keeps the amount. Sliders are logarithmic, in round numbers. Words are those of `precopy-view`.
+// in. A change of the unit keeps the amount. Sliders are logarithmic, in round numbers. Words are those of
+// `precopy-view`.
 
 import { decimalText } from "./numbers.js";
 import { RATE_UNITS, TIME_UNITS } from "./units.js";
@@ -130,6 +131,13 @@ export function unitName(unit, units) {
 /** A quantity in words. */
 export function quantityWords(quantity, units) {
   return `${shownCount(quantity, units)} ${unitName(quantity.unit, units)}`;
+}
+
+/** An amount in a unit in which a count leads back to it: of the family of this unit, or else of another. */
+export function exactQuantity(amount, unit, units) {
+  const families = [familyOf(unit), ...FAMILIES.filter(([first]) => Object.hasOwn(units, first))];
+  const quantities = families.map(([first]) => inFittingUnit(amount, first, units));
+  return quantities.find((some) => exactCount(amount, units[some.unit]) !== null) ?? { amount, unit: families[1][0] };
 }
 
 /** An amount in the greatest unit that it has one of, of the family of this unit. */

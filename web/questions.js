@@ -6,11 +6,16 @@ export const QUESTION_SIZE = 112;
 export const ANSWER_SIZE = 88;
 export const ERRORS_SIZE = 32;
 export const CHOICE_SIZE = 16;
+export const REMEDIES_SIZE = 40;
 
-/** Where the numbers of 32 bits begin in a question and in an answer, and where errors say whether there are any. */
+/** Where the numbers of 32 bits begin in a question, an answer, errors and remedies. */
 const QUESTION_FLAGS = 96;
 const ANSWER_VERDICTS = 80;
 const HAS_ERRORS = 24;
+const REMEDY_FLAGS = 24;
+
+/** The module tells links in Kbit a second: so many bytes. */
+const KBIT = 125n;
 
 /** The module's reasons of a stop, and its verdicts. */
 export const REASONS = ["few", "fast", "rounds"];
@@ -42,4 +47,15 @@ export function readAnswer(view, at) {
 export function readErrors(view, at) {
   const [bytes, time, downtime] = [0, 8, 16].map((offset) => view.getBigUint64(at + offset, true));
   return view.getUint32(at + HAS_ERRORS, true) === 0 ? null : { bytes, time, downtime };
+}
+
+/**
+ * Reads whether a limit is kept, and what keeps it: a link in bytes a second, a downtime in microseconds, and the speed
+ * of the guest in per cent. What was not found is null.
+ */
+export function readRemedies(view, at) {
+  const [link, downtime, speed] = [0, 1, 2].map((place) =>
+    (view.getUint32(at + REMEDY_FLAGS + 4 * place, true) === 0 ? null : view.getBigUint64(at + 8 * place, true)));
+  const isKept = view.getUint32(at + REMEDY_FLAGS + 12, true) !== 0;
+  return { isKept, link: link && link * KBIT, downtime, speed };
 }

@@ -28,7 +28,7 @@ function rateUnit({ state, scale }) {
   const { unit } = inFittingUnit(state.link.amount, state.link.unit, RATE_UNITS);
   const { page, guest, sampled, tick } = scale;
   const size = Number(page * guest * 1_000n) / (Number(sampled * tick) * Number(RATE_UNITS[unit]));
-  const text = (rate) => counted(rate * size < 100 ? Number((rate * size).toPrecision(3)) : Math.round(rate * size));
+  const text = (rate) => String(rate * size < 100 ? Number((rate * size).toPrecision(3)) : Math.round(rate * size));
   return { name: unitName(unit, RATE_UNITS), text };
 }
 

@@ -37,7 +37,7 @@ const CURVES = [
 ];
 
 function shortNumber(number) {
-  return counted(number < 10 ? Number(number.toPrecision(2)) : Math.round(number));
+  return String(number < 10 ? Number(number.toPrecision(2)) : Math.round(number));
 }
 
 /** How far a panel reaches: to the greatest number, or past the next if the greatest is an outlier. */
@@ -131,11 +131,16 @@ export function startsPicture(axis, asked) {
   return pictureOf(axis.width, bottom + 50, parts);
 }
 
+/** What a migration costs, in words. */
+export function costWords(cost) {
+  return `time ${timeText(cost.time)}, sent ${bytesText(cost.bytes)}, downtime ${timeText(cost.downtime)}, `
+    + keptWords(cost);
+}
+
 /** What a migration from a start costs, in words. */
 export function startWords(asked, { start, cost }, hasTicks) {
   const place = `${timeText(microsOf(asked.scale, start))}${hasTicks ? `, tick ${counted(start)}` : ""}`;
-  return `${place}: time ${timeText(cost.time)}, sent ${bytesText(cost.bytes)}, downtime ${timeText(cost.downtime)}, `
-    + keptWords(cost);
+  return `${place}: ${costWords(cost)}`;
 }
 
 /** How the starts of a picture are looked at. */

@@ -3,7 +3,7 @@
 import { byId, html } from "./elements.js";
 import { bytesText, countOf, signed, timeText } from "./numbers.js";
 import { firstStartOf, startCosts, startRows, startTicks } from "./starts.js";
-import { startsLook, startsPicture, startWords } from "./starts-chart.js";
+import { costWords, startsLook, startsPicture, startWords } from "./starts-chart.js";
 import { saveButtons } from "./exports.js";
 import { Inspector } from "./inspector.js";
 import { refusalPart } from "./outcome.js";
@@ -124,11 +124,22 @@ export class StartsView {
     if (!this.asked) {
       return;
     }
-    const { best, worst } = this.asked.chosen;
-    const lines = best ? [["Best", best], ["Worst", worst]].map(([name, at]) =>
-      html("p", {}, html("strong", {}, `${name} start: `), startWords(this.asked, at, this.asked.hasTicks)))
-      : [html("p", {}, "No migration ends within the trace: record longer.")];
-    byId("starts-choice").replaceChildren(...lines, ...this.savingParts(best));
+    const { best } = this.asked.chosen;
+    byId("starts-choice").replaceChildren(...this.choiceLines(), ...this.savingParts(best));
+  }
+
+  /** The best and the worst start. If they are one, all starts that tell something cost the same. */
+  choiceLines() {
+    const { chosen: { best, worst }, hasTicks } = this.asked;
+    const line = (name, words) => html("p", {}, html("strong", {}, `${name}: `), words);
+    if (!best) {
+      return [html("p", {}, "No migration ends within the trace: record longer.")];
+    }
+    if (best.start === worst.start) {
+      return [line("Each start whose migration ends within the trace", costWords(best.cost))];
+    }
+    return [["Best start", best], ["Worst start", worst]].map(([name, at]) =>
+      line(name, startWords(this.asked, at, hasTicks)));
   }
 
   /** The start of now against the best. */

@@ -47,7 +47,7 @@ function readCount(word) {
 }
 
 function readPercent(word) {
-  return /^\d{1,3}(\.\d{1,3})?$/.test(word) && Number(word) <= 100 ? Number(word) : undefined;
+  return /^\d{1,3}(\.\d{1,6})?$/.test(word) && Number(word) <= 100 ? Number(word) : undefined;
 }
 
 function readSample(word) {

@@ -2,7 +2,7 @@
 // file that is refused leaves what is open as it is.
 
 import { byId, html } from "./elements.js";
-import { bytesText, counted, countOf, timeText } from "./numbers.js";
+import { bytesText, countOf, wholeTime } from "./numbers.js";
 import { refusalPart } from "./outcome.js";
 import { PlannerClient, WorkerEnded } from "./planner-client.js";
 import { Refusal } from "./planner.js";
@@ -17,10 +17,11 @@ function isRecord(file) {
   return file.name.toLowerCase().endsWith(".json");
 }
 
-/** A trace that is open in the planner's worker. */
+/** A trace that is open in the planner's worker. `blob` has all of it that plans need. */
 class OpenTrace {
   constructor(client, source, { sizes, digest }) {
     this.client = client;
+    this.blob = client.blob;
     this.source = source;
     this.sizes = sizes;
     this.digest = digest;
@@ -28,7 +29,7 @@ class OpenTrace {
     this.record = null;
   }
 
-  /** The answer to a question about the trace, with the rounds of its plan and its standard errors. */
+  /** The answer to a question about the trace, with the rounds of its plan. */
   predict(question) {
     return this.client.ask("predict", { question });
   }
@@ -40,17 +41,11 @@ class OpenTrace {
   /** The answers to a question from each of some starts, and which are chosen; null if they were cancelled. */
   starts(question, ticks, told) {
     const questions = ticks.map((start) => ({ ...question, start }));
-    return this.client.ask("answers", { kind: "starts", questions }, told);
+    return this.client.ask("answers", { questions }, told);
   }
 
   cancelStarts() {
-    return this.client.ask("cancel", { kind: "starts" });
-  }
-
-  /** The answers to some questions, or null if others were asked meanwhile. */
-  async answers(questions) {
-    const found = await this.client.ask("answers", { kind: "limits", questions });
-    return found && found.answers;
+    return this.client.ask("cancel", {});
   }
 }
 
@@ -58,7 +53,7 @@ class OpenTrace {
 export class TraceDesk {
   constructor(taken) {
     this.taken = taken;
-    this.client = new PlannerClient((share) => this.reread(share));
+    this.client = new PlannerClient("planner", (share) => this.reread(share));
     this.trace = null;
     this.loading = 0;
     this.early = null;
@@ -205,8 +200,8 @@ export class TraceDesk {
     const sample = scale.isSample ? `, a sample of a guest of ${countOf(scale.guest, "page")} `
       + `(${bytesText(scale.guest * scale.page)})` : ` (${bytesText(BigInt(pages) * BigInt(pageBytes))})`;
     const whence = this.trace.record ? `, as ${source.record.name} says` : "";
-    const words = `${source.name}: ${countOf(pages, "page")} of ${counted(pageBytes)} bytes${sample}; `
-      + `${countOf(writes, "write")} in ${timeText(microsOf(scale, last))}${whence}`;
+    const words = `${source.name}: ${countOf(pages, "page")} of ${pageBytes} bytes${sample}; `
+      + `${countOf(writes, "write")} in ${wholeTime(microsOf(scale, last))}${whence}`;
     if (byId("trace-state").textContent !== words) {
       byId("trace-state").textContent = words;
     }

@@ -1,7 +1,7 @@
 // Times, rates and sizes in an operator's units. What they come to in ticks and pages is the module's answer; what it
 // refuses is told at the control that says it.
 
-import { counted, rateText, timeText } from "./numbers.js";
+import { rateText, timeText } from "./numbers.js";
 import { MOST_ROUNDS, Refusal } from "./planner.js";
 
 /** Microseconds of a unit of time. */
@@ -14,14 +14,15 @@ export const RATE_UNITS = {
   KiB: 1n << 10n, MiB: 1n << 20n, GiB: 1n << 30n,
 };
 
-const MOST_GUEST_PAGES = 2 ** 32;
-const END_OF_TICKS = 2 ** 40;
-
 /** The least unit in which the first round's rate is shown: `Kbit`, in bytes a second. */
 const RATE_GRAIN = 125n;
 
-/** Into how many parts a per cent is cut. */
-const PARTS_OF_PERCENT = 1_000;
+/** Into how many parts a per cent is cut: so finely that any rate of a first round is some share of its link. */
+const PARTS_OF_PERCENT = 1_000_000;
+const PARTS_OF_WHOLE = BigInt(100 * PARTS_OF_PERCENT);
+
+/** The increment that the module takes by itself, in per cent of what the link has above the first round. */
+export const OWN_INCREMENT = 10;
 
 /** Why settings make no plan: the control that says too much or too little, and a sentence with value and limit. */
 export class ControlRefusal extends Error {
@@ -45,7 +46,12 @@ export function amountOf(quantity) {
 
 /** A share of an amount, given in per cent. */
 function shareOf(amount, percent) {
-  return (amount * BigInt(Math.round(percent * PARTS_OF_PERCENT))) / BigInt(100 * PARTS_OF_PERCENT);
+  return (amount * BigInt(Math.round(percent * PARTS_OF_PERCENT))) / PARTS_OF_WHOLE;
+}
+
+/** The least per cent of an amount whose share is this part of it, or more. */
+export function percentOf(part, amount) {
+  return Number((part * PARTS_OF_WHOLE + amount - 1n) / amount) / PARTS_OF_PERCENT;
 }
 
 /** What a migration may take, in bytes a second and microseconds, from the state of the controls. */
@@ -83,13 +89,19 @@ const CONTROLS = {
   86: "reserve", 87: "downtime", [TOO_MANY_PAGES]: "sample",
 };
 
-/** What a control says that is refused, with its limit, by the control's name. */
+/** Between a number and its unit or noun, which stay on one line. */
+const BEFORE_UNIT = /(?<=\d) (?=[A-Za-z\u00b5])/g;
+
+/**
+ * What a control says that is refused, with its limit, by the control's name. Numbers stand as in the refusals of
+ * `precopy-view`: what is asked has no commas.
+ */
 const SENTENCES = {
   tick: ({ tick }) => `${timeText(amountOf(tick))} is not 1 \u00b5s to 1 s.`,
   sample: (state, { pages }) => {
     const { part, whole } = state.sample ?? { part: pages, whole: pages };
-    return part < pages ? `${counted(part)} sampled pages are fewer than the ${counted(pages)} of the trace.`
-      : `A guest of ${counted(whole)} pages is not one of ${counted(part)} to ${counted(MOST_GUEST_PAGES)}.`;
+    return part < pages ? `${part} sampled pages are fewer than the ${pages} of the trace.`
+      : `A guest of ${whole} pages is not one of ${part} to 2^32.`;
   },
   link: ({ link }) => `${rateText(amountOf(link))} is not 1 to 1,000,000 pages per 1,000 ticks. Longer ticks make more `
     + "of it.",
@@ -97,15 +109,15 @@ const SENTENCES = {
   reserve: ({ reserve, downtime }) => `${timeText(amountOf(reserve))} is more than the downtime limit of `
     + `${timeText(amountOf(downtime))}.`,
   downtime: ({ downtime }) => `In ${timeText(amountOf(downtime))} the link moves more than 65,535 pages of the trace.`,
-  rounds: ({ rounds: most }) => `${counted(most)} rounds are not 1 to ${MOST_ROUNDS}.`,
-  window: ({ window: length }) => `${counted(length)} ticks are not 1 to ${counted(END_OF_TICKS)}.`,
-  start: ({ start }) => `Tick ${counted(start)} is not below ${counted(END_OF_TICKS)}.`,
-  base: ({ base, start }) => `Tick ${counted(base)} is after the start, tick ${counted(start)}.`,
+  rounds: ({ rounds: most }) => `${most} rounds are not 1 to ${MOST_ROUNDS}.`,
+  window: ({ window: length }) => `${length} ticks are not 1 to 2^40.`,
+  start: ({ start }) => `Tick ${start} is not below 2^40.`,
+  base: ({ base, start }) => `Tick ${base} is after the start, tick ${start}.`,
 };
 
 function controlRefusal(number, state, sizes) {
   const control = CONTROLS[number];
-  return new ControlRefusal(control, SENTENCES[control](state, sizes));
+  return new ControlRefusal(control, SENTENCES[control](state, sizes).replace(BEFORE_UNIT, "\u00a0"));
 }
 
 /** The settings that the module makes of a question. Throws its refusal, at the control that says it. */
@@ -135,7 +147,8 @@ export function askedOf(state, sizes) {
     skip,
   };
   const { min, max } = settingsFor(plain, state, sizes);
-  const question = { ...plain, increment: shareOf(BigInt(max - min), state.increase) };
+  const question = state.increase === OWN_INCREMENT ? plain
+    : { ...plain, increment: shareOf(BigInt(max - min), state.increase) };
   const settings = settingsFor(question, state, sizes);
   const isTooFew = question.sampled < BigInt(sizes.pages);
   const wrong = rules.planner.windowRefusal(state.window) || (isTooFew ? TOO_MANY_PAGES : 0);
@@ -145,15 +158,24 @@ export function askedOf(state, sizes) {
   return { question, settings: { ...settings, window: state.window } };
 }
 
-/** Why the state of the controls makes no plan over a trace, or null. */
-export function refusalOf(state, sizes) {
+/** What the state of the controls asks of the module, or why it makes no plan over a trace. */
+function askedOrRefused(state, sizes) {
   try {
-    askedOf(state, sizes);
-    return null;
+    return { asked: askedOf(state, sizes), refusal: null };
   } catch (error) {
     if (error instanceof ControlRefusal) {
-      return error;
+      return { asked: null, refusal: error };
     }
     throw error;
   }
+}
+
+/** Why the state of the controls makes no plan over a trace, or null. */
+export function refusalOf(state, sizes) {
+  return askedOrRefused(state, sizes).refusal;
+}
+
+/** What the state of the controls asks of the module, or null if it makes no plan over a trace. */
+export function askedIfAny(state, sizes) {
+  return askedOrRefused(state, sizes).asked;
 }

@@ -20,106 +20,38 @@ The library is found through the variable PRECOPY_LIBRARY, in the folder of this
 from __future__ import annotations
 
 import ctypes
-import enum
 import mmap
 import threading
 from dataclasses import dataclass, fields
-from typing import Any, List, Optional, Sequence, Tuple, Union
+from typing import Any, List, Optional, Sequence, Tuple
 
 from . import _calls
 from ._calls import LIBRARY as _LIBRARY
 from ._calls import lent as _lent
 from ._calls import number as _number
+from ._predictions import Errors, Prediction, Question, Reason, Verdict, predict
+from ._refusals import (
+    BufferRefused,
+    Bytes,
+    FrameRefused,
+    NoMemory,
+    PlaceRefused,
+    QuestionRefused,
+    Refused,
+    SettingsRefused,
+    TraceRefused,
+)
+from ._refusals import call_over as _call_over
+from ._refusals import check as _check
+from ._refusals import check_over as _check_over
 
 __all__ = [
-    "BufferRefused", "Finding", "FlatMemory", "Frame", "FrameRefused", "NoMemory", "PlaceRefused", "Reason", "Refused",
-    "Round", "Settings", "SettingsRefused", "Sizes", "Sums", "Taken", "TraceRefused", "Write", "check_settings",
-    "check_streams", "check_trace", "decode_frame", "encode_frame", "is_zero", "memory", "memory_before",
-    "memory_step", "page_at", "page_writes", "plan", "report", "rounds", "sweep", "version", "version_after",
-    "writes_before",
+    "BufferRefused", "Errors", "Finding", "FlatMemory", "Frame", "FrameRefused", "NoMemory", "PlaceRefused",
+    "Prediction", "Question", "QuestionRefused", "Reason", "Refused", "Round", "Settings", "SettingsRefused", "Sizes",
+    "StreamCheck", "Sums", "Taken", "TraceRefused", "Verdict", "Write", "check_settings", "check_streams", "check_trace",
+    "decode_frame", "encode_frame", "is_zero", "memory", "memory_before", "memory_step", "page_at", "page_writes",
+    "plan", "predict", "report", "rounds", "sweep", "version", "version_after", "writes_before",
 ]  # fmt: skip
-
-Bytes = Union[bytes, bytearray, memoryview, mmap.mmap]
-
-
-class Refused(Exception):
-    """A call refused. `status` is the number of enum precopy_status, and the text says what it means."""
-
-    def __init__(self, status: int, text: str = "") -> None:
-        super().__init__(text or _LIBRARY.precopy_strerror(status).decode())
-        self.status = status
-
-    def __reduce__(self) -> Tuple[Any, ...]:
-        return type(self), (self.status,), self.__dict__
-
-
-class TraceRefused(Refused):
-    """The bytes are not a trace, or no guest has these sizes. `record` is the record that is named, if one is."""
-
-    def __init__(self, status: int, record: Optional[int] = None) -> None:
-        text = _LIBRARY.precopy_strerror(status).decode()
-        super().__init__(status, text if record is None else f"{text}, record {record}")
-        self.record = record
-
-    def __reduce__(self) -> Tuple[Any, ...]:
-        return type(self), (self.status, self.record)
-
-
-class SettingsRefused(Refused):
-    """A setting is out of its range."""
-
-
-class FrameRefused(Refused):
-    """Bytes begin with no frame, or no frame has such a page or stamp. `taken` says what of a stream was taken before
-    them."""
-
-    taken: Optional[Taken] = None
-
-
-class BufferRefused(Refused):
-    """The number of bytes is not that of a page, or not that of the memory."""
-
-
-class PlaceRefused(Refused):
-    """The guest does not have the page, or the page no such version, or a step ends before it begins."""
-
-
-class NoMemory(Refused, MemoryError):
-    """Memory ran out."""
-
-
-_KINDS = [(range(1, 16), TraceRefused), (range(16, 17), NoMemory), (range(21, 31), SettingsRefused)]
-_KINDS += [(range(41, 46), FrameRefused), (range(61, 66), BufferRefused), (range(67, 72), PlaceRefused)]
-
-
-def _check(status: int) -> None:
-    if status:
-        raise next((kind for numbers, kind in _KINDS if status in numbers), Refused)(status)
-
-
-def _call_over(call: Any, trace: Bytes, *words: Any) -> int:
-    """Makes a call whose first words are a trace, and whose last is the record for which it is refused. Returns a status
-    of what is wrong in streams, or 0."""
-    record = ctypes.c_uint32(_calls.NO_RECORD)
-    with _lent(trace) as (start, length):
-        status: int = call(start, length, *words, record)
-    if status in _KINDS[0][0]:
-        raise TraceRefused(status, record.value if record.value != _calls.NO_RECORD else None)
-    return status
-
-
-def _check_over(call: Any, trace: Bytes, *words: Any) -> None:
-    """Makes such a call, and raises what any other status than 0 means."""
-    _check(_call_over(call, trace, *words))
-
-
-class Reason(enum.IntEnum):
-    """Why pre-copying ends."""
-
-    FEW = 0
-    FAST = 1
-    ROUNDS = 2
-
 
 @dataclass(frozen=True)
 class Sizes:
@@ -169,7 +101,7 @@ class Settings:
         asked["base"] = 0 if self.base is None else self.base
         skip = _number("skip", asked.pop("skip"), 1)
         numbers = (_number(name, value, 64) for name, value in asked.items())
-        return _calls.Settings(*numbers, self.base is not None, skip)
+        return _calls.Settings(ctypes.sizeof(_calls.Settings), *numbers, self.base is not None, skip)
 
 
 @dataclass(frozen=True)
@@ -390,6 +322,45 @@ def check_streams(trace: Bytes, stop: int, streams: Sequence[Bytes]) -> Optional
         _check(status)
         return None
     return Finding(status, *(getattr(found, name) for name, _ in _calls.Finding._fields_))
+
+
+class StreamCheck:
+    """A check of the streams of a migration as they come, one after the other. It finds what `check_streams` finds in
+    all of them at once. The trace is not copied, and must stay as it is."""
+
+    def __init__(self, trace: Bytes, stop: int) -> None:
+        self._trace, self._left = trace, b""
+        self._progress = _calls.Progress(stop=_number("stop", stop, 32))
+        self._states = (_calls.Page * (2 * check_trace(trace).pages))()
+
+    def _finding(self, call: Any, *words: Any) -> Optional[Finding]:
+        found = _calls.Finding()
+        states = self._states, len(self._states)
+        status = _call_over(call, self._trace, *words, self._progress, *states, found)
+        if status not in _calls.WRONG:
+            _check(status)
+            return None
+        return Finding(status, *(getattr(found, name) for name, _ in _calls.Finding._fields_))
+
+    def take(self, data: Bytes) -> Optional[Finding]:
+        """Takes the next bytes of a stream, and returns the first frame that is wrong, or None."""
+        before, piece = self._progress.bytes, self._left + bytes(data)
+        with _lent(piece) as (start, length):
+            found = self._finding(_LIBRARY.precopy_check_piece, start, length)
+        self._left = piece[self._progress.bytes - before :]
+        return found
+
+    def end_stream(self) -> Optional[Finding]:
+        """Ends a stream, and returns the frame that is cut off at its end, or None."""
+        at, cut = self._progress, bool(self._left)
+        found = Finding(_calls.NO_FRAME[0], at.stream, at.frames, at.bytes, 0, 0, 0, 0, 0) if cut else None
+        at.stream, at.frames, at.bytes, self._left = at.stream + 1, 0, 0, b""
+        ctypes.memset(self._states, 0, ctypes.sizeof(self._states) // 2)
+        return found
+
+    def finish(self) -> Optional[Finding]:
+        """Returns, when all streams have ended, the first page that is not at its version at the stop, or None."""
+        return self._finding(_LIBRARY.precopy_check_pages)
 
 
 def encode_frame(sizes: Sizes, page: int, stamp: int, content: Bytes) -> bytes:

@@ -27,7 +27,7 @@ class Sizes(ctypes.Structure):
 
 class Settings(ctypes.Structure):
     _fields_ = [
-        *((name, ctypes.c_uint64) for name in "min max increment threshold rounds start window hot base".split()),
+        *((name, ctypes.c_uint64) for name in "size min max increment threshold rounds start window hot base".split()),
         ("has_base", ctypes.c_uint32),
         ("skip", ctypes.c_uint32),
     ]
@@ -35,6 +35,31 @@ class Settings(ctypes.Structure):
 
 class Sums(ctypes.Structure):
     _fields_ = [(name, ctypes.c_uint64) for name in "rounds reason stop down total".split()]
+
+
+class Question(ctypes.Structure):
+    _fields_ = [
+        *(
+            (name, ctypes.c_uint64)
+            for name in "size link first downtime reserve tick page sampled guest increment rounds start base".split()
+        ),
+        *((name, ctypes.c_uint32) for name in "has_first has_increment has_base skip".split()),
+    ]
+
+
+class Prediction(ctypes.Structure):
+    _fields_ = [
+        *(
+            (name, ctypes.c_uint64)
+            for name in "rounds reason stop down total left time bytes downtime recorded".split()
+        ),
+        ("converges", ctypes.c_uint32),
+        ("kept", ctypes.c_uint32),
+    ]
+
+
+class Errors(ctypes.Structure):
+    _fields_ = [*((name, ctypes.c_uint64) for name in "bytes time downtime".split()), ("has_errors", ctypes.c_uint32)]
 
 
 class Round(ctypes.Structure):
@@ -61,6 +86,13 @@ class Finding(ctypes.Structure):
     ]
 
 
+class Progress(ctypes.Structure):
+    _fields_ = [
+        *((name, ctypes.c_size_t) for name in "stream frames bytes".split()),
+        ("stop", ctypes.c_uint32),
+    ]
+
+
 class Write(ctypes.Structure):
     _fields_ = [
         ("tick", ctypes.c_uint64),
@@ -81,6 +113,7 @@ _CALLS = {
     "rounds": [_BYTES, _LENGTH, _pointer(Settings), _pointer(Round), _LENGTH, _COUNT, _RECORD],
     "report": [_BYTES, _LENGTH, _pointer(Settings), _BYTES, _LENGTH, _COUNT, _RECORD],
     "sweep": [_BYTES, _LENGTH, _pointer(Settings), _LENGTH, _pointer(Sums), _LENGTH, _COUNT, _RECORD],
+    "predict": [_BYTES, _LENGTH, _pointer(Question), _pointer(Prediction), _pointer(Errors), _RECORD],
     "memory": [_BYTES, _LENGTH, _BYTES, _LENGTH, _COUNT, _RECORD],
     "memory_before": [_BYTES, _LENGTH, ctypes.c_uint64, _BYTES, _LENGTH, _COUNT, _RECORD],
     "writes_before": [_BYTES, _LENGTH, ctypes.c_uint64, _pointer(_NUMBER), _RECORD],
@@ -89,6 +122,10 @@ _CALLS = {
     "page_at": [_BYTES, _LENGTH, _NUMBER, _NUMBER, _BYTES, _LENGTH, _RECORD],
     "page_writes": [_BYTES, _LENGTH, _NUMBER, _pointer(Write), _LENGTH, _COUNT, _RECORD],
     "check_streams": [_BYTES, _LENGTH, _NUMBER, _BYTES, _LENGTH, _COUNT, _LENGTH, _pointer(Finding), _RECORD],
+    "check_piece": [
+        _BYTES, _LENGTH, _BYTES, _LENGTH, _pointer(Progress), _pointer(Page), _LENGTH, _pointer(Finding), _RECORD,
+    ],
+    "check_pages": [_BYTES, _LENGTH, _pointer(Progress), _pointer(Page), _LENGTH, _pointer(Finding), _RECORD],
     "encode_frame": [_pointer(Sizes), _NUMBER, _NUMBER, _BYTES, _LENGTH, _BYTES, _LENGTH, _COUNT],
     "decode_frame": [_pointer(Sizes), _BYTES, _LENGTH, _pointer(Frame), _BYTES, _LENGTH],
     "accept": [_pointer(Sizes), _BYTES, _LENGTH, _BYTES, _LENGTH, _pointer(Page), _LENGTH, _pointer(Taken)],

@@ -4,7 +4,7 @@
 //!
 //! The numbers are those of the settings. A base of `-` is none, and SKIP is 0 or 1.
 
-use precopy::{Refused, Settings};
+use precopy::{Question, Refused, Settings};
 use std::error::Error;
 use std::io::Read;
 
@@ -31,6 +31,41 @@ fn settings(words: &[String]) -> Result<Settings, Box<dyn Error>> {
 
 fn hex(bytes: &[u8]) -> String {
     bytes.iter().map(|byte| format!("{byte:02x}")).collect()
+}
+
+/// A question about a guest of which every third page was recorded, whose limits make rates like those of some settings.
+fn question(sizes: &precopy::Sizes, settings: &Settings) -> Question {
+    let (page, pages) = (sizes.page_length() as u64, u64::from(sizes.pages()));
+    Question {
+        link: settings.max.saturating_mul(3 * page),
+        first: Some(settings.min.saturating_mul(3 * page)),
+        downtime: settings.threshold.saturating_mul(1000),
+        reserve: 500,
+        page,
+        sampled: pages,
+        guest: 3 * pages,
+        rounds: settings.rounds,
+        start: settings.start,
+        base: settings.base,
+        skip: settings.skip,
+        ..Question::default()
+    }
+}
+
+fn print_prediction(trace: &[u8], question: &Question) -> Result<(), Refused> {
+    let it = precopy::predict(trace, question)?;
+    println!(
+        "plan {} {:?} {} {} {} {}",
+        it.rounds, it.reason, it.stop, it.down, it.total, it.left
+    );
+    println!(
+        "migration {} {} {} {} {:?} {:?}",
+        it.time, it.bytes, it.downtime, it.recorded, it.converges, it.kept
+    );
+    if let Some(errors) = it.errors {
+        println!("errors {} {} {}", errors.bytes, errors.time, errors.downtime);
+    }
+    Ok(())
 }
 
 fn print_plan(trace: &[u8], settings: &Settings) -> Result<(), Refused> {
@@ -62,7 +97,7 @@ fn print_plan(trace: &[u8], settings: &Settings) -> Result<(), Refused> {
     println!("best {}", sweep.best);
     println!("memory {}", hex(&precopy::memory(trace)?));
     println!("before {}", hex(&precopy::memory_before(trace, sums.stop)?));
-    Ok(())
+    print_prediction(trace, &question(&sizes, settings))
 }
 
 fn main() -> Result<(), Box<dyn Error>> {

@@ -14,6 +14,7 @@ pub struct Sizes {
 #[repr(C)]
 #[derive(Clone, Copy)]
 pub struct Settings {
+    pub size: u64,
     pub min: u64,
     pub max: u64,
     pub increment: u64,
@@ -38,6 +39,54 @@ pub struct Sums {
 }
 
 #[repr(C)]
+#[derive(Clone, Copy)]
+pub struct Question {
+    pub size: u64,
+    pub link: u64,
+    pub first: u64,
+    pub downtime: u64,
+    pub reserve: u64,
+    pub tick: u64,
+    pub page: u64,
+    pub sampled: u64,
+    pub guest: u64,
+    pub increment: u64,
+    pub rounds: u64,
+    pub start: u64,
+    pub base: u64,
+    pub has_first: u32,
+    pub has_increment: u32,
+    pub has_base: u32,
+    pub skip: u32,
+}
+
+#[repr(C)]
+#[derive(Clone, Copy, Default)]
+pub struct Prediction {
+    pub rounds: u64,
+    pub reason: u64,
+    pub stop: u64,
+    pub down: u64,
+    pub total: u64,
+    pub left: u64,
+    pub time: u64,
+    pub bytes: u64,
+    pub downtime: u64,
+    pub recorded: u64,
+    pub converges: u32,
+    pub kept: u32,
+}
+
+#[repr(C)]
+#[derive(Clone, Copy, Default)]
+pub struct Errors {
+    pub bytes: u64,
+    pub time: u64,
+    pub downtime: u64,
+    pub has_errors: u32,
+}
+
+#[repr(C)]
 #[derive(Clone, Copy, Default)]
 pub struct Frame {
     pub page: u32,
@@ -56,6 +105,15 @@ pub struct Finding {
     pub stamp: u32,
     pub wanted: u32,
     pub missing: u32,
+}
+
+#[repr(C)]
+#[derive(Clone, Copy, Default)]
+pub struct Progress {
+    pub stream: usize,
+    pub frames: usize,
+    pub bytes: usize,
+    pub stop: u32,
 }
 
 extern "C" {
@@ -97,6 +155,14 @@ extern "C" {
         sums: *mut Sums,
         sums_length: usize,
         best: *mut usize,
+        record: *mut u32,
+    ) -> u32;
+    pub fn precopy_predict(
+        trace: *const u8,
+        trace_length: usize,
+        question: *const Question,
+        prediction: *mut Prediction,
+        errors: *mut Errors,
         record: *mut u32,
     ) -> u32;
     pub fn precopy_memory(
@@ -166,6 +232,26 @@ extern "C" {
         bytes_length: usize,
         sizes: *const usize,
         sizes_length: usize,
+        found: *mut Finding,
+        record: *mut u32,
+    ) -> u32;
+    pub fn precopy_check_piece(
+        trace: *const u8,
+        trace_length: usize,
+        piece: *const u8,
+        piece_length: usize,
+        progress: *mut Progress,
+        states: *mut Page,
+        states_length: usize,
+        found: *mut Finding,
+        record: *mut u32,
+    ) -> u32;
+    pub fn precopy_check_pages(
+        trace: *const u8,
+        trace_length: usize,
+        progress: *const Progress,
+        states: *const Page,
+        states_length: usize,
         found: *mut Finding,
         record: *mut u32,
     ) -> u32;

@@ -4,6 +4,7 @@
 mod calls;
 mod flat;
 mod places;
+mod predictions;
 mod refusals;
 mod room;
 mod streams;
@@ -12,8 +13,9 @@ pub use flat::{
     accept, decode_frame, decode_frame_into, encode_frame, encode_frame_into, missing, FlatMemory, Frame, Page, Taken,
 };
 pub use places::{memory_step, page_at, page_at_into, page_writes, page_writes_into, version_after, Write};
+pub use predictions::{predict, Errors, Prediction, Question, Verdict};
 pub use refusals::{status, Refused};
-pub use streams::{check_streams, writes_before, Finding, FramePlace};
+pub use streams::{check_streams, writes_before, Finding, FramePlace, StreamCheck};
 
 use refusals::{checked, checked_buffer, with_record, NO_RECORD};
 use std::ffi::CStr;
@@ -148,6 +150,7 @@ impl Settings {
 
     fn as_c(&self) -> calls::Settings {
         calls::Settings {
+            size: std::mem::size_of::<calls::Settings>() as u64,
             min: self.min,
             max: self.max,
             increment: self.increment,
@@ -174,6 +177,16 @@ pub enum Reason {
     Rounds,
 }
 
+impl Reason {
+    fn of(number: u64) -> Reason {
+        match number {
+            0 => Reason::Few,
+            1 => Reason::Fast,
+            _ => Reason::Rounds,
+        }
+    }
+}
+
 /// The sums of a plan.
 #[derive(Clone, Copy, Debug, PartialEq, Eq)]
 pub struct Sums {
@@ -193,11 +206,7 @@ impl Sums {
     fn of(found: &calls::Sums) -> Sums {
         Sums {
             rounds: found.rounds,
-            reason: match found.reason {
-                0 => Reason::Few,
-                1 => Reason::Fast,
-                _ => Reason::Rounds,
-            },
+            reason: Reason::of(found.reason),
             stop: found.stop,
             down: found.down,
             total: found.total,

@@ -34,6 +34,7 @@ pub mod status {
     pub const BAD_HOT: u32 = 27;
     pub const BAD_START: u32 = 28;
     pub const BAD_BASE: u32 = 30;
+    pub const BAD_SIZE: u32 = 31;
     pub const FRAME_SHORT: u32 = 41;
     pub const FRAME_PAGE: u32 = 42;
     pub const FRAME_STAMP: u32 = 43;
@@ -52,6 +53,15 @@ pub mod status {
     pub const OLDER: u32 = 73;
     pub const OTHER_BYTES: u32 = 74;
     pub const PAGE_BEHIND: u32 = 75;
+    pub const BAD_TICK: u32 = 81;
+    pub const BAD_PAGE: u32 = 82;
+    pub const BAD_SAMPLE: u32 = 83;
+    pub const BAD_LINK: u32 = 84;
+    pub const BAD_FIRST: u32 = 85;
+    pub const BAD_RESERVE: u32 = 86;
+    pub const BAD_DOWNTIME: u32 = 87;
+    pub const OTHER_PAGES: u32 = 88;
+    pub const MORE_PAGES: u32 = 89;
 }
 
 /// A call refused, with its status: a number of the module [`status`]. Its text says what the status means.
@@ -61,7 +71,7 @@ pub enum Refused {
     /// The bytes are not a trace, or no trace has such sizes. `record` is the record that is named, if one is.
     #[allow(missing_docs)]
     Trace { status: u32, record: Option<u32> },
-    /// A setting is out of its range.
+    /// A setting is out of its range, or one that a question makes.
     #[allow(missing_docs)]
     Settings { status: u32 },
     /// Bytes begin with no frame, or no frame has such a page or stamp. `taken` is what of a stream was taken before.
@@ -76,6 +86,9 @@ pub enum Refused {
     /// The guest does not have the page, or the page no such version, or a step ends before it begins.
     #[allow(missing_docs)]
     Place { status: u32 },
+    /// A question is out of its range, or the trace is not as it says.
+    #[allow(missing_docs)]
+    Question { status: u32 },
     /// Memory ran out.
     NoMemory,
 }
@@ -86,12 +99,13 @@ impl Refused {
         match status {
             status::SHORT_HEADER..=status::TOO_LONG => Refused::Trace { status, record: None },
             status::NO_MEMORY => Refused::NoMemory,
-            status::BAD_MIN..=status::BAD_BASE => Refused::Settings { status },
+            status::BAD_MIN..=status::BAD_SIZE => Refused::Settings { status },
             status::FRAME_SHORT..=status::FRAME_ZEROS => {
                 let taken = Taken::default();
                 Refused::Frame { status, taken }
             }
             status::NO_PAGE..=status::NO_VERSION => Refused::Place { status },
+            status::BAD_TICK..=status::MORE_PAGES => Refused::Question { status },
             status => Refused::Length { status },
         }
     }
@@ -103,6 +117,7 @@ impl Refused {
             | Refused::Settings { status }
             | Refused::Frame { status, .. }
             | Refused::Place { status }
+            | Refused::Question { status }
             | Refused::Length { status } => status,
             Refused::ShortBuffer { .. } => status::SHORT_BUFFER,
             Refused::NoMemory => status::NO_MEMORY,

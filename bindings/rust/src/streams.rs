@@ -1,7 +1,7 @@
 //! Streams of a migration, checked against a trace.
 
-use crate::calls;
 use crate::refusals::{checked, status, with_record, Refused, NO_RECORD};
+use crate::{calls, check_trace, room, Page};
 
 /// A frame of some streams.
 #[derive(Clone, Copy, Debug, PartialEq, Eq)]
@@ -96,5 +96,91 @@ pub fn check_streams(trace: &[u8], stop: u32, bytes: &[u8], sizes: &[usize]) -> 
     match Finding::of(status, &found) {
         Some(finding) => Ok(Some(finding)),
         None => with_record(record, checked(status).map(|()| None)),
+    }
+}
+
+/// A check of the streams of a migration as they come, one after the other. It finds what [`check_streams`] finds in all
+/// of them at once.
+pub struct StreamCheck<'a> {
+    trace: &'a [u8],
+    progress: calls::Progress,
+    states: Vec<Page>,
+}
+
+impl<'a> StreamCheck<'a> {
+    /// Returns a check to which nothing came, of a migration that stops its guest after the first `stop` writes of a
+    /// trace.
+    pub fn new(trace: &'a [u8], stop: u32) -> Result<StreamCheck<'a>, Refused> {
+        let pages = check_trace(trace)?.pages() as usize;
+        Ok(StreamCheck {
+            trace,
+            progress: calls::Progress {
+                stop,
+                ..Default::default()
+            },
+            states: room::filled(2 * pages, Page::default())?,
+        })
+    }
+
+    /// Takes the whole frames at the front of the next bytes of a stream, and returns how many bytes they have. What is
+    /// behind them is the beginning of a frame, and comes again at the front of the next bytes. If a frame is wrong, it
+    /// returns that.
+    pub fn take(&mut self, piece: &[u8]) -> Result<Result<usize, Finding>, Refused> {
+        let mut found = calls::Finding::default();
+        let (mut record, before) = (NO_RECORD, self.progress.bytes);
+        // SAFETY: each slice is there for its length, and no other reference reaches what is written.
+        let status = unsafe {
+            calls::precopy_check_piece(
+                self.trace.as_ptr(),
+                self.trace.len(),
+                piece.as_ptr(),
+                piece.len(),
+                &mut self.progress,
+                self.states.as_mut_ptr(),
+                self.states.len(),
+                &mut found,
+                &mut record,
+            )
+        };
+        match Finding::of(status, &found) {
+            Some(finding) => Ok(Err(finding)),
+            None => with_record(record, checked(status).map(|()| Ok(self.progress.bytes - before))),
+        }
+    }
+
+    /// Ends a stream, whose frames all came, and begins the next one.
+    pub fn end_stream(&mut self) {
+        self.progress = calls::Progress {
+            stream: self.progress.stream.wrapping_add(1),
+            stop: self.progress.stop,
+            ..Default::default()
+        };
+        let pages = self.states.len() / 2;
+        self.states
+            .iter_mut()
+            .take(pages)
+            .for_each(|state| *state = Page::default());
+    }
+
+    /// Returns, when all streams have ended, the first page that is not at its version at the stop, or `None`.
+    pub fn finish(&self) -> Result<Option<Finding>, Refused> {
+        let mut found = calls::Finding::default();
+        let mut record = NO_RECORD;
+        // SAFETY: as in `take`.
+        let status = unsafe {
+            calls::precopy_check_pages(
+                self.trace.as_ptr(),
+                self.trace.len(),
+                &self.progress,
+                self.states.as_ptr(),
+                self.states.len(),
+                &mut found,
+                &mut record,
+            )
+        };
+        match Finding::of(status, &found) {
+            Some(finding) => Ok(Some(finding)),
+            None => with_record(record, checked(status).map(|()| None)),
+        }
     }
 }

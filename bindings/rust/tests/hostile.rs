@@ -1,6 +1,6 @@
 //! Numbers and bytes that nobody means: each is an answer or a refusal, and no call panics.
 
-use precopy::{FlatMemory, Refused, Settings, Sizes};
+use precopy::{FlatMemory, Question, Refused, Settings, Sizes};
 
 /// Numbers without a pattern, always the same (xorshift).
 struct Numbers(u64);
@@ -79,6 +79,38 @@ fn settings() {
         assert_eq!(precopy::report(&trace, &settings).map(|_| ()), checked);
         assert_eq!(precopy::sweep(&trace, &[settings]).map(|_| ()), checked);
     }
+}
+
+#[test]
+fn questions() {
+    let trace = [0x50, 0x43, 0x57, 0x54, 1, 4, 0, 0, 1, 0, 0, 0, 0, 0, 0, 0];
+    let values = [0, 1, 16, 64, 1000, 1 << 20, 1 << 32, u64::MAX];
+    let mut numbers = Numbers(64);
+    let mut told = [0; 2];
+    for _ in 0..20_000 {
+        let mut drawn = || values[numbers.below(8) as usize];
+        let question = Question {
+            link: drawn(),
+            first: (drawn() > 1000).then(&mut drawn),
+            downtime: drawn(),
+            reserve: drawn(),
+            tick: drawn(),
+            page: 16,
+            sampled: drawn(),
+            guest: drawn(),
+            increment: (drawn() > 1000).then(&mut drawn),
+            rounds: drawn(),
+            start: drawn(),
+            base: (drawn() > 1000).then(&mut drawn),
+            skip: drawn() > 1000,
+        };
+        match precopy::predict(&trace, &question) {
+            Ok(_) => told[0] += 1,
+            Err(Refused::Question { .. } | Refused::Settings { .. }) => told[1] += 1,
+            other => panic!("{other:?}"),
+        }
+    }
+    assert!(told[0] > 20 && told[1] > 0, "{told:?}");
 }
 
 #[test]

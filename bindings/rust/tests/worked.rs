@@ -1,6 +1,9 @@
 //! Worked examples of each call, whose values were worked out by hand; those of checks/library_rows.c.
 
-use precopy::{status, Finding, FramePlace, Reason, Refused, Settings, Sizes, Sums, Taken, Write};
+use precopy::{
+    status, Errors, Finding, FramePlace, Question, Reason, Refused, Settings, Sizes, StreamCheck, Sums, Taken, Verdict,
+    Write,
+};
 
 /// Pages of 16 bytes, 4 pages, 5 writes: of pages 0 and 1 at ticks 0 and 5, of page 1 at tick 1200, of pages 3 and 1 at
 /// tick 2500.
@@ -96,6 +99,81 @@ fn sweeps() {
     assert_eq!(precopy::sweep(&TRACE, &[]).unwrap().sums, []);
 }
 
+/// Rounds of 2 and 4 pages per 1,000 ticks, over a guest of 8 pages, half of which were recorded.
+fn half() -> Question {
+    Question {
+        link: 128,
+        first: Some(64),
+        downtime: 600_000,
+        reserve: 100_000,
+        page: 16,
+        sampled: 4,
+        guest: 8,
+        increment: Some(1),
+        rounds: 8,
+        ..Question::default()
+    }
+}
+
+#[test]
+fn predictions() {
+    let told = precopy::predict(&TRACE, &half()).unwrap();
+    let plan = sums(told.rounds, told.reason, told.stop, told.down, told.total);
+    assert_eq!((plan, told.left), (sums(1, Reason::Few, 2000, 500, 6), 2));
+    assert_eq!(
+        (told.time, told.bytes, told.downtime, told.recorded),
+        (2_600_000, 192, 600_000, 2_500_000)
+    );
+    assert_eq!((told.converges, told.kept), (Verdict::Yes, Verdict::Yes));
+    let errors = Errors {
+        bytes: 48,
+        time: 430_565,
+        downtime: 129_524,
+    };
+    assert_eq!(told.errors, Some(errors));
+    let all = Question {
+        link: 64,
+        first: Some(32),
+        guest: 4,
+        ..half()
+    };
+    let one = Question {
+        rounds: 1,
+        downtime: 0,
+        reserve: 0,
+        ..all
+    };
+    let late = Question {
+        downtime: 100_000,
+        reserve: 50_000,
+        ..all
+    };
+    for (question, verdict) in [(all, Verdict::Yes), (one, Verdict::No), (late, Verdict::Unknown)] {
+        let told = precopy::predict(&TRACE, &question).unwrap();
+        assert_eq!((told.converges, told.kept, told.errors), (verdict, verdict, None));
+    }
+}
+
+#[test]
+fn questions() {
+    let refused = |status, question: Question| {
+        let told = precopy::predict(&TRACE, &question).map(|_| ());
+        assert_eq!(told, Err(Refused::Question { status }));
+    };
+    refused(status::BAD_TICK, Question { tick: 0, ..half() });
+    refused(status::BAD_LINK, Question { link: 31, ..half() });
+    refused(status::MORE_PAGES, Question { sampled: 3, ..half() });
+    let wide = Question {
+        page: 32,
+        link: 256,
+        ..half()
+    };
+    refused(status::OTHER_PAGES, wide);
+    let long = precopy::predict(&TRACE, &Question { rounds: 65, ..half() });
+    let status = status::BAD_ROUNDS;
+    assert_eq!(long, Err(Refused::Settings { status }));
+}
+
 #[test]
 fn memories() {
     let mut wanted = [0; 64];
@@ -165,6 +243,7 @@ fn traces() {
         precopy::rounds(&TRACE[..101], &slow()).map(|_| ()),
         precopy::report(&TRACE[..101], &slow()).map(|_| ()),
         precopy::sweep(&TRACE[..101], &[slow()]).map(|_| ()),
+        precopy::predict(&TRACE[..101], &half()).map(|_| ()),
         precopy::memory(&TRACE[..101]).map(|_| ()),
         precopy::memory_into(&TRACE[..101], &mut [0; 64]).map(|_| ()),
         precopy::memory_before(&TRACE[..101], 9).map(|_| ()),
@@ -311,4 +390,33 @@ fn streams() {
             record: Some(4)
         })
     );
+}
+
+#[test]
+fn pieces() {
+    for cut in 0..=93 {
+        let mut check = StreamCheck::new(&TRACE, 3).unwrap();
+        let taken = check.take(&SENT[..cut]).unwrap().unwrap();
+        assert!(taken <= cut);
+        let found = check.take(&SENT[taken..]).unwrap();
+        let place = match found {
+            Err(Finding::Frame { place, .. }) => (place.stream, place.frame, place.offset),
+            other => panic!("{other:?}"),
+        };
+        assert_eq!((place, check.finish()), ((0, 5, 93), Ok(None)));
+    }
+    let mut check = StreamCheck::new(&TRACE, 3).unwrap();
+    assert_eq!(check.take(&SENT[..93]), Ok(Ok(93)));
+    check.end_stream();
+    assert_eq!((check.take(&SENT[93..]), check.finish()), (Ok(Ok(25)), Ok(None)));
+    let none = StreamCheck::new(&TRACE, 3).unwrap().finish();
+    assert!(matches!(
+        none,
+        Ok(Some(Finding::Page {
+            page: 0,
+            stamp: None,
+            ..
+        }))
+    ));
+    assert!(StreamCheck::new(&TRACE[..101], 3).is_err());
 }

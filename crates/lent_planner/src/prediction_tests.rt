@@ -10,7 +10,7 @@ use predictions::{Answer, ErrorNumbers, Question};
 
 /// A link of 64 pages of the guest in 1,000 ticks, a guest of which one page in four was recorded, and a downtime of
 /// 200 ms, of which 10 are reserved.
-const ASKED: Question = Question {
+pub(crate) const ASKED: Question = Question {
     link: 1024,
     first: 0,
     downtime: 200_000,

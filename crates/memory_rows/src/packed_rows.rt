@@ -52,7 +52,7 @@ fn packed_pages(rt: HostRuntime) -> Result<(), Fail> {
     if !index.is_of(&trace) {
         return Err(Fail::from("the index of the trace"));
     }
-    let packed = PackedWrites::of(alloc, &trace, &index)?;
+    let packed = PackedWrites::of(&rt, alloc, &trace, &index)?;
     let source = PageSource::new(&trace, &index, Some(&packed));
     // a page, from one version to another, and its bytes
     let cases: [(u32, u32, u32, Page); 9] = [
@@ -90,7 +90,7 @@ fn packed_pages_at_later_versions(rt: HostRuntime) -> Result<(), Fail> {
     if !index.is_of(&trace) {
         return Err(Fail::from("the index of the trace"));
     }
-    let packed = PackedWrites::of(alloc, &trace, &index)?;
+    let packed = PackedWrites::of(&rt, alloc, &trace, &index)?;
     let source = PageSource::new(&trace, &index, Some(&packed));
     for (page, from, to, expected) in [
         (1u32, 0u32, 2u32, SECOND),
@@ -113,7 +113,7 @@ fn packed_pages_are_released(rt: HostRuntime) -> Result<(), Fail> {
     if !index.is_of(&trace) {
         return Err(Fail::from("the index of the trace"));
     }
-    let packed = PackedWrites::of(alloc, &trace, &index)?;
+    let packed = PackedWrites::of(&rt, alloc, &trace, &index)?;
     let source = PageSource::new(&trace, &index, Some(&packed));
     let asked = [(0, 5), (1, 1), (1, 2), (1, 3), (1, 4), (1, 5), (3, 5)];
     let found = asked.map(|(page, version)| made(alloc, &source, page, version));
@@ -132,7 +132,7 @@ fn a_cache_makes_packed_pages(rt: HostRuntime) -> Result<(), Fail> {
     if !index.is_of(&trace) {
         return Err(Fail::from("the index of the trace"));
     }
-    let packed = PackedWrites::of(alloc, &trace, &index)?;
+    let packed = PackedWrites::of(&rt, alloc, &trace, &index)?;
     let source = PageSource::new(&trace, &index, Some(&packed));
     let mut cache = PageCache::with_pages(source, KeptPages::new(alloc, 1)?);
     let found = [
@@ -142,6 +142,53 @@ fn a_cache_makes_packed_pages(rt: HostRuntime) -> Result<(), Fail> {
         page_at(&mut cache, &trace, 3, 4),
     ];
     assert!(rt; found == [THIRD, SECOND, SECOND, FOURTH].map(Some));
+    Ok(())
+}
+
+/// Returns a trace of 3,000 pages of 16 bytes with a write of two bytes to each, of the page's number, the last page
+/// first.
+fn guest_of_many_pages(alloc: Global) -> Result<Trace, Fail> {
+    let mut writes = Vec::new(alloc);
+    for number in 0..3_000u32 {
+        let page = 2_999 - number;
+        writes.push(Write {
+            tick: 0,
+            page,
+            offset: 1,
+            bytes: Vec::from_slice(alloc, &[(page / 256) as u8, (page % 256) as u8])?,
+        })?;
+    }
+    Ok(Trace::new(1, 4, 3_000, writes)?)
+}
+
+/// Several threads copy the writes.
+#[test]
+fn packed_pages_of_a_large_guest(rt: HostRuntime) -> Result<(), Fail> {
+    let alloc = rt.alloc();
+    let trace = guest_of_many_pages(alloc)?;
+    let index = PageIndex::build(&rt, alloc, &trace)?;
+    if !index.is_of(&trace) {
+        return Err(Fail::from("the index of the trace"));
+    }
+    let packed = PackedWrites::of(&rt, alloc, &trace, &index)?;
+    let source = PageSource::new(&trace, &index, Some(&packed));
+    for page in [
+        0u32, 1, 255, 256, 749, 750, 1_499, 1_500, 2_047, 2_048, 2_999,
+    ] {
+        let mut expected = ZEROS;
+        expected[1] = (page / 256) as u8;
+        expected[2] = (page % 256) as u8;
+        assert_eq!(rt;
+            made(alloc, &source, page, 2_999 - page),
+            Some(ZEROS),
+            "{page} before its write"
+        );
+        assert_eq!(rt;
+            made(alloc, &source, page, 3_000 - page),
+            Some(expected),
+            "{page}"
+        );
+    }
     Ok(())
 }
 
@@ -167,7 +214,7 @@ fn pages_from_checkpoints(rt: HostRuntime) -> Result<(), Fail> {
     if !index.is_of(&trace) {
         return Err(Fail::from("the index of the trace"));
     }
-    let packed = PackedWrites::of(alloc, &trace, &index)?;
+    let packed = PackedWrites::of(&rt, alloc, &trace, &index)?;
     let source = PageSource::new(&trace, &index, Some(&packed));
     let asked = [1_023, 1_024, 1_025, 2_047, 2_048];
     let found = asked.map(|version| made(alloc, &source, 0, version));

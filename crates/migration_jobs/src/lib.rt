@@ -4,6 +4,7 @@
 mod error;
 mod imaging;
 mod live;
+mod making;
 mod output;
 mod paged_memory;
 mod remains;

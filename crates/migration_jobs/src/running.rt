@@ -178,11 +178,22 @@ fn read_output<R: Threads + Wait + Sync, S: Source, G: Gate>(
     }
 }
 
+/// How many threads make the memory that `image` writes page by page.
+const IMAGE_WORKERS: usize = 4;
+
+/// Returns how many threads may make the memory that a job writes: as many as there are workers.
+fn workers_of(job: &Job) -> usize {
+    match job {
+        Job::Live(settings, _) => settings.asked().workers as usize,
+        _ => IMAGE_WORKERS,
+    }
+}
+
 /// Runs one job: reads a trace to the end of the source, makes its output, writes it and flushes. Texts are made whole
-/// before they are written; memory is written in pieces, which are made one after the other in memory that was taken
-/// before. So nothing is written while anything but a write can still fail: each error but `Write` leaves nothing
-/// written, and `Write` leaves a prefix of the output. Only the threads of a live run call the gate. `remains` says whether
-/// the memory of the output is freed.
+/// before they are written; memory is written in pieces, which workers make in memory that was taken before. So nothing
+/// is written while anything but a write can still fail: each error but `Write` leaves nothing written, and `Write`
+/// leaves a prefix of the output. Only the threads of a live run call the gate. `remains` says whether the memory of the
+/// output is freed.
 pub fn run<R: Threads + Wait + Sync, S: Source, K: Sink, G: Gate>(
     rt: &R,
     alloc: Global,
@@ -214,7 +225,7 @@ pub fn run<R: Threads + Wait + Sync, S: Source, K: Sink, G: Gate>(
 {
     match read_output(rt, alloc, job, source, gate) {
         Ok(output) => {
-            let answer = write_output(alloc, sink, &output);
+            let answer = write_output(rt, alloc, sink, &output, workers_of(job));
             remains.end(output);
             answer
         }

@@ -2,7 +2,7 @@
 -- versions are.
 use Rattle.std.specs.Prelude.{◌≡◌, ℕ, ◌+◌, ◌<◌, ◌≤◌, ◌*◌, ◌&&◌, [], Bool, IfSome, List, Option, fold, length, map}
 use Rattle.std.specs.Prelude.{nat_le, slice_index_or}
-use Rattle.std.specs.List.{All, between}
+use Rattle.std.specs.List.{All, between, range_with_len}
 use Rattle.migration_model.specs.Trace.{GuestTrace, GuestWrite, write_with}
 use Rattle.migration_model.specs.Versions.{page_at}
 use Rattle.page_versions.specs.Index.{GuestIndex, IsIndexOf, places_of}
@@ -16,6 +16,10 @@ bare offset bytes = write_with 0 0 offset bytes
 -- the copy of a trace's write at a place
 abbrev pub copy_of : GuestTrace → ℕ → GuestWrite
 copy_of trace place = bare (write_at trace.writes place).offset (write_at trace.writes place).bytes
+
+-- the copies of `count` pages' writes from a page on, page by page
+abbrev pub copies_of : GuestTrace → ℕ → ℕ → List (List GuestWrite)
+copies_of trace from count = map (λ page. map (copy_of trace) (places_of trace page)) (range_with_len from count)
 
 -- a page of 2 ^ shift bytes after these writes, one after the other
 abbrev pub put_copies : ℕ → List ℕ → List GuestWrite → List ℕ

@@ -45,7 +45,7 @@ impl TracePages {
             let packed = None;
             return Ok(TracePages { index, packed });
         }
-        let packed = Some(PackedWrites::of(alloc, trace, &index)?);
+        let packed = Some(PackedWrites::of(rt, alloc, trace, &index)?);
         Ok(TracePages { index, packed })
     }
 }

@@ -14,18 +14,22 @@ over_more (x ∷ items) [] y low = absurd (omega (arith, low))
 over_more {X} (x ∷ items) (z ∷ old) y low = ap (λ (l : List X). x ∷ l) (over_more items old y (omega (arith, low)))
 
 -- the first `i` images of a list are at the front, and then one more
-pub front_more : {X Y : Type 0} (f : X → Y) (xs : List X) (i : ℕ) (x : X) (y : Y) (old room : List Y)
-    → i < length xs → length xs ≤ length old → x ≡ get_or xs i x → y ≡ f x → room ≡ over (map f (take i xs)) old
+pub front_more_at : {X Y : Type 0} (f : X → Y) (xs : List X) (i : ℕ) (d : X) (y : Y) (old room : List Y)
+    → i < length xs → length xs ≤ length old → y ≡ f (get_or xs i d) → room ≡ over (map f (take i xs)) old
     → set room i y ≡ over (map f (take (i + 1) xs)) old
-front_more {X} {Y} f xs i x y old room low fits at is before =
+front_more_at {X} {Y} f xs i d y old room low fits one before =
     let front : List Y = map f (take i xs) in
     let count : length front ≡ i = length-map (take i xs) f ∙ length-take-le i xs (omega (arith, low)) in
-    let one : y ≡ f (get_or xs i x) = is ∙ ap f at in
     ap (λ (r : List Y). set r i y) before
     ∙ ap (λ (n : ℕ). set (over front old) n y) (sym count)
     ∙ over_more front old y (omega (arith, count, low, fits))
     ∙ ap (λ (v : Y). over (front ++ v ∷ []) old) one
-    ∙ ap (λ (l : List Y). over l old) (sym (map_more f xs i x low))
+    ∙ ap (λ (l : List Y). over l old) (sym (map_more f xs i d low))
+
+pub front_more : {X Y : Type 0} (f : X → Y) (xs : List X) (i : ℕ) (x : X) (y : Y) (old room : List Y)
+    → i < length xs → length xs ≤ length old → x ≡ get_or xs i x → y ≡ f x → room ≡ over (map f (take i xs)) old
+    → set room i y ≡ over (map f (take (i + 1) xs)) old
+front_more f xs i x y old room low fits at is before = front_more_at f xs i x y old room low fits (is ∙ ap f at) before
 
 -- all of them
 pub front_all : {X Y : Type 0} (f : X → Y) (xs : List X) (i : ℕ) (old : List Y) → i ≡ length xs

@@ -2,7 +2,8 @@ pub mod Fronts
 pub mod Flat
 pub mod Replayed
 pub mod Streams
-pub mod Cases
+pub mod Given
 pub mod PageVersions
 pub mod PageRows
 pub mod MemorySteps
+pub mod PieceStates

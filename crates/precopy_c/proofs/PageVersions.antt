@@ -1,7 +1,7 @@
 -- A page on the way through the writes: its version so far, and its bytes.
-use Rattle.std.proofs.Common.{◌≡◌, ◌≢◌, ℕ, suc, ◌+◌, ◌-◌, ◌*◌, ◌^◌, ◌<◌, ◌≤◌, leb, eqb, cond, List, [], ◌∷◌, length, take}
-use Rattle.std.proofs.Common.{max, replicate, refl, sym, ap, ◌∙◌, arith}
-use Rattle.std.specs.List.{All, filter, fold}
+use Rattle.std.proofs.Common.{◌≡◌, ◌≢◌, ℕ, suc, ◌+◌, ◌-◌, ◌^◌, ◌<◌, ◌≤◌, leb, eqb, cond, List, [], ◌∷◌, length, take}
+use Rattle.std.proofs.Common.{max, replicate, sym, ap, ◌∙◌, arith}
+use Rattle.std.specs.List.{filter, fold}
 use Rattle.std.proofs.lemmas.Bool.{cond-true, cond-false, eq-eqb, ne_eqb}
 use Rattle.std.proofs.lemmas.List.{length-replicate}
 use Rattle.std.proofs.lemmas.List.Elements.{All-take}

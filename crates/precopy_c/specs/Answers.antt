@@ -52,6 +52,7 @@ number_of_frame frames.Memory = 16
 abbrev pub number_of : Refusal → ℕ
 number_of (refusals.Trace e) = number_of_trace e
 number_of (refusals.Settings e) = number_of_settings e
+number_of refusals.SettingsSize = 31
 number_of (refusals.Frame e) = number_of_frame e
 number_of refusals.Memory = 16
 number_of refusals.ShortBuffer = 61
@@ -88,6 +89,7 @@ record_after e old = unwrap_or (record_in e) old
 abbrev pub record_told : Refusal → ℕ → ℕ
 record_told (refusals.Trace e) old = record_after e old
 record_told (refusals.Settings e) old = old
+record_told refusals.SettingsSize old = old
 record_told (refusals.Frame e) old = old
 record_told refusals.Memory old = old
 record_told refusals.ShortBuffer old = old

@@ -62,6 +62,7 @@ RefusesFlat sizes bytes states refusals.ShortBuffer = ⊥
 RefusesFlat sizes bytes states refusals.PageLength = ⊥
 RefusesFlat sizes bytes states refusals.Memory = ⊥
 RefusesFlat sizes bytes states (refusals.Settings e) = ⊥
+RefusesFlat sizes bytes states refusals.SettingsSize = ⊥
 RefusesFlat sizes bytes states refusals.PageMissing = ⊥
 
 -- this is the first page that did not come

@@ -20,6 +20,7 @@ RefusesEncoding sizes page stamp bytes refusals.PageLength = IsGuestShape (shape
 RefusesEncoding sizes page stamp bytes refusals.Memory = IsGuestShape (shape_in sizes) × (page < sizes.pages)
     × (stamp ≤ sizes.writes) × (length bytes ≡ 2 ^ sizes.shift)
 RefusesEncoding sizes page stamp bytes (refusals.Settings e) = ⊥
+RefusesEncoding sizes page stamp bytes refusals.SettingsSize = ⊥
 RefusesEncoding sizes page stamp bytes refusals.ShortBuffer = ⊥
 RefusesEncoding sizes page stamp bytes refusals.MemoryLength = ⊥
 RefusesEncoding sizes page stamp bytes refusals.PageCount = ⊥
@@ -42,6 +43,7 @@ RefusesDecoding sizes bytes room refusals.ShortBuffer = IsGuestShape (shape_in s
 RefusesDecoding sizes bytes room refusals.PageLength = ⊥
 RefusesDecoding sizes bytes room refusals.Memory = ⊥
 RefusesDecoding sizes bytes room (refusals.Settings e) = ⊥
+RefusesDecoding sizes bytes room refusals.SettingsSize = ⊥
 RefusesDecoding sizes bytes room refusals.MemoryLength = ⊥
 RefusesDecoding sizes bytes room refusals.PageCount = ⊥
 RefusesDecoding sizes bytes room refusals.PageMissing = ⊥

@@ -3,8 +3,10 @@ pub mod Buffers
 pub mod Settings
 pub mod Plans
 pub mod Sweeps
+pub mod Predictions
 pub mod Memories
 pub mod Frames
 pub mod FlatMemory
 pub mod StreamChecks
+pub mod Pieces
 pub mod Places

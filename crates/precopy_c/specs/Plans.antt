@@ -1,8 +1,8 @@
 -- What C sees of plans and reports, and why there is none.
-use Rattle.std.specs.Prelude.{◌≡◌, ℕ, List, length, Some}
+use Rattle.std.specs.Prelude.{◌≡◌, ◌≢◌, ℕ, List, length, Some}
 use Rattle.migration_model.specs.Trace.{GuestTrace, Spells}
 use Rattle.migration_model.specs.Touches.{touches_of}
-use Rattle.migration_model.specs.Rates.{AreSettings, MigrationSettings, StopReason, few_remain, too_fast, rounds_done}
+use Rattle.migration_model.specs.Rates.{MigrationSettings, StopReason, few_remain, too_fast, rounds_done}
 use Rattle.migration_model.specs.Rounds.{IsPlan, MigrationPlan, PlannedRound}
 use Rattle.migration_model.specs.Sweeps.{PlanOutcome}
 use Rattle.rate_limit.specs.Refusals.{refusal_of}
@@ -12,6 +12,8 @@ use Rattle.precopy_c.specs.declared.answers.Refusal.{Refusal}
 use Rattle.precopy_c.specs.declared.answers.Refusal.TheVariants as refusals
 use Rattle.precopy_c.specs.declared.plans.PlanSums.{PlanSums}
 use Rattle.precopy_c.specs.declared.plans.PlanRound.{PlanRound}
+use Rattle.precopy_c.specs.declared.settings.PlanSettings.{PlanSettings}
+use Rattle.precopy_c.specs.Settings.{AreGiven, settings_in}
 
 -- the number of a reason
 abbrev pub reason_number : StopReason → ℕ
@@ -53,13 +55,14 @@ pub record IsReportOf (bytes : List ℕ) (settings : MigrationSettings) (text : 
   pub is_report : IsReport trace settings text
 
 -- no plan or report is made: the settings are refused, or else the bytes, or memory ran out
-abbrev pub RefusesPlan : List ℕ → MigrationSettings → Refusal → Type 0
-RefusesPlan bytes settings (refusals.Settings e) = refusal_of settings ≡ Some e
-RefusesPlan bytes settings (refusals.Trace e) = AreSettings settings × RefusesUnlessMemory bytes e
-RefusesPlan bytes settings refusals.Memory = AreSettings settings × (trace : GuestTrace) × Spells bytes trace
-RefusesPlan bytes settings (refusals.Frame e) = ⊥
-RefusesPlan bytes settings refusals.ShortBuffer = ⊥
-RefusesPlan bytes settings refusals.PageLength = ⊥
-RefusesPlan bytes settings refusals.MemoryLength = ⊥
-RefusesPlan bytes settings refusals.PageCount = ⊥
-RefusesPlan bytes settings refusals.PageMissing = ⊥
+abbrev pub RefusesPlan : List ℕ → PlanSettings → Refusal → Type 0
+RefusesPlan bytes s refusals.SettingsSize = s.size ≢ 88
+RefusesPlan bytes s (refusals.Settings e) = (s.size ≡ 88) × (refusal_of (settings_in s) ≡ Some e)
+RefusesPlan bytes s (refusals.Trace e) = AreGiven s × RefusesUnlessMemory bytes e
+RefusesPlan bytes s refusals.Memory = AreGiven s × (trace : GuestTrace) × Spells bytes trace
+RefusesPlan bytes s (refusals.Frame e) = ⊥
+RefusesPlan bytes s refusals.ShortBuffer = ⊥
+RefusesPlan bytes s refusals.PageLength = ⊥
+RefusesPlan bytes s refusals.MemoryLength = ⊥
+RefusesPlan bytes s refusals.PageCount = ⊥
+RefusesPlan bytes s refusals.PageMissing = ⊥

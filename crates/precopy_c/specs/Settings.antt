@@ -1,9 +1,12 @@
 -- The settings and sizes that C asks for, as the definitions' values.
-use Rattle.std.specs.Prelude.{ℕ, ◌==◌, not, if◌then◌else◌, Option, Some, None, true}
+use Rattle.std.specs.Prelude.{◌≡◌, ◌≢◌, ℕ, ◌==◌, not, if◌then◌else◌, Option, Some, None, true}
 use Rattle.migration_model.specs.Frames.{GuestShape, shape_with}
-use Rattle.migration_model.specs.Rates.{MigrationSettings}
+use Rattle.migration_model.specs.Rates.{AreSettings, MigrationSettings}
+use Rattle.rate_limit.specs.Refusals.{refusal_of}
 use Rattle.trace_codec.specs.Refusals.{sizes_refusal}
 use Rattle.trace_codec.specs.declared.error.TraceError.{TraceError}
+use Rattle.precopy_c.specs.declared.answers.Refusal.{Refusal}
+use Rattle.precopy_c.specs.declared.answers.Refusal.TheVariants as refusals
 use Rattle.precopy_c.specs.declared.settings.PlanSettings.{PlanSettings}
 use Rattle.precopy_c.specs.declared.sizes.GuestSizes.{GuestSizes}
 
@@ -29,6 +32,24 @@ settings_in s = record {
   skip = not (s.skip == 0);
   base = base_in s;
 }
+
+-- the struct is as long as this library knows it, and each setting is in its range
+pub record AreGiven (s : PlanSettings) : Type 0 where
+  pub size : s.size ≡ 88
+  pub in_range : AreSettings (settings_in s)
+
+-- settings are refused: the struct is longer or shorter, or else one of them is out of its range
+abbrev pub RefusesSettings : PlanSettings → Refusal → Type 0
+RefusesSettings s refusals.SettingsSize = s.size ≢ 88
+RefusesSettings s (refusals.Settings e) = (s.size ≡ 88) × (refusal_of (settings_in s) ≡ Some e)
+RefusesSettings s (refusals.Trace e) = ⊥
+RefusesSettings s (refusals.Frame e) = ⊥
+RefusesSettings s refusals.Memory = ⊥
+RefusesSettings s refusals.ShortBuffer = ⊥
+RefusesSettings s refusals.PageLength = ⊥
+RefusesSettings s refusals.MemoryLength = ⊥
+RefusesSettings s refusals.PageCount = ⊥
+RefusesSettings s refusals.PageMissing = ⊥
 
 abbrev pub shape_in : GuestSizes → GuestShape
 shape_in sizes = shape_with sizes.shift sizes.pages sizes.writes

@@ -1,17 +1,17 @@
 -- What C sees of sweeps, and why there is none.
-use Rattle.std.specs.Prelude.{◌≡◌, ℕ, List, ◌∷◌, ◌++◌, Some, ⊤}
+use Rattle.std.specs.Prelude.{◌≡◌, ℕ, List, ◌∷◌, ◌++◌, ⊤}
 use Rattle.std.specs.List.{All}
 use Rattle.migration_model.specs.Trace.{GuestTrace, Spells}
 use Rattle.migration_model.specs.Touches.{touches_of}
-use Rattle.migration_model.specs.Rates.{AreSettings, MigrationSettings}
+use Rattle.migration_model.specs.Rates.{MigrationSettings}
 use Rattle.migration_model.specs.Sweeps.{AreLines, SweepLine}
-use Rattle.rate_limit.specs.Refusals.{refusal_of}
-use Rattle.rate_limit.specs.declared.error.SettingsError.{SettingsError}
 use Rattle.trace_codec.specs.Refusals.{RefusesUnlessMemory}
 use Rattle.precopy_c.specs.declared.answers.Refusal.{Refusal}
 use Rattle.precopy_c.specs.declared.answers.Refusal.TheVariants as refusals
 use Rattle.precopy_c.specs.declared.plans.PlanSums.{PlanSums}
+use Rattle.precopy_c.specs.declared.settings.PlanSettings.{PlanSettings}
 use Rattle.precopy_c.specs.Plans.{sums_of}
+use Rattle.precopy_c.specs.Settings.{AreGiven, RefusesSettings}
 
 -- a line of a sweep as C sees it: the sums of its plan
 abbrev pub line_sums : SweepLine → PlanSums
@@ -23,19 +23,20 @@ pub record IsSweepOf (bytes : List ℕ) (cases : List MigrationSettings) (lines 
   pub spells : Spells bytes trace
   pub are_lines : AreLines trace.pages (touches_of trace) cases lines
 
--- the first case out of range is refused for this, and all before it are in range
-pub record RefusesCase (cases : List MigrationSettings) (e : SettingsError) : Type 0 where
-  pub before : List MigrationSettings
-  pub case : MigrationSettings
-  pub after : List MigrationSettings
+-- the first case that is not as it must be is refused for this, and all before it are
+pub record RefusesCase (cases : List PlanSettings) (refusal : Refusal) : Type 0 where
+  pub before : List PlanSettings
+  pub case : PlanSettings
+  pub after : List PlanSettings
   pub parts : cases ≡ before ++ case ∷ after
-  pub in_range : All AreSettings before
-  pub refused : refusal_of case ≡ Some e
+  pub given : All AreGiven before
+  pub refused : RefusesSettings case refusal
 
 -- no lines are made: a case is refused, or else the bytes, or memory ran out
-abbrev pub RefusesSweep : List ℕ → List MigrationSettings → Refusal → Type 0
-RefusesSweep bytes cases (refusals.Settings e) = RefusesCase cases e
-RefusesSweep bytes cases (refusals.Trace e) = All AreSettings cases × RefusesUnlessMemory bytes e
+abbrev pub RefusesSweep : List ℕ → List PlanSettings → Refusal → Type 0
+RefusesSweep bytes cases refusals.SettingsSize = RefusesCase cases refusals.SettingsSize
+RefusesSweep bytes cases (refusals.Settings e) = RefusesCase cases (refusals.Settings e)
+RefusesSweep bytes cases (refusals.Trace e) = All AreGiven cases × RefusesUnlessMemory bytes e
 RefusesSweep bytes cases refusals.Memory = ⊤
 RefusesSweep bytes cases (refusals.Frame e) = ⊥
 RefusesSweep bytes cases refusals.ShortBuffer = ⊥

@@ -21,6 +21,8 @@ pub enum Refusal {
     Trace(TraceError),
     /// The settings are out of range.
     Settings(SettingsError),
+    /// The struct of the settings is longer or shorter than this library knows it.
+    SettingsSize,
     /// The bytes begin with no frame, or a page has no frame.
     Frame(FrameError),
     /// Memory ran out.
@@ -200,6 +202,7 @@ impl Refusal {
         match self {
             Refusal::Trace(error) => trace_number(error),
             Refusal::Settings(error) => settings_number(error),
+            Refusal::SettingsSize => 31,
             Refusal::Frame(error) => frame_number(error),
             Refusal::Memory => 16,
             Refusal::ShortBuffer => 61,

@@ -92,7 +92,7 @@ impl From<IndexError> for StreamsRefusal {
 }
 
 /// Returns the number of what is wrong with a frame.
-fn cause_number(cause: FrameCause) -> u32
+pub(crate) fn cause_number(cause: FrameCause) -> u32
     ensures number { result ≡ number_of_cause cause }
     ensures some { 1 ≤ result }
 {
@@ -106,7 +106,7 @@ fn cause_number(cause: FrameCause) -> u32
 }
 
 /// Returns the number of a page that is not at its version, of which this is the greatest stamp that came.
-fn stamp_number(stamp: Option<u32>) -> u32
+pub(crate) fn stamp_number(stamp: Option<u32>) -> u32
     ensures number { result ≡ number_of_stamp stamp }
     ensures some { 1 ≤ result }
 {
@@ -129,7 +129,7 @@ fn thing_number(thing: StreamsError) -> u32
 }
 
 /// Returns a wrong frame as C sees it.
-fn finding_of_frame(stream: usize, found: &WrongFrame) -> StreamFinding
+pub(crate) fn finding_of_frame(stream: usize, found: &WrongFrame) -> StreamFinding
     ensures { result ≡ frame_finding stream found.now }
 {
     StreamFinding {
@@ -145,7 +145,7 @@ fn finding_of_frame(stream: usize, found: &WrongFrame) -> StreamFinding
 }
 
 /// Returns a wrong page as C sees it.
-fn finding_of_page(found: &WrongPage) -> StreamFinding
+pub(crate) fn finding_of_page(found: &WrongPage) -> StreamFinding
     ensures { result ≡ page_finding found.now }
 {
     StreamFinding {

@@ -1,4 +1,4 @@
-//! The calls that a program in C, or in a language that calls C, makes: plans, reports, sweeps, memory,
+//! The calls that a program in C, or in a language that calls C, makes: plans, reports, sweeps, predictions, memory,
 //! versions of pages, and frames.
 //!
 //! `include/precopy.h` declares them, and says what a caller must do. No call keeps anything between two calls, starts
@@ -13,8 +13,11 @@ mod frames;
 mod memories;
 mod memory_steps;
 mod page_writes;
+mod pieces;
 mod place_answers;
 mod plans;
+mod predicting;
+mod questions;
 mod reports;
 mod settings;
 mod sizes;

@@ -1,7 +1,6 @@
 //! Plans: their sums and their rounds.
 
 ghost use Rattle.std.specs.Prelude.{◌≡◌, ◌≢◌, ◌<◌, ◌≤◌, ◌⊎◌, IfErr, IfOk, length, map};
-ghost use Rattle.migration_model.specs.Rates.{AreSettings};
 ghost use Rattle.migration_model.specs.Rounds.{MigrationPlan};
 ghost use Rattle.migration_model.specs.Sweeps.{outcome_of};
 ghost use Rattle.migration_model.specs.Trace.{GuestTrace, Spells};
@@ -9,7 +8,7 @@ ghost use Rattle.rate_limit.specs.Pacing.{reason_of};
 ghost use Rattle.precopy_c.specs.Answers.{IsToldBy, number_of};
 ghost use Rattle.precopy_c.specs.Buffers.{over};
 ghost use Rattle.precopy_c.specs.Plans.{IsPlanOf, RefusesPlan, reason_number, row_of, sums_of};
-ghost use Rattle.precopy_c.specs.Settings.{settings_in};
+ghost use Rattle.precopy_c.specs.Settings.{AreGiven, settings_in};
 
 use crate::answers::Refusal;
 use crate::settings::PlanSettings;
@@ -93,11 +92,14 @@ fn row(round: &Round) -> PlanRound
 /// Returns the plan of the trace that the bytes encode. The settings are tested first.
 fn planned(alloc: Global, trace: &[u8], settings: &PlanSettings) -> Result<Plan, Refusal>
     ensures made { IfOk result (IsPlanOf trace.now (settings_in settings.now)) }
-    ensures refused { IfErr result (RefusesPlan trace.now (settings_in settings.now)) }
-    ensures only { (t : GuestTrace) → Spells trace.now t → AreSettings (settings_in settings.now)
+    ensures refused { IfErr result (RefusesPlan trace.now settings.now) }
+    ensures only { (t : GuestTrace) → Spells trace.now t → AreGiven settings.now
         → IfErr result (λ e. number_of e ≡ 16) }
 {
-    let settings = settings.checked()?;
+    let settings = match settings.checked() {
+        Ok(settings) => settings,
+        Err(refusal) => return Err(refusal),
+    };
     let log = TouchLog::parse(alloc, trace)?;
     Ok(plan(alloc, &log, &settings)?)
 }
@@ -114,8 +116,8 @@ pub extern "C" fn precopy_plan(
     ensures made { result ≡ 0 → (plan : MigrationPlan) × IsPlanOf trace.now (settings_in settings.now) plan
         × (found.new ≡ sums_of (outcome_of plan)) }
     ensures refused { result ≢ 0
-        → IsToldBy result record.old record.new (RefusesPlan trace.now (settings_in settings.now)) }
-    ensures only { (t : GuestTrace) → Spells trace.now t → AreSettings (settings_in settings.now)
+        → IsToldBy result record.old record.new (RefusesPlan trace.now settings.now) }
+    ensures only { (t : GuestTrace) → Spells trace.now t → AreGiven settings.now
         → (result ≡ 0) ⊎ (result ≡ 16) }
     ensures unchanged { result ≢ 0 → found.new ≡ found.old }
     ensures not_told { result ≡ 0 → record.new ≡ record.old }
@@ -155,10 +157,10 @@ pub extern "C" fn precopy_rounds(
     ensures short { result ≡ 61 → (plan : MigrationPlan) × IsPlanOf trace.now (settings_in settings.now) plan
         × (count.new ≡ length plan.rounds) × (length rounds.old < count.new) }
     ensures refused { result ≢ 0 → result ≢ 61
-        → IsToldBy result record.old record.new (RefusesPlan trace.now (settings_in settings.now))
+        → IsToldBy result record.old record.new (RefusesPlan trace.now settings.now)
         × (count.new ≡ count.old) }
     ensures not_told { (result ≡ 0) ⊎ (result ≡ 61) → record.new ≡ record.old }
-    ensures only { (t : GuestTrace) → Spells trace.now t → AreSettings (settings_in settings.now)
+    ensures only { (t : GuestTrace) → Spells trace.now t → AreGiven settings.now
         → (result ≡ 0) ⊎ (result ≡ 16) ⊎ (result ≡ 61) }
     ensures unchanged { result ≢ 0 → rounds.new ≡ rounds.old }
 {

@@ -1,12 +1,11 @@
 //! Reports.
 
 ghost use Rattle.std.specs.Prelude.{◌≡◌, ◌≢◌, ◌<◌, ◌⊎◌, ℕ, List, IfErr, IfOk, length};
-ghost use Rattle.migration_model.specs.Rates.{AreSettings};
 ghost use Rattle.migration_model.specs.Trace.{GuestTrace, Spells};
 ghost use Rattle.precopy_c.specs.Answers.{IsToldBy, number_of};
 ghost use Rattle.precopy_c.specs.Buffers.{over};
 ghost use Rattle.precopy_c.specs.Plans.{IsReportOf, RefusesPlan};
-ghost use Rattle.precopy_c.specs.Settings.{settings_in};
+ghost use Rattle.precopy_c.specs.Settings.{AreGiven, settings_in};
 
 use crate::answers::Refusal;
 use crate::buffers::answer_bytes;
@@ -20,11 +19,14 @@ use working_sets::tables;
 /// Returns the text of the report on the trace that the bytes encode. The settings are tested first.
 fn reported(alloc: Global, trace: &[u8], settings: &PlanSettings) -> Result<Vec<u8>, Refusal>
     ensures made { IfOk result (λ text. IsReportOf trace.now (settings_in settings.now) text.items) }
-    ensures refused { IfErr result (RefusesPlan trace.now (settings_in settings.now)) }
-    ensures only { (t : GuestTrace) → Spells trace.now t → AreSettings (settings_in settings.now)
+    ensures refused { IfErr result (RefusesPlan trace.now settings.now) }
+    ensures only { (t : GuestTrace) → Spells trace.now t → AreGiven settings.now
         → IfErr result (λ e. number_of e ≡ 16) }
 {
-    let settings = settings.checked()?;
+    let settings = match settings.checked() {
+        Ok(settings) => settings,
+        Err(refusal) => return Err(refusal),
+    };
     let log = TouchLog::parse(alloc, trace)?;
     let sets = tables(alloc, &log, &settings)?;
     let planned = plan(alloc, &log, &settings)?;
@@ -47,10 +49,10 @@ pub extern "C" fn precopy_report(
     ensures short { result ≡ 61 → (report : List ℕ) × IsReportOf trace.now (settings_in settings.now) report
         × (needed.new ≡ length report) × (length text.old < needed.new) }
     ensures refused { result ≢ 0 → result ≢ 61
-        → IsToldBy result record.old record.new (RefusesPlan trace.now (settings_in settings.now))
+        → IsToldBy result record.old record.new (RefusesPlan trace.now settings.now)
         × (needed.new ≡ needed.old) }
     ensures not_told { (result ≡ 0) ⊎ (result ≡ 61) → record.new ≡ record.old }
-    ensures only { (t : GuestTrace) → Spells trace.now t → AreSettings (settings_in settings.now)
+    ensures only { (t : GuestTrace) → Spells trace.now t → AreGiven settings.now
         → (result ≡ 0) ⊎ (result ≡ 16) ⊎ (result ≡ 61) }
     ensures unchanged { result ≢ 0 → text.new ≡ text.old }
 {

@@ -1,19 +1,21 @@
 //! Settings as C asks for them.
 
-ghost use Rattle.std.specs.Prelude.{◌≡◌, ◌≢◌, ◌↔◌, Some};
-ghost use Rattle.migration_model.specs.Rates.{AreSettings};
-ghost use Rattle.rate_limit.specs.Refusals.{refusal_of};
-ghost use Rattle.rate_limit.specs.declared.error.SettingsError.{SettingsError};
-ghost use Rattle.precopy_c.specs.Answers.{number_of_settings};
-ghost use Rattle.precopy_c.specs.Settings.{settings_in};
+ghost use Rattle.std.specs.Prelude.{◌≡◌, ◌≢◌, ◌↔◌};
+ghost use Rattle.precopy_c.specs.Answers.{IsNumberOf};
+ghost use Rattle.precopy_c.specs.Settings.{AreGiven, RefusesSettings};
 
 use crate::answers::Refusal;
-use rate_limit::{Asked, Settings, SettingsError};
+use rate_limit::{Asked, Settings};
+
+/// How many bytes the struct of the settings has.
+const SIZE: u64 = 88;
 
 /// The settings of a plan, in any range: C's `struct precopy_settings`.
 #[derive(Clone, Copy)]
 #[repr(C)]
 pub struct PlanSettings {
+    /// How many bytes the struct has, so that a later version can add to it.
+    pub size: u64,
     /// The least rate, in pages per 1,000 ticks.
     pub min: u64,
     /// The greatest rate, in pages per 1,000 ticks.
@@ -39,10 +41,8 @@ pub struct PlanSettings {
 }
 
 impl PlanSettings {
-    ghost use Rattle.std.specs.Prelude.{◌≡◌, ◌↔◌, IfErr, IfOk, IsOk, Some};
-    ghost use Rattle.migration_model.specs.Rates.{AreSettings};
-    ghost use Rattle.rate_limit.specs.Refusals.{refusal_of};
-    ghost use Rattle.precopy_c.specs.Settings.{base_in, settings_in};
+    ghost use Rattle.std.specs.Prelude.{◌≡◌, ◌↔◌, IfErr, IfOk, IsOk};
+    ghost use Rattle.precopy_c.specs.Settings.{AreGiven, RefusesSettings, base_in, settings_in};
 
     /// Returns the tick of the base, if there is one.
     fn base(&self) -> Option<u64>
@@ -76,25 +76,29 @@ impl PlanSettings {
         }
     }
 
-    /// Returns these settings if each is in its range, or else the first refusal. It allocates nothing.
-    pub(crate) fn checked(&self) -> Result<Settings, SettingsError>
+    /// Returns these settings if the struct has its size and each is in its range, or else the first refusal. It
+    /// allocates nothing.
+    pub(crate) fn checked(&self) -> Result<Settings, Refusal>
         ensures accepted { IfOk result (λ settings. settings ≡ settings_in self.now) }
-        ensures in_range { IsOk result ↔ AreSettings (settings_in self.now) }
-        ensures refused { IfErr result (λ e. refusal_of (settings_in self.now) ≡ Some e) }
+        ensures given { IsOk result ↔ AreGiven self.now }
+        ensures refused { IfErr result (RefusesSettings self.now) }
     {
-        Settings::new(self.asked())
+        if self.size != SIZE {
+            return Err(Refusal::SettingsSize);
+        }
+        Ok(Settings::new(self.asked())?)
     }
 }
 
-/// Tests settings: returns 0 if each is in its range, or else the number of the first that is not.
+/// Tests settings: returns 0 if their struct has its size and each is in its range, or else the number of what is
+/// refused first.
 #[unsafe(no_mangle)]
 pub extern "C" fn precopy_check_settings(settings: &PlanSettings) -> u32
-    ensures in_range { (result ≡ 0) ↔ AreSettings (settings_in settings.now) }
-    ensures refused { result ≢ 0 → (e : SettingsError) × (result ≡ number_of_settings e)
-        × (refusal_of (settings_in settings.now) ≡ Some e) }
+    ensures given { (result ≡ 0) ↔ AreGiven settings.now }
+    ensures refused { result ≢ 0 → IsNumberOf result (RefusesSettings settings.now) }
 {
     match settings.checked() {
         Ok(_) => 0,
-        Err(error) => Refusal::Settings(error).number(),
+        Err(refusal) => refusal.number(),
     }
 }

@@ -1,13 +1,12 @@
 //! Sweeps: the sums of many plans of one trace, and the best of them.
 
-ghost use Rattle.std.specs.Prelude.{◌≡◌, ◌≢◌, ◌<◌, ◌≤◌, ◌⊎◌, ℕ, List, IfErr, IfOk, length, map};
+ghost use Rattle.std.specs.Prelude.{◌≡◌, ◌≢◌, ◌<◌, ◌≤◌, ◌⊎◌, ℕ, List, IfErr, IfOk, OnOk, length, map};
 ghost use Rattle.std.specs.List.{All};
-ghost use Rattle.migration_model.specs.Rates.{AreSettings};
 ghost use Rattle.migration_model.specs.Sweeps.{SweepLine, best_of};
 ghost use Rattle.migration_model.specs.Trace.{GuestTrace, Spells};
 ghost use Rattle.precopy_c.specs.Answers.{IsToldBy, number_of};
 ghost use Rattle.precopy_c.specs.Buffers.{over};
-ghost use Rattle.precopy_c.specs.Settings.{settings_in};
+ghost use Rattle.precopy_c.specs.Settings.{AreGiven, settings_in};
 ghost use Rattle.precopy_c.specs.Sweeps.{IsSweepOf, RefusesSweep, line_sums};
 
 use crate::answers::Refusal;
@@ -22,15 +21,15 @@ use trace_readers::TouchLog;
 /// Returns the settings of all cases, or the refusal of the first that is out of range.
 fn checked_cases(alloc: Global, cases: &[PlanSettings]) -> Result<Vec<Settings>, Refusal>
     ensures made { IfOk result (λ checked. checked.items ≡ map settings_in cases.now) }
-    ensures in_range { IfOk result (λ checked. All AreSettings checked.items) }
-    ensures refused { (bytes : List ℕ) → IfErr result (RefusesSweep bytes (map settings_in cases.now)) }
-    ensures only { All AreSettings (map settings_in cases.now) → IfErr result (λ e. e ≡ Refusal.Memory) }
+    ensures given { OnOk result (All AreGiven cases.now) }
+    ensures refused { (bytes : List ℕ) → IfErr result (RefusesSweep bytes cases.now) }
+    ensures only { All AreGiven cases.now → IfErr result (λ e. e ≡ Refusal.Memory) }
 {
     let mut checked = Vec::with_capacity(alloc, cases.len())?;
     for case in cases {
         match case.checked() {
             Ok(settings) => checked.push(settings)?,
-            Err(error) => return Err(Refusal::Settings(error)),
+            Err(refusal) => return Err(refusal),
         }
     }
     Ok(checked)
@@ -39,8 +38,8 @@ fn checked_cases(alloc: Global, cases: &[PlanSettings]) -> Result<Vec<Settings>,
 /// Returns the lines of a sweep of the trace that the bytes encode. The cases are tested first.
 fn swept(alloc: Global, trace: &[u8], cases: &[PlanSettings]) -> Result<Vec<Line>, Refusal>
     ensures made { IfOk result (λ lines. IsSweepOf trace.now (map settings_in cases.now) lines.items) }
-    ensures refused { IfErr result (RefusesSweep trace.now (map settings_in cases.now)) }
-    ensures only { (t : GuestTrace) → Spells trace.now t → All AreSettings (map settings_in cases.now)
+    ensures refused { IfErr result (RefusesSweep trace.now cases.now) }
+    ensures only { (t : GuestTrace) → Spells trace.now t → All AreGiven cases.now
         → IfErr result (λ e. number_of e ≡ 16) }
 {
     let checked = match checked_cases(alloc, cases) {
@@ -100,9 +99,9 @@ pub extern "C" fn precopy_sweep(
     ensures short { length found.old < length cases.now → result ≡ 61 }
     ensures long { result ≡ 61 → length found.old < length cases.now }
     ensures refused { result ≢ 0 → result ≢ 61
-        → IsToldBy result record.old record.new (RefusesSweep trace.now (map settings_in cases.now)) }
+        → IsToldBy result record.old record.new (RefusesSweep trace.now cases.now) }
     ensures not_told { (result ≡ 0) ⊎ (result ≡ 61) → record.new ≡ record.old }
-    ensures only { (t : GuestTrace) → Spells trace.now t → All AreSettings (map settings_in cases.now)
+    ensures only { (t : GuestTrace) → Spells trace.now t → All AreGiven cases.now
         → length cases.now ≤ length found.old → (result ≡ 0) ⊎ (result ≡ 16) }
     ensures unchanged { result ≢ 0 → (found.new ≡ found.old) × (chosen.new ≡ chosen.old) }
 {

@@ -3,7 +3,11 @@
 
 #[cfg(test)]
 mod advice_tests;
+#[cfg(test)]
+mod enough_tests;
 mod faults;
+#[cfg(test)]
+mod nearest_tests;
 #[cfg(test)]
 mod range_tests;
 mod starting;

@@ -1,5 +1,5 @@
-//! Worked examples of the ranges over starts. The numbers come from the plans of `bench/redrawn.py`, which shares no
-//! code with the crates.
+//! Worked examples of the ranges over starts. The numbers come from the plans of `bench/redrawn.py`, and what is enough
+//! from `bench/remedies.py`. Neither shares code with the crates.
 
 use crate::tests::told;
 use std::test::Fail;
@@ -14,6 +14,9 @@ standard errors: sent 0.00 MiB, time 0.052 s, downtime 0.000 s
 warning: fewer than 100 pages decided the stop; chance moves it
 starts: 21, known: 20, converging: 20, limit kept: 20
 over known starts: sent 0.00 MiB to 0.00 MiB, time 0.010 s to 0.073 s, downtime 0.010 s to 0.010 s
+enough: what is asked; also one of these, changed alone
+enough: --link 1Kbit
+enough: --downtime 10009us
 precopy live --min 16 --max 16 --inc 0 --threshold 4 --rounds 30 --start 1250 --base 1200
 QEMU: migrate_set_parameter max-bandwidth 1024B
 QEMU: migrate_set_parameter downtime-limit 190
@@ -42,6 +45,7 @@ fn starts_of_a_warm_start_come_after_its_copy(rt: HostRuntime) -> Result<(), Fai
 static NONE_KNOWN: &str =
     "converges: unknown, the trace ends before the migration does; record longer
 total time: more than 2.500 s
+enough: unknown, since the trace ends before the migration does
 precopy live --min 1 --max 1 --inc 0 --threshold 1 --rounds 30 --start 0
 QEMU: migrate_set_parameter max-bandwidth 125B
 QEMU: migrate_set_parameter downtime-limit 190
@@ -75,6 +79,9 @@ warning: fewer than 100 pages decided the stop; chance moves it
 warning: the plan ends with `rounds`, so nothing bounds the downtime; allow more rounds
 starts: 21, known: 19, converging: 16, limit kept: 16
 over known starts: sent 0.00 MiB to 0.00 MiB, time 0.400 s to 0.525 s, downtime 0.150 s to 0.275 s
+enough: one of these, changed alone
+enough: --link 21Kbit
+enough: --downtime 275000us
 precopy live --min 16 --max 16 --inc 0 --threshold 1 --rounds 1 --start 0
 QEMU: migrate_set_parameter max-bandwidth 1024B
 QEMU: migrate_set_parameter downtime-limit 50

@@ -213,7 +213,8 @@ fn unknown_words_are_told(rt: HostRuntime) -> Result<(), Fail> {
 
 /// A prediction for a guest of which one page in four was recorded, over a link of 64 pages of the guest in 1,000
 /// ticks: 16 of the trace. The first round sends 4 pages in 250 ticks. The 2 that are left take 125 ticks. The standard
-/// errors come from `bench/redrawn.py`, which shares no code with the crates.
+/// errors come from `bench/redrawn.py`, and what is enough from `bench/remedies.py`. Neither shares code with the
+/// crates.
 static PREDICTION: &str = "converges: yes, rounds: 1
 total time: 0.385 s
 sent: 0.00 MiB
@@ -222,6 +223,9 @@ standard errors: sent 0.00 MiB, time 0.054 s, downtime 0.060 s
 warning: fewer than 100 pages decided the stop; chance moves it
 starts: 21, known: 19, converging: 19, limit kept: 19
 over known starts: sent 0.00 MiB to 0.00 MiB, time 0.260 s to 0.385 s, downtime 0.010 s to 0.135 s
+enough: what is asked; also one of these, changed alone
+enough: --link 2Kbit
+enough: --downtime 10009us
 precopy live --min 16 --max 16 --inc 0 --threshold 4 --rounds 30 --start 0
 QEMU: migrate_set_parameter max-bandwidth 1024B
 QEMU: migrate_set_parameter downtime-limit 190
@@ -249,6 +253,7 @@ static UNKNOWN: &str = "converges: unknown, the trace ends before the migration 
 total time: more than 0.100 s
 starts: 21, known: 19, converging: 19, limit kept: 19
 over known starts: sent 0.00 MiB to 0.00 MiB, time 0.260 s to 0.385 s, downtime 0.010 s to 0.135 s
+enough: unknown, since the trace ends before the migration does
 precopy live --min 16 --max 16 --inc 0 --threshold 4 --rounds 30 --start 2400
 QEMU: migrate_set_parameter max-bandwidth 1024B
 QEMU: migrate_set_parameter downtime-limit 190
@@ -315,7 +320,8 @@ fn refuses_limits(rt: HostRuntime) -> Result<(), Fail> {
         ),
         (
             &["json", "report", "--link=10Gbit", "--downtime=1s"],
-            "precopy-view: --downtime: more than 65,535 pages go over the link in it\n",
+            "precopy-view: --downtime 1s: more than 65,535 pages go over the link; the most is \
+             214999us\n",
         ),
     ];
     for (words, line) in cases {

@@ -106,7 +106,7 @@ fn refuses_two_budgets_and_none(rt: HostRuntime) -> Result<(), Fail> {
         ),
         (
             &["json", "sweep", "--tick=0s", "2,4,1,1,8,0"],
-            "precopy-view: --tick: a tick is 1us to 1s\n",
+            "precopy-view: --tick 0us: a tick is 1us to 1s; the nearest is 1us\n",
         ),
     ];
     for (words, line) in cases {
@@ -160,6 +160,7 @@ static PREDICTED: &str =
 \"starts\":{\"count\":21,\"known\":19,\"converging\":19,\"kept\":19,\
 \"least\":{\"time_seconds\":0.260000,\"sent_bytes\":256,\"down_seconds\":0.010000},\
 \"greatest\":{\"time_seconds\":0.385000,\"sent_bytes\":384,\"down_seconds\":0.135000}},\
+\"enough\":{\"answer\":\"asked\",\"link_bytes\":250,\"down_seconds\":0.010009},\
 \"hosts\":{\"bandwidth_bytes\":1024,\"bandwidth_mib\":1,\"down_milliseconds\":190}}\n";
 
 /// The same from a tick from which the trace ends before the migration does.
@@ -171,6 +172,7 @@ static UNKNOWN: &str =
 \"starts\":{\"count\":21,\"known\":19,\"converging\":19,\"kept\":19,\
 \"least\":{\"time_seconds\":0.260000,\"sent_bytes\":256,\"down_seconds\":0.010000},\
 \"greatest\":{\"time_seconds\":0.385000,\"sent_bytes\":384,\"down_seconds\":0.135000}},\
+\"enough\":{\"answer\":\"unknown\"},\
 \"hosts\":{\"bandwidth_bytes\":1024,\"bandwidth_mib\":1,\"down_milliseconds\":190}}\n";
 
 #[test]

@@ -88,11 +88,11 @@ Takes-front trace old new bytes size frame page stamp stop last spells right sto
     ∙ ap (λ (s : ℕ). checked_with old.shape old.stop (set old.last frame.page (Some s))
     (set old.greatest frame.page (Some (greater (stamp_of old.greatest frame.page) s)))) stamp_is)
 
-pub Takes-more : (trace : GuestTrace) (old mid new : Checked) (bytes rest behind : List ℕ) (count : ℕ)
-    → TakesRight trace old mid bytes count rest → TakesRight trace mid new rest 1 behind
-    → TakesRight trace old new bytes (count + 1) behind
-Takes-more trace old mid new bytes rest behind count a b =
-    let fit = IsFrame (shape_of_trace trace) in
+-- some frames, and behind them others, if more bytes came meanwhile
+pub Takes-both : (trace : GuestTrace) (old mid new : Checked) (bytes rest more behind : List ℕ) (m n : ℕ)
+    → TakesRight trace old mid bytes m rest → TakesRight trace mid new (rest ++ more) n behind
+    → TakesRight trace old new (bytes ++ more) (m + n) behind
+Takes-both trace old mid new bytes rest more behind m n a b =
     let fs : List PageFrame = a.frames in
     let gs : List PageFrame = b.frames in
     record {
@@ -102,7 +102,8 @@ Takes-more trace old mid new bytes rest behind count a b =
         are_frames = All-append (IsFrame (shape_of_trace trace)) fs gs a.begins.are_frames b.begins.are_frames;
         right = AreRight-append trace old.stop old.last fs gs a.begins.right
             (subst (λ (c : Checked). AreRight trace c.stop c.last gs) a.after b.begins.right);
-        text = a.begins.text ∙ ap (λ (x : List ℕ). flat_map frame_text fs ++ x) b.begins.text
+        text = ap (λ (x : List ℕ). x ++ more) a.begins.text ∙ append_assoc (flat_map frame_text fs) rest more
+            ∙ ap (λ (x : List ℕ). flat_map frame_text fs ++ x) b.begins.text
             ∙ sym (append_assoc (flat_map frame_text fs) (flat_map frame_text gs) behind)
             ∙ ap (λ (x : List ℕ). x ++ behind) (sym (flat_map-append frame_text fs gs));
       };
@@ -112,6 +113,14 @@ Takes-more trace old mid new bytes rest behind count a b =
           ∙ ap (λ (s : List (Option ℕ)). checked_with old.shape old.stop (last_stamps old.last (fs ++ gs)) s)
           (sym (fold-append keep_greatest old.greatest fs gs));
     }
+
+pub Takes-more : (trace : GuestTrace) (old mid new : Checked) (bytes rest behind : List ℕ) (count : ℕ)
+    → TakesRight trace old mid bytes count rest → TakesRight trace mid new rest 1 behind
+    → TakesRight trace old new bytes (count + 1) behind
+Takes-more trace old mid new bytes rest behind count a b =
+    subst (λ (x : List ℕ). TakesRight trace old new x (count + 1) behind) (append-nil bytes)
+    (Takes-both trace old mid new bytes rest [] behind count 1 a
+    (subst (λ (x : List ℕ). TakesRight trace mid new x 1 behind) (sym (append-nil rest)) b))
 
 pub stop_taken : (trace : GuestTrace) (old new : Checked) (bytes rest : List ℕ) (count : ℕ)
     → TakesRight trace old new bytes count rest → new.stop ≡ old.stop

@@ -6,3 +6,4 @@ pub mod Missing
 pub mod Streamed
 pub mod Only
 pub mod Held
+pub mod Pieces

@@ -1,5 +1,5 @@
 -- What a checker knows of the streams that came to it, and what it makes of more bytes. This project's own.
-use Rattle.std.specs.Prelude.{◌≡◌, ◌≤◌, ◌^◌, ℕ, List, Option, Some, drop, length}
+use Rattle.std.specs.Prelude.{◌≡◌, ◌≤◌, ◌+◌, ◌^◌, ℕ, List, Option, Some, drop, length}
 use Rattle.migration_model.specs.Trace.{GuestTrace}
 use Rattle.migration_model.specs.Frames.{GuestShape, PageFrame}
 use Rattle.migration_model.specs.Final.{shape_of_trace}
@@ -57,3 +57,12 @@ pub record TakesAll (trace : GuestTrace) (old new : Checked) (bytes : List ℕ) 
 pub record StopsAt (trace : GuestTrace) (old new : Checked) (bytes : List ℕ) (found : WrongFrame) : Type 0 where
   pub first : IsFirstWrong trace old.stop old.last bytes found
   pub after : new ≡ after_frames old first.frames
+
+-- how much of two pieces was taken, if so much of the first was, and so much of what it left and the second
+abbrev pub both_taken : Taken → Taken → Taken
+both_taken first second = record { frames = first.frames + second.frames; bytes = first.bytes + second.bytes }
+
+-- a wrong frame behind what was taken of the first piece, counted from the front of that
+abbrev pub behind_taken : Taken → WrongFrame → WrongFrame
+behind_taken first found =
+    record { number = first.frames + found.number; offset = first.bytes + found.offset; fault = found.fault }

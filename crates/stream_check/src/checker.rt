@@ -110,6 +110,45 @@ impl StreamChecker {
         })
     }
 
+    /// Returns a checker to which pages came with these stamps: the last ones of the stream that comes now, and the
+    /// greatest of all streams. The only error is that memory runs out.
+    pub fn resume(
+        alloc: Global,
+        shape: Shape,
+        stop: u32,
+        last: Vec<Option<u32>>,
+        greatest: Vec<Option<u32>>,
+    ) -> Result<StreamChecker, AllocError>
+        requires last { length last.items ≡ shape.pages }
+        requires greatest { length greatest.items ≡ shape.pages }
+        ensures { IfOk result (λ checker. checker ≡ checked_with (shape_of shape) stop last.items greatest.items) }
+    {
+        let room = vec![in alloc; 0; shape.page_size()]?;
+        Ok(StreamChecker {
+            shape,
+            stop,
+            last,
+            greatest,
+            room,
+        })
+    }
+
+    /// Returns the last stamp of each page in the stream that comes now.
+    pub fn last_stamps(&self) -> &[Option<u32>]
+        ensures stamps { result.now ≡ self.now.last }
+        ensures count { length result.now ≡ self.now.shape.pages }
+    {
+        &self.last
+    }
+
+    /// Returns the greatest stamp of each page in all streams.
+    pub fn greatest_stamps(&self) -> &[Option<u32>]
+        ensures stamps { result.now ≡ self.now.greatest }
+        ensures count { length result.now ≡ self.now.shape.pages }
+    {
+        &self.greatest
+    }
+
     /// Notes that a page came with a stamp.
     fn note(&mut self, page: u32, stamp: u32)
         requires { page < self.old.shape.pages }

@@ -20,6 +20,6 @@ mod testing;
 pub use checker::StreamChecker;
 pub use error::StreamsError;
 pub use faults::{FrameCause, FrameFault, WrongFrame, WrongPage};
-pub use laws::{right_streams_make_memory, versions_are_as_at_the_stop};
+pub use laws::{pieces_are_as_the_whole, right_streams_make_memory, versions_are_as_at_the_stop};
 pub use streams::check_streams;
 pub use taken::Taken;

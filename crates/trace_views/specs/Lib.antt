@@ -4,6 +4,8 @@ pub mod AdviceText
 pub mod Views
 pub mod PredictionJson
 pub mod RangesJson
+pub mod Enough
+pub mod EnoughJson
 pub mod Outlooks
 pub mod PredictionViews
 pub mod StartsJson

@@ -1,5 +1,8 @@
 -- What is predicted of a migration over a log.
-use Rattle.std.specs.Prelude.{◌≡◌, List, Option}
+use Rattle.std.specs.Prelude.{◌≡◌, Bool, true, false, List, Option, None, Some}
+use Rattle.limit_remedies.specs.Remedies.{AreRemedies}
+use Rattle.limit_remedies.specs.Trials.{MigrationTrial}
+use Rattle.limit_remedies.specs.declared.finding.Remedies.{Remedies}
 use Rattle.migration_model.specs.Rounds.{IsPlan, MigrationPlan}
 use Rattle.migration_model.specs.Sweeps.{AreLines, SweepLine}
 use Rattle.migration_model.specs.Touches.{GuestTouches}
@@ -17,7 +20,23 @@ pub record AreRangesOver (log : GuestTouches) (asked : AskedPrediction) (ranges 
       (spread_starts asked.settings (last_tick_of log.touches)) (last_tick_of log.touches)) lines
   pub are_ranges : AreRanges asked.scale asked.limits (last_tick_of log.touches) lines ranges
 
--- what the plan predicts, how far chance moves that if pages were sampled, and the ranges over starts
+-- the migration that is asked for, whose limits are changed to find what is enough
+abbrev pub trial_of : AskedPrediction → MigrationTrial
+trial_of asked = record {
+  scale = asked.scale;
+  limits = asked.limits;
+  increment = asked.increment;
+  others = asked.settings;
+}
+
+-- what is enough for the limit of a migration; it is not known if the trace ends before the migration does
+abbrev pub AreEnough : GuestTouches → AskedPrediction → Bool → Option Remedies → Type 0
+AreEnough log asked true remedies = remedies ≡ None
+AreEnough log asked false None = ⊥
+AreEnough log asked false (Some remedies) = AreRemedies log.pages log.touches (trial_of asked) remedies
+
+-- what the plan predicts, how far chance moves that if pages were sampled, the ranges over starts, and what is enough
+-- for the limit
 pub record IsOutlook (log : GuestTouches) (asked : AskedPrediction) (outlook : Outlook) : Type 0 where
   pub plan : MigrationPlan
   pub is_plan : IsPlan log.pages log.touches asked.settings plan
@@ -25,3 +44,4 @@ pub record IsOutlook (log : GuestTouches) (asked : AskedPrediction) (outlook : O
       ≡ prediction_of asked.scale asked.limits asked.settings.start plan (last_tick_of log.touches)
   pub are_errors : AreErrors log.pages log.touches asked.settings asked.scale outlook.errors
   pub are_ranges : AreRangesOver log asked outlook.ranges
+  pub are_enough : AreEnough log asked outlook.prediction.cost.is_late outlook.remedies

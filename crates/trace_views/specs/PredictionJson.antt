@@ -7,6 +7,7 @@ use Rattle.migration_model.specs.Rates.{MigrationSettings, word_of}
 use Rattle.predictions.specs.Hosts.{link_in_mib, millis_for_pages}
 use Rattle.predictions.specs.Predictions.{GuestPrediction, kept_of, verdict_of, verdict_word}
 use Rattle.redrawn_pages.specs.Errors.{SampleErrors}
+use Rattle.trace_views.specs.EnoughJson.{enough_member}
 use Rattle.trace_views.specs.Json.{member_of, number_member, object_of, scale_object, seconds_member, settings_members}
 use Rattle.trace_views.specs.Json.{text_member}
 use Rattle.trace_views.specs.RangesJson.{ranges_member}
@@ -76,10 +77,12 @@ asked_members settings scale limits =
     (codes "settings") (settings_object settings)
     ∷ []
 
--- what is predicted: the answers, the migration if it is known, and the ranges over starts if there are any
+-- what is predicted: the answers, the migration if it is known, the ranges over starts if there are any, and what is
+-- enough for the limit
 abbrev pub outlook_members : Outlook → List (List Token)
 outlook_members outlook = answer_members outlook.prediction
-    ++ migration_member outlook.prediction outlook.errors ∷ ranges_member outlook.ranges ∷ []
+    ++ migration_member outlook.prediction outlook.errors ∷ ranges_member outlook.ranges
+    ∷ enough_member outlook.remedies ∷ []
 
 -- what was asked, what is predicted, and the same limits for others
 abbrev pub prediction_object : MigrationSettings → TraceScale → Limits → Outlook → List Token

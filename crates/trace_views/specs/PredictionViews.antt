@@ -10,6 +10,7 @@ use Rattle.predictions.specs.Predictions.{kept_of}
 use Rattle.predictions.specs.Texts.{prediction_text}
 use Rattle.predictions.specs.declared.verdict.Verdict.{Verdict}
 use Rattle.trace_views.specs.AdviceText.{live_line}
+use Rattle.trace_views.specs.Enough.{enough_text}
 use Rattle.trace_views.specs.Json.{line_of}
 use Rattle.trace_views.specs.Outlooks.{IsOutlook}
 use Rattle.trace_views.specs.PredictionJson.{prediction_object}
@@ -18,10 +19,15 @@ use Rattle.trace_views.specs.declared.view.AskedPrediction.{AskedPrediction}
 use Rattle.trace_views.specs.declared.view.PredictionForm.{PredictionForm}
 use Rattle.trace_views.specs.declared.view.PredictionForm.TheVariants as forms
 
--- a prediction, the ranges over starts, and the words that set the same limits
+-- a prediction beside the limit of its downtime, the ranges over starts, and what is enough for the limit
+abbrev pub outlook_text : ℕ → Outlook → List ℕ
+outlook_text limit outlook = prediction_text limit outlook.prediction outlook.errors
+    ++ (ranges_text outlook.ranges ++ enough_text outlook.remedies)
+
+-- these, and the words that set the same limits
 abbrev pub predicted_text : MigrationSettings → Limits → Outlook → List ℕ
-predicted_text settings limits outlook = prediction_text limits.downtime outlook.prediction outlook.errors
-    ++ (ranges_text outlook.ranges ++ (live_line settings ++ hosts_text limits))
+predicted_text settings limits outlook =
+    outlook_text limits.downtime outlook ++ (live_line settings ++ hosts_text limits)
 
 -- a prediction in some form
 abbrev pub prediction_in : PredictionForm → MigrationSettings → TraceScale → Limits → Outlook → List ℕ

@@ -6,6 +6,8 @@ mod advice_writing;
 mod budget;
 mod choosing;
 mod document;
+mod enough;
+mod enough_document;
 mod error;
 mod grid;
 mod numbers;

@@ -1,10 +1,11 @@
 //! Predictions of a log of touches, as texts.
 
-ghost use Rattle.std.specs.Prelude.{◌≡◌, IfErr, IfOk};
+ghost use Rattle.std.specs.Prelude.{◌≡◌, ◌++◌, IfErr, IfOk, OnOk};
 ghost use Rattle.predictions.specs.Predictions.{kept_of};
-ghost use Rattle.trace_views.specs.PredictionViews.{IsPredictionView, predicted_text, prediction_in};
+ghost use Rattle.trace_views.specs.PredictionViews.{IsPredictionView, outlook_text, predicted_text, prediction_in};
 
 use crate::advice_writing::push_live;
+use crate::enough::push_enough;
 use crate::error::ViewError;
 use crate::outlook::{Outlook, outlook_over};
 use crate::prediction_document::json_prediction;
@@ -17,8 +18,18 @@ use std::alloc::{AllocError, Global};
 use std::thread::Threads;
 use trace_readers::TouchLog;
 
-/// Returns a prediction as a text: what the migration will be, its ranges over starts, and the words that set the same
-/// limits.
+/// Appends what the migration will be, beside the limit of its downtime, its ranges over starts, and what is enough for
+/// the limit.
+fn push_outlook(text: &mut Vec<u8>, limit: u64, outlook: &Outlook) -> Result<(), AllocError>
+    ensures { OnOk result (text.new.items ≡ text.old.items ++ outlook_text limit outlook.now) }
+{
+    push_prediction(text, limit, &outlook.prediction, &outlook.errors)?;
+    push_ranges(text, &outlook.ranges)?;
+    push_enough(text, &outlook.remedies)?;
+    Ok(())
+}
+
+/// Returns a prediction as a text: what is predicted, and the words that set the same limits.
 fn predicted(
     alloc: Global,
     settings: &Settings,
@@ -28,13 +39,7 @@ fn predicted(
     ensures { IfOk result (λ text. text.items ≡ predicted_text settings.now limits.now outlook.now) }
 {
     let mut text = Vec::new(alloc);
-    push_prediction(
-        &mut text,
-        limits.downtime,
-        &outlook.prediction,
-        &outlook.errors,
-    )?;
-    push_ranges(&mut text, &outlook.ranges)?;
+    push_outlook(&mut text, limits.downtime, outlook)?;
     push_live(&mut text, settings)?;
     push_hosts(&mut text, limits)?;
     Ok(text)
@@ -57,6 +62,7 @@ fn written(alloc: Global, asked: &AskedPrediction, outlook: &Outlook) -> Result<
         scale,
         limits,
         form,
+        ..
     } = asked;
     match form {
         PredictionForm::Lines => predicted(alloc, settings, limits, outlook),

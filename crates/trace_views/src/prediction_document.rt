@@ -10,6 +10,7 @@ ghost use Rattle.trace_views.specs.PredictionJson.{migration_object, outlook_mem
 ghost use Rattle.trace_views.specs.PredictionJson.{settings_object};
 
 use crate::document::Document;
+use crate::enough_document::write_enough;
 use crate::outlook::Outlook;
 use crate::ranges_document::write_ranges;
 use crate::starts_document::write_cost_numbers;
@@ -189,14 +190,15 @@ fn write_asked(
     Ok(())
 }
 
-/// Writes what is predicted: the answers, the migration if the trace does not end before it, and the ranges over starts
-/// if there are any, as members.
+/// Writes what is predicted: the answers, the migration if the trace does not end before it, the ranges over starts if
+/// there are any, and what is enough for the limit, as members.
 fn write_outlook(alloc: Global, out: &mut Document, outlook: &Outlook) -> Result<(), AllocError>
     ensures { OnOk result (out.new ≡ out.old ++ flat_map (λ m. m) (outlook_members outlook.now)) }
 {
     write_answers(alloc, out, &outlook.prediction)?;
     write_migration(alloc, out, &outlook.prediction, &outlook.errors)?;
     write_ranges(alloc, out, &outlook.ranges)?;
+    write_enough(alloc, out, &outlook.remedies)?;
     Ok(())
 }
 
@@ -222,7 +224,7 @@ fn write_prediction(
 }
 
 /// Returns a prediction as a JSON document, in one line: what was asked, the answers, the migration if the trace does
-/// not end before it, the ranges over starts, and the same limits for QEMU and libvirt.
+/// not end before it, the ranges over starts, what is enough for the limit, and the same limits for QEMU and libvirt.
 pub fn json_prediction(
     alloc: Global,
     settings: &Settings,

@@ -47,6 +47,8 @@ pub enum PredictionForm {
 pub struct AskedPrediction {
     /// The settings of the plan.
     pub settings: Settings,
+    /// What is added to a dirtying rate, in pages per 1,000 ticks, if that is given. Limits make it if not.
+    pub increment: Option<u64>,
     /// What ticks and pages stand for.
     pub scale: Scale,
     /// What the migration may take.

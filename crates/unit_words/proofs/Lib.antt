@@ -1,2 +1,4 @@
 pub mod DecimalLemmas
+pub mod NearestLemmas
 pub mod QuantityLemmas
+pub mod RefusalLemmas

@@ -1,4 +1,5 @@
 pub mod Decimals
 pub mod Quantities
 pub mod Units
+pub mod Nearest
 pub mod Measures

@@ -2,16 +2,18 @@
 use Rattle.std.specs.Prelude.{◌≡◌, ◌⊎◌, ℕ, true, if◌then◌else◌, List, Option, Some, None, codes}
 use Rattle.clap.specs.Walk.{Row, Text}
 use Rattle.guest_units.specs.Limits.{RefusesLimits, settings_in}
-use Rattle.guest_units.specs.Scales.{TraceScale, scale_refusal}
-use Rattle.guest_units.specs.declared.error.UnitsError.{UnitsError}
+use Rattle.guest_units.specs.Scales.{TraceScale}
+use Rattle.guest_units.specs.declared.error.UnitsError.TheVariants as errors
 use Rattle.guest_units.specs.declared.limits.Limits.{Limits}
 use Rattle.job_words.specs.Options.{AreRefused, AsksFor, Says}
 use Rattle.migration_model.specs.Rates.{MigrationSettings}
 use Rattle.rate_limit.specs.declared.error.SettingsError.{SettingsError}
+use Rattle.unit_words.specs.Nearest.{TellsLimits, TellsScale}
 use Rattle.unit_words.specs.Units.{AreLimitsSaid, IsSaid, RefusesWord, SaysWhat, has_units, is_incomplete, scale_in}
 use Rattle.unit_words.specs.declared.limits.LimitsRefusal.{LimitsRefusal}
 use Rattle.unit_words.specs.declared.limits.LimitsRefusal.TheVariants as refusals
 use Rattle.unit_words.specs.declared.limits.Said.{Said}
+use Rattle.unit_words.specs.declared.ranges.RangeRefusal.{RangeRefusal}
 
 -- an option has a number
 abbrev pub IsThere : List Row → Text → Type 0
@@ -48,15 +50,19 @@ pub record AsksForMeasure (rows : List Row) (settings : MigrationSettings) (scal
   pub scale_is : scale ≡ (if has_units said then Some (scale_in said) else None)
   pub settings_are : AsksForSettings rows said limits settings
 
--- the limits are refused, with the others and the increment that the options give
+-- an amount is refused, and what is told of it holds
+abbrev pub RefusesAs : LimitsRefusal → (RangeRefusal → Type 0) → Type 0
+RefusesAs e Tells = (refusal : RangeRefusal) × (e ≡ refusals.Range refusal) × Tells refusal
+
+-- the limits are refused for one of them, or for another setting, with the increment and the others that the options give
 pub record RefusesLimited (rows : List Row) (said : Said) (limits : Limits) (e : LimitsRefusal) : Type 0 where
   pub increment : Option ℕ
   pub says_increment : Says rows (codes "inc") increment
   pub others : MigrationSettings
   pub asks_others : AsksFor rows others
-  pub error : UnitsError
-  pub is_error : e ≡ refusals.Units error
-  pub refuses : RefusesLimits (scale_in said) limits increment others error
+  pub refuses : (RefusesAs e (TellsLimits (scale_in said) limits))
+      ⊎ ((error : SettingsError) × (e ≡ refusals.Settings error)
+      × RefusesLimits (scale_in said) limits increment others (errors.Setting error))
 
 -- the settings are refused: those of limits, or others
 abbrev pub RefusesSettings : List Row → Said → Option Limits → LimitsRefusal → Type 0
@@ -67,7 +73,7 @@ RefusesSettings rows said limits e = ((error : SettingsError) × (e ≡ refusals
 -- what the options say is refused: its scale, its limits if they are incomplete, or the settings
 abbrev pub RefusesSaid : List Row → LimitsRefusal → Said → Type 0
 RefusesSaid rows e said =
-    ((error : UnitsError) × (e ≡ refusals.Units error) × (scale_refusal (scale_in said) ≡ Some error))
+    RefusesAs e (TellsScale (scale_in said))
     ⊎ (((e ≡ refusals.Incomplete) × (is_incomplete said ≡ true))
     ⊎ ((limits : Option Limits) × AreLimitsSaid said limits × RefusesSettings rows said limits e))
 
@@ -77,8 +83,7 @@ AsksForScale rows scale = SaysWhat rows (λ said. scale ≡ (if has_units said t
 
 -- the scale that the options give is refused
 abbrev pub RefusesScale : LimitsRefusal → Said → Type 0
-RefusesScale e said =
-    (error : UnitsError) × (e ≡ refusals.Units error) × (scale_refusal (scale_in said) ≡ Some error)
+RefusesScale e said = RefusesAs e (TellsScale (scale_in said))
 
 abbrev pub RefusesScaleWords : List Row → LimitsRefusal → Type 0
 RefusesScaleWords rows e = RefusesWord rows e ⊎ SaysWhat rows (RefusesScale e)

@@ -104,4 +104,4 @@ RefusesWord rows refusals.Mixed = ⊥
 RefusesWord rows refusals.NoBudget = ⊥
 RefusesWord rows refusals.TwoBudgets = ⊥
 RefusesWord rows (refusals.Settings e) = ⊥
-RefusesWord rows (refusals.Units e) = ⊥
+RefusesWord rows (refusals.Range refusal) = ⊥

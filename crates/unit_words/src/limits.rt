@@ -4,15 +4,16 @@ ghost use Rattle.std.specs.Prelude.{◌≡◌, ◌≢◌, IfErr, IfNone, IfOk, I
 ghost use Rattle.clap.specs.Walk.{first_of};
 ghost use Rattle.clap.specs.Words.{found_of, rows_of, rule_of};
 ghost use Rattle.job_words.specs.Commands.{AddsRules};
-ghost use Rattle.guest_units.specs.Scales.{scale_refusal};
+ghost use Rattle.unit_words.specs.Nearest.{TellsScale};
 ghost use Rattle.unit_words.specs.Quantities.{IsRate, IsTime};
 ghost use Rattle.unit_words.specs.Units.{AreLimitsSaid, HasNoUnits, IsNo, IsNoSample, IsSaid, RefusesWord, SaysBy};
 ghost use Rattle.unit_words.specs.Units.{SaysSample, has_units, is_incomplete, quantity_rule, scale_in, scale_rules};
 ghost use Rattle.unit_words.specs.Units.{unit_rules};
 
 use crate::quantities::{link_rate_of, sample_of, time_of};
+use crate::ranges::{RangeRefusal, scale_refused};
 use clap::{Arg, ArgAction, ArgMatches, Command};
-use guest_units::{Limits, Scale, UnitsError};
+use guest_units::{Limits, Scale};
 use job_words::{number, said};
 use rate_limit::SettingsError;
 use std::alloc::{AllocError, Global};
@@ -54,9 +55,9 @@ pub enum LimitsRefusal {
     /// There is a downtime in both kinds of words.
     #[error("--down cannot be used with --link and --downtime")]
     TwoBudgets,
-    /// A limit is out of its range.
+    /// An amount is out of its range.
     #[error("{0}")]
-    Units(UnitsError),
+    Range(RangeRefusal),
     /// Another setting is out of its range.
     #[error("settings {0}")]
     Settings(SettingsError),
@@ -269,17 +270,17 @@ pub(crate) fn is_measured(said: &Said) -> bool
 
 /// Returns what ticks and pages stand for: a tick of 1 ms, a page of 4,096 bytes and all pages unless something else
 /// is given.
-pub(crate) fn scale_of(said: &Said) -> Result<Scale, UnitsError>
+pub(crate) fn scale_of(said: &Said) -> Result<Scale, RangeRefusal>
     ensures made { IfOk result (λ scale. scale ≡ scale_in said.now) }
-    ensures refused { IfErr result (λ e. scale_refusal (scale_in said.now) ≡ Some e) }
+    ensures refused { IfErr result (TellsScale (scale_in said.now)) }
 {
-    let (sampled, guest) = said.sampled.unwrap_or((1, 1));
-    Scale::new(
-        said.tick.unwrap_or(1000),
-        said.page.unwrap_or(4096),
-        sampled,
-        guest,
-    )
+    let tick = said.tick.unwrap_or(1000);
+    let page = said.page.unwrap_or(4096);
+    let sample = said.sampled.unwrap_or((1, 1));
+    match Scale::new(tick, page, sample.0, sample.1) {
+        Ok(scale) => Ok(scale),
+        Err(error) => Err(scale_refused(&error, tick, page, sample)),
+    }
 }
 
 /// Returns the limits that are given, if any.

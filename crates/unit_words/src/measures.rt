@@ -8,8 +8,9 @@ ghost use Rattle.unit_words.specs.Measures.{RefusesMeasure, RefusesSaid, Refuses
 ghost use Rattle.unit_words.specs.Units.{IsSaid, scale_in};
 
 use crate::limits::{LimitsRefusal, Said, is_measured, limits_of, said_of, scale_of};
+use crate::ranges::limits_refused;
 use clap::ArgMatches;
-use guest_units::{Limits, Scale};
+use guest_units::{Limits, Scale, UnitsError};
 use job_words::{said, settings_of};
 use rate_limit::Settings;
 
@@ -56,7 +57,8 @@ fn limited_settings(
     let increment = job_words::said(options, "inc");
     match limits.settings(scale, increment, *others.asked()) {
         Ok(settings) => Ok(settings),
-        Err(error) => Err(LimitsRefusal::Units(error)),
+        Err(UnitsError::Setting(error)) => Err(LimitsRefusal::Settings(error)),
+        Err(error) => Err(LimitsRefusal::Range(limits_refused(&error, scale, limits))),
     }
 }
 
@@ -88,7 +90,7 @@ fn measure_said(options: &ArgMatches, said: &Said) -> Result<Measure, LimitsRefu
 {
     let scale = match scale_of(said) {
         Ok(scale) => scale,
-        Err(error) => return Err(LimitsRefusal::Units(error)),
+        Err(refusal) => return Err(LimitsRefusal::Range(refusal)),
     };
     let limits = limits_of(said)?;
     let settings = settings_said(options, said, &scale, limits)?;
@@ -116,6 +118,6 @@ pub fn scale_said(options: &ArgMatches) -> Result<Option<Scale>, LimitsRefusal>
     let said = said_of(options)?;
     match scale_of(&said) {
         Ok(scale) => Ok(is_measured(&said).then_some(scale)),
-        Err(error) => Err(LimitsRefusal::Units(error)),
+        Err(refusal) => Err(LimitsRefusal::Range(refusal)),
     }
 }

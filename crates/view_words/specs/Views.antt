@@ -6,6 +6,7 @@ use Rattle.clap.specs.Walk.{Row, Text}
 use Rattle.migration_model.specs.Rates.{MigrationSettings}
 use Rattle.job_words.specs.Commands.{FailsByKind}
 use Rattle.job_words.specs.Jobs.{AsksForCases, RefusesSweep}
+use Rattle.job_words.specs.Options.{Says}
 use Rattle.job_words.specs.declared.command.WordsError.{WordsError}
 use Rattle.job_words.specs.declared.command.WordsError.TheVariants as errors
 use Rattle.job_words.specs.declared.command.WordsRefusal.TheVariants as refusals
@@ -35,6 +36,7 @@ AsksToMeasure rows settings scale = (limits : Option Limits) × AsksForMeasure r
 -- the options ask for a prediction of a migration with limits, in this form
 pub record AsksForPrediction (rows : List Row) (form : PredictionForm) (asked : AskedPrediction) : Type 0 where
   pub measured : AsksForMeasure rows asked.settings (Some asked.scale) (Some asked.limits)
+  pub increment : Says rows (codes "inc") asked.increment
   pub form_is : asked.form ≡ form
 
 -- A command of this name, with what clap found after it, asks for this view, and for this scale if it has units.

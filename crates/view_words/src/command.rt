@@ -63,6 +63,10 @@ const NO_COMMAND: &str = "error: a command is required\n";
 /// What `--version` prints after the program's name: the version of all of precopy, as in tools/version.py.
 const VERSION: &str = "(precopy) 0.6.0";
 
+/// What follows the help of the program: the word that tells where the page is.
+const PAGE: &str =
+    "In a browser: `precopy-page` prints the path of a page that plans without a network.";
+
 /// What follows the help of `json`, on the commands below it.
 const JSON_COMMANDS: &str =
     "Commands: report, sweep, predict, when. `precopy-view json --help` tells more.";
@@ -163,6 +167,7 @@ fn commands<'a>(alloc: Global) -> Result<Command<'a>, AllocError>
         "Shows what precopy says about a trace, for people and for programs",
     )
     .version(VERSION)
+    .after_help(PAGE)
     .subcommand_required(true)
     .subcommand(with_either(alloc, predict)?)?
     .subcommand(when_command(alloc)?)?
@@ -338,6 +343,7 @@ fn prediction_of(
     match limited(&measure) {
         Some((scale, limits)) => Ok(AskedPrediction {
             settings: measure.settings,
+            increment: job_words::said(options, "inc"),
             scale,
             limits,
             form,

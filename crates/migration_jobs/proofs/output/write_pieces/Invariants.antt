@@ -1,7 +1,7 @@
-use Rattle.std.proofs.Common.{◌≡◌, ◌≤◌, ◌-◌, ◌*◌, ◌^◌, false, length}
+use Rattle.std.proofs.Common.{◌≡◌, ◌≤◌, ◌-◌, ◌*◌, ◌^◌, false}
 use Rattle.std.specs.Io.KnownBytes.{Appends}
-use Rattle.std.specs.List.{between}
-use Rattle.std.specs.Prelude.{vec_capacity}
+use Rattle.std.specs.List.{All, between}
+use Rattle.migration_jobs.specs.Pieces.{HasRoom}
 use Rattle.migration_jobs.proofs.output.write_pieces.Given as goal
 
 abbrev pub invariant-loop-first : goal.invariant-loop-first
@@ -12,8 +12,7 @@ invariant-loop-first g l =
       written : Appends (g.K.Sink.contents l.fn.sink) (g.K.Sink.contents l.sink)
           (between 0 (l.first * 2 ^ memory.shift) memory.bytes);
       unfailed : g.K.Sink.has_failed l.sink ≡ false;
-      long : length l.buffer.items ≡ 2 ^ memory.shift;
-      capacity : l.pages * 2 ^ memory.shift ≤ vec_capacity l.piece;
+      room : All (HasRoom memory.shift l.pages) l.pieces;
     }
 
 abbrev pub decreases-loop-first : goal.decreases-loop-first

@@ -1,4 +1,4 @@
-use Rattle.std.proofs.Common.{eqb, List, length, sym, ap, ◌∙◌, arith}
+use Rattle.std.proofs.Common.{eqb, List, length, ap, arith}
 use Rattle.std.specs.List.{filter}
 use Rattle.migration_model.specs.Trace.{GuestWrite}
 use Rattle.precopy_c.proofs.PageRows.{length-rows}

@@ -1,8 +1,8 @@
-use Rattle.std.proofs.Common.{◌∷◌, List, length, set, subst, ap, arith}
+use Rattle.std.proofs.Common.{List, length, ap, arith}
 use Rattle.migration_model.specs.Trace.{GuestWrite}
 use Rattle.guest_log.specs.Writes.{shown}
 use Rattle.precopy_c.specs.Places.{rows_of}
-use Rattle.precopy_c.proofs.PageRows.{Fills, Fills-end, Fills-hit, Fills-low, Fills-miss, Fills-start}
+use Rattle.precopy_c.proofs.PageRows.{Fills-end, Fills-hit, Fills-miss, Fills-start}
 use Rattle.precopy_c.proofs.page_writes.put_writes.Goals as goal
 
 pub loop-write-init : goal.loop-write-init

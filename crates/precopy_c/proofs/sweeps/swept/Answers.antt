@@ -1,8 +1,5 @@
-use Rattle.std.proofs.Common.{map, subst, sym}
-use Rattle.std.specs.List.{All}
+use Rattle.std.proofs.Common.{subst, sym}
 use Rattle.std.proofs.lemmas.Result.{err_from_is_err_and}
-use Rattle.migration_model.specs.Rates.{AreSettings}
-use Rattle.precopy_c.specs.Settings.{settings_in}
 use Rattle.precopy_c.specs.Sweeps.{RefusesSweep}
 use Rattle.precopy_c.proofs.sweeps.swept.Goals as goal
 
@@ -12,5 +9,5 @@ returns-in-Err-clause-refused c = c.in-Err.ensures.refused c.args.trace.now
 pub returns-in_err-log-clause-refused : goal.returns-in_err-log-clause-refused
 returns-in_err-log-clause-refused c =
     let p = err_from_is_err_and c.from_residual.result c.from_residual.ensures.1 in
-    rw p.1 (subst (RefusesSweep c.args.trace.now (map settings_in c.args.cases.now)) (sym p.2)
-    (subst (All AreSettings) c.in-Ok.ensures.made c.in-Ok.ensures.in_range, c.in_err-log.ensures.refused))
+    rw p.1 (subst (RefusesSweep c.args.trace.now c.args.cases.now) (sym p.2)
+    (c.in-Ok.ensures.given, c.in_err-log.ensures.refused))

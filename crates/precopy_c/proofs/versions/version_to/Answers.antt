@@ -1,8 +1,6 @@
-use Rattle.std.proofs.Common.{◌∷◌, List, subst}
-use Rattle.migration_model.specs.Trace.{GuestWrite}
 use Rattle.guest_log.specs.Writes.{shown}
 use Rattle.page_versions.specs.Index.{version_after}
-use Rattle.precopy_c.proofs.PageVersions.{Reaches, Reaches-counted, Reaches-end, Reaches-hit, Reaches-miss, Reaches-start}
+use Rattle.precopy_c.proofs.PageVersions.{Reaches-counted, Reaches-end, Reaches-hit, Reaches-miss, Reaches-start}
 use Rattle.precopy_c.proofs.versions.version_to.Goals as goal
 
 pub loop-write-init : goal.loop-write-init

@@ -24,3 +24,36 @@ returns-in-Ok-settings-clause-made c = record {
       ∙ ap (λ (s : MigrationSettings). settings_in (scale_in c.args.said.now) c.args.limits.now c.said-increment.result
       s) c.asked.ensures.value;
 }
+
+pub returns-in-Err-Setting-clause-refused : goal.returns-in-Err-Setting-clause-refused
+returns-in-Err-Setting-clause-refused c =
+    let named = rw c.in-Err-Setting.field-0-is at c.in-Err-Setting.ensures.refused in
+    let scaled = rw c.requires at named in
+    let refused = rw c.asked.ensures.value at scaled in
+    inr (
+      c.args.limits.now,
+      refl,
+      inr (record {
+        increment = c.said-increment.result;
+        says_increment = c.said-increment.ensures;
+        others = c.in-Ok.settings;
+        asks_others = c.in-Ok.ensures.made;
+        refuses = inr (c.in-Err-Setting.error, refl, refused);
+      }),
+    )
+
+pub returns-in-Err-settings : goal.returns-in-Err-settings
+returns-in-Err-settings c = record {
+  made = tt;
+  refused = inr (
+    c.args.limits.now,
+    refl,
+    inr (record {
+      increment = c.said-increment.result;
+      says_increment = c.said-increment.ensures;
+      others = c.in-Ok.settings;
+      asks_others = c.in-Ok.ensures.made;
+      refuses = inl (c.limits_refused.result, refl, rw c.requires at c.limits_refused.ensures);
+    }),
+  );
+}

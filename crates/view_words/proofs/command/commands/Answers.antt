@@ -1,4 +1,5 @@
-use Rattle.std.proofs.Common.{[], ◌∷◌, ◌++◌, codes, ◌∙◌}
+use Rattle.std.proofs.Common.{[], ◌∷◌, ◌++◌, ap, codes, ◌∙◌}
+use Rattle.clap.specs.Simple.{app_of_fields}
 use Rattle.std.proofs.lemmas.Result.{IfOk-weaker}
 use Rattle.job_words.specs.Commands.{flag_rule, report_rules}
 use Rattle.job_words.proofs.CommandLemmas.{adds_leaf, leaf_with}
@@ -11,7 +12,8 @@ pub returns : goal.returns
 returns c =
     let versioned = after_version c.leaf_command.result c.version.result (bare (codes "precopy-view")) _
     c.leaf_command.ensures.app c.version.ensures in
-    let top = after_required c.version.result c.subcommand_required.result _ versioned c.subcommand_required.ensures in
+    let helped = ap app_of_fields c.after_help.ensures ∙ versioned in
+    let top = after_required c.after_help.result c.subcommand_required.result _ helped c.subcommand_required.ensures in
     let predict = adds_leaf _ _ c.in_ok-subcommand.field-0 _ (codes "predict") (report_rules ++ unit_rules) top
     (leaf_with c.leaf_command-predict.result c.in_ok-with_either.field-0 _ _ c.leaf_command-predict.ensures
     c.in_ok-with_either.ensures) c.in_ok-subcommand.ensures in

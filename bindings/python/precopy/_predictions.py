@@ -1,0 +1,104 @@
+"""Predictions: what a migration with given limits will be, in time and bytes."""
+
+from __future__ import annotations
+
+import ctypes
+import enum
+from dataclasses import dataclass, fields
+from typing import Optional
+
+from . import _calls
+from ._calls import LIBRARY as _LIBRARY
+from ._calls import number as _number
+from ._refusals import Bytes, check_over
+
+
+class Reason(enum.IntEnum):
+    """Why pre-copying ends."""
+
+    FEW = 0
+    FAST = 1
+    ROUNDS = 2
+
+
+class Verdict(enum.IntEnum):
+    """Whether something is so. It is unknown if the trace ends before the migration does."""
+
+    YES = 0
+    NO = 1
+    UNKNOWN = 2
+
+
+@dataclass(frozen=True)
+class Question:
+    """What is asked of a migration: how much it may take, what ticks and pages of the trace stand for, and where it
+    begins. Rates are in bytes a second, times in microseconds. `page` is the bytes of a page, and `sampled` of the
+    `guest`'s pages were recorded; if all were, any equal numbers do. Without `first` the first round uses the whole
+    link, without `increment` a tenth of what the link has above it is added to a rate."""
+
+    link: int
+    downtime: int
+    first: Optional[int] = None
+    reserve: int = 0
+    tick: int = 1000
+    page: int = 4096
+    sampled: int = 1
+    guest: int = 1
+    increment: Optional[int] = None
+    rounds: int = 30
+    start: int = 0
+    base: Optional[int] = None
+    skip: bool = False
+
+    def __post_init__(self) -> None:
+        self._as_c()
+
+    def _as_c(self) -> _calls.Question:
+        asked = _calls.Question(size=ctypes.sizeof(_calls.Question), skip=_number("skip", self.skip, 1))
+        for name in (it.name for it in fields(self) if it.name != "skip"):
+            value = getattr(self, name)
+            if name in ("first", "increment", "base"):
+                setattr(asked, f"has_{name}", value is not None)
+                value = 0 if value is None else value
+            setattr(asked, name, _number(name, value, 64))
+        return asked
+
+
+@dataclass(frozen=True)
+class Errors:
+    """Standard errors of a prediction: how far the draw of a sample moves its bytes, and its times in microseconds."""
+
+    bytes: int
+    time: int
+    downtime: int
+
+
+@dataclass(frozen=True)
+class Prediction:
+    """What a migration will be: the sums of its plan in ticks and pages of the trace, `left` pages after the stop, and
+    times in microseconds. If the verdicts are unknown, only `recorded` tells something: how long the trace goes on
+    after the start. There are `errors` if a part of the guest's pages was sampled, of two pages or more."""
+
+    rounds: int
+    reason: Reason
+    stop: int
+    down: int
+    total: int
+    left: int
+    time: int
+    bytes: int
+    downtime: int
+    recorded: int
+    converges: Verdict
+    kept: Verdict
+    errors: Optional[Errors]
+
+
+def predict(trace: Bytes, question: Question) -> Prediction:
+    """Returns what the migration of a trace will be with the limits of a question."""
+    found, errors = _calls.Prediction(), _calls.Errors()
+    check_over(_LIBRARY.precopy_predict, trace, question._as_c(), found, errors)
+    told = {name: getattr(found, name) for name, _ in _calls.Prediction._fields_}
+    told |= {"reason": Reason(found.reason), "converges": Verdict(found.converges), "kept": Verdict(found.kept)}
+    moved = Errors(errors.bytes, errors.time, errors.downtime) if errors.has_errors else None
+    return Prediction(**told, errors=moved)

@@ -1,0 +1,187 @@
+//! Predictions: what a migration with given limits will be, in time and bytes.
+
+use crate::refusals::{checked, with_record, Refused, NO_RECORD};
+use crate::{calls, Reason};
+
+/// What is asked of a migration: how much it may take, what ticks and pages of the trace stand for, and where it begins.
+/// Rates are in bytes a second, times in microseconds. The default is what `precopy-view predict` asks if no option is
+/// given, with pages of 4,096 bytes, of which all were recorded; its link and its downtime are 0.
+#[derive(Clone, Copy, Debug, PartialEq, Eq)]
+pub struct Question {
+    /// What the migration may use of the link.
+    pub link: u64,
+    /// What its first round may use, if not the whole link.
+    pub first: Option<u64>,
+    /// The longest downtime.
+    pub downtime: u64,
+    /// The part of it that goes to other things than pages.
+    pub reserve: u64,
+    /// The length of a tick.
+    pub tick: u64,
+    /// The bytes of a page of the trace.
+    pub page: u64,
+    /// How many of the guest's pages were recorded.
+    pub sampled: u64,
+    /// How many pages the guest has. If as many were recorded, any equal numbers do.
+    pub guest: u64,
+    /// What is added to a dirtying rate, in pages per 1,000 ticks, if not a tenth of what the link has above the first
+    /// round.
+    pub increment: Option<u64>,
+    /// The most rounds.
+    pub rounds: u64,
+    /// The tick at which the first round begins.
+    pub start: u64,
+    /// The destination begins with the memory before this tick, if there is one.
+    pub base: Option<u64>,
+    /// Whether a round leaves out pages that are written again before they are sent.
+    pub skip: bool,
+}
+
+impl Default for Question {
+    fn default() -> Question {
+        Question {
+            link: 0,
+            first: None,
+            downtime: 0,
+            reserve: 0,
+            tick: 1000,
+            page: 4096,
+            sampled: 1,
+            guest: 1,
+            increment: None,
+            rounds: 30,
+            start: 0,
+            base: None,
+            skip: false,
+        }
+    }
+}
+
+impl Question {
+    fn as_c(&self) -> calls::Question {
+        calls::Question {
+            size: std::mem::size_of::<calls::Question>() as u64,
+            link: self.link,
+            first: self.first.unwrap_or(0),
+            downtime: self.downtime,
+            reserve: self.reserve,
+            tick: self.tick,
+            page: self.page,
+            sampled: self.sampled,
+            guest: self.guest,
+            increment: self.increment.unwrap_or(0),
+            rounds: self.rounds,
+            start: self.start,
+            base: self.base.unwrap_or(0),
+            has_first: self.first.is_some().into(),
+            has_increment: self.increment.is_some().into(),
+            has_base: self.base.is_some().into(),
+            skip: self.skip.into(),
+        }
+    }
+}
+
+/// Whether something is so.
+#[derive(Clone, Copy, Debug, PartialEq, Eq)]
+pub enum Verdict {
+    /// It is so.
+    Yes,
+    /// It is not so.
+    No,
+    /// The trace ends before the migration does.
+    Unknown,
+}
+
+impl Verdict {
+    fn of(number: u32) -> Verdict {
+        match number {
+            0 => Verdict::Yes,
+            1 => Verdict::No,
+            _ => Verdict::Unknown,
+        }
+    }
+}
+
+/// Standard errors of a prediction: how far the draw of a sample moves it.
+#[derive(Clone, Copy, Debug, PartialEq, Eq)]
+pub struct Errors {
+    /// Of the bytes.
+    pub bytes: u64,
+    /// Of the time, in microseconds.
+    pub time: u64,
+    /// Of the downtime, in microseconds.
+    pub downtime: u64,
+}
+
+/// What a migration will be. If the verdicts are unknown, only `recorded` tells something.
+#[derive(Clone, Copy, Debug, PartialEq, Eq)]
+pub struct Prediction {
+    /// How many rounds there are.
+    pub rounds: u64,
+    /// Why they end.
+    pub reason: Reason,
+    /// The tick at which the guest is stopped.
+    pub stop: u64,
+    /// How long the pages that are left take, in ticks.
+    pub down: u64,
+    /// The pages of the trace that are sent, over all rounds and after the stop.
+    pub total: u64,
+    /// How many of them are sent after the stop.
+    pub left: u64,
+    /// From the start of the first round until the guest runs again, in microseconds.
+    pub time: u64,
+    /// How many bytes of the guest are sent.
+    pub bytes: u64,
+    /// How long the guest stands still, with the reserve, in microseconds.
+    pub downtime: u64,
+    /// How long the trace goes on after the start, in microseconds.
+    pub recorded: u64,
+    /// Whether rounds end since few pages are left.
+    pub converges: Verdict,
+    /// Whether the downtime is within its limit.
+    pub kept: Verdict,
+    /// Standard errors, if a part of the guest's pages was sampled, of two pages or more.
+    pub errors: Option<Errors>,
+}
+
+impl Prediction {
+    fn of(found: &calls::Prediction, errors: &calls::Errors) -> Prediction {
+        Prediction {
+            rounds: found.rounds,
+            reason: Reason::of(found.reason),
+            stop: found.stop,
+            down: found.down,
+            total: found.total,
+            left: found.left,
+            time: found.time,
+            bytes: found.bytes,
+            downtime: found.downtime,
+            recorded: found.recorded,
+            converges: Verdict::of(found.converges),
+            kept: Verdict::of(found.kept),
+            errors: (errors.has_errors != 0).then_some(Errors {
+                bytes: errors.bytes,
+                time: errors.time,
+                downtime: errors.downtime,
+            }),
+        }
+    }
+}
+
+/// Returns what the migration of a trace will be with the limits of a question.
+pub fn predict(trace: &[u8], question: &Question) -> Result<Prediction, Refused> {
+    let (mut found, mut errors) = (calls::Prediction::default(), calls::Errors::default());
+    let mut record = NO_RECORD;
+    // SAFETY: the slice is there for its length; what is written is this function's.
+    let status = unsafe {
+        calls::precopy_predict(
+            trace.as_ptr(),
+            trace.len(),
+            &question.as_c(),
+            &mut found,
+            &mut errors,
+            &mut record,
+        )
+    };
+    with_record(record, checked(status).map(|()| Prediction::of(&found, &errors)))
+}

@@ -1,0 +1,71 @@
+/*
+ * Asks the library for C what checks/predictions asks:
+ *
+ *     prediction_answers TRACE
+ *
+ * Each line of standard input has the numbers of a question, in the order of struct precopy_question, but for its size.
+ * It prints a line for each: the numbers of the prediction and of its errors in their order, or the status alone.
+ */
+#include "precopy.h"
+
+#include <inttypes.h>
+#include <stdio.h>
+#include <stdlib.h>
+
+#define LONG_NUMBERS 12
+#define SHORT_NUMBERS 4
+
+/* Reads a question, and returns whether there is one. */
+static int read_question(struct precopy_question *asked) {
+    uint64_t *longs[LONG_NUMBERS] = {&asked->link,      &asked->first,  &asked->downtime, &asked->reserve,
+                                     &asked->tick,      &asked->page,   &asked->sampled,  &asked->guest,
+                                     &asked->increment, &asked->rounds, &asked->start,    &asked->base};
+    uint32_t *shorts[SHORT_NUMBERS] = {&asked->has_first, &asked->has_increment, &asked->has_base, &asked->skip};
+    for (int i = 0; i < LONG_NUMBERS; i++) {
+        if (scanf("%" SCNu64, longs[i]) != 1) {
+            return 0;
+        }
+    }
+    for (int i = 0; i < SHORT_NUMBERS; i++) {
+        if (scanf("%" SCNu32, shorts[i]) != 1) {
+            return 0;
+        }
+    }
+    asked->size = sizeof *asked;
+    return 1;
+}
+
+static void print_answer(const struct precopy_prediction *it, const struct precopy_errors *errors) {
+    const uint64_t numbers[] = {it->rounds,    it->reason,   it->stop,         it->down,
+                                it->total,     it->left,     it->time,         it->bytes,
+                                it->downtime,  it->recorded, it->converges,    it->kept,
+                                errors->bytes, errors->time, errors->downtime, errors->has_errors};
+    for (size_t i = 0; i < sizeof numbers / sizeof *numbers; i++) {
+        printf("%s%" PRIu64, i ? " " : "", numbers[i]);
+    }
+    printf("\n");
+}
+
+int main(int argc, char **argv) {
+    FILE *file = argc == 2 ? fopen(argv[1], "rb") : NULL;
+    uint8_t *trace = malloc((size_t)1 << 28);
+    if (!file || !trace) {
+        fprintf(stderr, "usage: prediction_answers TRACE\n");
+        return 2;
+    }
+    size_t length = fread(trace, 1, (size_t)1 << 28, file);
+    fclose(file);
+    struct precopy_question asked;
+    while (read_question(&asked)) {
+        struct precopy_prediction told;
+        struct precopy_errors errors;
+        uint32_t record, status = precopy_predict(trace, length, &asked, &told, &errors, &record);
+        if (status == PRECOPY_OK) {
+            print_answer(&told, &errors);
+        } else {
+            printf("%" PRIu32 "\n", status);
+        }
+    }
+    free(trace);
+    return 0;
+}

@@ -1,0 +1,69 @@
+-- Refused settings, and cases tested one after the other.
+use Rattle.std.proofs.Common.{◌≡◌, ℕ, ◌+◌, ◌<◌, List, [], ◌∷◌, ◌++◌, length, get_or, take, drop, map, sym, ap, ◌∙◌}
+use Rattle.std.specs.List.{All}
+use Rattle.std.proofs.lemmas.List.{drop_more, map_more, take-append-drop, take_more}
+use Rattle.std.proofs.lemmas.List.Elements.{All-append, All-cons, All-nil}
+use Rattle.migration_model.specs.Rates.{MigrationSettings}
+use Rattle.precopy_c.specs.declared.answers.Refusal.{Refusal}
+use Rattle.precopy_c.specs.declared.answers.Refusal.TheVariants as refusals
+use Rattle.precopy_c.specs.declared.settings.PlanSettings.{PlanSettings}
+use Rattle.precopy_c.specs.Plans.{RefusesPlan}
+use Rattle.precopy_c.specs.Settings.{AreGiven, RefusesSettings, settings_in}
+use Rattle.precopy_c.specs.Sweeps.{RefusesCase, RefusesSweep}
+
+-- with refused settings there is no plan
+pub no_plan : (bytes : List ℕ) (s : PlanSettings) (refusal : Refusal) → RefusesSettings s refusal
+    → RefusesPlan bytes s refusal
+no_plan bytes s refusals.SettingsSize r = r
+no_plan bytes s (refusals.Settings e) r = r
+no_plan bytes s (refusals.Trace e) r = absurd r
+no_plan bytes s (refusals.Frame e) r = r
+no_plan bytes s refusals.Memory r = absurd r
+no_plan bytes s refusals.ShortBuffer r = r
+no_plan bytes s refusals.PageLength r = r
+no_plan bytes s refusals.MemoryLength r = r
+no_plan bytes s refusals.PageCount r = r
+no_plan bytes s refusals.PageMissing r = r
+
+-- with a refused case there is no sweep
+pub no_sweep : (bytes : List ℕ) (cases : List PlanSettings) (refusal : Refusal) → RefusesCase cases refusal
+    → RefusesSweep bytes cases refusal
+no_sweep bytes cases refusals.SettingsSize r = r
+no_sweep bytes cases (refusals.Settings e) r = r
+no_sweep bytes cases (refusals.Trace e) r = absurd r.refused
+no_sweep bytes cases (refusals.Frame e) r = absurd r.refused
+no_sweep bytes cases refusals.Memory r = tt
+no_sweep bytes cases refusals.ShortBuffer r = absurd r.refused
+no_sweep bytes cases refusals.PageLength r = absurd r.refused
+no_sweep bytes cases refusals.MemoryLength r = absurd r.refused
+no_sweep bytes cases refusals.PageCount r = absurd r.refused
+no_sweep bytes cases refusals.PageMissing r = absurd r.refused
+
+-- the case at an index is refused, after others that are not
+pub RefusesCase-at : (cases : List PlanSettings) (i : ℕ) (d : PlanSettings) (refusal : Refusal) → i < length cases
+    → All AreGiven (take i cases) → RefusesSettings (get_or cases i d) refusal → RefusesCase cases refusal
+RefusesCase-at cases i d refusal low given refused = record {
+  before = take i cases;
+  case = get_or cases i d;
+  after = drop (i + 1) cases;
+  parts = sym (take-append-drop i cases) ∙ ap (λ (l : List PlanSettings). take i cases ++ l) (drop_more cases i d low);
+  given = given;
+  refused = refused;
+}
+
+-- one more case
+pub made_more : (cases : List PlanSettings) (i : ℕ) (d : PlanSettings) (checked next : List MigrationSettings)
+    (settings : MigrationSettings) → i < length cases
+    → checked ≡ map settings_in (take i cases) → settings ≡ settings_in (get_or cases i d)
+    → next ≡ checked ++ settings ∷ []
+    → next ≡ map settings_in (take (i + 1) cases)
+made_more cases i d checked next settings low made is pushed =
+    pushed ∙ ap (λ (s : MigrationSettings). checked ++ s ∷ []) is
+    ∙ ap (λ (l : List MigrationSettings). l ++ settings_in (get_or cases i d) ∷ []) made
+    ∙ sym (map_more settings_in cases i d low)
+
+pub given_more : (cases : List PlanSettings) (i : ℕ) (d : PlanSettings) → i < length cases
+    → All AreGiven (take i cases) → AreGiven (get_or cases i d) → All AreGiven (take (i + 1) cases)
+given_more cases i d low before given =
+    rw (take_more cases i d low) (All-append AreGiven (take i cases) (get_or cases i d ∷ []) before
+    (All-cons AreGiven (get_or cases i d) [] given (All-nil AreGiven)))

@@ -1,0 +1,113 @@
+//! Predictions: what a migration with given limits will be, in time and bytes, and how far a sample's draw moves that.
+
+ghost use Rattle.std.specs.Prelude.{◌≡◌, ◌≢◌, ◌⊎◌, IfErr, IfOk, OnOk};
+ghost use Rattle.migration_model.specs.Sweeps.{outcome_of};
+ghost use Rattle.migration_model.specs.Trace.{GuestTrace, Spells};
+ghost use Rattle.predictions.specs.Predictions.{last_tick_of, prediction_of};
+ghost use Rattle.predictions.specs.Questions.{Fits, answer_of, scale_in};
+ghost use Rattle.precopy_c.specs.Predictions.{AreNumbersOver, IsAnswerOver, IsAsked, IsPredictionOf, IsToldOf};
+ghost use Rattle.precopy_c.specs.Predictions.{RefusesPrediction, number_of_question};
+
+use crate::questions::{QuestionRefusal, SizedQuestion};
+use guest_log::Timeline;
+use predictions::{Answer, ErrorNumbers, Prediction, Terms, check_fit};
+use redrawn_pages::Errors;
+use round_planner::{Plan, PlanError, plan};
+use std::alloc::{AllocError, Global};
+use trace_readers::TouchLog;
+
+/// How many bytes the struct of a question has.
+const SIZE: u64 = 120;
+
+/// What is told of a migration.
+#[derive(Clone, Copy)]
+struct Told {
+    answer: Answer,
+    errors: ErrorNumbers,
+}
+
+/// Returns the tick of the last touch, or 0 if there is none.
+fn last_tick(log: &TouchLog) -> u64
+    ensures { result ≡ last_tick_of log.now.touches }
+{
+    match log.touch_count() {
+        0 => 0,
+        count => log.touch(count - 1).tick,
+    }
+}
+
+/// Returns the answer that a plan over a log gives.
+fn answer_with(terms: &Terms, log: &TouchLog, plan: &Plan) -> Answer
+    ensures { result ≡ answer_of (outcome_of plan.now) (prediction_of terms.now.scale terms.now.limits
+        terms.now.settings.start plan.now (last_tick_of log.now.touches)) }
+{
+    let start = terms.settings.asked().start;
+    let last = last_tick(log);
+    let prediction = Prediction::new(&terms.scale, &terms.limits, start, plan, last);
+    Answer::new(&plan.outcome(), &prediction)
+}
+
+/// Returns the answer to a question over a log.
+fn answered(alloc: Global, terms: &Terms, log: &TouchLog) -> Result<Answer, PlanError>
+    ensures { IfOk result (IsAnswerOver terms.now log.now) }
+{
+    let plan = plan(alloc, log, &terms.settings)?;
+    Ok(answer_with(terms, log, &plan))
+}
+
+/// Returns the standard errors of the answer to a question over a log.
+fn numbers(alloc: Global, terms: &Terms, log: &TouchLog) -> Result<ErrorNumbers, AllocError>
+    ensures { IfOk result (AreNumbersOver terms.now log.now) }
+{
+    let errors = Errors::of_trace(alloc, log, &terms.settings, &terms.scale)?;
+    Ok(ErrorNumbers::new(&errors))
+}
+
+/// Returns what is told of a migration over the trace that the bytes encode. The question is tested first.
+fn predicted(alloc: Global, bytes: &[u8], asked: &SizedQuestion) -> Result<Told, QuestionRefusal>
+    ensures made { IfOk result (λ told. IsPredictionOf bytes.now asked.now.question told.answer told.errors) }
+    ensures accepted { OnOk result (IsAsked asked.now) }
+    ensures refused { IfErr result (RefusesPrediction bytes.now asked.now) }
+    ensures only { (t : GuestTrace) → Spells bytes.now t → IsAsked asked.now
+        → Fits (scale_in asked.now.question) t.shift t.pages → IfErr result (λ e. number_of_question e ≡ 16) }
+{
+    if asked.size != SIZE {
+        return Err(QuestionRefusal::Size);
+    }
+    let terms = asked.question.terms()?;
+    let log = TouchLog::parse(alloc, bytes)?;
+    check_fit(&terms.scale, &log.shape())?;
+    let answer = answered(alloc, &terms, &log)?;
+    let errors = numbers(alloc, &terms, &log)?;
+    Ok(Told { answer, errors })
+}
+
+/// Sets what the migration of a trace will be with the limits of a question, and the standard errors of that if pages
+/// were sampled.
+#[unsafe(no_mangle)]
+pub extern "C" fn precopy_predict(
+    alloc: Global,
+    trace: &[u8],
+    question: &SizedQuestion,
+    prediction: &mut Answer,
+    errors: &mut ErrorNumbers,
+    record: &mut u32,
+) -> u32
+    ensures made { result ≡ 0 → IsPredictionOf trace.now question.now.question prediction.new errors.new }
+    ensures accepted { result ≡ 0 → IsAsked question.now }
+    ensures refused { result ≢ 0
+        → IsToldOf result record.old record.new (RefusesPrediction trace.now question.now) }
+    ensures only { (t : GuestTrace) → Spells trace.now t → IsAsked question.now
+        → Fits (scale_in question.now.question) t.shift t.pages → (result ≡ 0) ⊎ (result ≡ 16) }
+    ensures unchanged { result ≢ 0 → (prediction.new ≡ prediction.old) × (errors.new ≡ errors.old) }
+    ensures not_told { result ≡ 0 → record.new ≡ record.old }
+{
+    match predicted(alloc, trace, question) {
+        Ok(told) => {
+            *prediction = told.answer;
+            *errors = told.errors;
+            0
+        }
+        Err(refusal) => refusal.told(record),
+    }
+}

@@ -1,0 +1,72 @@
+//! Worked examples of limits that are not kept. The amounts that are enough come from `bench/remedies.py`, which shares
+//! no code with the crates.
+
+use crate::tests::told;
+use std::test::Fail;
+
+/// The first round leaves 2 pages, and the next one would have to send them faster than the link does.
+static OTHER: &str = "enough: one of these, changed alone
+enough: --link 12Kbit
+enough: --downtime 135156us
+enough: the guest slowed to 55 per cent of its speed
+precopy live --min 8 --max 16 --inc 20 --threshold 2 --rounds 30 --start 0
+QEMU: migrate_set_parameter max-bandwidth 1024B
+QEMU: migrate_set_parameter downtime-limit 90
+libvirt: virsh migrate-setspeed DOMAIN 1
+libvirt: virsh migrate-setmaxdowntime DOMAIN 90
+";
+
+static OTHER_DOCUMENT: &str = "\"enough\":{\"answer\":\"other\",\"link_bytes\":1500,\
+\"down_seconds\":0.135156,\"guest_percent\":55},\
+\"hosts\":{\"bandwidth_bytes\":1024,\"bandwidth_mib\":1,\"down_milliseconds\":90}}\n";
+
+/// The only round leaves 2 pages, also if the guest is slowed. In 64 ms the link does not send them, and over one that
+/// is 64 times as fast they take 2 ms.
+static NOTHING: &str = "enough: nothing that was tried
+precopy live --min 2 --max 16 --inc 1 --threshold 1 --rounds 1 --start 0
+QEMU: migrate_set_parameter max-bandwidth 1024B
+QEMU: migrate_set_parameter downtime-limit 1
+libvirt: virsh migrate-setspeed DOMAIN 1
+libvirt: virsh migrate-setmaxdowntime DOMAIN 1
+";
+
+static NOTHING_DOCUMENT: &str = "\"enough\":{\"answer\":\"nothing\"},\
+\"hosts\":{\"bandwidth_bytes\":1024,\"bandwidth_mib\":1,\"down_milliseconds\":1}}\n";
+
+#[test]
+fn a_missed_limit_is_told_what_is_enough(rt: HostRuntime) -> Result<(), Fail> {
+    let (link, page, sampled) = ("--link=1KiB", "--page=16", "--sampled=4/16");
+    let other = [
+        "--first=0.512KB",
+        "--inc=20",
+        "--downtime=100ms",
+        "--reserve=10ms",
+    ];
+    let nothing = [
+        "--first=0.128KB",
+        "--rounds=1",
+        "--downtime=1ms",
+        "--reserve=0us",
+    ];
+    let cases = [
+        (other, OTHER, OTHER_DOCUMENT),
+        (nothing, NOTHING, NOTHING_DOCUMENT),
+    ];
+    for ([first, second, third, fourth], lines, document) in cases {
+        let words = ["predict", link, page, sampled, first, second, third, fourth];
+        let (status, output, _) = told(&rt, rt.alloc(), 102, &words)?;
+        assert!(rt;
+            status == 3 && output.bytes().ends_with(lines.as_bytes()),
+            "{lines}"
+        );
+        let words = [
+            "json", "predict", link, page, sampled, first, second, third, fourth,
+        ];
+        let (status, output, _) = told(&rt, rt.alloc(), 102, &words)?;
+        assert!(rt;
+            status == 3 && output.bytes().ends_with(document.as_bytes()),
+            "{document}"
+        );
+    }
+    Ok(())
+}

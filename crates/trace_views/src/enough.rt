@@ -1,0 +1,96 @@
+//! What is enough for the limit of a migration, as an answer and as lines.
+
+ghost use Rattle.std.specs.Prelude.{◌≡◌, ◌++◌, OnOk};
+ghost use Rattle.trace_views.specs.Enough.{amounts_text, answer_for, answer_of, enough_line, enough_text, enough_word};
+ghost use Rattle.trace_views.specs.Enough.{finds_some};
+
+use limit_remedies::{Remedies, push_remedies};
+use std::alloc::AllocError;
+
+/// What is enough for the limit of a migration.
+#[derive(Clone, Copy, Debug, PartialEq, Eq)]
+pub(crate) enum Enough {
+    /// What is asked, and each of the amounts that are found.
+    Asked,
+    /// Each of the amounts that are found.
+    Other,
+    /// Nothing that was tried.
+    Nothing,
+    /// It is not known, since the trace ends before the migration does.
+    Unknown,
+}
+
+/// Returns whether an amount is found.
+fn finds_some(remedies: &Remedies) -> bool
+    ensures { result ≡ finds_some remedies.now }
+{
+    remedies.link.is_some() || remedies.downtime.is_some() || remedies.speed.is_some()
+}
+
+impl Enough {
+    /// Returns what is enough if the trace does not end before the migration does.
+    fn found(remedies: &Remedies) -> Enough
+        ensures { result ≡ answer_for remedies.now }
+    {
+        if remedies.is_kept {
+            Enough::Asked
+        } else if finds_some(remedies) {
+            Enough::Other
+        } else {
+            Enough::Nothing
+        }
+    }
+
+    /// Returns what is enough, by what is found.
+    pub(crate) fn new(remedies: &Option<Remedies>) -> Enough
+        ensures { result ≡ answer_of remedies.now }
+    {
+        match remedies {
+            Some(remedies) => Enough::found(remedies),
+            None => Enough::Unknown,
+        }
+    }
+
+    /// Returns it as a word.
+    pub(crate) fn word(self) -> &'static str
+        ensures { result.now ≡ enough_word self }
+    {
+        match self {
+            Enough::Asked => "asked",
+            Enough::Other => "other",
+            Enough::Nothing => "nothing",
+            Enough::Unknown => "unknown",
+        }
+    }
+
+    /// Returns it as a line.
+    fn line(self) -> &'static str
+        ensures { result.now ≡ enough_line self }
+    {
+        match self {
+            Enough::Asked => "enough: what is asked; also one of these, changed alone\n",
+            Enough::Other => "enough: one of these, changed alone\n",
+            Enough::Nothing => "enough: nothing that was tried\n",
+            Enough::Unknown => "enough: unknown, since the trace ends before the migration does\n",
+        }
+    }
+}
+
+/// Appends the amounts that are enough, if anything is known of them.
+fn push_amounts(text: &mut Vec<u8>, remedies: &Option<Remedies>) -> Result<(), AllocError>
+    ensures { OnOk result (text.new.items ≡ text.old.items ++ amounts_text remedies.now) }
+{
+    match remedies {
+        Some(remedies) => push_remedies(text, remedies),
+        None => Ok(()),
+    }
+}
+
+/// Appends what is enough for a limit as lines, in ASCII: the answer, and each amount that is.
+pub(crate) fn push_enough(text: &mut Vec<u8>, remedies: &Option<Remedies>) -> Result<(), AllocError>
+    ensures { OnOk result (text.new.items ≡ text.old.items ++ enough_text remedies.now) }
+{
+    text.extend_from_slice(Enough::new(remedies).line().as_bytes())?;
+    push_amounts(text, remedies)?;
+    Ok(())
+}

@@ -1,0 +1,101 @@
+// What takes long to answer: standard errors, and what keeps a limit. A worker of its own answers it, so that no plan
+// waits. Only what is shown is asked for: what was asked before and has no answer yet is left out.
+
+import { PlannerClient, WorkerEnded } from "./planner-client.js";
+import { isUnknown } from "./predictions.js";
+import { Refusal } from "./planner.js";
+
+/** How many answers are kept. */
+const MOST_KNOWN = 64;
+
+/** A kind of answer to a question about a trace, as a word. */
+function lateKey(kind, { digest }, question) {
+  return [kind, digest, ...Object.entries(question).flat()].join(" ");
+}
+
+/** Whether a prediction may have standard errors. */
+function mayHaveErrors(prediction) {
+  return prediction.scale.isSample && !isUnknown(prediction);
+}
+
+export class LateAnswers {
+  /** `told` is called after each answer. */
+  constructor(told) {
+    this.told = told;
+    this.client = new PlannerClient("aside", () => {});
+    this.known = new Map();
+    this.open = null;
+    this.unread = null;
+    this.wanted = [];
+    this.isAsking = false;
+  }
+
+  /** Learns what is shown: the prediction whose limit counts, if there is one, and all whose errors are shown. */
+  follow(trace, prediction, predictions) {
+    const ask = (kind, { question }) => ({ kind, trace, question, key: lateKey(kind, trace, question) });
+    const errors = predictions.filter(mayHaveErrors).map((some) => ask("errors", some));
+    const remedies = prediction && !isUnknown(prediction) ? [ask("remedies", prediction)] : [];
+    this.wanted = [...errors.slice(0, 1), ...remedies, ...errors.slice(1)];
+    if (!this.isAsking) {
+      this.askAll();
+    }
+  }
+
+  /** The standard errors of a prediction: null if there are none, and undefined if they are still to come. */
+  errorsOf(trace, prediction) {
+    return mayHaveErrors(prediction) ? this.known.get(lateKey("errors", trace, prediction.question)) : null;
+  }
+
+  /** What keeps the limit of a prediction: null if there is no answer, and undefined if it is still to come. */
+  remediesOf(trace, prediction) {
+    return isUnknown(prediction) ? null : this.known.get(lateKey("remedies", trace, prediction.question));
+  }
+
+  /** Asks until all that is wanted is known. */
+  async askAll() {
+    this.isAsking = true;
+    try {
+      for (let next = this.next(); next; next = this.next()) {
+        this.keep(next.key, await this.answerTo(next));
+        this.told();
+      }
+    } finally {
+      this.isAsking = false;
+    }
+  }
+
+  next() {
+    return this.wanted.find(({ key }) => !this.known.has(key));
+  }
+
+  /** The answer, or null if the worker gives none, as if it cannot read the trace. */
+  async answerTo({ kind, trace, question }) {
+    try {
+      await this.read(trace);
+      return this.open === trace ? await this.client.ask(kind, { question }) : null;
+    } catch (error) {
+      if (error instanceof Refusal || error instanceof WorkerEnded) {
+        return null;
+      }
+      throw error;
+    }
+  }
+
+  /** Has the worker read a trace, once. */
+  async read(trace) {
+    if (this.open !== trace && this.unread !== trace) {
+      this.unread = trace;
+      await this.client.open(trace.blob, () => {});
+      this.open = trace;
+    }
+  }
+
+  /** Keeps an answer, and forgets the oldest of many. */
+  keep(key, value) {
+    this.known.set(key, value);
+    if (this.known.size > MOST_KNOWN) {
+      const [oldest] = this.known.keys();
+      this.known.delete(oldest);
+    }
+  }
+}
