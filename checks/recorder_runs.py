@@ -64,11 +64,11 @@ class Run:
         self.process = subprocess.Popen(command, stdout=subprocess.PIPE, stderr=errors, text=True, **more)
         self.began = read_until_recording(self.process.stdout)
 
-    def end(self, number=None):
+    def end(self, number=None, seconds=2 * SECONDS):
         if number:
             self.process.send_signal(number)
         try:
-            rest, self.faults = self.process.communicate(timeout=2 * SECONDS)
+            rest, self.faults = self.process.communicate(timeout=seconds)
         except subprocess.TimeoutExpired as late:
             self.process.kill()
             raise AssertionError(f"the recorder does not end: {late}") from late

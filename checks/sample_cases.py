@@ -18,6 +18,8 @@ import traces
 PAGE = 4096
 PAGES = 2048
 STEPS, WRITES = 5, 60
+# What a recorder of too little memory may take; one that ends takes half a second.
+SECONDS_OF_A_PROCESSOR = 6
 
 
 class Pages:
@@ -311,10 +313,10 @@ def memory_runs_out(_, folder):
             def limited(most=limit << 20):
                 resource.setrlimit(resource.RLIMIT_AS, (most, most))
                 # Python 3.11 unwinds for ever if it lacks the memory for a number meanwhile: then the kernel ends it.
-                resource.setrlimit(resource.RLIMIT_CPU, (2 * SECONDS, 2 * SECONDS))
+                resource.setrlimit(resource.RLIMIT_CPU, (SECONDS_OF_A_PROCESSOR, SECONDS_OF_A_PROCESSOR))
 
             drawn = Drawn(folder, pages.source, ["--by", "writes", "--for", "200ms"], preexec_fn=limited)
-            drawn.end()
+            drawn.end(seconds=20 * SECONDS_OF_A_PROCESSOR)
             pages.expect_as_before()
             statuses.add(drawn.status)
             if drawn.status == 0:
