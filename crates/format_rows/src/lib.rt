@@ -1,13 +1,19 @@
-//! Worked examples of traces, frames, streams and parts: only for tests.
+//! Worked examples of traces, frames, streams and parts, and of what is wrong in streams: only for tests.
 #![tactic(auto)]
 
+#[cfg(test)]
+mod fixtures;
 #[cfg(test)]
 mod frame_rows;
 #[cfg(test)]
 mod part_rows;
 #[cfg(test)]
+mod piece_rows;
+#[cfg(test)]
 mod stream_rows;
 #[cfg(test)]
 mod trace_rows;
+#[cfg(test)]
+mod wrong_stream_rows;
 #[cfg(test)]
 mod zero_rows;
