@@ -1,2 +1,5 @@
+pub mod GreatestLemmas
+pub mod ScheduleLemmas
+pub mod Orders
 pub mod TableLemmas
 pub mod EndLemmas

@@ -2,11 +2,11 @@
 use Rattle.std.specs.Prelude.{◌≡◌, ℕ, Bool, ◌∷◌, [], ◌++◌, if◌then◌else◌, List, length, map, codes, Some}
 use Rattle.std.specs.Fmt.{decimal}
 use Rattle.std.specs.List.{AllZip, IsFirstBest, flat_map, slice_get}
-use Rattle.host_schedules.specs.Choices.{is_better_schedule}
-use Rattle.host_schedules.specs.Costs.{cost_of}
-use Rattle.host_schedules.specs.Schedules.{IsSchedule}
-use Rattle.host_schedules.specs.declared.costs.ScheduleCost.{ScheduleCost}
-use Rattle.host_schedules.specs.declared.moves.Placement.{Placement}
+use Rattle.precopy_schedule.specs.Choices.{is_better_schedule}
+use Rattle.precopy_schedule.specs.Costs.{cost_of}
+use Rattle.precopy_schedule.specs.Schedules.{IsSchedule}
+use Rattle.precopy_schedule.specs.declared.costs.ScheduleCost.{ScheduleCost}
+use Rattle.precopy_schedule.specs.declared.moves.Placement.{Placement}
 use Rattle.precopy_schedule.specs.Tables.{HostPlan}
 
 -- the schedule of a plan, and what it costs

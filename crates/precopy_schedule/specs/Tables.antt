@@ -7,7 +7,7 @@ use Rattle.std.specs.List.{AllZip, range_with_len, slice_get, slice_split}
 use Rattle.std.specs.Str.{IsUtf8}
 use Rattle.std.specs.Str.Lines.{lines}
 use Rattle.std.specs.Str.Parse.{IsNumeral, digits_value, without_leading_plus}
-use Rattle.host_schedules.specs.declared.moves.Move.{Move}
+use Rattle.precopy_schedule.specs.declared.moves.Move.{Move}
 use Rattle.precopy_schedule.specs.declared.error.TableError.{TableError}
 use Rattle.precopy_schedule.specs.declared.error.TableError.TheVariants as errors
 

@@ -2,11 +2,13 @@
 
 ghost use Rattle.std.specs.Prelude.{◌≡◌, [], IfOk, OnOk, length, map};
 ghost use Rattle.std.specs.List.{AllZip, IsFirstBest};
-ghost use Rattle.host_schedules.specs.Choices.{is_better_schedule};
+ghost use Rattle.precopy_schedule.specs.Choices.{is_better_schedule};
 ghost use Rattle.precopy_schedule.specs.Answers.{IsAnswer, cost_in};
 
+use crate::costs::{ScheduleCost, schedule_cost};
+use crate::moves::Placement;
 use crate::plans::Plan;
-use host_schedules::{Placement, ScheduleCost, schedule, schedule_cost};
+use crate::scheduling::schedule;
 use std::alloc::{AllocError, Global};
 use std::marker::Model;
 

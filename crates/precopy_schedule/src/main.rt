@@ -2,8 +2,14 @@
 #![tactic(auto)]
 
 mod answers;
+mod choosing;
+mod costs;
 mod error;
+mod moves;
 mod plans;
+#[cfg(test)]
+mod schedule_tests;
+mod scheduling;
 mod starting;
 #[cfg(test)]
 mod tests;

@@ -7,8 +7,8 @@ ghost use Rattle.precopy_schedule.specs.Tables.{HostPlan, IsNoPlan, RefusesLines
 ghost use Rattle.precopy_schedule.specs.Tables.{count_in, is_plan, move_at, option_of, plan_in};
 
 use crate::error::{PlanError, TableError};
+use crate::moves::Move;
 use crate::words::{lines_of, numbers_of};
-use host_schedules::Move;
 use std::alloc::Global;
 use std::marker::Model;
 

@@ -7,9 +7,11 @@ ghost use Rattle.precopy_schedule.specs.Answers.{placement_line, wide_field};
 ghost use Rattle.precopy_schedule.specs.Ends.{RefusesPlans};
 
 use crate::answers::{answers_of, costs_of, placed_of};
+use crate::choosing::best_schedule;
+use crate::costs::ScheduleCost;
 use crate::error::TableError;
+use crate::moves::Placement;
 use crate::plans::Plan;
-use host_schedules::{Placement, ScheduleCost, best_schedule};
 use predictions::push_wide;
 use std::alloc::{AllocError, Global};
 use sweep_report::end_line;

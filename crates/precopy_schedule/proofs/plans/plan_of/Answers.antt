@@ -1,7 +1,7 @@
 use Rattle.std.proofs.Common.{◌++◌, ◌∷◌, [], List, map, ap, sym, ◌∙◌, arith}
 use Rattle.std.specs.List.{range_with_len}
 use Rattle.std.proofs.lemmas.List.FromFn.{map-range_with_len_more}
-use Rattle.host_schedules.specs.declared.moves.Move.{Move}
+use Rattle.precopy_schedule.specs.declared.moves.Move.{Move}
 use Rattle.precopy_schedule.specs.Tables.{move_at}
 use Rattle.precopy_schedule.proofs.plans.plan_of.Goals as goal
 

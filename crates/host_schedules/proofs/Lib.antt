@@ -1,3 +1,0 @@
-pub mod GreatestLemmas
-pub mod ScheduleLemmas
-pub mod Orders

@@ -1,4 +1,0 @@
-pub mod Greatest
-pub mod Schedules
-pub mod Costs
-pub mod Choices
