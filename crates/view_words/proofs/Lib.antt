@@ -1,3 +1,7 @@
+pub mod DecimalLemmas
+pub mod NearestLemmas
+pub mod QuantityLemmas
+pub mod RefusalLemmas
 pub mod LineFacts
 pub mod Parsing
 pub mod ViewLemmas

@@ -8,7 +8,7 @@ use Rattle.clap.specs.declared.builder.command.Command.{Command}
 use Rattle.clap.specs.declared.builder.command.Command.TheViews.{out-Command as fields_of}
 use Rattle.job_words.specs.Commands.{case_rule, flag_rule, leaf, report_rules, sweep_rules}
 use Rattle.job_words.proofs.HelpLemmas.{AreNamed}
-use Rattle.unit_words.specs.Units.{scale_rules, unit_rules}
+use Rattle.view_words.specs.Units.{scale_rules, unit_rules}
 use Rattle.view_words.specs.Commands.{IsCommand, IsDocument, budget_rules, json_line, start_rules, style_rules}
 use Rattle.view_words.specs.Commands.{view_line}
 

@@ -11,10 +11,10 @@ use Rattle.rate_limit.specs.Refusals.{refusal_of}
 use Rattle.rate_limit.specs.declared.error.SettingsError.{SettingsError}
 use Rattle.trace_views.specs.declared.budget.Budget.{Budget}
 use Rattle.trace_views.specs.declared.view.Measured.{Measured}
-use Rattle.unit_words.specs.Measures.{AsksForMeasure, IsThere, RefusesMeasure}
-use Rattle.unit_words.specs.Units.{HasNoUnits}
-use Rattle.unit_words.specs.declared.limits.LimitsRefusal.{LimitsRefusal}
-use Rattle.unit_words.specs.declared.limits.LimitsRefusal.TheVariants as refused
+use Rattle.view_words.specs.Measures.{AsksForMeasure, IsThere, RefusesMeasure}
+use Rattle.view_words.specs.Units.{HasNoUnits}
+use Rattle.view_words.specs.declared.limits.LimitsRefusal.{LimitsRefusal}
+use Rattle.view_words.specs.declared.limits.LimitsRefusal.TheVariants as refused
 use Rattle.view_words.specs.Lacks.{LacksLimits}
 use Rattle.view_words.specs.declared.command.ViewWordsError.{ViewWordsError}
 use Rattle.view_words.specs.declared.command.ViewWordsError.TheVariants as asked

@@ -5,7 +5,7 @@ use Rattle.clap.specs.Simple.{App, new_shape}
 use Rattle.clap.specs.Walk.{Rule, Text}
 use Rattle.clap.specs.declared.builder.value_parser.ValueParser.TheVariants as parsers
 use Rattle.job_words.specs.Commands.{case_rule, flag_rule, leaf, number_rule, report_rules, sweep_rules}
-use Rattle.unit_words.specs.Units.{scale_rules, unit_rules}
+use Rattle.view_words.specs.Units.{scale_rules, unit_rules}
 
 -- the option of the first start, which replaces `start`
 abbrev pub from_rule : Rule

@@ -4,7 +4,7 @@ use Rattle.clap.specs.Walk.{Row}
 use Rattle.guest_units.specs.Scales.{TraceScale}
 use Rattle.guest_units.specs.declared.limits.Limits.{Limits}
 use Rattle.migration_model.specs.Rates.{MigrationSettings}
-use Rattle.unit_words.specs.Measures.{AsksForMeasure}
+use Rattle.view_words.specs.Measures.{AsksForMeasure}
 
 -- the options make settings without a scale or without limits
 pub record LacksLimits (rows : List Row) : Type 0 where

@@ -1,3 +1,8 @@
+pub mod Decimals
+pub mod Quantities
+pub mod Units
+pub mod Nearest
+pub mod Measures
 pub mod Advice
 pub mod Commands
 pub mod Lacks

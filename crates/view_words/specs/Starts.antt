@@ -10,8 +10,8 @@ use Rattle.migration_starts.specs.declared.starts.Starts.{Starts}
 use Rattle.trace_views.specs.declared.view.AskedStarts.{AskedStarts}
 use Rattle.trace_views.specs.declared.view.StartsForm.{StartsForm}
 use Rattle.trace_views.specs.declared.view.StartsForm.TheVariants as forms
-use Rattle.unit_words.specs.Measures.{AsksForMeasure, RefusesMeasure}
-use Rattle.unit_words.specs.declared.limits.LimitsRefusal.TheVariants as refused
+use Rattle.view_words.specs.Measures.{AsksForMeasure, RefusesMeasure}
+use Rattle.view_words.specs.declared.limits.LimitsRefusal.TheVariants as refused
 use Rattle.view_words.specs.Lacks.{LacksLimits}
 use Rattle.view_words.specs.declared.command.ViewWordsError.{ViewWordsError}
 use Rattle.view_words.specs.declared.command.ViewWordsError.TheVariants as asked

@@ -18,8 +18,8 @@ use Rattle.trace_views.specs.declared.view.PredictionForm.TheVariants as predict
 use Rattle.trace_views.specs.declared.view.StartsForm.TheVariants as forms
 use Rattle.trace_views.specs.declared.view.View.{View}
 use Rattle.trace_views.specs.declared.view.View.TheVariants as views
-use Rattle.unit_words.specs.Measures.{AsksForMeasure, AsksForScale, RefusesMeasure, RefusesScaleWords}
-use Rattle.unit_words.specs.declared.limits.LimitsRefusal.TheVariants as refused
+use Rattle.view_words.specs.Measures.{AsksForMeasure, AsksForScale, RefusesMeasure, RefusesScaleWords}
+use Rattle.view_words.specs.declared.limits.LimitsRefusal.TheVariants as refused
 use Rattle.view_words.specs.Advice.{AsksForAdvice, RefusesAdvice}
 use Rattle.view_words.specs.Commands.{json_line, json_words, view_line}
 use Rattle.view_words.specs.Lacks.{LacksLimits}

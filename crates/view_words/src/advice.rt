@@ -4,19 +4,20 @@ ghost use Rattle.std.specs.Prelude.{◌≡◌, IfErr, IfOk, None, Some, codes, f
 ghost use Rattle.clap.specs.Words.{found_of, rows_of};
 ghost use Rattle.guest_units.specs.Limits.{ticks_for_pages};
 ghost use Rattle.job_words.specs.Options.{Says};
-ghost use Rattle.unit_words.specs.Measures.{AsksForMeasure, IsThere};
-ghost use Rattle.unit_words.specs.Units.{HasNoUnits};
+ghost use Rattle.view_words.specs.Measures.{AsksForMeasure, IsThere};
+ghost use Rattle.view_words.specs.Units.{HasNoUnits};
 ghost use Rattle.view_words.specs.Advice.{RefusesAdvice};
 ghost use Rattle.view_words.specs.Views.{AsksForView};
 
 use crate::command::{AskedView, ViewWordsError, limited};
+use crate::limits::{LimitsRefusal, says_units};
+use crate::measures::measure_of;
 use crate::options::settings_for;
 use clap::ArgMatches;
 use guest_units::{Limits, Scale};
 use job_words::{WordsError, WordsRefusal, said};
 use rate_limit::Settings;
 use trace_views::{Budget, Measured, View};
-use unit_words::{LimitsRefusal, measure_of, says_units};
 
 /// Returns the advice that options in ticks and pages ask for.
 fn advice_in_ticks(options: &ArgMatches) -> Result<AskedView, ViewWordsError>

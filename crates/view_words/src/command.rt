@@ -5,8 +5,8 @@ ghost use Rattle.std.specs.Prelude.{Ok, Some};
 ghost use Rattle.std.specs.Prelude.{codes, map, string_bytes, true};
 ghost use Rattle.clap.specs.Words.{app_of, found_of, rows_of};
 ghost use Rattle.job_words.specs.Commands.{AddsRules, IsLeaf, case_rule, flag_rule, report_rules, sweep_rules};
-ghost use Rattle.unit_words.specs.Measures.{AsksForScale};
-ghost use Rattle.unit_words.specs.Units.{scale_rules, unit_rules};
+ghost use Rattle.view_words.specs.Measures.{AsksForScale};
+ghost use Rattle.view_words.specs.Units.{scale_rules, unit_rules};
 ghost use Rattle.view_words.specs.Styles.{IsWidthRefused};
 ghost use Rattle.view_words.specs.Views.{IsOutOfMemory};
 ghost use Rattle.job_words.specs.declared.command.WordsError.TheVariants.{Memory};
@@ -20,6 +20,8 @@ ghost use Rattle.view_words.specs.Views.{WordsFail};
 ghost use Rattle.view_words.specs.declared.command.ViewWordsError.TheVariants.{Words};
 
 use crate::advice::advice_of;
+use crate::limits::{LimitsRefusal, with_scale, with_units};
+use crate::measures::{Measure, measure_of, scale_said};
 use crate::options::{style_of, with_budget, with_style};
 use crate::starts::{form_of, starts_of, with_chart, with_starts};
 use clap::{ArgMatches, Command};
@@ -29,7 +31,6 @@ use job_words::{
 };
 use std::alloc::{AllocError, Global};
 use trace_views::{AskedPrediction, AskedStarts, PredictionForm, StartsForm, View};
-use unit_words::{LimitsRefusal, Measure, measure_of, scale_said, with_scale, with_units};
 
 /// Why words make no view.
 #[derive(Debug, Drop)]

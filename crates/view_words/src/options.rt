@@ -7,12 +7,12 @@ ghost use Rattle.view_words.specs.Advice.{AsksForGrid, IsGridRefused};
 ghost use Rattle.view_words.specs.Commands.{budget_rules, style_rules};
 ghost use Rattle.view_words.specs.Styles.{AsksForStyle, IsWidthRefused};
 
+use crate::limits::with_units;
 use clap::{ArgMatches, Command};
 use job_words::{flag, given, is_flag, number, said, sweep_options, with_report, with_sweep};
 use rate_limit::{Asked, Settings, SettingsError};
 use report_pictures::Style;
 use std::alloc::{AllocError, Global};
-use unit_words::with_units;
 
 /// Returns the command with the options of advice.
 pub(crate) fn with_budget<'a>(

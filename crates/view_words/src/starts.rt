@@ -3,18 +3,19 @@
 ghost use Rattle.std.specs.Prelude.{[], ◌∷◌, ◌≡◌, IfErr, IfNone, IfOk, IfSome, Some, codes, false};
 ghost use Rattle.clap.specs.Words.{found_of, rows_of, rule_of};
 ghost use Rattle.job_words.specs.Commands.{AddsRules, flag_rule};
-ghost use Rattle.unit_words.specs.Measures.{AsksForMeasure};
+ghost use Rattle.view_words.specs.Measures.{AsksForMeasure};
 ghost use Rattle.view_words.specs.Commands.{from_rule, start_rules};
 ghost use Rattle.view_words.specs.Starts.{AreTicksRefused, AsksForForm, AsksForStarts, AsksForTicks, RefusesStarts};
 
 use crate::command::{ViewWordsError, limited, usage};
+use crate::limits::{LimitsRefusal, with_units};
+use crate::measures::{Measure, measure_of};
 use clap::{Arg, ArgAction, ArgMatches, Command};
 use guest_units::{Limits, Scale};
 use job_words::{Number, flag, is_flag, said, with_numbers};
 use migration_starts::Starts;
 use std::alloc::{AllocError, Global};
 use trace_views::{AskedStarts, StartsForm};
-use unit_words::{LimitsRefusal, Measure, measure_of, with_units};
 
 /// The first tick that can no longer be a start, `2^40`.
 const START_LIMIT: u64 = 1 << 40;

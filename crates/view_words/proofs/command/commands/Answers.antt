@@ -3,7 +3,7 @@ use Rattle.clap.specs.Simple.{app_of_fields}
 use Rattle.std.proofs.lemmas.Result.{IfOk-weaker}
 use Rattle.job_words.specs.Commands.{flag_rule, report_rules}
 use Rattle.job_words.proofs.CommandLemmas.{adds_leaf, leaf_with}
-use Rattle.unit_words.specs.Units.{unit_rules}
+use Rattle.view_words.specs.Units.{unit_rules}
 use Rattle.view_words.specs.Commands.{budget_rules, start_rules, style_rules}
 use Rattle.view_words.proofs.LineFacts.{after_required, after_version, bare, view_line_is}
 use Rattle.view_words.proofs.command.commands.Goals as goal

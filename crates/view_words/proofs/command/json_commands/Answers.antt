@@ -2,7 +2,7 @@ use Rattle.std.proofs.Common.{[], ◌∷◌, ◌++◌, codes, ◌∙◌}
 use Rattle.std.proofs.lemmas.Result.{IfOk-weaker}
 use Rattle.job_words.specs.Commands.{case_rule, report_rules, sweep_rules}
 use Rattle.job_words.proofs.CommandLemmas.{adds_leaf, leaf_with}
-use Rattle.unit_words.specs.Units.{scale_rules, unit_rules}
+use Rattle.view_words.specs.Units.{scale_rules, unit_rules}
 use Rattle.view_words.specs.Commands.{start_rules}
 use Rattle.view_words.proofs.LineFacts.{after_bin_name, after_required, bare, json_line_is}
 use Rattle.view_words.proofs.command.json_commands.Goals as goal

@@ -1,4 +1,0 @@
-pub mod DecimalLemmas
-pub mod NearestLemmas
-pub mod QuantityLemmas
-pub mod RefusalLemmas
