@@ -147,8 +147,10 @@ class Asked:
 
 
 def moment_text(micros):
-    """A moment as the page writes it: as precopy-view does, but for what would be zeros."""
-    return f"{micros} \u00b5s" if 0 < micros < 1_000 else seconds(micros)
+    """A moment as the page writes it: in seconds, with all their digits, or below a millisecond in microseconds."""
+    if 0 < micros < 1_000:
+        return f"{micros} \u00b5s"
+    return f"{micros // 1_000_000}.{f'{micros % 1_000_000:06}'.rstrip('0').ljust(3, '0')} s"
 
 
 def time_text(micros):

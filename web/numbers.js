@@ -1,5 +1,5 @@
-// Numbers as text, without commas where they have a unit. Sizes are those of `precopy-view predict`, rounded down, and
-// moments too. How long something takes has the unit in which the controls say it.
+// Numbers as text, without commas where they have a unit. Sizes are those of `precopy-view predict`, rounded down. How
+// long something takes has the unit in which the controls say it.
 
 const MIB = 1n << 20n;
 const GIB = 1n << 30n;
@@ -37,9 +37,12 @@ function secondsText(micros) {
   return `${millis / 1_000n}.${String(millis % 1_000n).padStart(3, "0")} s`;
 }
 
-/** A moment, in microseconds since a begin: in seconds, or in microseconds if it has no millisecond. */
+/** A moment, in microseconds since a begin: in seconds with all their digits, below a millisecond in microseconds. */
 export function momentText(micros) {
-  return micros > 0n && micros < 1_000n ? `${micros} \u00b5s` : secondsText(micros);
+  if (micros > 0n && micros < 1_000n) {
+    return `${micros} \u00b5s`;
+  }
+  return micros % 1_000n === 0n ? secondsText(micros) : `${decimalText(micros, 1_000_000n, 6)} s`;
 }
 
 /** How long something takes, in microseconds: in the greatest unit that it has one of. Only seconds are rounded. */

@@ -73,7 +73,8 @@ export class TraceDesk {
     const traces = files.filter((file) => !isRecord(file));
     const records = files.filter(isRecord);
     const others = [...traces.slice(1), ...records.slice(1)].map(({ name }) => name);
-    const notes = others.length > 0 ? [html("p", {}, `Not opened: ${others.join(", ")}. The page has one trace at a time.`)] : [];
+    const notes = others.length === 0 ? []
+      : [html("p", {}, `Not opened: ${others.join(", ")}. The page has one trace at a time.`)];
     const record = records.length > 0 ? await this.textOf(records[0]) : null;
     if (traces.length > 0) {
       const [file] = traces;
