@@ -148,6 +148,16 @@ def asked(page, **more):
     return page.ask("&".join(f"{name}={word}" for name, word in {**PLAIN, **more}.items()))
 
 
+def check_said(text, unit, fault):
+    """A refusal says what was typed, in the unit of its control. Rates are whole bytes a second."""
+    if unit:
+        word = unit.replace("us", "\u00b5s") + "/s" * (unit in RATES)
+        said = re.search(rf"(\d[\d.]*)\u00a0{word}(?!\w)", fault)
+        require(said and amount_in(said[1] + unit) == amount_in(text + unit), f"{text} {unit}: {fault!r}")
+    else:
+        require(re.search(rf"(?<![\d.]){text}(?![\d.])", fault), f"{text}: {fault!r}")
+
+
 def check_refused(page, name, text, unit, grain):
     asked(page, **({"base": "500"} if name == "base" else {}))
     before = page.shown()
@@ -164,6 +174,8 @@ def check_refused(page, name, text, unit, grain):
     require(not enabled, f"enabled without a plan: {enabled}")
     label = page.browser.value(f"document.querySelector('label[for=control-{name}]').textContent")
     require(label in found["verdict"] and "Take " in found["fault"], f"{found['verdict']}, {found['fault']}")
+    if name != "sample":
+        check_said(text, unit, found["fault"])
     wrong = amount_in(f"{text}{unit or ''}")
     taken = page.after(f"document.querySelector('#control-{name}-fault button').click()")
     require(taken["refused"] is None and not taken["stale"], f"{name}: {taken['refused']}, {taken['fault']}")

@@ -57,8 +57,11 @@ const SENTENCES = {
   tick: ({ tick }) => `${timeWords(tick)} is not 1 \u00b5s to 1 s.`,
   sample: (state, { pages }) => {
     const { part, whole } = state.sample ?? { part: pages, whole: pages };
-    return part < pages ? `${part} sampled pages are fewer than the ${pages} of the trace.`
-      : `A guest of ${whole} pages is not one of ${part} to 2^32 pages.`;
+    if (part < pages) {
+      return `${part} sampled pages are fewer than the ${pages} of the trace.`;
+    }
+    return whole < part ? `A guest of ${whole} pages has fewer than the ${part} that were traced.`
+      : `A guest of ${whole} pages has more than 2^32 pages.`;
   },
   link: (state, sizes) => (isSlow(state, sizes)
     ? `${rateWords(state.link)} is less than ${leastRate(state)}. Longer ticks allow a slower link.`
