@@ -11,6 +11,7 @@ import tempfile
 import time
 
 SECONDS = 60
+WIDER_THAN_PHONES = 560
 WORDS = ["--headless=new", "--remote-debugging-pipe", "--no-first-run", "--no-default-browser-check", "--disable-gpu",
          "--disable-background-networking", "--disable-component-update", "--disable-sync", "--hide-scrollbars",
          # Else more than 200 changes of the address in 10 seconds are passed over.
@@ -143,9 +144,10 @@ class Browser(Driven):
             self.call("Input.dispatchKeyEvent", type=kind, key=key, code=key, windowsVirtualKeyCode=code)
 
     def dress(self, width, height, is_dark=False, is_still=False):
-        """Sets the size of the page, and what the user prefers."""
+        """Sets the size of the page, and what the user prefers. A narrow page is on a phone: it is touched."""
         sizes = {"width": width, "height": height, "deviceScaleFactor": 1, "mobile": False}
         self.call("Emulation.setDeviceMetricsOverride", **sizes)
+        self.call("Emulation.setTouchEmulationEnabled", enabled=width < WIDER_THAN_PHONES, maxTouchPoints=1)
         features = [{"name": "prefers-color-scheme", "value": "dark" if is_dark else "light"},
                     {"name": "prefers-reduced-motion", "value": "reduce" if is_still else "no-preference"}]
         self.call("Emulation.setEmulatedMedia", features=features)

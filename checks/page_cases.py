@@ -146,9 +146,20 @@ class Asked:
 # ---- What the page says of a plan.
 
 
+def moment_text(micros):
+    """A moment as the page writes it: in seconds, with all their digits, or below a millisecond in microseconds."""
+    if 0 < micros < 1_000:
+        return f"{micros} \u00b5s"
+    return f"{micros // 1_000_000}.{f'{micros % 1_000_000:06}'.rstrip('0').ljust(3, '0')} s"
+
+
 def time_text(micros):
-    """A time as the page writes it: as precopy-view does, but for what would be zeros."""
-    return f"{micros} \u00b5s" if 0 < micros < 1_000 else seconds(micros)
+    """How long something takes, as the page writes it: in the greatest unit that it has one of."""
+    if micros == 0:
+        return "0 s"
+    if micros < 1_000:
+        return f"{micros} \u00b5s"
+    return seconds(micros) if micros >= 1_000_000 else f"{micros / 1_000:.3f}".rstrip("0").rstrip(".") + " ms"
 
 
 def size_text(size):
@@ -244,8 +255,9 @@ def enough_in(lines):
     """What lines of the page say of what is enough for the limit."""
     slowed = [re.fullmatch(r"the guest slowed to (\d+) per cent of its speed", line) for line in lines]
     speeds = [int(found[1]) for found in slowed if found]
-    return Remedies(lines[0].startswith("Enough: what is asked"), amount_in(lines, "link rate ", RATES),
-                    amount_in(lines, "downtime limit ", TIMES), speeds[0] if speeds else None)
+    is_kept = lines[0].startswith("Enough for the limit: these settings.")
+    return Remedies(is_kept, amount_in(lines, "link rate ", RATES), amount_in(lines, "downtime limit ", TIMES),
+                    speeds[0] if speeds else None)
 
 
 def enough_of(document):
@@ -260,7 +272,7 @@ def enough_of(document):
 
 def check_enough(asked, lines, document):
     """Tests what is enough for the limit: beside the model if the trace is small, and beside the program."""
-    if lines == ["Enough: unknown, since the trace ends before the migration does."]:
+    if lines == ["Enough for the limit: unknown, since the trace ends before the migration does."]:
         return
     found, wanted = enough_in(lines), [enough_of(document)]
     if asked.known.pages <= SMALL:
@@ -301,7 +313,7 @@ def comparison(asked, report, document):
         "sent": [size_text(found["sent"]), more(size_text(sent), *guest, pages)],
         "rounds": [f"{len(report['rounds']):,}", reason(asked, report)],
         "left": [plural(stop["pages"], "page") + of_sample, few],
-        "stop": [time_text(stop["at"] * asked.tick), ""],
+        "stop": [moment_text(stop["at"] * asked.tick), ""],
     }
 
 

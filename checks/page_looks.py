@@ -1,11 +1,9 @@
 """What checks/page tests of the page besides its numbers: looks, the keyboard, the address, and that it is silent."""
 
-import base64
 import collections
 import hashlib
 import http.server
 import os
-import re
 import threading
 
 import page_shapes
@@ -126,6 +124,9 @@ def check_look(page, name):
     require(not poor, f"contrast, {name}: {poor}")
     over = browser.value(OVERLAPS)
     require(not over, f"texts, {name}: {over}")
+    cut = browser.value("[...document.querySelectorAll('#comparison, #controls, pre')]"
+                        ".filter((part) => part.scrollWidth > part.clientWidth).map((part) => part.id)")
+    require(not cut, f"wider than their places, {name}: {cut}")
 
 
 def check_shapes(page, folder):
@@ -151,13 +152,18 @@ def check_shapes(page, folder):
     browser.dress(1400, HEIGHT)
 
 
+def read_nodes(page):
+    """What a screen reader is told of the page."""
+    page.browser.call("Accessibility.enable")
+    nodes = page.browser.call("Accessibility.getFullAXTree")["nodes"]
+    return [node for node in nodes if "role" in node and not node["ignored"]]
+
+
 def check_names(page):
     """Each control has a name of its own for a screen reader, each picture that can be looked at a value, and whatever
     describes an element is there. A link leads past the settings."""
     roles = {"button", "slider", "textbox", "combobox", "checkbox", "progressbar", "DisclosureTriangle", "link"}
-    page.browser.call("Accessibility.enable")
-    nodes = page.browser.call("Accessibility.getFullAXTree")["nodes"]
-    found = [node for node in nodes if node.get("role", {}).get("value") in roles and not node["ignored"]]
+    found = [node for node in read_nodes(page) if node["role"]["value"] in roles]
     nameless = [node["role"]["value"] for node in found if not node.get("name", {}).get("value")]
     require(len(found) > 40 and not nameless, f"{len(found)} controls; without a name: {nameless}")
     names = collections.Counter((node["role"]["value"], node["name"]["value"]) for node in found)
@@ -171,18 +177,6 @@ def check_names(page):
     page.browser.value("document.body.focus(); document.getElementById('past-settings').focus()")
     page.browser.press("Enter", 13)
     page.browser.wait("document.activeElement.id === 'outcome'", 5)
-
-
-def check_print(page):
-    """On paper the page is one: settings, prediction and pictures."""
-    browser = page.browser
-    open_example(page)
-    browser.value("document.getElementById('ask').click()")
-    browser.wait("document.querySelector('#starts-plot svg') !== null")
-    pages = browser.call("Page.printToPDF", printBackground=True, preferCSSPageSize=False, paperWidth=8.27,
-                         paperHeight=11.69)["data"]
-    count = len(re.findall(rb"/Type\s*/Page\b", base64.b64decode(pages)))
-    require(count == 1, f"{count} pages of paper")
 
 
 def check_keyboard(page):
@@ -264,10 +258,9 @@ def check_stillness(page):
         require((seconds == 0) == is_still, f"{seconds} s of a transition, still {is_still}")
 
 
-def check_looks(tally, page, tried, folder):
-    tried(tally, "traces of other shapes", check_shapes, page, folder)
+def check_looks(tally, page, tried):
     tried(tally, "stillness", check_stillness, page)
-    for words, check in (("keyboard", check_keyboard), ("address", check_address), ("print", check_print),
+    for words, check in (("keyboard", check_keyboard), ("address", check_address),
                          ("old browser", check_old_browser)):
         tried(tally, words, check, page)
 

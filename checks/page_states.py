@@ -1,14 +1,21 @@
-"""How the planner's page looks in each state that a user comes to, at several widths, in light and in dark."""
+"""How the planner's page looks in each state that a user comes to, at several widths, in light and in dark; on paper,
+and in the files that it saves."""
 
+import base64
+import collections
 import os
+import re
 
 import page_shapes
 from page_cases import example
-from page_looks import HEIGHT, MARKS, check_look, check_names, require
+from page_looks import HEIGHT, MARKS, check_look, check_names, read_nodes, require
+from page_uses import end_worker, read, saved_files
 
 WIDTHS = [390, 900, 1400]
-FULL_WIDTHS = [360, *WIDTHS, 800, 1920]
+FULL_WIDTHS = [360, *WIDTHS, 600, 800, 1024, 1920]
 LEAST_MARK_CONTRAST = 3
+# What can be saved with three kept plans and starts: PNG, SVG and CSV of six pictures, and the prediction's CSV.
+SAVED = 6 * 3 + 1
 
 
 def open_with(page, fragment):
@@ -53,6 +60,32 @@ def kept_plans(page):
                "document.getElementById('control-rounds').dispatchEvent(new Event('input'))")
     page.browser.value("document.getElementById('windows-details').open = true")
     plan_starts(page)
+
+
+def keep(page):
+    page.after("document.getElementById('keep').click()")
+
+
+def many_kept(page):
+    """As many kept plans as there may be: one that is like this, a faster one, and one that ends after the trace."""
+    open_with(page, "#trace=sqlite&link=64MiB&first=50&window=500&start=1000")
+    keep(page)
+    typed(page, "link", "640")
+    keep(page)
+    typed(page, "start", "37000")
+    typed(page, "link", "24")
+    keep(page)
+    typed(page, "start", "20000")
+    typed(page, "link", "128")
+
+
+def own_record(page):
+    """A trace of one's own, with the record beside it: standard errors of this plan and of a kept one."""
+    open_with(page, "")
+    page.drop(*((f"store.{kind}", read(example(f"guests/sqlite.light.{kind}"))) for kind in ("pcwt", "json")))
+    keep(page)
+    typed(page, "rounds", "2")
+    require(page.enough(), "nothing is said of what is enough")
 
 
 def refused_control(page):
@@ -109,12 +142,55 @@ def nothing_fits(page):
     plan_starts(page)
 
 
-STATES = {"no-trace": no_trace, "first-look": first_look, "starts": with_starts, "kept": kept_plans,
-          "refused-control": refused_control, "refused-files": refused_files, "refused-first": refused_first,
-          "missed": missed_limit, "enough": what_is_enough, "warm": warm_start, "short": nothing_fits}
+def old_starts(page):
+    """Curves of settings that were changed since."""
+    with_starts(page)
+    typed(page, "rounds", "3")
+
+
+def ended_worker(page):
+    """A planner that ends again and again. The last plan stays."""
+    open_with(page, "#trace=sqlite")
+    page.browser.value("window.isDeadly = true; 0")
+    end_worker(page)
+    found = typed(page, "rounds", "7")
+    require("the planner ended" in found["verdict"] and found["stale"], found["verdict"])
+
+
+def looked_at(page):
+    """A round that the keyboard has come to, and beside it a window that is pointed at."""
+    open_with(page, "#trace=sqlite&link=64MiB&first=50&window=500&start=1000")
+    plan_starts(page)
+
+
+STATES = {"no-trace": no_trace, "first-look": first_look, "starts": with_starts, "old-starts": old_starts,
+          "kept": kept_plans, "many-kept": many_kept, "own-record": own_record, "refused-control": refused_control,
+          "refused-files": refused_files, "refused-first": refused_first, "missed": missed_limit,
+          "enough": what_is_enough, "warm": warm_start, "short": nothing_fits, "ended": ended_worker,
+          "looked-at": looked_at}
+
+# What is done in a state each time that the page is drawn anew.
+ACTS = {"looked-at": """(() => {
+  const rounds = document.getElementById("rounds-plot-this");
+  rounds.focus({ focusVisible: true });
+  rounds.dispatchEvent(new KeyboardEvent("keydown", { key: "Home", bubbles: true }));
+  for (const [name, share] of [["windows-plot", 0.3], ["starts-plot", 0.8]]) {
+    const plot = document.getElementById(name);
+    const { left, top, width } = plot.getBoundingClientRect();
+    plot.dispatchEvent(new PointerEvent("pointermove", { pointerType: "mouse", bubbles: true,
+      clientX: left + width * share, clientY: top + 60 }));
+  }
+})()"""}
 
 
 # ---- Looking.
+
+
+def put(folder, name, data):
+    """Writes a file to a folder, if there is one."""
+    if folder:
+        with open(os.path.join(folder, name), "wb") as file:
+            file.write(data)
 
 
 def check_state(page, name, folder):
@@ -123,13 +199,13 @@ def check_state(page, name, folder):
     STATES[name](page)
     is_full = name == "kept"
     for is_dark in (False, True):
-        for width in FULL_WIDTHS if is_full else WIDTHS:
+        for width in FULL_WIDTHS if is_full or name == "many-kept" else WIDTHS:
             browser.dress(width, HEIGHT, is_dark)
             page.rest()
+            browser.value(ACTS.get(name, "0"))
             look = f"{name}-{width}-{'dark' if is_dark else 'light'}"
             check_look(page, look)
             if folder:
-                os.makedirs(folder, exist_ok=True)
                 browser.picture(os.path.join(folder, f"{look}.png"))
         marks = browser.value(MARKS.replace("BOUND", str(LEAST_MARK_CONTRAST))) if is_full else []
         require(not marks, f"marks, dark {is_dark}: {marks}")
@@ -138,6 +214,62 @@ def check_state(page, name, folder):
         check_names(page)
 
 
+def check_stacked(page):
+    """On a phone the plans of a comparison stand below each other, in lines that begin alike, and are still a table."""
+    page.browser.dress(390, HEIGHT)
+    many_kept(page)
+    page.rest()
+    places = page.browser.value("""[...document.querySelectorAll("#comparison tbody tr")].map((row) =>
+      [...row.querySelectorAll("td b")].map((number) => {
+        const { left, top, right } = number.getBoundingClientRect();
+        return [Math.round(left), Math.round(top), right <= innerWidth];
+      }))""")
+    numbers = [number for row in places for number in row]
+    require(len(places) == 6 and all(len(row) == 4 for row in places), f"{places} are not six rows of four plans")
+    require(len({left for left, _, _ in numbers}) == 1 and all(is_seen for _, _, is_seen in numbers), f"{places}")
+    tops = [top for _, top, _ in numbers]
+    require(tops == sorted(set(tops)), f"{places} are not below each other")
+    names = page.browser.value("[...document.querySelectorAll('#comparison tbody tr:first-child td')]"
+                               ".map((cell) => getComputedStyle(cell, '::before').content)")
+    require(names == ['"This plan"', '"Kept plan 1"', '"Kept plan 2"', '"Kept plan 3"'], f"the plans' names: {names}")
+    roles = collections.Counter(node["role"]["value"] for node in read_nodes(page))
+    require(roles["cell"] >= 24 and roles["rowheader"] >= 6, f"a screen reader is told {roles}")
+    page.browser.dress(1400, HEIGHT)
+
+
+def check_paper(page, folder):
+    """On paper the page is one, light in each theme: settings, prediction and pictures."""
+    browser = page.browser
+    for name in ("starts", "many-kept", "refused-control"):
+        browser.dress(1400, HEIGHT, is_dark=True)
+        STATES[name](page)
+        printed = base64.b64decode(browser.call("Page.printToPDF", printBackground=True, paperWidth=8.27,
+                                                paperHeight=11.69)["data"])
+        put(folder, f"paper-{name}.pdf", printed)
+        count = len(re.findall(rb"/Type\s*/Page\b", printed))
+        require(count == 1, f"{name} takes {count} pages of paper")
+    browser.dress(1400, HEIGHT)
+
+
+def check_files(page, folder):
+    """The files that the page saves, in both themes. As a document of its own a picture is as it is in the page."""
+    for is_dark in (False, True):
+        theme = "dark" if is_dark else "light"
+        page.browser.dress(1400, HEIGHT, is_dark)
+        many_kept(page)
+        plan_starts(page)
+        files = saved_files(page, SAVED)
+        require(len(files) == SAVED, f"files: {sorted(files)}")
+        for name, data in files.items():
+            put(folder, f"saved-{theme}-{name}", data)
+    page.browser.dress(1400, HEIGHT)
+
+
 def check_states(tally, page, tried, folder):
+    if folder:
+        os.makedirs(folder, exist_ok=True)
     for name in STATES:
         tried(tally, f"the look of {name}", check_state, page, name, folder)
+    tried(tally, "a comparison on a phone", check_stacked, page)
+    tried(tally, "the look on paper", check_paper, page, folder)
+    tried(tally, "the look of files", check_files, page, folder)

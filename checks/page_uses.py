@@ -7,6 +7,7 @@ import math
 import os
 import random
 import re
+import struct
 import xml.etree.ElementTree
 from fractions import Fraction
 
@@ -147,6 +148,16 @@ def asked(page, **more):
     return page.ask("&".join(f"{name}={word}" for name, word in {**PLAIN, **more}.items()))
 
 
+def check_said(text, unit, fault):
+    """A refusal says what was typed, in the unit of its control. Rates are whole bytes a second."""
+    if unit:
+        word = unit.replace("us", "\u00b5s") + "/s" * (unit in RATES)
+        said = re.search(rf"(\d[\d.]*)\u00a0{word}(?!\w)", fault)
+        require(said and amount_in(said[1] + unit) == amount_in(text + unit), f"{text} {unit}: {fault!r}")
+    else:
+        require(re.search(rf"(?<![\d.]){text}(?![\d.])", fault), f"{text}: {fault!r}")
+
+
 def check_refused(page, name, text, unit, grain):
     asked(page, **({"base": "500"} if name == "base" else {}))
     before = page.shown()
@@ -163,6 +174,8 @@ def check_refused(page, name, text, unit, grain):
     require(not enabled, f"enabled without a plan: {enabled}")
     label = page.browser.value(f"document.querySelector('label[for=control-{name}]').textContent")
     require(label in found["verdict"] and "Take " in found["fault"], f"{found['verdict']}, {found['fault']}")
+    if name != "sample":
+        check_said(text, unit, found["fault"])
     wrong = amount_in(f"{text}{unit or ''}")
     taken = page.after(f"document.querySelector('#control-{name}-fault button').click()")
     require(taken["refused"] is None and not taken["stale"], f"{name}: {taken['refused']}, {taken['fault']}")
@@ -345,8 +358,9 @@ def check_worker(page):
 
 # Settings whose limit is kept, missed, missed by a first round and an increment of their own, missed whatever the link
 # and the downtime, and of which nothing is known; with the head of what is enough, and what can be taken.
-OTHER, ALSO = "Enough: one of these, changed alone:", "Enough: what is asked; also one of these, changed alone:"
-LATE = "Enough: unknown, since the trace ends before the migration does."
+OTHER = "Enough for the limit: one of these, changed alone:"
+ALSO = "Enough for the limit: these settings. So is each of these, changed alone:"
+LATE = "Enough for the limit: unknown, since the trace ends before the migration does."
 ENOUGH = [
     ("trace=sqlite&link=1Gbit&downtime=300ms", ALSO, ["link", "downtime"]),
     ("trace=sqlite&link=64MiB&downtime=10ms&start=1000", OTHER, ["link", "downtime"]),
@@ -423,11 +437,8 @@ def asked_rounds(page, rounds):
     return typed(page, "rounds", rounds)
 
 
-def check_files_saved(page):
-    """Each picture is saved as PNG and SVG, and each table as CSV."""
-    asked(page)
-    page.browser.value("document.getElementById('ask').click()")
-    page.browser.wait("document.querySelector('#starts-plot svg') !== null")
+def saved_files(page, count):
+    """Presses all buttons that save something, and returns the files by their names: so many."""
     page.browser.value("""(() => {
       window.saved = [];
       const made = URL.createObjectURL;
@@ -437,23 +448,36 @@ def check_files_saved(page):
         if (button.offsetParent) { button.click(); }
       }
     })()""")
+    page.browser.wait(f"saved.length === {count}", 20)
+    files = page.browser.value("""Promise.all(saved.map(([name, blob]) => new Promise((resume) => {
+      const reader = new FileReader();
+      reader.onload = () => resume([name, reader.result.split(",")[1]]);
+      reader.readAsDataURL(blob);
+    })))""")
+    return {name: base64.b64decode(text) for name, text in files}
+
+
+def check_files_saved(page):
+    """Each picture is saved as PNG and SVG, and each table as CSV."""
+    asked(page)
+    page.browser.value("document.getElementById('ask').click()")
+    page.browser.wait("document.querySelector('#starts-plot svg') !== null")
     wanted = 3 * 3 + 1
-    page.browser.wait(f"saved.length === {wanted}", 20)
-    files = dict(page.browser.value("""Promise.all(saved.map(async ([name, blob]) => [name, name.endsWith(".png")
-      ? await createImageBitmap(blob).then(({ width, height }) => `${width} ${height}`) : await blob.text()]))"""))
+    files = saved_files(page, wanted)
     require(len(files) == wanted, f"files: {sorted(files)}")
     shown = page.shown()
-    rows = [[int(cell) for cell in line.split(",")] for line in files["rounds-this.csv"].splitlines()[1:]]
+    rows = [[int(cell) for cell in line.split(",")] for line in files["rounds-this.csv"].decode().splitlines()[1:]]
     require(rows == shown["rounds"], f"{rows} in place of {shown['rounds']}")
-    for name, text in files.items():
+    for name, data in files.items():
         if name.endswith(".svg"):
-            root = xml.etree.ElementTree.fromstring(text)
+            root = xml.etree.ElementTree.fromstring(data)
             parts = len(list(root.iter()))
             require(root.tag.endswith("svg") and parts > 20, f"{name} has {parts} parts")
         elif name.endswith(".png"):
-            require(min(int(number) for number in text.split()) > 300, f"{name}: {text} pixels")
+            pixels = struct.unpack(">II", data[16:24])
+            require(data.startswith(b"\x89PNG") and min(pixels) > 300, f"{name}: {pixels} pixels")
         else:
-            lines = text.splitlines()
+            lines = data.decode().splitlines()
             require(len({line.count(",") for line in lines}) == 1 and len(lines) > 1, f"{name}: {lines[:3]}")
 
 

@@ -36,7 +36,7 @@ export const GROUPS = [
     title: "Trace",
     controls: [
       { name: "tick", label: "Length of a tick", units: TIME_UNITS, low: 1, high: 1_000_000, isPlain: true },
-      { name: "sample", label: "Guest pages per page", low: 1, high: 4096, isLog: true, isSample: true },
+      { name: "sample", label: "Guest pages per traced page", low: 1, high: 4096, isLog: true, isSample: true },
       { name: "window", label: "Window, in ticks", low: 1, high: 1000, isLog: true },
       { name: "ticks", label: "Show ticks beside times", isSwitch: true },
     ],

@@ -1,12 +1,12 @@
 // The controls: for each setting a number with its unit, and a slider. All of them read and change one settings object.
 // What is refused is said at its control, with a button for the nearest value that plans.
 
+import { ControlRefusal } from "./asking.js";
 import { GROUPS } from "./control-list.js";
 import { byId, html } from "./elements.js";
 import {
   amountAt, countAt, placeOf, PLACES, quantityNear, quantityOf, quantityWords, shownCount, unitName,
 } from "./quantities.js";
-import { ControlRefusal } from "./units.js";
 
 /** Digits of the weight of a page that its field shows. */
 const WEIGHT_DIGITS = 7;
@@ -15,6 +15,14 @@ const WEIGHT_DIGITS = 7;
 function numberIn(field, isWhole) {
   const isNumber = (isWhole ? /^\d{1,15}$/ : /^\d{1,10}(\.\d{1,9})?$/).test(field.value);
   return isNumber ? Number(field.value) : null;
+}
+
+/** What a field takes, in words. */
+function kindOfNumber({ units, isPercent, isSample }) {
+  if (isPercent) {
+    return "a number from 0 to 100";
+  }
+  return units || isSample ? "a number that can be taken, such as 12 or 0.5" : "a whole number that can be taken";
 }
 
 function weightOf(sample) {
@@ -92,11 +100,11 @@ export class Controls {
   }
 
   typed(part) {
-    const { name, isPercent } = part.control;
+    const { name } = part.control;
     const value = this.valueIn(part);
     if (value === null) {
-      const said = part.field.value.trim() === "" ? "There is no number." : `\u201c${part.field.value}\u201d is not a `
-        + `${isPercent ? "number from 0 to 100" : "number"} that can be taken.`;
+      const said = part.field.value.trim() === "" ? "There is no number."
+        : `\u201c${part.field.value}\u201d is not ${kindOfNumber(part.control)}.`;
       this.unread = new ControlRefusal(name, said);
       this.change(this.settings, []);
     } else {

@@ -1,7 +1,8 @@
 // Settings that suit a trace, so that each trace plans at once: link and downtime in round numbers by its pages and its
 // length, and what a record beside it says of tick, start and guest.
 
-import { limitsOf, RATE_UNITS, refusalOf, scaleOf, TIME_UNITS } from "./units.js";
+import { refusalOf } from "./asking.js";
+import { limitsOf, RATE_UNITS, scaleOf, TIME_UNITS } from "./units.js";
 import { inFittingUnit } from "./quantities.js";
 
 /** About how many windows a trace is cut into at first. */

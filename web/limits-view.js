@@ -1,4 +1,4 @@
-// What is enough for the limit: the module's answer, in the words of `precopy-view predict`. A click takes an amount.
+// What is enough for the limit: the module's answer, as `precopy-view predict` tells it. A click takes an amount.
 
 import { byId, html } from "./elements.js";
 import { isUnknown } from "./predictions.js";
@@ -12,29 +12,29 @@ const AMOUNTS = [
   { name: "downtime", words: "downtime limit", units: TIME_UNITS },
 ];
 
-/** How many digits a share of the amount that is asked has. */
+/** How many digits a share of the amount that is set has. */
 const SHARE_DIGITS = 3;
 
 /** What the answer says first. */
 function headOf({ isKept, link, downtime, speed }) {
+  const isAlone = [link, downtime, speed].every((amount) => amount === null);
   if (isKept) {
-    return "what is asked; also one of these, changed alone:";
+    return isAlone ? "these settings." : "these settings. So is each of these, changed alone:";
   }
-  return [link, downtime, speed].every((amount) => amount === null) ? "nothing that was tried."
-    : "one of these, changed alone:";
+  return isAlone ? "nothing that was tried." : "one of these, changed alone:";
 }
 
-/** How much an amount is beside the one that is asked. */
+/** How much an amount is beside the one that is set. */
 function shareWords(amount, asked) {
   if (asked === 0n) {
     return "";
   }
   const share = Number((Number(amount) / Number(asked)).toPrecision(SHARE_DIGITS));
   if (share === 1) {
-    return ", about what is asked";
+    return ", about what is set";
   }
-  return share < 1 ? `, ${Number((100 * share).toPrecision(SHARE_DIGITS))} % of what is asked`
-    : `, ${share} times what is asked`;
+  return share < 1 ? `, ${Number((100 * share).toPrecision(SHARE_DIGITS))} % of what is set`
+    : `, ${share} times what is set`;
 }
 
 export class LimitsView {
@@ -58,7 +58,7 @@ export class LimitsView {
   }
 
   sentence(words) {
-    return html("p", {}, html("strong", {}, "Enough:"), ` ${words}`);
+    return html("p", {}, html("strong", {}, "Enough for the limit:"), ` ${words}`);
   }
 
   answerParts(trace, prediction, remedies) {

@@ -1,6 +1,6 @@
 // The nearest value of a control that makes a plan, for settings that make none.
 
-import { refusalOf } from "./units.js";
+import { refusalOf } from "./asking.js";
 
 /** Four steps double an amount, and so many steps lead from the least amount to the greatest. */
 const STEPS_OF_TWO = 4;

@@ -1,5 +1,5 @@
-// Numbers as text. Times and sizes are those of `precopy-view predict`, rounded down and without commas. But what would
-// be zeros there, though it is something, is told in microseconds or bytes.
+// Numbers as text, without commas where they have a unit. Sizes are those of `precopy-view predict`, rounded down. How
+// long something takes has the unit in which the controls say it.
 
 const MIB = 1n << 20n;
 const GIB = 1n << 30n;
@@ -32,19 +32,33 @@ export function decimalText(number, divisor, digits) {
 }
 
 /** A time, given in microseconds: seconds with three digits after the point. */
-export function secondsText(micros) {
+function secondsText(micros) {
   const millis = micros / 1_000n;
   return `${millis / 1_000n}.${String(millis % 1_000n).padStart(3, "0")} s`;
 }
 
-/** A time, given in microseconds: below a millisecond in microseconds, else in seconds. */
-export function timeText(micros) {
-  return micros > 0n && micros < 1_000n ? `${micros} \u00b5s` : secondsText(micros);
+/** A moment, in microseconds since a begin: in seconds with all their digits, below a millisecond in microseconds. */
+export function momentText(micros) {
+  if (micros > 0n && micros < 1_000n) {
+    return `${micros} \u00b5s`;
+  }
+  return micros % 1_000n === 0n ? secondsText(micros) : `${decimalText(micros, 1_000_000n, 6)} s`;
 }
 
-/** A time whose number and unit stay on one line. */
-export function wholeTime(micros) {
-  return timeText(micros).replace(" ", "\u00a0");
+/** How long something takes, in microseconds: in the greatest unit that it has one of. Only seconds are rounded. */
+export function timeText(micros) {
+  if (micros === 0n) {
+    return "0 s";
+  }
+  if (micros < 1_000n) {
+    return `${micros} \u00b5s`;
+  }
+  return micros < 1_000_000n ? `${decimalText(micros, 1_000n, 3)} ms` : secondsText(micros);
+}
+
+/** A text whose number and unit stay on one line. */
+export function unbroken(text) {
+  return text.replace(" ", "\u00a0");
 }
 
 /** A size: in GiB if it has one, else in MiB, with two digits after the point; below a hundredth of a MiB in bytes. */

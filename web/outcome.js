@@ -1,12 +1,13 @@
 // A plan's outcome: the verdict, the plan beside those that are kept, its rounds as a table, and what was refused.
 
+import { ControlRefusal } from "./asking.js";
 import { LABELS } from "./control-list.js";
 import { html } from "./elements.js";
-import { bytesText, counted, countOf, pagesText, signed, timeText, wholeTime } from "./numbers.js";
+import { bytesText, counted, countOf, momentText, pagesText, signed, timeText, unbroken } from "./numbers.js";
 import { endingOf, isGood, isUnknown, keptWords, reasonWords, warningsOf } from "./predictions.js";
 import { WorkerEnded } from "./planner-client.js";
 import { Refusal } from "./planner.js";
-import { ControlRefusal, microsOf } from "./units.js";
+import { microsOf } from "./units.js";
 import { refusalWords } from "./refusals.js";
 
 function sentText({ scale, plan, cost }) {
@@ -47,7 +48,7 @@ const ROWS = [
     text: (pages, { scale }) => pagesText(scale, pages),
     more: ({ settings: { threshold } }) => (threshold === 1 ? "none left ends pre-copy"
       : `fewer than ${counted(threshold)} end pre-copy`) },
-  { name: "stop", title: "Stop at", number: ({ plan, scale }) => microsOf(scale, plan.stop), text: timeText,
+  { name: "stop", title: "Stop in the trace", number: ({ plan, scale }) => microsOf(scale, plan.stop), text: momentText,
     more: (some) => tickWords(some, `tick ${counted(some.plan.stop)}`) },
 ];
 
@@ -55,11 +56,11 @@ const ROWS = [
 export function verdictOf(prediction) {
   const { cost, limits } = prediction;
   if (isUnknown(prediction)) {
-    return `The trace ends before the migration does, which takes more than ${wholeTime(cost.recorded)}: `
+    return `The trace ends before the migration does, which takes more than ${unbroken(timeText(cost.recorded))}: `
       + "record longer.";
   }
-  return `${endingOf(prediction)} The guest stands still for ${wholeTime(cost.downtime)}; the limit of `
-    + `${wholeTime(limits.downtime)} ${cost.kept === "yes" ? "is kept" : "is not kept"}.`;
+  return `${endingOf(prediction)} The guest stands still for ${unbroken(timeText(cost.downtime))}; the limit of `
+    + `${unbroken(timeText(limits.downtime))} ${cost.kept === "yes" ? "is kept" : "is not kept"}.`;
 }
 
 /** The word for a prediction, and whether it is good, bad or neither. */
@@ -87,15 +88,22 @@ export function verdictParts(prediction) {
   ];
 }
 
+const THIS_PLAN = "This plan";
+
+function keptName(place) {
+  return `Kept plan ${place + 1}`;
+}
+
 /** A number of a prediction, and more words; or that it is unknown. */
 function cellWords(row, prediction) {
   return isUnknown(prediction) ? [row.unknown?.(prediction) ?? "unknown", ""]
     : [row.text(row.number(prediction), prediction), row.more(prediction)];
 }
 
-function cellOf(row, prediction, ...more) {
+function cellOf(row, name, prediction, ...more) {
   const [words, others] = cellWords(row, prediction);
-  return html("td", { "data-name": row.name }, html("b", {}, words), " ", html("small", {}, others), ...more);
+  return html("td", { role: "cell", "data-name": row.name, "data-plan": name }, html("b", {}, words), " ",
+    html("small", {}, others), ...more);
 }
 
 /** How this plan differs from a kept one, and whether that is better or worse. */
@@ -107,32 +115,36 @@ function differenceOf(row, prediction, kept) {
   return html("span", { class: className }, `this: ${words}${mark}`);
 }
 
-function keptCell(row, prediction, { found: { value } }) {
+function keptCell(row, prediction, { found: { value } }, place) {
   if (!value) {
-    return html("td", {}, "\u2013");
+    return html("td", { role: "cell", "data-plan": keptName(place) }, "\u2013");
   }
   const isCompared = ![prediction, value].some(isUnknown);
-  return cellOf(row, value, ...(isCompared ? [differenceOf(row, prediction, value)] : []));
+  return cellOf(row, keptName(place), value, ...(isCompared ? [differenceOf(row, prediction, value)] : []));
 }
 
 /** The head of a kept plan's column, with what can be done with it. */
 function keptHead(place) {
-  const name = `Kept plan ${place + 1}`;
+  const name = keptName(place);
   const button = (kind, label, words) =>
     html("button", { type: "button", class: "small", [kind]: place, "aria-label": `${name}: ${label}` }, words);
-  return html("th", { scope: "col" }, name, " ", button("data-exchanges", "exchange with this", "Exchange"), " ",
-    button("data-drops", "drop", "Drop"));
+  return html("th", { scope: "col", role: "columnheader" }, name, " ",
+    button("data-exchanges", "exchange with this", "Exchange"), " ", button("data-drops", "drop", "Drop"));
 }
 
-/** The table of a plan, and beside it the plans that are kept, with the differences. */
+/**
+ * The table of a plan, and beside it the plans that are kept, with the differences. Roles say that it is a table where
+ * the style has the plans below each other.
+ */
 export function comparisonOf(prediction, kept) {
-  const head = html("tr", {}, html("td"), html("th", { scope: "col" }, "This plan"),
-    ...kept.map((_, place) => keptHead(place)));
-  const rows = ROWS.map((row) => html("tr", {}, html("th", { scope: "row" }, row.title), cellOf(row, prediction),
-    ...kept.map((some) => keptCell(row, prediction, some))));
+  const head = html("tr", { role: "row" }, html("td", { role: "cell" }),
+    html("th", { scope: "col", role: "columnheader" }, THIS_PLAN), ...kept.map((_, place) => keptHead(place)));
+  const rows = ROWS.map((row) => html("tr", { role: "row" },
+    html("th", { scope: "row", role: "rowheader" }, row.title), cellOf(row, THIS_PLAN, prediction),
+    ...kept.map((some, place) => keptCell(row, prediction, some, place))));
   const caption = html("caption", { class: "hidden" }, "What the plan comes to");
-  return html("table", { class: kept.length > 0 ? "comparison two" : "comparison" }, caption,
-    html("thead", {}, head), html("tbody", {}, ...rows));
+  return html("table", { class: kept.length > 0 ? "comparison two" : "comparison", role: "table" }, caption,
+    html("thead", { role: "rowgroup" }, head), html("tbody", { role: "rowgroup" }, ...rows));
 }
 
 /** What a migration comes to as numbers; nothing if it ends after the trace. */

@@ -1,10 +1,11 @@
 // The page: it holds the state, has each change planned by the worker, and has the sections drawn.
 
+import { ControlRefusal, takeRules } from "./asking.js";
 import { Controls } from "./controls.js";
 import { byId, html, oncePerFrame } from "./elements.js";
 import { fittedSettings } from "./fitting.js";
 import { nearestSettings } from "./nearest.js";
-import { countOf, counted, rateText, bytesText, timeText, wholeTime } from "./numbers.js";
+import { bytesText, counted, countOf, momentText, rateText, timeText, unbroken } from "./numbers.js";
 import { WorkerEnded } from "./planner-client.js";
 import { LateAnswers } from "./late-answers.js";
 import { LimitsView } from "./limits-view.js";
@@ -13,12 +14,13 @@ import { serve } from "./planner-worker.js";
 import { watchWidths } from "./plot.js";
 import { hasWideMemory, Planner, Refusal } from "./planner.js";
 import { commandsOf, predictionOf } from "./predictions.js";
+import { isInBits, roundedWords } from "./quantities.js";
 import { firstStartOf } from "./starts.js";
 import { StartsView } from "./starts-view.js";
 import { fragmentOf, MOST_KEPT, presetOf, stateIn, withoutPreset } from "./state.js";
 import { TraceDesk } from "./trace-desk.js";
 import { embeddedBytes } from "./trace-source.js";
-import { amountOf, ControlRefusal, limitsOf, microsOf, takeRules } from "./units.js";
+import { amountOf, limitsOf, microsOf, RATE_UNITS } from "./units.js";
 import { WindowsView } from "./windows-view.js";
 
 /** How long the page waits for a change to be the last one until it announces it, in milliseconds. */
@@ -176,7 +178,7 @@ class Page {
     }
     this.startBefore = before;
     this.controls.set("start", start);
-    const at = (ticks) => wholeTime(microsOf({ tick: amountOf(before.tick) }, ticks));
+    const at = (ticks) => unbroken(momentText(microsOf({ tick: amountOf(before.tick) }, ticks)));
     byId("moved-words").textContent = `The start is moved from ${at(before.start)} to ${at(start)}.`;
     byId("moved").hidden = false;
   }
@@ -372,10 +374,12 @@ class Page {
 
   /** What the controls come to, by their names. */
   derived(settings, prediction, { sizes }) {
-    const at = (ticks) => timeText(microsOf({ tick: amountOf(settings.tick) }, ticks));
-    const words = { start: at(settings.start), base: at(settings.base ?? 0), window: at(settings.window) };
+    const microsIn = (ticks) => microsOf({ tick: amountOf(settings.tick) }, ticks);
+    const at = (ticks) => momentText(microsIn(ticks));
+    const words = { start: at(settings.start), base: at(settings.base ?? 0) };
+    words.window = timeText(microsIn(settings.window));
     if (settings.base !== null && settings.base < settings.start) {
-      words.base += `, ${at(settings.start - settings.base)} before the start`;
+      words.base += `, ${timeText(microsIn(settings.start - settings.base))} before the start`;
     }
     if (prediction) {
       const { min, max, increment, threshold } = prediction.settings;
@@ -383,8 +387,9 @@ class Page {
       const limits = limitsOf(settings);
       const noun = scale.isSample ? "sample page" : "page";
       const rateWords = (pages) => `${countOf(pages, noun)} per 1,000 ticks`;
-      words.link = `${rateText(limits.link)}: ${rateWords(max)}`;
-      words.first = `${rateText(limits.first)}: ${rateWords(min)}`;
+      const { unit } = settings.link;
+      words.link = `${isInBits(unit) ? `${rateText(limits.link)}: ` : ""}${rateWords(max)}`;
+      words.first = `${roundedWords(limits.first, unit, RATE_UNITS)}: ${rateWords(min)}`;
       words.increase = `+${rateWords(increment)} a round`;
       words.reserve = `leaves ${timeText(limits.downtime - limits.reserve)} for pages`;
       words.downtime = threshold === 1 ? `stops when no ${noun} is left`

@@ -1,8 +1,9 @@
 // The sections of the plan: the verdict, the comparison with the plans that are kept, and the rounds of all. If
 // settings make no plan, the last one stays, grey.
 
+import { ControlRefusal } from "./asking.js";
 import { byId, html } from "./elements.js";
-import { bytesText, timeText } from "./numbers.js";
+import { bytesText, momentText, timeText } from "./numbers.js";
 import {
   comparisonOf, comparisonRows, refusalPart, refusedWords, ROUND_COLUMNS, roundRows, roundsTable, verdictOf,
   verdictParts,
@@ -13,15 +14,15 @@ import { watchWidths, widthOf } from "./plot.js";
 import { isUnknown, keptWords } from "./predictions.js";
 import { quantityWords } from "./quantities.js";
 import { reachOf, roundsLook, roundsPicture } from "./rounds-chart.js";
-import { amountOf, ControlRefusal, microsOf, RATE_UNITS, TIME_UNITS } from "./units.js";
+import { amountOf, microsOf, RATE_UNITS, TIME_UNITS } from "./units.js";
 
 /** The predictions of kept plans that are not refused. */
 export function keptPredictions(kept) {
   return kept.map(({ found }) => found.value).filter(Boolean);
 }
 
-function timeOf(ticks, { tick }) {
-  return timeText(microsOf({ tick: amountOf(tick) }, ticks));
+function momentOf(ticks, { tick }) {
+  return momentText(microsOf({ tick: amountOf(tick) }, ticks));
 }
 
 /** The words for each part of the settings, by which a kept plan is told from the other. */
@@ -31,10 +32,10 @@ const WORDS = {
   increase: (value) => `increment ${value} %`,
   downtime: (value) => `downtime limit ${quantityWords(value, TIME_UNITS)}`,
   reserve: (value) => `reserve ${quantityWords(value, TIME_UNITS)}`,
-  start: (value, settings) => `start at ${timeOf(value, settings)}`,
+  start: (value, settings) => `start at ${momentOf(value, settings)}`,
   rounds: (value) => `at most ${value} rounds`,
   skip: (value) => (value ? "skips pages" : "skips no pages"),
-  base: (value, settings) => (value === null ? "cold start" : `copy before ${timeOf(value, settings)}`),
+  base: (value, settings) => (value === null ? "cold start" : `copy before ${momentOf(value, settings)}`),
   tick: (value) => `tick ${quantityWords(value, TIME_UNITS)}`,
   sample: (value) => (value === null ? "all pages" : `sample of ${value.part} in ${value.whole}`),
 };

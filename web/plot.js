@@ -61,10 +61,13 @@ function timeLabel(micros, step) {
   return `${(micros / unit).toFixed(Math.min(digits, 6))} ${name}`;
 }
 
-/** The marks and labels below a plot that ends at `bottom`. A tick has `tick` microseconds. */
-export function axisLabels(axis, tick, bottom) {
+/** The room below a plot for the labels of its axis and their title. */
+export const AXIS_HEIGHT = 50;
+
+/** The marks and labels below a plot that ends at `bottom`, and their title. A tick has `tick` microseconds. */
+export function axisLabels(axis, tick, bottom, title) {
   const step = stepFor((axis.last - axis.first) * tick, Math.max(1, axis.room / LABEL_ROOM));
-  const marks = [];
+  const marks = [label("middle title", LEFT + axis.room / 2, bottom + 40, title)];
   let taken = 0;
   for (let at = Math.ceil((axis.first * tick) / step) * step; at <= axis.last * tick; at += step) {
     const x = axis.place(at / tick);

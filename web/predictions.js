@@ -1,7 +1,8 @@
 // Predictions in words: how a plan ends, what speaks against it, and the words that set the same limits elsewhere. What
 // a migration comes to is the module's answer, as that of `precopy-view predict`.
 
-import { askedOf, limitsOf, OWN_INCREMENT, RATE_UNITS, scaleOf, TIME_UNITS } from "./units.js";
+import { askedOf, OWN_INCREMENT } from "./asking.js";
+import { limitsOf, RATE_UNITS, scaleOf, TIME_UNITS } from "./units.js";
 import { countOf } from "./numbers.js";
 import { commandWord } from "./quantities.js";
 

@@ -133,6 +133,22 @@ export function quantityWords(quantity, units) {
   return `${shownCount(quantity, units)} ${unitName(quantity.unit, units)}`;
 }
 
+/** Whether a unit of rate counts bits. */
+export function isInBits(unit) {
+  return unit.endsWith("bit");
+}
+
+/** A number with about three digits. */
+export function fewDigits(number) {
+  return number < 100 ? Number(number.toPrecision(3)) : Math.round(number);
+}
+
+/** About how much an amount is, in words of the family of a unit. */
+export function roundedWords(amount, unit, units) {
+  const fitting = inFittingUnit(Number(amount), familyOf(unit)[0], units);
+  return `${fewDigits(fitting.amount / Number(units[fitting.unit]))} ${unitName(fitting.unit, units)}`;
+}
+
 /** An amount in a unit in which a count leads back to it: of the family of this unit, or else of another. */
 export function exactQuantity(amount, unit, units) {
   const families = [familyOf(unit), ...FAMILIES.filter(([first]) => Object.hasOwn(units, first))];

@@ -1,10 +1,10 @@
 // The picture of a plan: the pages of each round and its rate, the stop and the downtime, by the time since the start.
 
-import { area, label } from "./elements.js";
-import { counted, pagesText, timeText } from "./numbers.js";
-import { axisOf, axisLabels, barOf, frameOf, panelOf, pictureOf } from "./plot.js";
+import { area } from "./elements.js";
+import { counted, momentText, pagesText, timeText } from "./numbers.js";
+import { AXIS_HEIGHT, axisOf, axisLabels, barOf, frameOf, panelOf, pictureOf } from "./plot.js";
 import { reasonWords } from "./predictions.js";
-import { inFittingUnit, unitName } from "./quantities.js";
+import { fewDigits, inFittingUnit, unitName } from "./quantities.js";
 import { microsOf, RATE_UNITS } from "./units.js";
 
 const PAGES_TOP = 26;
@@ -28,8 +28,7 @@ function rateUnit({ state, scale }) {
   const { unit } = inFittingUnit(state.link.amount, state.link.unit, RATE_UNITS);
   const { page, guest, sampled, tick } = scale;
   const size = Number(page * guest * 1_000n) / (Number(sampled * tick) * Number(RATE_UNITS[unit]));
-  const text = (rate) => String(rate * size < 100 ? Number((rate * size).toPrecision(3)) : Math.round(rate * size));
-  return { name: unitName(unit, RATE_UNITS), text };
+  return { name: unitName(unit, RATE_UNITS), text: (rate) => String(fewDigits(rate * size)) };
 }
 
 /** The pages that are dirtied, as a mark over the bar of the round, with a halo that parts it from what it lies on. */
@@ -72,18 +71,17 @@ export function roundsPicture(width, prediction, reach) {
     ...plan.rounds.flatMap((round) => roundParts(axis, pages, rates, round, settings.start)),
     area("link", axis.place(0), rates.level(settings.max) - 0.5, axis.room, 1),
     ...stopParts(axis, pages, stop, plan.down), ...stopParts(axis, rates, stop, plan.down),
-    ...axisLabels(axis, Number(scale.tick), rates.bottom),
-    label("middle title", axis.place(0) + axis.room / 2, rates.bottom + 40, "time since the start"),
+    ...axisLabels(axis, Number(scale.tick), rates.bottom, "time since the start"),
   ];
-  return { axis, picture: pictureOf(width, RATES_TOP + RATES_HEIGHT + 50, parts) };
+  return { axis, picture: pictureOf(width, RATES_TOP + RATES_HEIGHT + AXIS_HEIGHT, parts) };
 }
 
 /** What a round has, in words; the item after the last round is the stop. */
 function wordsOf(prediction, at) {
   const { plan, settings, scale } = prediction;
-  const since = (tick) => timeText(microsOf(scale, tick - settings.start));
+  const since = (tick) => momentText(microsOf(scale, tick - settings.start));
   if (at === plan.rounds.length) {
-    return `Stop at ${since(plan.stop)}, since ${reasonWords(prediction)}: ${pagesText(scale, plan.left)} left, `
+    return `Stop at ${since(plan.stop)}: ${reasonWords(prediction)}; ${pagesText(scale, plan.left)} left, `
       + `sent in ${timeText(microsOf(scale, plan.down))}`;
   }
   const round = plan.rounds[at];

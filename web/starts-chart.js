@@ -1,9 +1,9 @@
 // The picture of when to move: downtime, time and bytes by the start of the migration, on the axis of the windows. Of
 // starts whose migration ends after the trace nothing is drawn but where they lie.
 
-import { area, grounded, label, svg } from "./elements.js";
-import { bytesText, counted, timeText } from "./numbers.js";
-import { axisLabels, frameOf, panelOf, pictureOf } from "./plot.js";
+import { area, grounded, svg } from "./elements.js";
+import { bytesText, counted, momentText, timeText } from "./numbers.js";
+import { AXIS_HEIGHT, axisLabels, frameOf, panelOf, pictureOf } from "./plot.js";
 import { keptWords } from "./predictions.js";
 import { microsOf } from "./units.js";
 
@@ -126,9 +126,8 @@ function curveParts(axis, { name, number, unit, hasLimit }, place, asked) {
 export function startsPicture(axis, asked) {
   const bottom = CURVE_TOP + (CURVES.length - 1) * CURVE_STEP + CURVE_HEIGHT;
   const parts = CURVES.flatMap((curve, place) => curveParts(axis, curve, place, asked));
-  parts.push(...axisLabels(axis, Number(asked.scale.tick), bottom));
-  parts.push(label("middle title", axis.place(axis.first) + axis.room / 2, bottom + 40, "start of the migration"));
-  return pictureOf(axis.width, bottom + 50, parts);
+  parts.push(...axisLabels(axis, Number(asked.scale.tick), bottom, "start of the migration, by the time in the trace"));
+  return pictureOf(axis.width, bottom + AXIS_HEIGHT, parts);
 }
 
 /** What a migration costs, in words. */
@@ -139,7 +138,7 @@ export function costWords(cost) {
 
 /** What a migration from a start costs, in words. */
 export function startWords(asked, { start, cost }, hasTicks) {
-  const place = `${timeText(microsOf(asked.scale, start))}${hasTicks ? `, tick ${counted(start)}` : ""}`;
+  const place = `${momentText(microsOf(asked.scale, start))}${hasTicks ? `, tick ${counted(start)}` : ""}`;
   return `${place}: ${costWords(cost)}`;
 }
 
@@ -154,6 +153,6 @@ export function startsLook(axis, asked, choose) {
     words: (at) => `Start at ${startWords(asked, costs[at], asked.hasTicks)}`,
     span: (at) => [axis.place(costs[at].start) - 1, axis.place(costs[at].start) + 1],
     choose: (at) => choose(costs[at].start),
-    offer: (at) => `Start at ${timeText(microsOf(asked.scale, costs[at].start))}`,
+    offer: (at) => `Start at ${momentText(microsOf(asked.scale, costs[at].start))}`,
   };
 }

@@ -1,7 +1,7 @@
 // The section on when to move: it asks the worker what the migration costs from many starts, and draws the answer.
 
 import { byId, html } from "./elements.js";
-import { bytesText, countOf, signed, timeText } from "./numbers.js";
+import { bytesText, countOf, signed, timeText, unbroken } from "./numbers.js";
 import { firstStartOf, startCosts, startRows, startTicks } from "./starts.js";
 import { costWords, startsLook, startsPicture, startWords } from "./starts-chart.js";
 import { saveButtons } from "./exports.js";
@@ -152,7 +152,7 @@ export class StartsView {
     if (cost.kept === "unknown") {
       return [html("p", { id: "saving" }, "This plan ends after the trace: what the best saves is unknown.")];
     }
-    const saved = (text, name) => signed(best.cost[name] - cost[name], text).replace(" ", "\u00a0");
+    const saved = (text, name) => unbroken(signed(best.cost[name] - cost[name], text));
     const words = prediction.settings.start === best.start ? "This plan starts there."
       : `At the best start instead of this one: time ${saved(timeText, "time")}, sent ${saved(bytesText, "bytes")}, `
         + `downtime ${saved(timeText, "downtime")}.`;

@@ -1,7 +1,8 @@
 // Settings with another link or downtime limit that ask for the same in all else. Controls say the first round and the
 // increment as shares of the link, so another link changes these shares.
 
-import { amountOf, askedIfAny, OWN_INCREMENT, percentOf } from "./units.js";
+import { askedIfAny, OWN_INCREMENT } from "./asking.js";
+import { amountOf, percentOf } from "./units.js";
 
 /** The share that is the first round of a question, in per cent of its link. */
 function firstOf({ link, first }) {

@@ -2,7 +2,7 @@
 // file that is refused leaves what is open as it is.
 
 import { byId, html } from "./elements.js";
-import { bytesText, countOf, wholeTime } from "./numbers.js";
+import { bytesText, countOf, timeText, unbroken } from "./numbers.js";
 import { refusalPart } from "./outcome.js";
 import { PlannerClient, WorkerEnded } from "./planner-client.js";
 import { Refusal } from "./planner.js";
@@ -73,7 +73,8 @@ export class TraceDesk {
     const traces = files.filter((file) => !isRecord(file));
     const records = files.filter(isRecord);
     const others = [...traces.slice(1), ...records.slice(1)].map(({ name }) => name);
-    const notes = others.length > 0 ? [html("p", {}, `Not opened: ${others.join(", ")}. A page has one trace.`)] : [];
+    const notes = others.length === 0 ? []
+      : [html("p", {}, `Not opened: ${others.join(", ")}. The page has one trace at a time.`)];
     const record = records.length > 0 ? await this.textOf(records[0]) : null;
     if (traces.length > 0) {
       const [file] = traces;
@@ -201,7 +202,7 @@ export class TraceDesk {
       + `(${bytesText(scale.guest * scale.page)})` : ` (${bytesText(BigInt(pages) * BigInt(pageBytes))})`;
     const whence = this.trace.record ? `, as ${source.record.name} says` : "";
     const words = `${source.name}: ${countOf(pages, "page")} of ${pageBytes} bytes${sample}; `
-      + `${countOf(writes, "write")} in ${wholeTime(microsOf(scale, last))}${whence}`;
+      + `${countOf(writes, "write")} in ${unbroken(timeText(microsOf(scale, last)))}${whence}`;
     if (byId("trace-state").textContent !== words) {
       byId("trace-state").textContent = words;
     }

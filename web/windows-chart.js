@@ -1,8 +1,8 @@
 // The picture of the working set: the pages of each window, and where a plan's rounds and its stop lie.
 
 import { area, box, grounded, svg } from "./elements.js";
-import { counted, countOf, pagesText, timeText } from "./numbers.js";
-import { axisOf, axisLabels, barOf, frameOf, panelOf, pictureOf } from "./plot.js";
+import { counted, countOf, momentText, pagesText } from "./numbers.js";
+import { AXIS_HEIGHT, axisOf, axisLabels, barOf, frameOf, panelOf, pictureOf } from "./plot.js";
 import { firstPlace } from "./search.js";
 import { microsOf } from "./units.js";
 
@@ -101,7 +101,7 @@ export function windowParts(axis, windows, length, { tick, isSample }) {
     ...frameOf(axis, panel, isSample ? "Sample pages written in a window" : "Pages written in a window"),
     ...pathsOf(drawn, windows, panel),
     ...cutLabels(axis, drawn, windows, panel),
-    ...axisLabels(axis, tick, panel.bottom),
+    ...axisLabels(axis, tick, panel.bottom, "time in the trace"),
   ];
   return { panel, drawn, parts };
 }
@@ -135,7 +135,7 @@ export function planMarks(axis, panel, settings, plan) {
 
 /** The picture of all parts. */
 export function windowsPicture(width, parts) {
-  return pictureOf(width, WINDOWS_TOP + WINDOWS_HEIGHT + 26, parts);
+  return pictureOf(width, WINDOWS_TOP + WINDOWS_HEIGHT + AXIS_HEIGHT, parts);
 }
 
 /** What a window has, in words. */
@@ -143,7 +143,7 @@ export function windowWords(windows, row, length, scale) {
   const from = microsOf(scale, windows.number[row] * length);
   const to = microsOf(scale, (windows.number[row] + 1) * length);
   const earlier = windows.pages[row] - windows.fresh[row] - windows.again[row];
-  return `Window ${windows.number[row]}, ${timeText(from)} to ${timeText(to)}: `
+  return `Window ${windows.number[row]}, ${momentText(from)} to ${momentText(to)}: `
     + `${countOf(windows.writes[row], "write")}, ${pagesText(scale, windows.pages[row])}; `
     + `${counted(windows.again[row])} also in the window before, ${counted(earlier)} earlier, `
     + `${counted(windows.fresh[row])} never before`;

@@ -3,7 +3,7 @@
 import { area, byId, svg } from "./elements.js";
 import { saveButtons } from "./exports.js";
 import { Inspector } from "./inspector.js";
-import { timeText } from "./numbers.js";
+import { momentText } from "./numbers.js";
 import { WINDOW_COLUMNS, windowRows, windowsTable } from "./outcome.js";
 import { widthOf } from "./plot.js";
 import { amountOf, microsOf } from "./units.js";
@@ -100,7 +100,7 @@ export class WindowsView {
       words: (at) => windowWords(windows, drawn[at].row, length, scale),
       span: (at) => [drawn[at].left, drawn[at].right],
       choose: (at, place) => this.isBrushed || this.choose(place === undefined ? tickOf(at) : axis.tickAt(place)),
-      offer: (at) => `Start at ${timeText(microsOf(scale, tickOf(at)))}`,
+      offer: (at) => `Start at ${momentText(microsOf(scale, tickOf(at)))}`,
     };
   }
 
