@@ -126,7 +126,7 @@ function curveParts(axis, { name, number, unit, hasLimit }, place, asked) {
 export function startsPicture(axis, asked) {
   const bottom = CURVE_TOP + (CURVES.length - 1) * CURVE_STEP + CURVE_HEIGHT;
   const parts = CURVES.flatMap((curve, place) => curveParts(axis, curve, place, asked));
-  parts.push(...axisLabels(axis, Number(asked.scale.tick), bottom, "start of the migration, by the time in the trace"));
+  parts.push(...axisLabels(axis, Number(asked.scale.tick), bottom, "start of the migration"));
   return pictureOf(axis.width, bottom + AXIS_HEIGHT, parts);
 }
 
