@@ -27,7 +27,7 @@ import { WindowsView } from "./windows-view.js";
 const SETTLED = 400;
 
 /** The width of a picture on paper, where two stand beside each other, in pixels. */
-const WIDTH_ON_PAPER = 520;
+const WIDTH_ON_PAPER = 560;
 
 /** The example that is shown if the address asks for nothing. */
 const FIRST_EXAMPLE = "sqlite";
