@@ -162,6 +162,13 @@ def time_text(micros):
     return seconds(micros) if micros >= 1_000_000 else f"{micros / 1_000:.3f}".rstrip("0").rstrip(".") + " ms"
 
 
+def error_text(micros):
+    """The standard error of a time as the page writes it: a time with few digits."""
+    if not 1_000 <= micros < 1_000_000:
+        return time_text(micros)
+    return time_text(micros - micros % (100 if micros < 10_000 else 1_000))
+
+
 def size_text(size):
     """A size as the page writes it: as precopy-view does, but for what would be zeros."""
     if 0 < size * 100 < 1 << 20:
@@ -308,8 +315,9 @@ def comparison(asked, report, document):
     guest = [f"{plural(stop['total'] * asked.guest // asked.sampled, 'page')} of the guest"] * bool(of_sample)
     pages = f"{plural(stop['total'], 'page')}{of_sample}"
     return {
-        "downtime": [time_text(found["down"]), more(time_text(down), "kept" if found["kept"] == "yes" else "not kept")],
-        "time": [time_text(found["time"]), more(time_text(time))],
+        "downtime": [time_text(found["down"]),
+                     more(error_text(down), "kept" if found["kept"] == "yes" else "not kept")],
+        "time": [time_text(found["time"]), more(error_text(time))],
         "sent": [size_text(found["sent"]), more(size_text(sent), *guest, pages)],
         "rounds": [f"{len(report['rounds']):,}", reason(asked, report)],
         "left": [plural(stop["pages"], "page") + of_sample, few],

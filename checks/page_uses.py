@@ -334,6 +334,8 @@ def check_worker(page):
     found = typed(page, "rounds", "7")
     require("the planner ended" in found["verdict"] and found["stale"], f"after three ends: {found['verdict']}")
     page.browser.value("window.isDeadly = false; 0")
+    found = page.after("document.getElementById('try-again').click()")
+    require(found["refused"] is None and not found["stale"], f"tried again: {found['verdict']}")
     require(typed(page, "rounds", "30") == before, "no plan after three ends")
     page.browser.value("workers.at(-1).terminate()")
     page.browser.value("""(() => {

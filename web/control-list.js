@@ -26,7 +26,7 @@ export const GROUPS = [
     title: "Migration",
     controls: [
       { name: "start", label: "Start at tick", low: 0, high: 0, isTick: true },
-      { name: "rounds", label: "Most rounds", low: 1, high: 64, isPlain: true },
+      { name: "rounds", label: "Most rounds", unit: "rounds", low: 1, high: 64, isPlain: true },
       { name: "skip", label: "Skip pages that are written again before they are sent", isSwitch: true },
       { name: "warm", label: "Warm start: the destination has a copy", isSwitch: true },
       { name: "base", label: "Copy taken before tick", low: 0, high: 0, isTick: true },
@@ -36,8 +36,9 @@ export const GROUPS = [
     title: "Trace",
     controls: [
       { name: "tick", label: "Length of a tick", units: TIME_UNITS, low: 1, high: 1_000_000, isPlain: true },
-      { name: "sample", label: "Guest pages per traced page", low: 1, high: 4096, isLog: true, isSample: true },
-      { name: "window", label: "Window, in ticks", low: 1, high: 1000, isLog: true },
+      { name: "sample", label: "A traced page stands for", unit: "guest pages", low: 1, high: 4096, isLog: true,
+        isSample: true },
+      { name: "window", label: "Window", unit: "ticks", low: 1, high: 1000, isLog: true },
       { name: "ticks", label: "Show ticks beside times", isSwitch: true },
     ],
   },

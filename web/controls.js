@@ -64,8 +64,8 @@ export class Controls {
     part.field.addEventListener("change", () => this.unread || this.show(this.settings));
     part.field.addEventListener("keydown", (event) => this.stepped(part, event));
     part.slider.addEventListener("input", () => this.slid(part));
-    part.unit = control.units ? this.unitChoice(part) : control.unit && html("span", { class: "unit" }, control.unit);
-    const fields = html("div", { class: "fields" }, ...[part.field, part.unit].filter(Boolean));
+    part.unit = control.units ? this.unitChoice(part) : html("span", { class: "unit" }, control.unit ?? "");
+    const fields = html("div", { class: "fields" }, part.field, part.unit);
     part.whole = html("div", { class: "control", "data-control": control.name },
       html("div", { class: "head" }, html("label", { for: id }, control.label), fields), part.slider,
       ...(part.derived ? [part.derived] : []), part.fault);

@@ -56,6 +56,12 @@ export function timeText(micros) {
   return micros < 1_000_000n ? `${decimalText(micros, 1_000n, 3)} ms` : secondsText(micros);
 }
 
+/** The standard error of a time, in microseconds: as a time, with few digits. */
+export function errorTimeText(micros) {
+  const digits = micros < 10_000n ? 1 : 0;
+  return micros < 1_000n || micros >= 1_000_000n ? timeText(micros) : `${decimalText(micros, 1_000n, digits)} ms`;
+}
+
 /** A text whose number and unit stay on one line. */
 export function unbroken(text) {
   return text.replace(" ", "\u00a0");

@@ -3,7 +3,9 @@
 import { ControlRefusal } from "./asking.js";
 import { LABELS } from "./control-list.js";
 import { html } from "./elements.js";
-import { bytesText, counted, countOf, momentText, pagesText, signed, timeText, unbroken } from "./numbers.js";
+import {
+  bytesText, counted, countOf, errorTimeText, momentText, pagesText, signed, timeText, unbroken,
+} from "./numbers.js";
 import { endingOf, isGood, isUnknown, keptWords, reasonWords, warningsOf } from "./predictions.js";
 import { WorkerEnded } from "./planner-client.js";
 import { Refusal } from "./planner.js";
@@ -35,10 +37,10 @@ function errorText({ errors }, name, text) {
  */
 const ROWS = [
   { name: "downtime", title: "Downtime", isPrice: true, number: ({ cost }) => cost.downtime, text: timeText,
-    more: (some) => joined(errorText(some, "downtime", timeText), keptWords(some.cost),
+    more: (some) => joined(errorText(some, "downtime", errorTimeText), keptWords(some.cost),
       tickWords(some, `${countOf(some.plan.down, "tick")} for pages`)) },
   { name: "time", title: "Total time", isPrice: true, number: ({ cost }) => cost.time, text: timeText,
-    more: (some) => joined(errorText(some, "time", timeText),
+    more: (some) => joined(errorText(some, "time", errorTimeText),
       tickWords(some, `${countOf(some.plan.stop - some.settings.start, "tick")} of pre-copy`)),
     unknown: ({ cost }) => `more than ${timeText(cost.recorded)}` },
   { name: "sent", title: "Sent", isPrice: true, number: ({ cost }) => cost.bytes, text: bytesText,
@@ -112,7 +114,7 @@ function differenceOf(row, prediction, kept) {
   const words = signed(difference, (amount) => row.text(amount, prediction));
   const [className, mark] = difference == 0 || !row.isPrice ? ["difference", ""]
     : difference < 0 ? ["difference better", " \u25bc\u00a0better"] : ["difference worse", " \u25b2\u00a0worse"];
-  return html("span", { class: className }, `this: ${words}${mark}`);
+  return html("span", { class: className }, `this plan: ${words}${mark}`);
 }
 
 function keptCell(row, prediction, { found: { value } }, place) {
@@ -207,8 +209,7 @@ export function windowsTable(windows) {
 /** What was refused, in words: a name, and a sentence. */
 export function refusedWords(error) {
   if (error instanceof WorkerEnded) {
-    return { name: "the planner ended.", sentence: "It was started again, and ended again: change something to try it "
-      + "once more." };
+    return { name: "the planner ended.", sentence: "It was started again, and ended again." };
   }
   return error instanceof ControlRefusal ? { name: LABELS[error.control], sentence: error.message }
     : refusalWords(error);

@@ -11,7 +11,7 @@ import { LateAnswers } from "./late-answers.js";
 import { LimitsView } from "./limits-view.js";
 import { keptPredictions, PlanView } from "./plan-view.js";
 import { serve } from "./planner-worker.js";
-import { watchWidths } from "./plot.js";
+import { fixWidths, watchWidths } from "./plot.js";
 import { hasWideMemory, Planner, Refusal } from "./planner.js";
 import { commandsOf, predictionOf } from "./predictions.js";
 import { isInBits, roundedWords } from "./quantities.js";
@@ -25,6 +25,9 @@ import { WindowsView } from "./windows-view.js";
 
 /** How long the page waits for a change to be the last one until it announces it, in milliseconds. */
 const SETTLED = 400;
+
+/** The width of a picture on paper, where two stand beside each other, in pixels. */
+const WIDTH_ON_PAPER = 560;
 
 /** The example that is shown if the address asks for nothing. */
 const FIRST_EXAMPLE = "sqlite";
@@ -84,6 +87,8 @@ class Page {
     byId("comparison").addEventListener("click", ({ target }) => this.pressed(target));
     this.listenToDrops();
     addEventListener("popstate", () => this.follow());
+    addEventListener("beforeprint", () => this.drawFor(WIDTH_ON_PAPER));
+    addEventListener("afterprint", () => this.drawFor(null));
     watchWidths([byId("windows-plot"), byId("starts-plot")], this.planSoon);
   }
 
@@ -318,6 +323,12 @@ class Page {
     this.controls.derive(this.derived(settings, found.value, trace));
     this.controls.refuse(found.refusal, nearest);
     this.found = found;
+  }
+
+  /** Draws pictures as wide as they are on paper, so that their words can be read there; with null as on the screen. */
+  drawFor(width) {
+    fixWidths(width);
+    this.draw();
   }
 
   /** The predictions whose standard errors are shown: that of now, or else the last one, and the kept ones. */

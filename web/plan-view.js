@@ -10,6 +10,7 @@ import {
 } from "./outcome.js";
 import { saveButtons } from "./exports.js";
 import { Inspector } from "./inspector.js";
+import { WorkerEnded } from "./planner-client.js";
 import { watchWidths, widthOf } from "./plot.js";
 import { isUnknown, keptWords } from "./predictions.js";
 import { quantityWords } from "./quantities.js";
@@ -145,6 +146,11 @@ export class PlanView {
 
   /** Why there is no plan, with ways out. */
   refusedParts(refusal) {
+    if (refusal instanceof WorkerEnded) {
+      const again = html("button", { type: "button", id: "try-again" }, "Try again");
+      again.addEventListener("click", this.changed);
+      return [refusalPart(refusal, "No plan:"), html("div", { class: "actions" }, again)];
+    }
     const fit = html("button", { type: "button", id: "fit" }, "Fit all settings to the trace");
     fit.addEventListener("click", this.fit);
     if (!(refusal instanceof ControlRefusal)) {

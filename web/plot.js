@@ -39,8 +39,19 @@ export function watchWidths(plots, changed) {
   plots.forEach((plot) => observer.observe(plot));
 }
 
+/** The width that all plots have on paper; null on the screen. */
+let widthOnPaper = null;
+
+/** Gives all plots a width for paper, or with null their own. */
+export function fixWidths(width) {
+  widthOnPaper = width;
+}
+
 /** The width of a plot, in pixels. */
 export function widthOf(plot) {
+  if (widthOnPaper !== null) {
+    return widthOnPaper;
+  }
   if (!seenWidths.get(plot)) {
     seenWidths.set(plot, plot.clientWidth);
   }

@@ -2,7 +2,7 @@
 // starts whose migration ends after the trace nothing is drawn but where they lie.
 
 import { area, grounded, svg } from "./elements.js";
-import { bytesText, counted, momentText, timeText } from "./numbers.js";
+import { bytesText, counted, momentText, timeText, unbroken } from "./numbers.js";
 import { AXIS_HEIGHT, axisLabels, frameOf, panelOf, pictureOf } from "./plot.js";
 import { keptWords } from "./predictions.js";
 import { microsOf } from "./units.js";
@@ -126,14 +126,14 @@ function curveParts(axis, { name, number, unit, hasLimit }, place, asked) {
 export function startsPicture(axis, asked) {
   const bottom = CURVE_TOP + (CURVES.length - 1) * CURVE_STEP + CURVE_HEIGHT;
   const parts = CURVES.flatMap((curve, place) => curveParts(axis, curve, place, asked));
-  parts.push(...axisLabels(axis, Number(asked.scale.tick), bottom, "start of the migration, by the time in the trace"));
+  parts.push(...axisLabels(axis, Number(asked.scale.tick), bottom, "start of the migration"));
   return pictureOf(axis.width, bottom + AXIS_HEIGHT, parts);
 }
 
 /** What a migration costs, in words. */
 export function costWords(cost) {
-  return `time ${timeText(cost.time)}, sent ${bytesText(cost.bytes)}, downtime ${timeText(cost.downtime)}, `
-    + keptWords(cost);
+  const [time, sent, downtime] = [timeText(cost.time), bytesText(cost.bytes), timeText(cost.downtime)].map(unbroken);
+  return `time ${time}, sent ${sent}, downtime ${downtime}, ${keptWords(cost)}`;
 }
 
 /** What a migration from a start costs, in words. */
