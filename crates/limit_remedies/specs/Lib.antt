@@ -1,3 +1,4 @@
 pub mod Trials
 pub mod Remedies
+pub mod Questions
 pub mod Texts
