@@ -379,8 +379,9 @@ struct precopy_amounts {
 };
 
 /*
- * Sets *amounts to what is enough for the downtime limit of a question, as the lines `enough:` of `precopy-view predict`
- * tell it. These say nothing if the trace ends before the migration does; this function tells what ends within it.
+ * Sets *amounts to what is enough for the downtime limit of a question, as the lines `enough:` of `precopy-view
+ * predict` tell it. These say nothing if the trace ends before the migration does; this function tells what ends
+ * within it.
  *
  * It tests what precopy_predict does, in the same order. It takes memory as precopy_plan does, and the time of some 35
  * plans, at most 98.

@@ -1,6 +1,6 @@
 -- What a caller sees of what keeps a limit, and what it lends for the search.
 use Rattle.std.specs.Prelude.{◌≡◌, ◌≤◌, length}
-use Rattle.limit_remedies.specs.Questions.{remedy_numbers, trial_of}
+use Rattle.limit_remedies.specs.Questions.{remedy_numbers, trial_in}
 use Rattle.limit_remedies.specs.Remedies.{AreRemedies}
 use Rattle.limit_remedies.specs.declared.finding.Remedies.{Remedies}
 use Rattle.limit_remedies.specs.declared.numbers.RemedyNumbers.{RemedyNumbers}
@@ -13,7 +13,7 @@ use Rattle.lent_planner.specs.declared.plans.PlanRoom.{PlanRoom}
 -- these numbers say whether a question's limit is kept over a trace, and what keeps it
 pub record AreNumbersFor (q : Question) (numbers : RemedyNumbers) (trace : GuestTrace) : Type 0 where
   pub found : Remedies
-  pub are_remedies : AreRemedies trace.pages (touches_of trace) (trial_of q) found
+  pub are_remedies : AreRemedies trace.pages (touches_of trace) (trial_in q) found
   pub numbers_are : numbers ≡ remedy_numbers found
 
 -- this is enough for the plans of a search over a trace, each of which has at most 64 rounds

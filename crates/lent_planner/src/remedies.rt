@@ -1,7 +1,7 @@
 //! What keeps the limit of a migration, or how far it is kept.
 
 ghost use Rattle.std.specs.Prelude.{◌≡◌, ◌≢◌, ◌↔◌, IfErr, IfOk, IsOk, IsTrue, OnErr, length};
-ghost use Rattle.limit_remedies.specs.Questions.{trial_of};
+ghost use Rattle.limit_remedies.specs.Questions.{trial_in};
 ghost use Rattle.limit_remedies.specs.Remedies.{AreRemedies};
 ghost use Rattle.migration_model.specs.Touches.{touches_of};
 ghost use Rattle.migration_model.specs.Trace.{GuestTrace, Spells};
@@ -67,7 +67,7 @@ fn asked_remedies(
     rounds: &mut [RoundRow],
 ) -> Result<Remedies, Refusal>
     ensures made { IfOk result (λ found. OfTrace bytes.now question.now (λ trace. AreRemedies trace.pages
-        (touches_of trace) (trial_of question.now) found)) }
+        (touches_of trace) (trial_in question.now) found)) }
     ensures accepted { IfOk result (λ found. AcceptsQuestion question.now) }
     ensures refused { IfErr result (RefusesAsked bytes.now question.now (HasRoomToSearch (room_of (length touches.old)
         (length marks.old) (length list.old) (length rounds.old)))) }

@@ -7,8 +7,8 @@ use Rattle.predictions.specs.Questions.{given, limits_in, scale_in, settings_of}
 use Rattle.predictions.specs.declared.question.Question.{Question}
 
 -- the migration that a question asks for, whose limits are changed to find what keeps them
-abbrev pub trial_of : Question → MigrationTrial
-trial_of q = record {
+abbrev pub trial_in : Question → MigrationTrial
+trial_in q = record {
   scale = scale_in q;
   limits = limits_in q;
   increment = given q.has_increment q.increment;

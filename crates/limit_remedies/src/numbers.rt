@@ -1,7 +1,7 @@
 //! What is enough for the limit of a question, in the numbers that C and a web page have.
 
 ghost use Rattle.std.specs.Prelude.{◌≡◌, IfErr, IfOk, IsOk, OnOk};
-ghost use Rattle.limit_remedies.specs.Questions.{remedy_numbers, trial_of};
+ghost use Rattle.limit_remedies.specs.Questions.{remedy_numbers, trial_in};
 ghost use Rattle.predictions.specs.Questions.{AcceptsQuestion, RefusesQuestion, given};
 
 use crate::change::KBIT;
@@ -61,7 +61,7 @@ fn increment_of(question: &Question) -> Option<u64>
 impl Trial {
     /// Returns the migration that a question asks for, or the first thing that is out of its range.
     pub fn of_question(question: &Question) -> Result<Trial, UnitsError>
-        ensures made { IfOk result (λ trial. trial ≡ trial_of question.now) }
+        ensures made { IfOk result (λ trial. trial ≡ trial_in question.now) }
         ensures accepted { OnOk result (AcceptsQuestion question.now) }
         ensures refused { IfErr result (RefusesQuestion question.now) }
         ensures only { AcceptsQuestion question.now → IsOk result }

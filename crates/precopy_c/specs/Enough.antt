@@ -1,6 +1,6 @@
 -- What C sees of what is enough for a limit. Why there is nothing to tell is as for a prediction.
 use Rattle.std.specs.Prelude.{◌≡◌, ℕ, List}
-use Rattle.limit_remedies.specs.Questions.{remedy_numbers, trial_of}
+use Rattle.limit_remedies.specs.Questions.{remedy_numbers, trial_in}
 use Rattle.limit_remedies.specs.Remedies.{AreRemedies}
 use Rattle.limit_remedies.specs.Trials.{MigrationTrial}
 use Rattle.limit_remedies.specs.declared.finding.Remedies.{Remedies}
@@ -21,4 +21,4 @@ pub record AreAmountsOf (bytes : List ℕ) (q : Question) (numbers : RemedyNumbe
   pub trace : GuestTrace
   pub spells : Spells bytes trace
   pub fits : Fits (scale_in q) trace.shift trace.pages
-  pub are_amounts : AreAmountsOver (trial_of q) (touches_in trace) numbers
+  pub are_amounts : AreAmountsOver (trial_in q) (touches_in trace) numbers
