@@ -64,10 +64,10 @@ def planned(guest: list[list[int]], asked: Settings) -> Outcome:
     base = asked.base
     pages = [n for n, ticks in enumerate(guest) if base is None or is_written(ticks, base, tick)]
     for rounds in range(1, asked.rounds + 1):
-        sent = 0
-        for page in pages:
-            at = tick + 1000 * sent // rate
-            sent += not (asked.skip and rounds > 1 and is_written(guest[page], tick, at))
+        skips = asked.skip and rounds > 1
+        sent = 0 if skips else len(pages)
+        for page in pages if skips else []:
+            sent += not is_written(guest[page], tick, tick + 1000 * sent // rate)
         end = tick - -1000 * sent // rate if sent else tick
         dirtied = [n for n, ticks in enumerate(guest) if is_written(ticks, tick, end)]
         total += sent

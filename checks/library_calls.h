@@ -57,6 +57,11 @@ static uint32_t predict(const struct guest *g, struct outputs *out) {
     return status;
 }
 
+static uint32_t enough(const struct guest *g, struct outputs *out) {
+    return precopy_enough(g->trace.at, g->trace.length, (void *)g->question.at, (void *)out->told.at,
+                          (void *)out->record.at);
+}
+
 static uint32_t memory(const struct guest *g, struct outputs *out) {
     return precopy_memory(g->trace.at, g->trace.length, out->room.at, out->room.length, (void *)out->told.at,
                           (void *)out->record.at);

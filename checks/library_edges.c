@@ -31,6 +31,7 @@ static void nulls_of_traces(void) {
     struct precopy_sums sums;
     struct precopy_prediction told;
     struct precopy_errors errors;
+    struct precopy_amounts amounts;
     uint32_t written;
     size_t count = 9;
     ROW(precopy_check_trace(NULL, 0, &found, &record) == PRECOPY_SHORT_HEADER);
@@ -40,6 +41,7 @@ static void nulls_of_traces(void) {
     ROW(precopy_report(NULL, 0, &good, NULL, 0, &count, &record) == PRECOPY_SHORT_HEADER && count == 1);
     ROW(precopy_report(trace, sizeof trace, &good, NULL, 0, &count, &record) == PRECOPY_SHORT_BUFFER && count > 100);
     ROW(precopy_predict(NULL, 0, &asked, &told, &errors, &record) == PRECOPY_SHORT_HEADER);
+    ROW(precopy_enough(NULL, 0, &asked, &amounts, &record) == PRECOPY_SHORT_HEADER);
     ROW(precopy_sweep(NULL, 0, NULL, 0, NULL, 0, &count, &record) == PRECOPY_SHORT_HEADER);
     ROW(precopy_sweep(trace, sizeof trace, NULL, 0, NULL, 0, &count, &record) == PRECOPY_OK && count == 0);
     ROW(precopy_sweep(trace, sizeof trace, &good, 1, NULL, 0, &count, &record) == PRECOPY_SHORT_BUFFER && count == 0);
@@ -118,6 +120,19 @@ static void order_of_questions(void) {
     ROW(precopy_predict(trace, sizeof trace, &other, &told, &errors, &record) == PRECOPY_OTHER_PAGES);
 }
 
+static void order_of_amounts(void) {
+    struct precopy_question other = asked;
+    struct precopy_amounts amounts;
+    ROW(precopy_enough(trace, sizeof trace, &asked, &amounts, &record) == PRECOPY_OK && amounts.has_speed == 0);
+    other.size = 0, other.tick = 0;
+    ROW(precopy_enough(trace, 5, &other, &amounts, &record) == PRECOPY_BAD_SIZE);
+    other.size = sizeof other;
+    ROW(precopy_enough(trace, 5, &other, &amounts, &record) == PRECOPY_BAD_TICK);
+    other = asked, other.page = 32, other.link = 32000;
+    ROW(precopy_enough(trace, 32, &other, &amounts, &record) == PRECOPY_SHORT_RECORD && forget() == 0);
+    ROW(precopy_enough(trace, sizeof trace, &other, &amounts, &record) == PRECOPY_OTHER_PAGES);
+}
+
 static void order_of_places(void) {
     struct precopy_write writes[1];
     uint32_t version;
@@ -163,6 +178,7 @@ int main(void) {
     nulls_of_frames();
     order_of_traces();
     order_of_questions();
+    order_of_amounts();
     order_of_places();
     order_of_frames();
     printf("%d passed, %d failed\n", passed, failed);

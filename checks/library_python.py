@@ -69,12 +69,13 @@ def numbers_of_questions(trace):
     ends |= {"start": (0, (1 << 40) - 1), "base": (0, 0), "skip": (0, 1)}
     asked = {"link": 1_000 * page, "downtime": 0, "page": page, "sampled": pages, "guest": pages}
     for name, each in ends.items():
-        yield f"predict, {name}", predicted_with(trace, asked, name.split()[0]), each
+        for call in (precopy.predict, precopy.enough):
+            yield f"{call.__name__}, {name}", answered_with(call, trace, asked, name.split()[0]), each
 
 
-def predicted_with(trace, asked, name):
-    """The prediction of a question, by one more of its numbers."""
-    return lambda it: precopy.predict(trace, precopy.Question(**{**asked, name: it}))
+def answered_with(call, trace, asked, name):
+    """What a call answers to a question, by one more of its numbers."""
+    return lambda it: call(trace, precopy.Question(**{**asked, name: it}))
 
 
 def of_setting(name, value):
@@ -131,7 +132,8 @@ def taking_bytes(trace, stream):
     yield "sweep", trace, lambda it: precopy.sweep(it, [settings, settings])
     page = 1 << trace[5] if trace[5:6] and 4 <= trace[5] <= 12 else 4096
     question = precopy.Question(link=100 * page, downtime=5000, page=page)
-    yield "predict", trace, lambda it: precopy.predict(it, question)
+    for call in (precopy.predict, precopy.enough):
+        yield call.__name__, trace, lambda it, c=call: c(it, question)
     for call in (precopy.check_trace, precopy.memory, precopy.is_zero):
         yield call.__name__, trace, call
     yield "memory_before", trace, lambda it: precopy.memory_before(it, 700)

@@ -71,6 +71,11 @@ def prediction_lines(it):
         yield f"errors {it.errors.bytes} {it.errors.time} {it.errors.downtime}"
 
 
+def amounts_line(it):
+    words = ["-" if amount is None else str(amount) for amount in (it.link, it.downtime, it.speed)]
+    return f"enough {str(it.is_kept).lower()} {' '.join(words)}"
+
+
 def answer_lines(trace, settings):
     """What examples/answers.rs of the crate prints, as the Python module tells it."""
     try:
@@ -87,6 +92,7 @@ def answer_lines(trace, settings):
         yield f"memory {precopy.memory(trace).hex()}"
         yield f"before {precopy.memory_before(trace, sums.stop).hex()}"
         yield from prediction_lines(precopy.predict(trace, question(sizes, settings)))
+        yield amounts_line(precopy.enough(trace, question(sizes, settings)))
     except precopy.Refused as refused:
         yield f"refused {refused.status} {refused}"
 

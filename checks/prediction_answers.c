@@ -4,7 +4,8 @@
  *     prediction_answers TRACE
  *
  * Each line of standard input has the numbers of a question, in the order of struct precopy_question, but for its size.
- * It prints a line for each: the numbers of the prediction and of its errors in their order, or the status alone.
+ * It prints a line for each: the numbers of the prediction, of its errors, and of what is enough in their order, or the
+ * status alone. It asks both calls, whose statuses must be equal.
  */
 #include "precopy.h"
 
@@ -35,11 +36,14 @@ static int read_question(struct precopy_question *asked) {
     return 1;
 }
 
-static void print_answer(const struct precopy_prediction *it, const struct precopy_errors *errors) {
-    const uint64_t numbers[] = {it->rounds,    it->reason,   it->stop,         it->down,
-                                it->total,     it->left,     it->time,         it->bytes,
-                                it->downtime,  it->recorded, it->converges,    it->kept,
-                                errors->bytes, errors->time, errors->downtime, errors->has_errors};
+static void print_answer(const struct precopy_prediction *it, const struct precopy_errors *errors,
+                         const struct precopy_amounts *enough) {
+    const uint64_t numbers[] = {it->rounds,           it->reason,        it->stop,         it->down,
+                                it->total,            it->left,          it->time,         it->bytes,
+                                it->downtime,         it->recorded,      it->converges,    it->kept,
+                                errors->bytes,        errors->time,      errors->downtime, errors->has_errors,
+                                enough->link,         enough->downtime,  enough->speed,    enough->has_link,
+                                enough->has_downtime, enough->has_speed, enough->is_kept};
     for (size_t i = 0; i < sizeof numbers / sizeof *numbers; i++) {
         printf("%s%" PRIu64, i ? " " : "", numbers[i]);
     }
@@ -59,9 +63,14 @@ int main(int argc, char **argv) {
     while (read_question(&asked)) {
         struct precopy_prediction told;
         struct precopy_errors errors;
+        struct precopy_amounts enough;
         uint32_t record, status = precopy_predict(trace, length, &asked, &told, &errors, &record);
+        if (precopy_enough(trace, length, &asked, &enough, &record) != status) {
+            fprintf(stderr, "precopy_enough does not return %" PRIu32 "\n", status);
+            return 1;
+        }
         if (status == PRECOPY_OK) {
-            print_answer(&told, &errors);
+            print_answer(&told, &errors, &enough);
         } else {
             printf("%" PRIu32 "\n", status);
         }

@@ -13,7 +13,7 @@ from typing import NamedTuple, Optional
 
 from prediction_model import TOP, Answer, document_of, host_lines, lines_of
 from prediction_questions import Asked
-from remedy_model import enough_lines
+from remedy_model import Remedies, enough_lines, found_of
 from view_texts import Failure, ran
 
 LIBRARY = os.path.join(TOP, "out", "library")
@@ -152,18 +152,15 @@ class Page(Door):
 
     @staticmethod
     def remedies(answer: Answer) -> Optional[dict]:
-        """What is enough for the limit, with the link in bytes a second."""
-        found = answer.enough
-        if found is None:
+        """What is enough for the limit."""
+        if answer.enough is None:
             return None
-        link = None if found.link is None else 125 * found.link
-        amounts = {"link": link, "downtime": found.downtime, "speed": found.speed}
-        words = {name: None if amount is None else str(amount) for name, amount in amounts.items()}
-        return {"isKept": found.is_kept, **words}
+        words = {name: None if amount is None else str(amount) for name, amount in amounts_of(answer.enough).items()}
+        return {"isKept": answer.enough.is_kept, **words}
 
 
 class Library(Door):
-    """The library. It gives numbers, and standard errors of what is unknown too."""
+    """The library. It gives numbers, and tells standard errors and what is enough of what is unknown too."""
 
     LACKING = f"there is no {LIBRARY}; make lib builds it"
 
@@ -174,34 +171,39 @@ class Library(Door):
     def wanted(self, asked: Asked, answer: Answer) -> object:
         numbers = {name: getattr(answer, name) for name in ("rounds", "time", "downtime", "left", "recorded")}
         verdicts = {"reason": answer.why, "converges": answer.converges, "kept": answer.kept}
-        return {**numbers, **verdicts, "bytes": answer.sent, "errors": answer.errors}
+        found = answer.enough or found_of(asked.trace.guest, asked.question.trial(), is_late=False)
+        enough = {**amounts_of(found), "is_kept": found.is_kept}
+        return {**numbers, **verdicts, "bytes": answer.sent, "errors": answer.errors, "enough": enough}
 
 
 class Python(Library):
     """The library in Python."""
 
-    name = "precopy.predict"
+    name = "precopy.predict, precopy.enough"
 
     def told(self, asked: Asked) -> object:
         import precopy  # noqa: PLC0415
 
         with open(asked.trace.path, "rb") as file:
             trace = file.read()
+        question = precopy.Question(**vars(asked.question))
         try:
-            it = precopy.predict(trace, precopy.Question(**vars(asked.question)))
+            it = precopy.predict(trace, question)
         except (precopy.QuestionRefused, precopy.SettingsRefused):
             return None
         errors = it.errors and (it.errors.bytes, it.errors.time, it.errors.downtime)
         words = {name: getattr(it, name).name.lower() for name in ("reason", "converges", "kept")}
-        return {**vars(it), **words, "errors": errors if words["kept"] != "unknown" else None}
+        known = {"errors": errors if words["kept"] != "unknown" else None}
+        return {**vars(it), **words, **known, "enough": vars(precopy.enough(trace, question))}
 
 
 class C(Library):
     """The library in C, by a program that asks it."""
 
-    name = "precopy_predict"
+    name = "precopy_predict, precopy_enough"
     NUMBERS = "link first downtime reserve tick page sampled guest increment rounds start base"
     ANSWER = "rounds reason stop down total left time bytes downtime recorded converges kept"
+    AMOUNTS = ("link", "downtime", "speed")
 
     @staticmethod
     def lacking(programs: Programs) -> str:
@@ -225,16 +227,20 @@ class C(Library):
         return [given[name] or 0 for name in self.NUMBERS.split()] + has + [int(given["skip"])]
 
     def answer(self, numbers: list[int]) -> object:
-        """What a line of the program tells: twelve numbers and four of standard errors, or a status."""
+        """What a line of the program tells: twelve numbers, four of standard errors and seven of what is enough, or a
+        status."""
         if len(numbers) == 1:
             if numbers[0] in QUESTION_REFUSED:
                 return None
             raise Failure(f"status {numbers[0]}")
         found = dict(zip(self.ANSWER.split(), numbers))
         verdicts = {name: ("yes", "no", "unknown")[found[name]] for name in ("converges", "kept")}
-        has_errors = numbers[-1] and verdicts["kept"] != "unknown"
-        errors = tuple(numbers[-4:-1]) if has_errors else None
-        return {**found, **verdicts, "reason": ("few", "fast", "rounds")[found["reason"]], "errors": errors}
+        has_errors = numbers[15] and verdicts["kept"] != "unknown"
+        errors = tuple(numbers[12:15]) if has_errors else None
+        given = zip(self.AMOUNTS, numbers[16:19], numbers[19:22])
+        enough = {name: amount if has else None for name, amount, has in given} | {"is_kept": numbers[22] != 0}
+        reason = ("few", "fast", "rounds")[found["reason"]]
+        return {**found, **verdicts, "reason": reason, "errors": errors, "enough": enough}
 
 
 DOORS = [Lines, Document, Tool, Page, C, Python]
@@ -250,6 +256,11 @@ def asker(folder: str) -> str:
     if done.returncode:
         raise Failure(f"checks/prediction_answers.c is not compiled: {done.stderr[-300:]}")
     return path
+
+
+def amounts_of(found: Remedies) -> dict[str, Optional[int]]:
+    """The amounts that are enough, with the link in bytes a second."""
+    return {"link": found.link and 125 * found.link, "downtime": found.downtime, "speed": found.speed}
 
 
 def answered(status: int, faults: str) -> Optional[bool]:

@@ -14,9 +14,6 @@ const ANSWER_VERDICTS = 80;
 const HAS_ERRORS = 24;
 const REMEDY_FLAGS = 24;
 
-/** The module tells links in Kbit a second: so many bytes. */
-const KBIT = 125n;
-
 /** The module's reasons of a stop, and its verdicts. */
 export const REASONS = ["few", "fast", "rounds"];
 const VERDICTS = ["yes", "no", "unknown"];
@@ -57,5 +54,5 @@ export function readRemedies(view, at) {
   const [link, downtime, speed] = [0, 1, 2].map((place) =>
     (view.getUint32(at + REMEDY_FLAGS + 4 * place, true) === 0 ? null : view.getBigUint64(at + 8 * place, true)));
   const isKept = view.getUint32(at + REMEDY_FLAGS + 12, true) !== 0;
-  return { isKept, link: link && link * KBIT, downtime, speed };
+  return { isKept, link, downtime, speed };
 }

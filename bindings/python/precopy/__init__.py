@@ -29,7 +29,7 @@ from . import _calls
 from ._calls import LIBRARY as _LIBRARY
 from ._calls import lent as _lent
 from ._calls import number as _number
-from ._predictions import Errors, Prediction, Question, Reason, Verdict, predict
+from ._predictions import Amounts, Errors, Prediction, Question, Reason, Verdict, enough, predict
 from ._refusals import (
     BufferRefused,
     Bytes,
@@ -46,11 +46,11 @@ from ._refusals import check as _check
 from ._refusals import check_over as _check_over
 
 __all__ = [
-    "BufferRefused", "Errors", "Finding", "FlatMemory", "Frame", "FrameRefused", "NoMemory", "PlaceRefused",
+    "Amounts", "BufferRefused", "Errors", "Finding", "FlatMemory", "Frame", "FrameRefused", "NoMemory", "PlaceRefused",
     "Prediction", "Question", "QuestionRefused", "Reason", "Refused", "Round", "Settings", "SettingsRefused", "Sizes",
     "StreamCheck", "Sums", "Taken", "TraceRefused", "Verdict", "Write", "check_settings", "check_streams", "check_trace",
-    "decode_frame", "encode_frame", "is_zero", "memory", "memory_before", "memory_step", "page_at", "page_writes",
-    "plan", "predict", "report", "rounds", "sweep", "version", "version_after", "writes_before",
+    "decode_frame", "encode_frame", "enough", "is_zero", "memory", "memory_before", "memory_step", "page_at",
+    "page_writes", "plan", "predict", "report", "rounds", "sweep", "version", "version_after", "writes_before",
 ]  # fmt: skip
 
 @dataclass(frozen=True)

@@ -62,6 +62,13 @@ class Errors(ctypes.Structure):
     _fields_ = [*((name, ctypes.c_uint64) for name in "bytes time downtime".split()), ("has_errors", ctypes.c_uint32)]
 
 
+class Amounts(ctypes.Structure):
+    _fields_ = [
+        *((name, ctypes.c_uint64) for name in "link downtime speed".split()),
+        *((name, ctypes.c_uint32) for name in "has_link has_downtime has_speed is_kept".split()),
+    ]
+
+
 class Round(ctypes.Structure):
     _fields_ = [(name, ctypes.c_uint64) for name in "start end rate pages sent dirtied".split()]
 
@@ -114,6 +121,7 @@ _CALLS = {
     "report": [_BYTES, _LENGTH, _pointer(Settings), _BYTES, _LENGTH, _COUNT, _RECORD],
     "sweep": [_BYTES, _LENGTH, _pointer(Settings), _LENGTH, _pointer(Sums), _LENGTH, _COUNT, _RECORD],
     "predict": [_BYTES, _LENGTH, _pointer(Question), _pointer(Prediction), _pointer(Errors), _RECORD],
+    "enough": [_BYTES, _LENGTH, _pointer(Question), _pointer(Amounts), _RECORD],
     "memory": [_BYTES, _LENGTH, _BYTES, _LENGTH, _COUNT, _RECORD],
     "memory_before": [_BYTES, _LENGTH, ctypes.c_uint64, _BYTES, _LENGTH, _COUNT, _RECORD],
     "writes_before": [_BYTES, _LENGTH, ctypes.c_uint64, _pointer(_NUMBER), _RECORD],

@@ -1,4 +1,4 @@
-"""Predictions: what a migration with given limits will be, in time and bytes."""
+"""Predictions: what a migration with given limits will be, in time and bytes, and what is enough for its limit."""
 
 from __future__ import annotations
 
@@ -102,3 +102,25 @@ def predict(trace: Bytes, question: Question) -> Prediction:
     told |= {"reason": Reason(found.reason), "converges": Verdict(found.converges), "kept": Verdict(found.kept)}
     moved = Errors(errors.bytes, errors.time, errors.downtime) if errors.has_errors else None
     return Prediction(**told, errors=moved)
+
+
+@dataclass(frozen=True)
+class Amounts:
+    """What is enough for the downtime limit of a question, each amount by itself: a link in bytes a second, a downtime
+    in microseconds, and to how many per cent of its speed the guest is slowed. What was not found is None; if the limit
+    is kept there is no speed."""
+
+    is_kept: bool
+    link: Optional[int]
+    downtime: Optional[int]
+    speed: Optional[int]
+
+
+def enough(trace: Bytes, question: Question) -> Amounts:
+    """Returns whether the migration of a trace keeps the limit of a question, and the least amounts that do: up from
+    what is asked if it does not, and else down from it."""
+    found = _calls.Amounts()
+    check_over(_LIBRARY.precopy_enough, trace, question._as_c(), found)
+    amounts = {name: getattr(found, name) for name in ("link", "downtime", "speed")}
+    told = {name: amount if getattr(found, f"has_{name}") else None for name, amount in amounts.items()}
+    return Amounts(is_kept=found.is_kept != 0, **told)

@@ -65,6 +65,19 @@ fn print_prediction(trace: &[u8], question: &Question) -> Result<(), Refused> {
     if let Some(errors) = it.errors {
         println!("errors {} {} {}", errors.bytes, errors.time, errors.downtime);
     }
+    print_amounts(trace, question)
+}
+
+fn print_amounts(trace: &[u8], question: &Question) -> Result<(), Refused> {
+    let it = precopy::enough(trace, question)?;
+    let word = |amount: Option<u64>| amount.map_or("-".to_string(), |amount| amount.to_string());
+    println!(
+        "enough {} {} {} {}",
+        it.is_kept,
+        word(it.link),
+        word(it.downtime),
+        word(it.speed)
+    );
     Ok(())
 }
 

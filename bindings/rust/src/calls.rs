@@ -88,6 +88,18 @@ pub struct Errors {
 
 #[repr(C)]
 #[derive(Clone, Copy, Default)]
+pub struct Amounts {
+    pub link: u64,
+    pub downtime: u64,
+    pub speed: u64,
+    pub has_link: u32,
+    pub has_downtime: u32,
+    pub has_speed: u32,
+    pub is_kept: u32,
+}
+
+#[repr(C)]
+#[derive(Clone, Copy, Default)]
 pub struct Frame {
     pub page: u32,
     pub stamp: u32,
@@ -163,6 +175,13 @@ extern "C" {
         question: *const Question,
         prediction: *mut Prediction,
         errors: *mut Errors,
+        record: *mut u32,
+    ) -> u32;
+    pub fn precopy_enough(
+        trace: *const u8,
+        trace_length: usize,
+        question: *const Question,
+        amounts: *mut Amounts,
         record: *mut u32,
     ) -> u32;
     pub fn precopy_memory(

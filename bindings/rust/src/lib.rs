@@ -13,7 +13,7 @@ pub use flat::{
     accept, decode_frame, decode_frame_into, encode_frame, encode_frame_into, missing, FlatMemory, Frame, Page, Taken,
 };
 pub use places::{memory_step, page_at, page_at_into, page_writes, page_writes_into, version_after, Write};
-pub use predictions::{predict, Errors, Prediction, Question, Verdict};
+pub use predictions::{enough, predict, Amounts, Errors, Prediction, Question, Verdict};
 pub use refusals::{status, Refused};
 pub use streams::{check_streams, writes_before, Finding, FramePlace, StreamCheck};
 

@@ -1,4 +1,4 @@
-//! Predictions: what a migration with given limits will be, in time and bytes.
+//! Predictions: what a migration with given limits will be, in time and bytes, and what is enough for its limit.
 
 use crate::refusals::{checked, with_record, Refused, NO_RECORD};
 use crate::{calls, Reason};
@@ -184,4 +184,39 @@ pub fn predict(trace: &[u8], question: &Question) -> Result<Prediction, Refused>
         )
     };
     with_record(record, checked(status).map(|()| Prediction::of(&found, &errors)))
+}
+
+/// What is enough for the downtime limit of a question, each amount by itself.
+#[derive(Clone, Copy, Debug, PartialEq, Eq)]
+pub struct Amounts {
+    /// Whether the limit is kept as it is.
+    pub is_kept: bool,
+    /// The least link, in bytes a second, if one was found.
+    pub link: Option<u64>,
+    /// The least downtime, in microseconds, if one was found.
+    pub downtime: Option<u64>,
+    /// To how many per cent of its speed the guest is slowed, if one was found. If the limit is kept there is none.
+    pub speed: Option<u64>,
+}
+
+impl Amounts {
+    fn of(found: &calls::Amounts) -> Amounts {
+        let given = |has: u32, amount: u64| (has != 0).then_some(amount);
+        Amounts {
+            is_kept: found.is_kept != 0,
+            link: given(found.has_link, found.link),
+            downtime: given(found.has_downtime, found.downtime),
+            speed: given(found.has_speed, found.speed),
+        }
+    }
+}
+
+/// Returns whether the migration of a trace keeps the limit of a question, and the least amounts that do: up from what
+/// is asked if it does not, and else down from it.
+pub fn enough(trace: &[u8], question: &Question) -> Result<Amounts, Refused> {
+    let (mut found, mut record) = (calls::Amounts::default(), NO_RECORD);
+    // SAFETY: the slice is there for its length; what is written is this function's.
+    let status =
+        unsafe { calls::precopy_enough(trace.as_ptr(), trace.len(), &question.as_c(), &mut found, &mut record) };
+    with_record(record, checked(status).map(|()| Amounts::of(&found)))
 }

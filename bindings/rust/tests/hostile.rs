@@ -104,7 +104,10 @@ fn questions() {
             base: (drawn() > 1000).then(&mut drawn),
             skip: drawn() > 1000,
         };
-        match precopy::predict(&trace, &question) {
+        let predicted = precopy::predict(&trace, &question);
+        let enough = precopy::enough(&trace, &question);
+        assert_eq!(enough.map(|_| ()), predicted.map(|_| ()));
+        match predicted {
             Ok(_) => told[0] += 1,
             Err(Refused::Question { .. } | Refused::Settings { .. }) => told[1] += 1,
             other => panic!("{other:?}"),

@@ -1,8 +1,8 @@
 //! Worked examples of each call, whose values were worked out by hand; those of checks/library_rows.c.
 
 use precopy::{
-    status, Errors, Finding, FramePlace, Question, Reason, Refused, Settings, Sizes, StreamCheck, Sums, Taken, Verdict,
-    Write,
+    status, Amounts, Errors, Finding, FramePlace, Question, Reason, Refused, Settings, Sizes, StreamCheck, Sums, Taken,
+    Verdict, Write,
 };
 
 /// Pages of 16 bytes, 4 pages, 5 writes: of pages 0 and 1 at ticks 0 and 5, of page 1 at tick 1200, of pages 3 and 1 at
@@ -155,9 +155,44 @@ fn predictions() {
 }
 
 #[test]
+fn amounts() {
+    let amounts = |is_kept, link, downtime, speed| {
+        Ok(Amounts {
+            is_kept,
+            link,
+            downtime,
+            speed,
+        })
+    };
+    let kept = amounts(true, Some(250), Some(600_000), None);
+    assert_eq!(precopy::enough(&TRACE, &half()), kept);
+    let soon_over = Question { start: 2400, ..half() };
+    assert_eq!(precopy::enough(&TRACE, &soon_over), amounts(false, None, None, Some(5)));
+    let late = Question {
+        link: 64,
+        first: Some(32),
+        guest: 4,
+        downtime: 100_000,
+        reserve: 50_000,
+        ..half()
+    };
+    let missed = amounts(false, Some(750), Some(550_000), Some(65));
+    assert_eq!(precopy::enough(&TRACE, &late), missed);
+    let one = Question {
+        rounds: 1,
+        downtime: 0,
+        reserve: 0,
+        ..late
+    };
+    assert_eq!(precopy::enough(&TRACE, &one), amounts(false, None, None, None));
+}
+
+#[test]
 fn questions() {
     let refused = |status, question: Question| {
         let told = precopy::predict(&TRACE, &question).map(|_| ());
+        assert_eq!(told, Err(Refused::Question { status }));
+        let told = precopy::enough(&TRACE, &question).map(|_| ());
         assert_eq!(told, Err(Refused::Question { status }));
     };
     refused(status::BAD_TICK, Question { tick: 0, ..half() });
@@ -244,6 +279,7 @@ fn traces() {
         precopy::report(&TRACE[..101], &slow()).map(|_| ()),
         precopy::sweep(&TRACE[..101], &[slow()]).map(|_| ()),
         precopy::predict(&TRACE[..101], &half()).map(|_| ()),
+        precopy::enough(&TRACE[..101], &half()).map(|_| ()),
         precopy::memory(&TRACE[..101]).map(|_| ()),
         precopy::memory_into(&TRACE[..101], &mut [0; 64]).map(|_| ()),
         precopy::memory_before(&TRACE[..101], 9).map(|_| ()),

@@ -1,85 +1,28 @@
 //! What keeps the limit of a migration, or how far it is kept.
 
 ghost use Rattle.std.specs.Prelude.{◌≡◌, ◌≢◌, ◌↔◌, IfErr, IfOk, IsOk, IsTrue, OnErr, length};
+ghost use Rattle.predictions.specs.Remedies.Questions.{trial_in};
 ghost use Rattle.predictions.specs.Remedies.{AreRemedies};
 ghost use Rattle.migration_model.specs.Touches.{touches_of};
 ghost use Rattle.migration_model.specs.Trace.{GuestTrace, Spells};
-ghost use Rattle.predictions.specs.Questions.{AcceptsQuestion, Fits, given, scale_in, terms_of};
+ghost use Rattle.predictions.specs.Questions.{AcceptsQuestion, Fits, scale_in};
 ghost use Rattle.lent_planner.specs.Answers.{IsNumberOf};
 ghost use Rattle.lent_planner.specs.Plans.{room_of};
 ghost use Rattle.lent_planner.specs.Predictions.{OfTrace, RefusesAsked};
-ghost use Rattle.lent_planner.specs.Remedies.{AreNumbersFor, HasRoomToSearch, remedy_numbers, trial_of};
+ghost use Rattle.lent_planner.specs.Remedies.{AreNumbersFor, HasRoomToSearch};
 
 use crate::answers::Refusal;
 use crate::plans::PlanRoom;
 use crate::touches::{LentLog, LentTouch, put_touches};
 use guest_log::Shape;
 use page_bitmap::word_count;
-use predictions::remedies::{Remedies, Trial, remedies_of};
-use predictions::{Question, Terms, check_fit};
+use predictions::remedies::{Remedies, RemedyNumbers, Trial, remedies_of};
+use predictions::{Question, check_fit};
 use round_planner::RoundRow;
 use trace_codec::TraceView;
 
 /// The most rounds of a plan.
 const MOST_ROUNDS: usize = 64;
-
-/// What keeps a limit, each by itself. An amount that was not found is 0.
-#[derive(Clone, Copy)]
-#[repr(C)]
-pub struct LentRemedies {
-    /// The least link, in Kbit a second, if `has_link` is not 0.
-    pub link: u64,
-    /// The least downtime, in microseconds, if `has_downtime` is not 0.
-    pub downtime: u64,
-    /// To how many per cent of its speed the guest has to be slowed, if `has_speed` is not 0.
-    pub speed: u64,
-    /// Whether a link was found.
-    pub has_link: u32,
-    /// Whether a downtime was found.
-    pub has_downtime: u32,
-    /// Whether a speed was found; if the limit is kept there is none.
-    pub has_speed: u32,
-    /// Whether the limit is kept as it is: 0 for no.
-    pub is_kept: u32,
-}
-
-/// Returns what was found as the caller sees it.
-fn numbers_of(found: &Remedies) -> LentRemedies
-    ensures { result ≡ remedy_numbers found.now }
-{
-    LentRemedies {
-        link: found.link.unwrap_or(0),
-        downtime: found.downtime.unwrap_or(0),
-        speed: found.speed.unwrap_or(0),
-        has_link: u32::from(found.link.is_some()),
-        has_downtime: u32::from(found.downtime.is_some()),
-        has_speed: u32::from(found.speed.is_some()),
-        is_kept: u32::from(found.is_kept),
-    }
-}
-
-/// Returns the increment of a question, if it gives one.
-fn increment_of(question: &Question) -> Option<u64>
-    ensures { result ≡ given question.now.has_increment question.now.increment }
-{
-    if question.has_increment == 0 {
-        return None;
-    }
-    Some(question.increment)
-}
-
-/// Returns the migration that a question asks for.
-fn trial_of(question: &Question, terms: &Terms) -> Trial
-    requires { terms.now ≡ terms_of question.now }
-    ensures { result ≡ trial_of question.now }
-{
-    Trial {
-        scale: terms.scale,
-        limits: terms.limits,
-        increment: increment_of(question),
-        others: *terms.settings.asked(),
-    }
-}
 
 /// Returns whether room is enough for the plans of a search over a trace.
 fn is_enough(room: &PlanRoom, trace: &TraceView<'_>) -> bool
@@ -124,7 +67,7 @@ fn asked_remedies(
     rounds: &mut [RoundRow],
 ) -> Result<Remedies, Refusal>
     ensures made { IfOk result (λ found. OfTrace bytes.now question.now (λ trace. AreRemedies trace.pages
-        (touches_of trace) (trial_of question.now) found)) }
+        (touches_of trace) (trial_in question.now) found)) }
     ensures accepted { IfOk result (λ found. AcceptsQuestion question.now) }
     ensures refused { IfErr result (RefusesAsked bytes.now question.now (HasRoomToSearch (room_of (length touches.old)
         (length marks.old) (length list.old) (length rounds.old)))) }
@@ -134,9 +77,9 @@ fn asked_remedies(
     ensures unchanged { OnErr result ((touches.new ≡ touches.old) × (marks.new ≡ marks.old) × (list.new ≡ list.old)
         × (rounds.new ≡ rounds.old)) }
 {
-    let terms = question.terms()?;
+    let trial = Trial::of_question(question)?;
     let trace = TraceView::parse(bytes)?;
-    check_fit(&terms.scale, &trace.shape())?;
+    check_fit(&trial.scale, &trace.shape())?;
     let room = PlanRoom {
         touches: touches.len(),
         marks: marks.len(),
@@ -146,7 +89,6 @@ fn asked_remedies(
     if !is_enough(&room, &trace) {
         return Err(Refusal::ShortBuffer);
     }
-    let trial = trial_of(question, &terms);
     Ok(remedies_in(&trace, &trial, touches, marks, list, rounds))
 }
 
@@ -162,7 +104,7 @@ pub extern "C" fn lent_remedies(
     marks: &mut [u64],
     list: &mut [u32],
     rounds: &mut [RoundRow],
-    remedies: &mut LentRemedies,
+    remedies: &mut RemedyNumbers,
 ) -> u32
     ensures made { result ≡ 0 → OfTrace trace.now question.now (AreNumbersFor question.now remedies.new) }
     ensures accepted { result ≡ 0 → AcceptsQuestion question.now }
@@ -176,7 +118,7 @@ pub extern "C" fn lent_remedies(
 {
     match asked_remedies(trace, question, touches, marks, list, rounds) {
         Ok(found) => {
-            *remedies = numbers_of(&found);
+            *remedies = RemedyNumbers::new(&found);
             0
         }
         Err(refusal) => refusal.number(),

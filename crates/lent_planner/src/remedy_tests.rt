@@ -2,19 +2,20 @@
 //! crates.
 
 use crate::prediction_tests::ASKED;
-use crate::remedies::{LentRemedies, lent_remedies};
+use crate::remedies::lent_remedies;
 use crate::tests::{ROUND, TOUCH, TRACE};
 use predictions::Question;
+use predictions::remedies::RemedyNumbers;
 
-/// What is told: the status, whether the limit is kept, and the link, the downtime and the speed with whether each was
-/// found.
+/// What is told: the status, whether the limit is kept, and the link in bytes a second, the downtime and the speed with
+/// whether each was found.
 type Told = (u32, u32, [u64; 3], [u32; 3]);
 
 /// What keeps the limit of a question, with this many slots for rounds.
 fn remedies(question: &Question, slots: usize) -> Told {
     let mut rounds = [ROUND; 64];
     let (lent, _) = rounds.split_at_mut(slots.min(64));
-    let mut told = LentRemedies {
+    let mut told = RemedyNumbers {
         link: 7,
         downtime: 7,
         speed: 7,
@@ -64,11 +65,11 @@ fn amounts_that_keep_a_limit(rt: HostRuntime) {
         ..given
     };
     let cases: [(Question, Told); 5] = [
-        (ASKED, (0, 1, [2, 10_009, 0], [1, 1, 0])),
-        (few_rounds, (0, 0, [12, 135_156, 0], [1, 1, 0])),
-        (late, (0, 0, [21, 0, 40], [1, 0, 1])),
-        (given, (0, 0, [6, 250_000, 80], [1, 1, 1])),
-        (not_given, (0, 1, [2, 1562, 0], [1, 1, 0])),
+        (ASKED, (0, 1, [250, 10_009, 0], [1, 1, 0])),
+        (few_rounds, (0, 0, [1500, 135_156, 0], [1, 1, 0])),
+        (late, (0, 0, [2625, 0, 40], [1, 0, 1])),
+        (given, (0, 0, [750, 250_000, 80], [1, 1, 1])),
+        (not_given, (0, 1, [250, 1562, 0], [1, 1, 0])),
     ];
     for (question, expected) in cases {
         assert!(rt; remedies(&question, 64) == expected);

@@ -4,6 +4,7 @@ pub mod Settings
 pub mod Plans
 pub mod Sweeps
 pub mod Predictions
+pub mod Enough
 pub mod Memories
 pub mod Frames
 pub mod FlatMemory

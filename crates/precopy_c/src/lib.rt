@@ -1,5 +1,5 @@
-//! The calls that a program in C, or in a language that calls C, makes: plans, reports, sweeps, predictions, memory,
-//! versions of pages, and frames.
+//! The calls that a program in C, or in a language that calls C, makes: plans, reports, sweeps, predictions, what is
+//! enough for a limit, memory, versions of pages, and frames.
 //!
 //! `include/precopy.h` declares them, and says what a caller must do. No call keeps anything between two calls, starts
 //! a thread or waits. A call returns 0, or the number of a refusal; it has then written only what its contract names.
@@ -8,6 +8,7 @@
 mod answers;
 mod buffers;
 mod checking;
+mod enough;
 mod flat_memory;
 mod frames;
 mod memories;

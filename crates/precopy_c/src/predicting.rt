@@ -8,16 +8,13 @@ ghost use Rattle.predictions.specs.Questions.{Fits, answer_of, scale_in};
 ghost use Rattle.precopy_c.specs.Predictions.{AreNumbersOver, IsAnswerOver, IsAsked, IsPredictionOf, IsToldOf};
 ghost use Rattle.precopy_c.specs.Predictions.{RefusesPrediction, number_of_question};
 
-use crate::questions::{QuestionRefusal, SizedQuestion};
+use crate::questions::{QuestionRefusal, SIZE, SizedQuestion};
 use guest_log::Timeline;
 use predictions::redrawn::Errors;
 use predictions::{Answer, ErrorNumbers, Prediction, Terms, check_fit};
 use round_planner::{Plan, PlanError, plan};
 use std::alloc::{AllocError, Global};
 use trace_readers::TouchLog;
-
-/// How many bytes the struct of a question has.
-const SIZE: u64 = 120;
 
 /// What is told of a migration.
 #[derive(Clone, Copy)]

@@ -13,6 +13,9 @@ use round_planner::PlanError;
 use std::alloc::AllocError;
 use trace_codec::TraceError;
 
+/// How many bytes the struct of a question has.
+pub(crate) const SIZE: u64 = 120;
+
 /// What is asked of a migration: C's `struct precopy_question`.
 #[derive(Clone, Copy)]
 #[repr(C)]

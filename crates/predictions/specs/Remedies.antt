@@ -1,6 +1,7 @@
 -- What would keep the downtime limit of a migration, or how far it is kept, found by plans. As an amount grows, a limit
 -- may be kept, missed and kept again: an answer is the nearest turn of the amounts that are tried. This project's own.
 pub mod Trials
+pub mod Questions
 pub mod Texts
 use Rattle.std.specs.Prelude.{◌≡◌, ◌↔◌, ◌⊎◌, ℕ, ◌+◌, ◌-◌, ◌*◌, ◌/◌, ◌^◌, ◌<◌, min, not, if◌then◌else◌, Bool, true}
 use Rattle.std.specs.Prelude.{false, IsTrue, List, Option, None, Some}

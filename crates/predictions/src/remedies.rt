@@ -3,6 +3,7 @@
 
 mod change;
 mod finding;
+mod numbers;
 mod remedies_text;
 mod search;
 mod trial;
@@ -10,5 +11,6 @@ mod way;
 
 pub use change::Change;
 pub use finding::{Remedies, remedies_of};
+pub use numbers::RemedyNumbers;
 pub use remedies_text::push_remedies;
 pub use trial::{Trial, keeps_limit};

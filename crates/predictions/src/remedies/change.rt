@@ -8,7 +8,7 @@ use crate::remedies::trial::Trial;
 use crate::units::{Limits, Scale};
 
 /// How many bytes a second a Kbit a second is.
-const KBIT: u64 = 125;
+pub(crate) const KBIT: u64 = 125;
 
 /// What is changed of a trial.
 #[derive(Clone, Copy, Debug, PartialEq, Eq)]

@@ -1,0 +1,72 @@
+//! What is enough for the downtime limit of a migration, or how far it is kept.
+
+ghost use Rattle.std.specs.Prelude.{◌≡◌, ◌≢◌, ◌⊎◌, IfErr, IfOk, OnOk};
+ghost use Rattle.migration_model.specs.Trace.{GuestTrace, Spells};
+ghost use Rattle.predictions.specs.Questions.{Fits, scale_in};
+ghost use Rattle.precopy_c.specs.Enough.{AreAmountsOf, AreAmountsOver};
+ghost use Rattle.precopy_c.specs.Predictions.{IsAsked, IsToldOf, RefusesPrediction, number_of_question};
+
+use crate::questions::{QuestionRefusal, SIZE, SizedQuestion};
+use predictions::check_fit;
+use predictions::remedies::{Remedies, RemedyNumbers, Trial};
+use std::alloc::{AllocError, Global};
+use trace_readers::TouchLog;
+
+/// Returns whether a migration keeps its limit over a log, and what does.
+fn amounts(alloc: Global, trial: &Trial, log: &TouchLog) -> Result<RemedyNumbers, AllocError>
+    ensures { IfOk result (AreAmountsOver trial.now log.now) }
+{
+    let found = Remedies::of_trace(alloc, log, trial)?;
+    Ok(RemedyNumbers::new(&found))
+}
+
+/// Returns whether the migration of a question keeps its limit over the trace that the bytes encode, and what does. The
+/// question is tested first.
+fn enough(
+    alloc: Global,
+    bytes: &[u8],
+    asked: &SizedQuestion,
+) -> Result<RemedyNumbers, QuestionRefusal>
+    ensures made { IfOk result (AreAmountsOf bytes.now asked.now.question) }
+    ensures accepted { OnOk result (IsAsked asked.now) }
+    ensures refused { IfErr result (RefusesPrediction bytes.now asked.now) }
+    ensures only { (t : GuestTrace) → Spells bytes.now t → IsAsked asked.now
+        → Fits (scale_in asked.now.question) t.shift t.pages → IfErr result (λ e. number_of_question e ≡ 16) }
+{
+    if asked.size != SIZE {
+        return Err(QuestionRefusal::Size);
+    }
+    let trial = Trial::of_question(&asked.question)?;
+    let log = TouchLog::parse(alloc, bytes)?;
+    check_fit(&trial.scale, &log.shape())?;
+    let found = amounts(alloc, &trial, &log)?;
+    Ok(found)
+}
+
+/// Sets whether the migration of a trace keeps the limit of a question; the least link and the least downtime that do,
+/// each by itself; and how much the guest has to be slowed if it is not kept.
+#[unsafe(no_mangle)]
+pub extern "C" fn precopy_enough(
+    alloc: Global,
+    trace: &[u8],
+    question: &SizedQuestion,
+    amounts: &mut RemedyNumbers,
+    record: &mut u32,
+) -> u32
+    ensures made { result ≡ 0 → AreAmountsOf trace.now question.now.question amounts.new }
+    ensures accepted { result ≡ 0 → IsAsked question.now }
+    ensures refused { result ≢ 0
+        → IsToldOf result record.old record.new (RefusesPrediction trace.now question.now) }
+    ensures only { (t : GuestTrace) → Spells trace.now t → IsAsked question.now
+        → Fits (scale_in question.now.question) t.shift t.pages → (result ≡ 0) ⊎ (result ≡ 16) }
+    ensures unchanged { result ≢ 0 → amounts.new ≡ amounts.old }
+    ensures not_told { result ≡ 0 → record.new ≡ record.old }
+{
+    match enough(alloc, trace, question) {
+        Ok(found) => {
+            *amounts = found;
+            0
+        }
+        Err(refusal) => refusal.told(record),
+    }
+}
