@@ -77,9 +77,9 @@ fn asked_remedies(
     ensures unchanged { OnErr result ((touches.new ≡ touches.old) × (marks.new ≡ marks.old) × (list.new ≡ list.old)
         × (rounds.new ≡ rounds.old)) }
 {
-    let trial = Trial::of_question(question)?;
+    let terms = question.terms()?;
     let trace = TraceView::parse(bytes)?;
-    check_fit(&trial.scale, &trace.shape())?;
+    check_fit(&terms.scale, &trace.shape())?;
     let room = PlanRoom {
         touches: touches.len(),
         marks: marks.len(),
@@ -89,6 +89,7 @@ fn asked_remedies(
     if !is_enough(&room, &trace) {
         return Err(Refusal::ShortBuffer);
     }
+    let trial = Trial::of_question(question)?;
     Ok(remedies_in(&trace, &trial, touches, marks, list, rounds))
 }
 

@@ -36,9 +36,10 @@ fn enough(
     if asked.size != SIZE {
         return Err(QuestionRefusal::Size);
     }
-    let trial = Trial::of_question(&asked.question)?;
+    let terms = asked.question.terms()?;
     let log = TouchLog::parse(alloc, bytes)?;
-    check_fit(&trial.scale, &log.shape())?;
+    check_fit(&terms.scale, &log.shape())?;
+    let trial = Trial::of_question(&asked.question)?;
     let found = amounts(alloc, &trial, &log)?;
     Ok(found)
 }

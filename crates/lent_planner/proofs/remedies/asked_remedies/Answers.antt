@@ -12,4 +12,4 @@ returns-in_err-trace-clause-refused c =
     let room = room_of (length c.args.touches.now) (length c.args.marks.now) (length c.args.list.now)
     (length c.args.rounds.now) in
     rw p.1 (subst (RefusesAsked c.args.bytes.now question (HasRoomToSearch room)) (sym p.2)
-    (c.in_ok-trial.ensures.accepted, c.in_err-trace.ensures.refused))
+    (c.in_ok-terms.ensures.accepted, c.in_err-trace.ensures.refused))
