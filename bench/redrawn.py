@@ -1,4 +1,4 @@
-"""Plans of redrawn pages and their standard errors, as `crates/redrawn_pages/specs` defines them: page by page.
+"""Plans of redrawn pages and their standard errors, as `crates/predictions/specs/Redrawn` defines them: page by page.
 
 It shares no code with the crate. The numbers in the crate's tests come from here.
 """

@@ -47,6 +47,11 @@ def sources(crate, part, kind):
     return sorted(glob.glob(os.path.join(TOP, "crates", crate, part, "**", f"*{kind}"), recursive=True))
 
 
+def below(crate, path):
+    """The path of a file of src/ or specs/ from there on."""
+    return os.path.relpath(path, os.path.join(TOP, "crates", crate)).split(os.sep, 1)[1]
+
+
 def comment_above(text, start, mark):
     """The first paragraph of the comment that ends above this place, without marks; attributes may stand between."""
     found = []
@@ -101,11 +106,18 @@ def owners_in(text):
 def exported(crate):
     """The names that a library gives to others, or None for a program."""
     path = os.path.join(TOP, "crates", crate, "src", "lib.rt")
-    if not os.path.isfile(path):
-        return None
+    return given_by(path) if os.path.isfile(path) else None
+
+
+def given_by(path):
+    """The names that a module gives to others, with those of its public modules."""
     text = read(path)
     passed_on = re.findall(r"\w+", " ".join(re.findall(r"^pub use ([^;]*);", text, re.M)))
-    return {*passed_on, *re.findall(r"^pub (?:fn|struct|enum|trait|mod) (\w+)", text, re.M)}
+    names = {*passed_on, *re.findall(r"^pub (?:fn|struct|enum|trait|mod) (\w+)", text, re.M)}
+    folder = os.path.dirname(path) if path.endswith("lib.rt") else path.removesuffix(".rt")
+    for module in re.findall(r"^pub mod (\w+);", text, re.M):
+        names |= given_by(os.path.join(folder, f"{module}.rt"))
+    return names
 
 
 def calls_in(crate, path):
@@ -123,7 +135,7 @@ def calls_in(crate, path):
         if owner and owner[3] and not comment:
             # A trait of one call may say it all itself.
             comment = comment_above(text, text.rindex("\n", 0, owner[0]) + 1, "///")
-        yield Entry(crate, os.path.basename(path), name, clauses, text[found.start() : end], comment)
+        yield Entry(crate, below(crate, path), name, clauses, text[found.start() : end], comment)
 
 
 @functools.lru_cache(maxsize=None)
@@ -146,7 +158,7 @@ def definitions_in(crate, path):
         body = text[one.start() : following.start() if following else len(text)]
         names = re.findall(r"^ {2,}pub ([\w-]+) :", body, re.M) if one[2] == "record" else []
         facts = [(fact, "") for fact in names]
-        yield Entry(crate, os.path.basename(path), name, facts, body, comment_above(text, one.start(), "--"))
+        yield Entry(crate, below(crate, path), name, facts, body, comment_above(text, one.start(), "--"))
 
 
 @functools.lru_cache(maxsize=None)

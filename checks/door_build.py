@@ -21,6 +21,20 @@ LIBRARY = """\
 //! A library for a trial of the build.
 #![tactic(auto)]
 
+mod steps;
+
+pub use steps::next;
+"""
+STEPS = """\
+//! Steps.
+
+mod later;
+
+pub use later::next;
+"""
+LATER = """\
+//! A step.
+
 ghost use Rattle.std.specs.Prelude.{{◌≡◌, ◌+◌, ◌<◌}};
 
 /// Returns a later number.
@@ -71,6 +85,8 @@ class Tree:
             shutil.copy2(os.path.join(TOP, path), os.path.join(self.top, path))
         self.write("crates.txt", "low:\nprecopy: low\n")
         self.write("HANDLES", "Handles allowed: none.\n")
+        self.write("crates/low/src/lib.rt", LIBRARY)
+        self.write("crates/low/src/steps.rt", STEPS)
         self.set_library(1, 1)
         self.set_program(6)
 
@@ -82,7 +98,7 @@ class Tree:
         return path
 
     def set_library(self, promised, added):
-        self.write("crates/low/src/lib.rt", LIBRARY.format(promised=promised, added=added))
+        self.write("crates/low/src/steps/later.rt", LATER.format(promised=promised, added=added))
 
     def set_program(self, number):
         self.write("crates/precopy/src/main.rt", PROGRAM.replace("NUMBER", str(number)))

@@ -4,7 +4,7 @@ use Rattle.std.specs.Cmp.{IsStrictWeakOrder}
 use Rattle.std.specs.List.{IsFirstBest}
 use Rattle.std.proofs.lemmas.List.{get_or_default}
 use Rattle.std.proofs.lemmas.List.MinMax.{IsFirstBest-keeps, IsFirstBest-takes}
-use Rattle.migration_starts.proofs.Orders.{better_known_order, worse_known_order}
+use Rattle.predictions.proofs.Orders.{better_known_order, worse_known_order}
 use Rattle.predictions.specs.declared.answer.Answer.{Answer}
 use Rattle.lent_planner.specs.Starts.{is_better_answer, is_worse_answer, start_in}
 

@@ -6,8 +6,8 @@ use Rattle.trace_codec.specs.declared.error.TraceError.{TraceError}
 use Rattle.trace_codec.specs.declared.error.TraceError.TheVariants as traces
 use Rattle.rate_limit.specs.declared.error.SettingsError.{SettingsError}
 use Rattle.rate_limit.specs.declared.error.SettingsError.TheVariants as settings
-use Rattle.guest_units.specs.declared.error.UnitsError.{UnitsError}
-use Rattle.guest_units.specs.declared.error.UnitsError.TheVariants as units
+use Rattle.predictions.specs.declared.units.error.UnitsError.{UnitsError}
+use Rattle.predictions.specs.declared.units.error.UnitsError.TheVariants as units
 use Rattle.predictions.specs.declared.question.Misfit.{Misfit}
 use Rattle.predictions.specs.declared.question.Misfit.TheVariants as misfits
 use Rattle.lent_planner.specs.declared.answers.Refusal.{Refusal}

@@ -6,7 +6,7 @@ use Rattle.page_bitmap.specs.Listing.{word_count}
 use Rattle.predictions.specs.Questions.{error_numbers}
 use Rattle.predictions.specs.declared.answer.ErrorNumbers.{ErrorNumbers}
 use Rattle.predictions.specs.declared.question.Terms.{Terms}
-use Rattle.redrawn_pages.specs.Errors.{AreErrors, HasErrors, SampleErrors}
+use Rattle.predictions.specs.Redrawn.Errors.{AreErrors, HasErrors, SampleErrors}
 use Rattle.lent_planner.specs.declared.errors.ErrorRoom.{ErrorRoom}
 
 -- these are the standard errors of what the plan of a trace predicts, if there are any

@@ -1,8 +1,8 @@
 -- What a caller sees of what keeps a limit, and what it lends for the search.
 use Rattle.std.specs.Prelude.{◌≡◌, ◌≤◌, ℕ, length, is_some, unwrap_or, if◌then◌else◌}
-use Rattle.limit_remedies.specs.Remedies.{AreRemedies}
-use Rattle.limit_remedies.specs.Trials.{MigrationTrial}
-use Rattle.limit_remedies.specs.declared.finding.Remedies.{Remedies}
+use Rattle.predictions.specs.Remedies.{AreRemedies}
+use Rattle.predictions.specs.Remedies.Trials.{MigrationTrial}
+use Rattle.predictions.specs.declared.remedies.finding.Remedies.{Remedies}
 use Rattle.migration_model.specs.Touches.{touches_of}
 use Rattle.migration_model.specs.Trace.{GuestTrace}
 use Rattle.page_bitmap.specs.Listing.{word_count}

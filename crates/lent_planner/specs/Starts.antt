@@ -1,8 +1,8 @@
 -- Which of several answers is the best, and which the worst: those of the same question from several starts.
 use Rattle.std.specs.Prelude.{ℕ, ◌==◌, not, Bool, List, length}
 use Rattle.std.specs.List.{IsFirstBest, count_by}
-use Rattle.migration_starts.specs.Choices.{is_better_known, is_worse_known}
-use Rattle.migration_starts.specs.Costs.{CostAtStart}
+use Rattle.predictions.specs.Starts.Choices.{is_better_known, is_worse_known}
+use Rattle.predictions.specs.Starts.Costs.{CostAtStart}
 use Rattle.predictions.specs.Predictions.{MigrationCost}
 use Rattle.predictions.specs.declared.answer.Answer.{Answer}
 use Rattle.lent_planner.specs.declared.starts.LentChoice.{LentChoice}

@@ -1,7 +1,7 @@
 //! Predictions: what a question about a migration comes to, and its answer over a trace.
 
 ghost use Rattle.std.specs.Prelude.{◌≡◌, ◌≢◌, ◌≤◌, IfErr, IfOk, IsOk, OnErr, length, take};
-ghost use Rattle.guest_units.specs.declared.error.UnitsError.{UnitsError};
+ghost use Rattle.predictions.specs.declared.units.error.UnitsError.{UnitsError};
 ghost use Rattle.migration_model.specs.Trace.{GuestTrace, Spells, last_by, last_tick};
 ghost use Rattle.predictions.specs.Predictions.{prediction_with};
 ghost use Rattle.predictions.specs.Questions.{AcceptsQuestion, Fits, RefusesQuestion, answer_of, scale_in};

@@ -5,8 +5,8 @@ ghost use Rattle.lent_planner.specs.Answers.{number_of_misfit, number_of_setting
 ghost use Rattle.lent_planner.specs.declared.answers.Refusal.TheVariants.{Misfit as OfMisfit, Settings as OfSettings};
 ghost use Rattle.lent_planner.specs.declared.answers.Refusal.TheVariants.{Trace as OfTrace, Units as OfUnits};
 
-use guest_units::UnitsError;
 use predictions::Misfit;
+use predictions::units::UnitsError;
 use rate_limit::SettingsError;
 use trace_codec::TraceError;
 

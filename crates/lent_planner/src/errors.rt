@@ -4,7 +4,7 @@ ghost use Rattle.std.specs.Prelude.{◌≡◌, ◌≢◌, IfErr, IfOk, IsOk, OnE
 ghost use Rattle.migration_model.specs.Touches.{touches_of};
 ghost use Rattle.migration_model.specs.Trace.{GuestTrace, Spells};
 ghost use Rattle.predictions.specs.Questions.{AcceptsQuestion, Fits, scale_in, terms_of};
-ghost use Rattle.redrawn_pages.specs.Errors.{AreErrors, AreErrorsOf, HasErrors};
+ghost use Rattle.predictions.specs.Redrawn.Errors.{AreErrors, AreErrorsOf, HasErrors};
 ghost use Rattle.lent_planner.specs.Answers.{IsNumberOf};
 ghost use Rattle.lent_planner.specs.Errors.{AreNumbersOf, HasRoom, HasRoomFor, room_of};
 ghost use Rattle.lent_planner.specs.Predictions.{OfTrace, RefusesAsked};
@@ -13,8 +13,8 @@ use crate::answers::Refusal;
 use crate::touches::{LentLog, LentTouch, put_touches};
 use guest_log::Shape;
 use page_bitmap::word_count;
+use predictions::redrawn::{Errors, has_errors, sample_errors};
 use predictions::{ErrorNumbers, Question, Terms, check_fit};
-use redrawn_pages::{Errors, has_errors, sample_errors};
 use trace_codec::TraceView;
 
 /// How long what is lent for standard errors is.

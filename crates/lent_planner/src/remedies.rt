@@ -1,7 +1,7 @@
 //! What keeps the limit of a migration, or how far it is kept.
 
 ghost use Rattle.std.specs.Prelude.{◌≡◌, ◌≢◌, ◌↔◌, IfErr, IfOk, IsOk, IsTrue, OnErr, length};
-ghost use Rattle.limit_remedies.specs.Remedies.{AreRemedies};
+ghost use Rattle.predictions.specs.Remedies.{AreRemedies};
 ghost use Rattle.migration_model.specs.Touches.{touches_of};
 ghost use Rattle.migration_model.specs.Trace.{GuestTrace, Spells};
 ghost use Rattle.predictions.specs.Questions.{AcceptsQuestion, Fits, given, scale_in, terms_of};
@@ -14,8 +14,8 @@ use crate::answers::Refusal;
 use crate::plans::PlanRoom;
 use crate::touches::{LentLog, LentTouch, put_touches};
 use guest_log::Shape;
-use limit_remedies::{Remedies, Trial, remedies_of};
 use page_bitmap::word_count;
+use predictions::remedies::{Remedies, Trial, remedies_of};
 use predictions::{Question, Terms, check_fit};
 use round_planner::RoundRow;
 use trace_codec::TraceView;

@@ -5,7 +5,7 @@ ghost use Rattle.std.specs.List.{IsFirstBest};
 ghost use Rattle.predictions.specs.declared.answer.Answer.{Answer};
 ghost use Rattle.lent_planner.specs.Starts.{AreChosen, is_better_answer, is_worse_answer, known_count, start_in};
 
-use migration_starts::{StartCost, is_better_known, is_worse_known};
+use predictions::starts::{StartCost, is_better_known, is_worse_known};
 use predictions::{Answer, Cost};
 
 /// The number of a verdict that tells nothing.

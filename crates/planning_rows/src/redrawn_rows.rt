@@ -3,10 +3,10 @@
 
 use crate::plan_rows::{Told, guest, told};
 use guest_log::Timeline;
-use guest_units::Scale;
 use page_bitmap::word_count;
+use predictions::redrawn::{Errors, are_drawn, has_errors, redrawn_outcome, sample_errors};
+use predictions::units::Scale;
 use rate_limit::{Asked, Reason, Settings};
-use redrawn_pages::{Errors, are_drawn, has_errors, redrawn_outcome, sample_errors};
 use std::alloc::Global;
 use std::test::Fail;
 use trace_codec::Trace;

@@ -3,9 +3,9 @@
 use crate::plan_rows::guest;
 use crate::redrawn_rows::WRITES;
 use guest_log::Timeline;
-use guest_units::{Limits, Scale};
-use limit_remedies::{Remedies, Trial, push_remedies, remedies_of};
 use page_bitmap::word_count;
+use predictions::remedies::{Remedies, Trial, push_remedies, remedies_of};
+use predictions::units::{Limits, Scale};
 use rate_limit::Asked;
 use round_planner::RoundRow;
 use std::alloc::Global;

@@ -1,8 +1,8 @@
 -- What C sees of predictions, and why there is none. The numbers of a question that is out of range, in the order in
 -- which it is tested, and of a trace that does not have its scale, begin at 81. This project's own.
 use Rattle.std.specs.Prelude.{◌≡◌, ◌≢◌, ℕ, List, Option}
-use Rattle.guest_units.specs.declared.error.UnitsError.{UnitsError}
-use Rattle.guest_units.specs.declared.error.UnitsError.TheVariants as units
+use Rattle.predictions.specs.declared.units.error.UnitsError.{UnitsError}
+use Rattle.predictions.specs.declared.units.error.UnitsError.TheVariants as units
 use Rattle.migration_model.specs.Rounds.{IsPlan, MigrationPlan}
 use Rattle.migration_model.specs.Sweeps.{outcome_of}
 use Rattle.migration_model.specs.Touches.{GuestTouches, touches_in}
@@ -16,7 +16,7 @@ use Rattle.predictions.specs.declared.question.Misfit.{Misfit}
 use Rattle.predictions.specs.declared.question.Misfit.TheVariants as misfits
 use Rattle.predictions.specs.declared.question.Question.{Question}
 use Rattle.predictions.specs.declared.question.Terms.{Terms}
-use Rattle.redrawn_pages.specs.Errors.{AreErrors, SampleErrors}
+use Rattle.predictions.specs.Redrawn.Errors.{AreErrors, SampleErrors}
 use Rattle.trace_codec.specs.Refusals.{RefusesUnlessMemory}
 use Rattle.precopy_c.specs.Answers.{number_of_settings, number_of_trace, record_after}
 use Rattle.precopy_c.specs.declared.questions.QuestionRefusal.{QuestionRefusal}

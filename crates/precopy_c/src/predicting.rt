@@ -10,8 +10,8 @@ ghost use Rattle.precopy_c.specs.Predictions.{RefusesPrediction, number_of_quest
 
 use crate::questions::{QuestionRefusal, SizedQuestion};
 use guest_log::Timeline;
+use predictions::redrawn::Errors;
 use predictions::{Answer, ErrorNumbers, Prediction, Terms, check_fit};
-use redrawn_pages::Errors;
 use round_planner::{Plan, PlanError, plan};
 use std::alloc::{AllocError, Global};
 use trace_readers::TouchLog;

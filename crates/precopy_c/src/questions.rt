@@ -7,7 +7,7 @@ ghost use Rattle.precopy_c.specs.declared.questions.QuestionRefusal.TheVariants.
 ghost use Rattle.precopy_c.specs.declared.questions.QuestionRefusal.TheVariants.{Trace as OfTrace, Units as OfUnits};
 
 use crate::answers::{Refusal, refuse_trace};
-use guest_units::UnitsError;
+use predictions::units::UnitsError;
 use predictions::{Misfit, Question};
 use round_planner::PlanError;
 use std::alloc::AllocError;

@@ -7,8 +7,8 @@ ghost use Rattle.program_edge.specs.Ends.{IsTold, TellsRun, memory_line};
 ghost use Rattle.precopy_view.specs.Ends.{IsHelpOf, IsRefusal, TellsShow, TellsViewWords};
 ghost use Rattle.precopy_view.specs.Fitting.{FitsScale, IsMisfit};
 
-use guest_units::Scale;
 use migration_jobs::{RunError, Sink};
+use predictions::units::Scale;
 use program_edge::{Program, run_fault, tell_line};
 use thiserror::Error;
 use trace_codec::TraceError;

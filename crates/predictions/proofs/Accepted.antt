@@ -1,7 +1,7 @@
 -- What is accepted is not refused.
-use Rattle.guest_units.specs.Limits.{RefusesLimits}
-use Rattle.guest_units.specs.declared.error.UnitsError.{UnitsError}
-use Rattle.guest_units.specs.declared.error.UnitsError.TheVariants as errors
+use Rattle.predictions.specs.Units.Limits.{RefusesLimits}
+use Rattle.predictions.specs.declared.units.error.UnitsError.{UnitsError}
+use Rattle.predictions.specs.declared.units.error.UnitsError.TheVariants as errors
 use Rattle.rate_limit.proofs.Ranges.{refused_lem}
 use Rattle.predictions.specs.Questions.{AcceptsQuestion, given, limits_in, others_in, scale_in, settings_of}
 use Rattle.predictions.specs.declared.question.Question.{Question}

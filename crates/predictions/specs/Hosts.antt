@@ -1,6 +1,6 @@
 -- The same limits, in the words of QEMU's monitor and of libvirt. A hypervisor's downtime limit is only for pages.
 use Rattle.std.specs.Prelude.{ℕ, ◌-◌, ◌/◌, ◌^◌, max, List, [], ◌∷◌, ◌++◌, codes}
-use Rattle.guest_units.specs.declared.limits.Limits.{Limits}
+use Rattle.predictions.specs.declared.units.limits.Limits.{Limits}
 use Rattle.sweep_report.specs.Lines.{field}
 
 -- the downtime for pages, in milliseconds

@@ -3,3 +3,7 @@ pub mod Predictions
 pub mod Texts
 pub mod Hosts
 pub mod Questions
+pub mod Units
+pub mod Redrawn
+pub mod Remedies
+pub mod Starts

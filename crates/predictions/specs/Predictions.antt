@@ -1,7 +1,7 @@
 -- What a migration will be, in time and bytes, by its plan. This project's own.
 use Rattle.std.specs.Prelude.{ℕ, ◌+◌, ◌-◌, nat_le, nat_lt, Bool, true, false, if◌then◌else◌, List, length, codes}
-use Rattle.guest_units.specs.Scales.{TraceScale, bytes_of, micros_of}
-use Rattle.guest_units.specs.declared.limits.Limits.{Limits}
+use Rattle.predictions.specs.Units.Scales.{TraceScale, bytes_of, micros_of}
+use Rattle.predictions.specs.declared.units.limits.Limits.{Limits}
 use Rattle.migration_model.specs.Rates.{StopReason, few_remain, rounds_done, too_fast}
 use Rattle.migration_model.specs.Rounds.{MigrationPlan}
 use Rattle.migration_model.specs.Sweeps.{PlanOutcome, outcome_of}

@@ -1,9 +1,9 @@
 -- Questions about a migration, and their answers, in the numbers that C and a web page have. This project's own.
 use Rattle.std.specs.Prelude.{◌≡◌, ◌≢◌, ◌⊎◌, ℕ, ◌-◌, ◌^◌, ◌<◌, ◌≤◌, ◌==◌, min, not, if◌then◌else◌, Option, None, Some}
-use Rattle.guest_units.specs.Limits.{RefusesLimits, limits_refusal, settings_in}
-use Rattle.guest_units.specs.Scales.{TraceScale, scale_refusal, scale_with}
-use Rattle.guest_units.specs.declared.error.UnitsError.{UnitsError}
-use Rattle.guest_units.specs.declared.limits.Limits.{Limits}
+use Rattle.predictions.specs.Units.Limits.{RefusesLimits, limits_refusal, settings_in}
+use Rattle.predictions.specs.Units.Scales.{TraceScale, scale_refusal, scale_with}
+use Rattle.predictions.specs.declared.units.error.UnitsError.{UnitsError}
+use Rattle.predictions.specs.declared.units.limits.Limits.{Limits}
 use Rattle.migration_model.specs.Rates.{AreSettings, MigrationSettings, StopReason, few_remain, rounds_done, too_fast}
 use Rattle.migration_model.specs.Sweeps.{PlanOutcome}
 use Rattle.predictions.specs.Predictions.{GuestPrediction, kept_of, verdict_of}
@@ -15,7 +15,7 @@ use Rattle.predictions.specs.declared.question.Question.{Question}
 use Rattle.predictions.specs.declared.question.Terms.{Terms}
 use Rattle.predictions.specs.declared.verdict.Verdict.{Verdict}
 use Rattle.predictions.specs.declared.verdict.Verdict.TheVariants as verdicts
-use Rattle.redrawn_pages.specs.Errors.{SampleErrors}
+use Rattle.predictions.specs.Redrawn.Errors.{SampleErrors}
 
 -- a number that is given if the one beside it is not 0
 abbrev pub given : ℕ → ℕ → Option ℕ

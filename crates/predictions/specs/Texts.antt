@@ -4,7 +4,7 @@ use Rattle.std.specs.Prelude.{Option, None, Some}
 use Rattle.migration_model.specs.Rates.{StopReason, few_remain, rounds_done, too_fast}
 use Rattle.predictions.specs.Predictions.{GuestPrediction}
 use Rattle.predictions.specs.Quantities.{bytes_text, seconds_text}
-use Rattle.redrawn_pages.specs.Errors.{SampleErrors}
+use Rattle.predictions.specs.Redrawn.Errors.{SampleErrors}
 use Rattle.sweep_report.specs.Lines.{field, line}
 
 -- whether pre-copy comes down to what the limit allows

@@ -5,9 +5,9 @@ ghost use Rattle.predictions.specs.Questions.{capped, reason_number, verdict_num
 ghost use Rattle.rate_limit.specs.Pacing.{reason_of};
 
 use crate::prediction::Prediction;
+use crate::redrawn::Errors;
 use crate::verdict::Verdict;
 use rate_limit::Reason;
-use redrawn_pages::Errors;
 use round_planner::Outcome;
 
 /// What a migration will be. It is laid out as C's `struct precopy_prediction`.

@@ -1,7 +1,7 @@
 //! What a migration costs, in time and bytes.
 
+use crate::units::{Limits, Scale};
 use crate::verdict::Verdict;
-use guest_units::{Limits, Scale};
 use round_planner::Outcome;
 use std::marker::Model;
 use sweep_report::Line;

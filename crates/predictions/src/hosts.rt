@@ -4,7 +4,7 @@ ghost use Rattle.std.specs.Prelude.{◌≡◌, ◌++◌, OnOk};
 ghost use Rattle.predictions.specs.Hosts.{bandwidth_line, hosts_text, libvirt_text, link_in_mib};
 ghost use Rattle.predictions.specs.Hosts.{millis_for_pages, number_line, qemu_text};
 
-use guest_units::Limits;
+use crate::units::Limits;
 use std::alloc::AllocError;
 use sweep_report::{end_line, push_field};
 

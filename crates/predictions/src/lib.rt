@@ -1,4 +1,5 @@
-//! What a migration will be, in time and bytes: predictions of one plan, and of many starts.
+//! What a migration will be, in time and bytes: predictions of one plan and of many starts, how far chance moves those
+//! of a sample, and what is enough for a limit.
 #![tactic(auto)]
 
 mod answer;
@@ -8,6 +9,10 @@ mod prediction;
 mod prediction_text;
 mod quantities;
 mod question;
+pub mod redrawn;
+pub mod remedies;
+pub mod starts;
+pub mod units;
 mod verdict;
 
 pub use answer::{Answer, ErrorNumbers};

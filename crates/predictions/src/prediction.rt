@@ -1,8 +1,8 @@
 //! What a plan predicts.
 
 use crate::cost::Cost;
+use crate::units::{Limits, Scale};
 use crate::verdict::Verdict;
-use guest_units::{Limits, Scale};
 use rate_limit::Reason;
 use round_planner::{Outcome, Plan};
 use std::marker::Model;

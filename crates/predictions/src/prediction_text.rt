@@ -9,8 +9,8 @@ ghost use Rattle.sweep_report.specs.Lines.{field, line};
 
 use crate::prediction::Prediction;
 use crate::quantities::{push_bytes, push_seconds};
+use crate::redrawn::Errors;
 use rate_limit::Reason;
-use redrawn_pages::Errors;
 use std::alloc::AllocError;
 use sweep_report::{end_line, push_field};
 

@@ -3,8 +3,8 @@
 ghost use Rattle.std.specs.Prelude.{◌≡◌, IfErr, IsOk, OnOk};
 ghost use Rattle.predictions.specs.Questions.{Fits, IsMisfit, given};
 
+use crate::units::{Limits, Scale, UnitsError};
 use guest_log::Shape;
-use guest_units::{Limits, Scale, UnitsError};
 use rate_limit::{Asked, Settings};
 
 /// What is asked of a migration: how much it may take, what ticks and pages of the trace stand for, and where it

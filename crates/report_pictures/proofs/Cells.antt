@@ -7,7 +7,7 @@ use Rattle.std.proofs.lemmas.List.{append-nil, map-id, replicate-append-replicat
 use Rattle.std.proofs.lemmas.List.Concat.{flat_map-append}
 use Rattle.std.proofs.lemmas.List.Folds.{concat-append}
 use Rattle.std.proofs.lemmas.List.FromFn.{map-range_with_len_more}
-use Rattle.migration_starts.specs.Texts.{right_in}
+use Rattle.predictions.specs.Starts.Texts.{right_in}
 
 abbrev pub name_cell : List ℕ → List (List ℕ) → ℕ → List ℕ
 name_cell widths names column = codes "  " ++ right_in (slice_index widths column) (slice_index_or names column [])

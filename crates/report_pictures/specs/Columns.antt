@@ -2,7 +2,7 @@
 use Rattle.std.specs.Prelude.{ℕ, ◌+◌, ◌-◌, max, List, [], ◌∷◌, ◌++◌, length, codes, map, slice_index, slice_index_or}
 use Rattle.std.specs.Fmt.{decimal}
 use Rattle.std.specs.List.{flat_map, fold, range_with_len, sum_by}
-use Rattle.migration_starts.specs.Texts.{right_in}
+use Rattle.predictions.specs.Starts.Texts.{right_in}
 use Rattle.report_pictures.specs.Bars.{BarPart, bar_text}
 use Rattle.report_pictures.specs.declared.table.Style.{Style}
 

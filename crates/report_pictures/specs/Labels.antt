@@ -3,7 +3,7 @@ use Rattle.std.specs.Prelude.{◌≡◌, ℕ, ◌+◌, ◌-◌, ◌*◌, ◌/◌
 use Rattle.std.specs.Prelude.{List, [], ◌++◌, codes, Option, None, Some}
 use Rattle.std.specs.Fmt.{decimal}
 use Rattle.std.specs.List.{flat_map, range_with_len}
-use Rattle.guest_units.specs.Scales.{TraceScale, micros_of}
+use Rattle.predictions.specs.Units.Scales.{TraceScale, micros_of}
 use Rattle.report_pictures.specs.Axes.{IsStep, place_of}
 use Rattle.report_pictures.specs.Svg.{area_of, placed_text, rect_text}
 use Rattle.report_pictures.specs.declared.axis.Axis.{Axis}

@@ -3,11 +3,11 @@ use Rattle.std.specs.Prelude.{◌≡◌, ℕ, ◌+◌, ◌-◌, ◌*◌, ◌/◌
 use Rattle.std.specs.Prelude.{◌++◌, length, codes}
 use Rattle.std.specs.Fmt.{decimal}
 use Rattle.std.specs.List.{flat_map, enumerate_from}
-use Rattle.guest_units.specs.Scales.{TraceScale, bytes_of, micros_of}
+use Rattle.predictions.specs.Units.Scales.{TraceScale, bytes_of, micros_of}
 use Rattle.migration_model.specs.Rates.{MigrationSettings, word_of}
 use Rattle.migration_model.specs.Rounds.{MigrationPlan, PlannedRound, total_of}
 use Rattle.migration_model.specs.Windows.{WindowRow, WorkingSets}
-use Rattle.migration_starts.specs.Texts.{right_in}
+use Rattle.predictions.specs.Starts.Texts.{right_in}
 use Rattle.predictions.specs.Quantities.{bytes_text, seconds_text}
 use Rattle.sweep_report.specs.Lines.{field}
 use Rattle.report_pictures.specs.Bars.{bar_text, window_key, window_parts}

@@ -2,7 +2,7 @@
 use Rattle.std.specs.Prelude.{◌≡◌, ℕ, ◌+◌, ◌-◌, ◌*◌, max, min, List, [], ◌++◌, length, codes}
 use Rattle.std.specs.Prelude.{Option, None, Some}
 use Rattle.std.specs.List.{flat_map, fold}
-use Rattle.guest_units.specs.Scales.{TraceScale}
+use Rattle.predictions.specs.Units.Scales.{TraceScale}
 use Rattle.migration_model.specs.Rates.{MigrationSettings, word_of}
 use Rattle.migration_model.specs.Rounds.{MigrationPlan, PlannedRound, total_of}
 use Rattle.migration_model.specs.Windows.{WindowRow, WorkingSets}

@@ -3,11 +3,11 @@
 use Rattle.std.specs.Prelude.{◌≡◌, ℕ, ◌+◌, ◌-◌, ◌/◌, ◌^◌, max, min, Bool, true, false, not, if◌then◌else◌}
 use Rattle.std.specs.Prelude.{List, [], ◌++◌, codes, Option, None, Some}
 use Rattle.std.specs.List.{flat_map, fold}
-use Rattle.guest_units.specs.Scales.{TraceScale, micros_of}
-use Rattle.guest_units.specs.declared.limits.Limits.{Limits}
+use Rattle.predictions.specs.Units.Scales.{TraceScale, micros_of}
+use Rattle.predictions.specs.declared.units.limits.Limits.{Limits}
 use Rattle.migration_model.specs.Rates.{MigrationSettings}
 use Rattle.migration_model.specs.Windows.{WindowRow, WorkingSets}
-use Rattle.migration_starts.specs.Costs.{CostAtStart}
+use Rattle.predictions.specs.Starts.Costs.{CostAtStart}
 use Rattle.predictions.specs.Quantities.{bytes_text, seconds_text}
 use Rattle.sweep_report.specs.Lines.{field}
 use Rattle.report_pictures.specs.Labels.{AreLabels, place_on}

@@ -1,7 +1,7 @@
 //! The axis of ticks that several panels share.
 
 ghost use Rattle.std.specs.Prelude.{◌≡◌, ◌≤◌, ◌-◌, ◌++◌, ℕ, List, OnOk};
-ghost use Rattle.guest_units.specs.Scales.{micros_of};
+ghost use Rattle.predictions.specs.Units.Scales.{micros_of};
 ghost use Rattle.report_pictures.specs.Axes.{IsStep, place_of, share_of};
 ghost use Rattle.report_pictures.specs.Labels.{AreLabels, label_at, label_mark, label_words, time_label, title_of};
 ghost use Rattle.report_pictures.specs.ReportCharts.{rounds_axis};
@@ -10,8 +10,8 @@ ghost use Rattle.std.specs.List.{flat_map, range_with_len};
 
 use crate::svg::{Area, begin_text, end_text, push_rect, push_text};
 use crate::words::push_words;
-use guest_units::Scale;
 use predictions::push_wide;
+use predictions::units::Scale;
 use rate_limit::Settings;
 use round_planner::Plan;
 use std::alloc::AllocError;

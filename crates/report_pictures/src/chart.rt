@@ -13,7 +13,7 @@ use crate::units_screen::{push_named_size, push_named_time};
 use crate::window_panel::{panel_of_windows, push_windows};
 use crate::words::push_words;
 use guest_log::Shape;
-use guest_units::Scale;
+use predictions::units::Scale;
 use rate_limit::Settings;
 use round_planner::Plan;
 use std::alloc::{AllocError, Global};

@@ -14,7 +14,7 @@ use crate::table::{Style, column_widths, push_names, push_row};
 use crate::units_screen;
 use crate::words::push_words;
 use guest_log::Shape;
-use guest_units::Scale;
+use predictions::units::Scale;
 use rate_limit::Settings;
 use round_planner::{Plan, Round};
 use std::alloc::{AllocError, Global};

@@ -2,13 +2,13 @@
 
 ghost use Rattle.std.specs.Prelude.{◌≡◌, ◌++◌, ◌∷◌, [], IfOk, OnOk, codes, length, map, max};
 ghost use Rattle.std.specs.Fmt.{decimal};
-ghost use Rattle.migration_starts.specs.Texts.{right_in};
+ghost use Rattle.predictions.specs.Starts.Texts.{right_in};
 ghost use Rattle.report_pictures.specs.Columns.{bar_room, names_text, numbers_text, row_text, widths_of};
 
 use crate::bar::{Part, push_bar};
 use crate::words::push_words;
 use itoa::Buffer;
-use migration_starts::push_right;
+use predictions::starts::push_right;
 use std::alloc::{AllocError, Global};
 use sweep_report::end_line;
 

@@ -8,14 +8,14 @@ ghost use Rattle.report_pictures.specs.MeasuredScreens.{scale_words, share_words
 ghost use Rattle.report_pictures.specs.MeasuredScreens.{stop_words, time_words, window_line, window_lines};
 ghost use Rattle.report_pictures.specs.MeasuredScreens.{left_words, named_size, named_time, reason_words};
 ghost use Rattle.report_pictures.specs.MeasuredScreens.{windows_head, windows_text};
-ghost use Rattle.migration_starts.specs.Texts.{right_in};
+ghost use Rattle.predictions.specs.Starts.Texts.{right_in};
 
 use crate::bar::{push_bar, push_window_key};
 use crate::screen::{greatest_of_windows, window_bar};
 use crate::table::Style;
 use crate::words::push_words;
-use guest_units::Scale;
-use migration_starts::push_right;
+use predictions::starts::push_right;
+use predictions::units::Scale;
 use predictions::{push_bytes, push_seconds, push_wide};
 use rate_limit::Settings;
 use round_planner::{Plan, Round};

@@ -1,7 +1,7 @@
 -- What is enough for the limit of a migration, as an answer and as lines. This project's own.
 use Rattle.std.specs.Prelude.{ℕ, Bool, if◌then◌else◌, ◌||◌, is_some, List, [], ◌++◌, Option, None, Some, codes}
-use Rattle.limit_remedies.specs.Texts.{remedies_text}
-use Rattle.limit_remedies.specs.declared.finding.Remedies.{Remedies}
+use Rattle.predictions.specs.Remedies.Texts.{remedies_text}
+use Rattle.predictions.specs.declared.remedies.finding.Remedies.{Remedies}
 use Rattle.trace_views.specs.declared.enough.Enough.{Enough}
 use Rattle.trace_views.specs.declared.enough.Enough.TheVariants as answers
 

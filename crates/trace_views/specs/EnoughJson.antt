@@ -1,7 +1,7 @@
 -- What is enough for the limit of a migration as a member of a JSON document: its tokens.
 use Rattle.std.specs.Prelude.{ℕ, ◌*◌, List, [], ◌∷◌, Option, None, Some, codes}
 use Rattle.json.specs.Token.{Token}
-use Rattle.limit_remedies.specs.declared.finding.Remedies.{Remedies}
+use Rattle.predictions.specs.declared.remedies.finding.Remedies.{Remedies}
 use Rattle.trace_views.specs.Enough.{answer_of, enough_word}
 use Rattle.trace_views.specs.Json.{member_of, number_member, object_of, seconds_member, text_member}
 

@@ -3,7 +3,7 @@ use Rattle.std.specs.Prelude.{ℕ, ◌+◌, ◌*◌, ◌/◌, ◌%◌, ◌^◌, 
 use Rattle.std.specs.Prelude.{Option, None, Some}
 use Rattle.std.specs.Fmt.{decimal}
 use Rattle.std.specs.List.{flat_map, enumerate_from}
-use Rattle.guest_units.specs.Scales.{TraceScale, bytes_of, micros_of}
+use Rattle.predictions.specs.Units.Scales.{TraceScale, bytes_of, micros_of}
 use Rattle.json.specs.Token.{Token, begin_object, end_object, begin_array, end_array, key, string, number, boolean}
 use Rattle.json.specs.Print.{print}
 use Rattle.migration_model.specs.Rates.{MigrationSettings, word_of}

@@ -1,15 +1,15 @@
 -- What is predicted of a migration over a log.
 use Rattle.std.specs.Prelude.{◌≡◌, Bool, true, false, List, Option, None, Some}
-use Rattle.limit_remedies.specs.Remedies.{AreRemedies}
-use Rattle.limit_remedies.specs.Trials.{MigrationTrial}
-use Rattle.limit_remedies.specs.declared.finding.Remedies.{Remedies}
+use Rattle.predictions.specs.Remedies.{AreRemedies}
+use Rattle.predictions.specs.Remedies.Trials.{MigrationTrial}
+use Rattle.predictions.specs.declared.remedies.finding.Remedies.{Remedies}
 use Rattle.migration_model.specs.Rounds.{IsPlan, MigrationPlan}
 use Rattle.migration_model.specs.Sweeps.{AreLines, SweepLine}
 use Rattle.migration_model.specs.Touches.{GuestTouches}
-use Rattle.migration_starts.specs.Ranges.{AreRanges, RangesOfStarts, spread_starts}
-use Rattle.migration_starts.specs.Starts.{cases_from}
+use Rattle.predictions.specs.Starts.Ranges.{AreRanges, RangesOfStarts, spread_starts}
+use Rattle.predictions.specs.Starts.{cases_from}
 use Rattle.predictions.specs.Predictions.{last_tick_of, prediction_of}
-use Rattle.redrawn_pages.specs.Errors.{AreErrors}
+use Rattle.predictions.specs.Redrawn.Errors.{AreErrors}
 use Rattle.trace_views.specs.declared.outlook.Outlook.{Outlook}
 use Rattle.trace_views.specs.declared.view.AskedPrediction.{AskedPrediction}
 

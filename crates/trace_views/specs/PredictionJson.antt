@@ -1,12 +1,12 @@
 -- A prediction as a JSON document: its tokens.
 use Rattle.std.specs.Prelude.{ℕ, if◌then◌else◌, List, [], ◌∷◌, ◌++◌, Option, None, Some, codes}
-use Rattle.guest_units.specs.Scales.{TraceScale}
-use Rattle.guest_units.specs.declared.limits.Limits.{Limits}
+use Rattle.predictions.specs.Units.Scales.{TraceScale}
+use Rattle.predictions.specs.declared.units.limits.Limits.{Limits}
 use Rattle.json.specs.Token.{Token}
 use Rattle.migration_model.specs.Rates.{MigrationSettings, word_of}
 use Rattle.predictions.specs.Hosts.{link_in_mib, millis_for_pages}
 use Rattle.predictions.specs.Predictions.{GuestPrediction, kept_of, verdict_of, verdict_word}
-use Rattle.redrawn_pages.specs.Errors.{SampleErrors}
+use Rattle.predictions.specs.Redrawn.Errors.{SampleErrors}
 use Rattle.trace_views.specs.EnoughJson.{enough_member}
 use Rattle.trace_views.specs.Json.{member_of, number_member, object_of, scale_object, seconds_member, settings_members}
 use Rattle.trace_views.specs.Json.{text_member}

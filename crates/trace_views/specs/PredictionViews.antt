@@ -1,10 +1,10 @@
 -- What a migration will be, as a text.
 use Rattle.std.specs.Prelude.{◌≡◌, ℕ, List, ◌++◌}
-use Rattle.guest_units.specs.Scales.{TraceScale}
-use Rattle.guest_units.specs.declared.limits.Limits.{Limits}
+use Rattle.predictions.specs.Units.Scales.{TraceScale}
+use Rattle.predictions.specs.declared.units.limits.Limits.{Limits}
 use Rattle.migration_model.specs.Rates.{MigrationSettings}
 use Rattle.migration_model.specs.Touches.{GuestTouches}
-use Rattle.migration_starts.specs.RangeTexts.{ranges_text}
+use Rattle.predictions.specs.Starts.RangeTexts.{ranges_text}
 use Rattle.predictions.specs.Hosts.{hosts_text}
 use Rattle.predictions.specs.Predictions.{kept_of}
 use Rattle.predictions.specs.Texts.{prediction_text}

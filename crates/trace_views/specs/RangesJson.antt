@@ -1,7 +1,7 @@
 -- The ranges over starts as a member of a JSON document: its tokens.
 use Rattle.std.specs.Prelude.{List, [], ◌∷◌, ◌++◌, Option, None, Some, codes}
 use Rattle.json.specs.Token.{Token}
-use Rattle.migration_starts.specs.Ranges.{MigrationNumbers, RangesOfStarts}
+use Rattle.predictions.specs.Starts.Ranges.{MigrationNumbers, RangesOfStarts}
 use Rattle.trace_views.specs.Json.{member_of, number_member, object_of, seconds_member}
 
 -- how long a migration takes, what it sends, and how long the guest does not run

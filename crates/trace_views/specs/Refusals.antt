@@ -1,6 +1,6 @@
 -- Why a view could not be made.
-use Rattle.migration_starts.specs.declared.error.StartsError.{StartsError}
-use Rattle.migration_starts.specs.declared.error.StartsError.TheVariants as starts
+use Rattle.predictions.specs.declared.starts.error.StartsError.{StartsError}
+use Rattle.predictions.specs.declared.starts.error.StartsError.TheVariants as starts
 use Rattle.trace_views.specs.declared.error.ViewError.{ViewError}
 use Rattle.trace_views.specs.declared.error.ViewError.TheVariants as errors
 

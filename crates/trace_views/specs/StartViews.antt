@@ -3,11 +3,11 @@ use Rattle.std.specs.Prelude.{◌≡◌, ℕ, ◌≤◌, List, Option, None, Som
 use Rattle.migration_model.specs.Sweeps.{SweepLine, AreLines}
 use Rattle.migration_model.specs.Touches.{GuestTouches}
 use Rattle.migration_model.specs.Windows.{working_sets_of}
-use Rattle.migration_starts.specs.Choices.{IsChosen, is_better_start, is_worse_start, known_of}
-use Rattle.migration_starts.specs.Costs.{CostAtStart, costs_at_starts}
-use Rattle.migration_starts.specs.Starts.{RefusesStarts, cases_from, count_of}
-use Rattle.migration_starts.specs.Texts.{starts_text_of}
-use Rattle.migration_starts.specs.declared.error.StartsError.TheVariants as refusals
+use Rattle.predictions.specs.Starts.Choices.{IsChosen, is_better_start, is_worse_start, known_of}
+use Rattle.predictions.specs.Starts.Costs.{CostAtStart, costs_at_starts}
+use Rattle.predictions.specs.Starts.{RefusesStarts, cases_from, count_of}
+use Rattle.predictions.specs.Starts.Texts.{starts_text_of}
+use Rattle.predictions.specs.declared.starts.error.StartsError.TheVariants as refusals
 use Rattle.predictions.specs.Predictions.{kept_of, last_tick_of}
 use Rattle.predictions.specs.declared.verdict.Verdict.{Verdict}
 use Rattle.predictions.specs.declared.verdict.Verdict.TheVariants.{Unknown}

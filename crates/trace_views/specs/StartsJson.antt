@@ -1,9 +1,9 @@
 -- The costs of starts as a JSON document: its tokens.
 use Rattle.std.specs.Prelude.{ℕ, List, [], ◌∷◌, ◌++◌, Option, None, Some, codes}
 use Rattle.std.specs.List.{flat_map}
-use Rattle.guest_units.specs.Scales.{TraceScale, micros_of}
+use Rattle.predictions.specs.Units.Scales.{TraceScale, micros_of}
 use Rattle.json.specs.Token.{Token}
-use Rattle.migration_starts.specs.Costs.{CostAtStart}
+use Rattle.predictions.specs.Starts.Costs.{CostAtStart}
 use Rattle.predictions.specs.Predictions.{MigrationCost, kept_of, verdict_word}
 use Rattle.trace_views.specs.Json.{array_of, member_of, number_member, object_of, seconds_member, text_member}
 

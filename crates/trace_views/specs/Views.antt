@@ -1,6 +1,6 @@
 -- What a view of a trace shows.
 use Rattle.std.specs.Prelude.{◌≡◌, ℕ, ◌^◌, List, ◌++◌, length, slice_index_or, Option, None, Some}
-use Rattle.guest_units.specs.Scales.{TraceScale}
+use Rattle.predictions.specs.Units.Scales.{TraceScale}
 use Rattle.migration_model.specs.Rates.{MigrationSettings}
 use Rattle.migration_model.specs.Rounds.{IsPlan, MigrationPlan}
 use Rattle.migration_model.specs.Sweeps.{SweepLine, AreLines}

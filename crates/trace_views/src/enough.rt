@@ -4,7 +4,7 @@ ghost use Rattle.std.specs.Prelude.{◌≡◌, ◌++◌, OnOk};
 ghost use Rattle.trace_views.specs.Enough.{amounts_text, answer_for, answer_of, enough_line, enough_text, enough_word};
 ghost use Rattle.trace_views.specs.Enough.{finds_some};
 
-use limit_remedies::{Remedies, push_remedies};
+use predictions::remedies::{Remedies, push_remedies};
 use std::alloc::AllocError;
 
 /// What is enough for the limit of a migration.

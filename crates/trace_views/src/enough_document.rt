@@ -7,7 +7,7 @@ ghost use Rattle.trace_views.specs.EnoughJson.{speed_member};
 
 use crate::document::Document;
 use crate::enough::Enough;
-use limit_remedies::Remedies;
+use predictions::remedies::Remedies;
 use std::alloc::{AllocError, Global};
 
 /// How many bytes a second a Kbit a second is.

@@ -4,7 +4,7 @@ ghost use Rattle.std.specs.Prelude.{◌≡◌};
 ghost use Rattle.trace_views.specs.Refusals.{error_for_starts};
 ghost use Rattle.trace_views.specs.declared.error.ViewError.TheVariants.{Memory};
 
-use migration_starts::StartsError;
+use predictions::starts::StartsError;
 use rate_limit::SettingsError;
 use std::alloc::{AllocError, AllocFailed};
 use thiserror::Error;

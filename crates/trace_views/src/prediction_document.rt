@@ -15,10 +15,10 @@ use crate::outlook::Outlook;
 use crate::ranges_document::write_ranges;
 use crate::starts_document::write_cost_numbers;
 use crate::sweep_document::{write_scale, write_settings};
-use guest_units::{Limits, Scale};
+use predictions::redrawn::Errors;
+use predictions::units::{Limits, Scale};
 use predictions::{Prediction, link_in_mib, millis_for_pages};
 use rate_limit::Settings;
-use redrawn_pages::Errors;
 use std::alloc::{AllocError, Global};
 
 /// Writes what the first round may use of the link as a member, if that is given.

@@ -6,7 +6,7 @@ ghost use Rattle.trace_views.specs.Json.{member_of};
 ghost use Rattle.trace_views.specs.RangesJson.{counts_members, numbers_object, ranges_member, ranges_object};
 
 use crate::document::Document;
-use migration_starts::{CostNumbers, StartRanges};
+use predictions::starts::{CostNumbers, StartRanges};
 use std::alloc::{AllocError, Global};
 
 /// Writes how long a migration takes, what it sends, and how long the guest does not run.

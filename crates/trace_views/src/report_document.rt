@@ -10,7 +10,7 @@ ghost use Rattle.trace_views.specs.Json.{units_object, window_object, window_uni
 use crate::document::Document;
 use crate::error::ViewError;
 use guest_log::Shape;
-use guest_units::Scale;
+use predictions::units::Scale;
 use rate_limit::Settings;
 use round_planner::{Plan, Round};
 use std::alloc::{AllocError, Global};

@@ -11,10 +11,10 @@ use crate::outlook::last_tick;
 use crate::starts_document::json_starts;
 use crate::sweeping::planned;
 use crate::view::{AskedStarts, StartsForm, ViewText};
-use migration_starts::{
+use predictions::Verdict;
+use predictions::starts::{
     StartCost, best_start, known_starts, start_costs, starts_text, worst_start,
 };
-use predictions::Verdict;
 use report_pictures::{Chosen, starts_chart};
 use std::alloc::Global;
 use std::thread::Threads;

@@ -6,9 +6,9 @@ ghost use Rattle.trace_views.specs.Json.{line_of};
 ghost use Rattle.trace_views.specs.StartsJson.{chosen_member, cost_members, cost_numbers, start_object, starts_object};
 
 use crate::document::Document;
-use guest_units::Scale;
-use migration_starts::StartCost;
 use predictions::Cost;
+use predictions::starts::StartCost;
+use predictions::units::Scale;
 use std::alloc::{AllocError, Global};
 
 /// Writes what a migration costs as members.

@@ -7,7 +7,7 @@ ghost use Rattle.trace_views.specs.Json.{outcome_units, scale_member, scale_obje
 
 use crate::document::Document;
 use crate::error::ViewError;
-use guest_units::Scale;
+use predictions::units::Scale;
 use rate_limit::Settings;
 use std::alloc::{AllocError, Global};
 use sweep_report::{Line, best_case};

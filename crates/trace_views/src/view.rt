@@ -1,9 +1,9 @@
 //! What can be shown about a trace.
 
 use crate::budget::Budget;
-use guest_units::{Limits, Scale};
-use migration_starts::Starts;
 use predictions::Verdict;
+use predictions::starts::Starts;
+use predictions::units::{Limits, Scale};
 use rate_limit::Settings;
 use report_pictures::Style;
 

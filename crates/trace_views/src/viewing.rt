@@ -19,7 +19,7 @@ use crate::starting::starts_view;
 use crate::sweep_document::json_sweep;
 use crate::sweeping::planned;
 use crate::view::{Measured, View, ViewText};
-use guest_units::Scale;
+use predictions::units::Scale;
 use predictions::{Cost, Verdict};
 use rate_limit::Settings;
 use report_pictures::{Style, measured_screen, report_chart, report_screen};

@@ -3,9 +3,9 @@ use Rattle.std.proofs.Common.{◌≡◌, ℕ, suc, zero, ◌+◌, ◌-◌, ◌*�
 use Rattle.std.proofs.Math.Nat.{div-le_self, div-lt_iff_lt-mul, div-mul-le_self, le-div_iff_mul-le, mul-le-mul}
 use Rattle.std.proofs.Math.Nat.{mul-le-mul_right, mul-pos, mul_assoc}
 use Rattle.std.specs.Prelude.{◌↔◌, max, min}
-use Rattle.guest_units.specs.Limits.{link_rate, threshold_for}
-use Rattle.guest_units.specs.Scales.{IsScale, TraceScale, rate_of, ticks_in}
-use Rattle.guest_units.specs.declared.limits.Limits.{Limits}
+use Rattle.predictions.specs.Units.Limits.{link_rate, threshold_for}
+use Rattle.predictions.specs.Units.Scales.{IsScale, TraceScale, rate_of, ticks_in}
+use Rattle.predictions.specs.declared.units.limits.Limits.{Limits}
 use Rattle.view_words.specs.Nearest.{HasDowntime, HasRate, IsNearest, IsWithin}
 
 -- of what is taken just between two numbers, the nearest

@@ -2,11 +2,11 @@
 use Rattle.std.proofs.Common.{◌≡◌, ℕ, ◌≤◌, ◌<◌, Bool, true, false, cond, not, Option, Some, None, refl, sym, ◌∙◌}
 use Rattle.std.specs.Prelude.{◌≢◌}
 use Rattle.std.proofs.lemmas.Bool.{and_parts, leb-true, ltb-true, not-false}
-use Rattle.guest_units.specs.Limits.{limits_refusal, link_rate}
-use Rattle.guest_units.specs.Scales.{TraceScale, scale_refusal}
-use Rattle.guest_units.specs.declared.error.UnitsError.{UnitsError}
-use Rattle.guest_units.specs.declared.error.UnitsError.TheVariants as errors
-use Rattle.guest_units.specs.declared.limits.Limits.{Limits}
+use Rattle.predictions.specs.Units.Limits.{limits_refusal, link_rate}
+use Rattle.predictions.specs.Units.Scales.{TraceScale, scale_refusal}
+use Rattle.predictions.specs.declared.units.error.UnitsError.{UnitsError}
+use Rattle.predictions.specs.declared.units.error.UnitsError.TheVariants as errors
+use Rattle.predictions.specs.declared.units.limits.Limits.{Limits}
 use Rattle.rate_limit.specs.Refusals.{is_between}
 use Rattle.view_words.specs.Nearest.{IsWithin}
 

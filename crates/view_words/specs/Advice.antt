@@ -1,8 +1,8 @@
 -- What the options of advice ask for, in either kind of words, and why they are refused.
 use Rattle.std.specs.Prelude.{◌≡◌, ◌⊎◌, List, Option, Some, None, codes, min}
 use Rattle.clap.specs.Walk.{Row}
-use Rattle.guest_units.specs.Limits.{ticks_for_pages}
-use Rattle.guest_units.specs.Scales.{TraceScale}
+use Rattle.predictions.specs.Units.Limits.{ticks_for_pages}
+use Rattle.predictions.specs.Units.Scales.{TraceScale}
 use Rattle.job_words.specs.Options.{AsksForSweep, IsGiven, Says}
 use Rattle.job_words.specs.declared.command.WordsError.TheVariants as errors
 use Rattle.job_words.specs.declared.command.WordsRefusal.TheVariants as refusals

@@ -1,8 +1,8 @@
 -- Limits that are not given.
 use Rattle.std.specs.Prelude.{◌≡◌, ◌⊎◌, List, Option, None}
 use Rattle.clap.specs.Walk.{Row}
-use Rattle.guest_units.specs.Scales.{TraceScale}
-use Rattle.guest_units.specs.declared.limits.Limits.{Limits}
+use Rattle.predictions.specs.Units.Scales.{TraceScale}
+use Rattle.predictions.specs.declared.units.limits.Limits.{Limits}
 use Rattle.migration_model.specs.Rates.{MigrationSettings}
 use Rattle.view_words.specs.Measures.{AsksForMeasure}
 

@@ -1,10 +1,10 @@
 -- Which settings options ask for, in either kind of words, and why they are refused.
 use Rattle.std.specs.Prelude.{◌≡◌, ◌⊎◌, ℕ, true, if◌then◌else◌, List, Option, Some, None, codes}
 use Rattle.clap.specs.Walk.{Row, Text}
-use Rattle.guest_units.specs.Limits.{RefusesLimits, settings_in}
-use Rattle.guest_units.specs.Scales.{TraceScale}
-use Rattle.guest_units.specs.declared.error.UnitsError.TheVariants as errors
-use Rattle.guest_units.specs.declared.limits.Limits.{Limits}
+use Rattle.predictions.specs.Units.Limits.{RefusesLimits, settings_in}
+use Rattle.predictions.specs.Units.Scales.{TraceScale}
+use Rattle.predictions.specs.declared.units.error.UnitsError.TheVariants as errors
+use Rattle.predictions.specs.declared.units.limits.Limits.{Limits}
 use Rattle.job_words.specs.Options.{AreRefused, AsksFor, Says}
 use Rattle.migration_model.specs.Rates.{MigrationSettings}
 use Rattle.rate_limit.specs.declared.error.SettingsError.{SettingsError}

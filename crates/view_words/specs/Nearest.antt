@@ -1,9 +1,9 @@
 -- The nearest amounts that are taken in place of refused ones.
 use Rattle.std.specs.Prelude.{◌≡◌, ℕ, ◌+◌, ◌-◌, ◌≤◌, Some, unwrap_or}
-use Rattle.guest_units.specs.Limits.{limits_refusal, link_rate, threshold_for}
-use Rattle.guest_units.specs.Scales.{TraceScale, rate_of, scale_refusal, ticks_in}
-use Rattle.guest_units.specs.declared.error.UnitsError.TheVariants as errors
-use Rattle.guest_units.specs.declared.limits.Limits.{Limits}
+use Rattle.predictions.specs.Units.Limits.{limits_refusal, link_rate, threshold_for}
+use Rattle.predictions.specs.Units.Scales.{TraceScale, rate_of, scale_refusal, ticks_in}
+use Rattle.predictions.specs.declared.units.error.UnitsError.TheVariants as errors
+use Rattle.predictions.specs.declared.units.limits.Limits.{Limits}
 use Rattle.view_words.specs.declared.ranges.RangeRefusal.{RangeRefusal}
 use Rattle.view_words.specs.declared.ranges.RangeRefusal.TheVariants as ranges
 

@@ -1,12 +1,12 @@
 -- What the options of starts ask for, and why they are refused. The first start replaces `start`.
 use Rattle.std.specs.Prelude.{◌≡◌, ◌⊎◌, ℕ, ◌<◌, ◌≤◌, ◌^◌, true, false, ⊤, List, Option, Some, codes, unwrap_or}
 use Rattle.clap.specs.Walk.{Row}
-use Rattle.guest_units.specs.Scales.{TraceScale}
-use Rattle.guest_units.specs.declared.limits.Limits.{Limits}
+use Rattle.predictions.specs.Units.Scales.{TraceScale}
+use Rattle.predictions.specs.declared.units.limits.Limits.{Limits}
 use Rattle.job_words.specs.Options.{IsFlag, Says}
 use Rattle.job_words.specs.declared.command.WordsError.TheVariants as errors
 use Rattle.migration_model.specs.Rates.{MigrationSettings}
-use Rattle.migration_starts.specs.declared.starts.Starts.{Starts}
+use Rattle.predictions.specs.declared.starts.cases.Starts.{Starts}
 use Rattle.trace_views.specs.declared.view.AskedStarts.{AskedStarts}
 use Rattle.trace_views.specs.declared.view.StartsForm.{StartsForm}
 use Rattle.trace_views.specs.declared.view.StartsForm.TheVariants as forms

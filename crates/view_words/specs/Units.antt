@@ -4,8 +4,8 @@ use Rattle.std.specs.Prelude.{unwrap_or}
 use Rattle.clap.specs.Simple.{new_rule}
 use Rattle.clap.specs.Walk.{Row, Rule, Text, first_of}
 use Rattle.clap.specs.declared.builder.action.ArgAction.TheVariants.{Set}
-use Rattle.guest_units.specs.Scales.{TraceScale, scale_with}
-use Rattle.guest_units.specs.declared.limits.Limits.{Limits}
+use Rattle.predictions.specs.Units.Scales.{TraceScale, scale_with}
+use Rattle.predictions.specs.declared.units.limits.Limits.{Limits}
 use Rattle.job_words.specs.Commands.{number_rule}
 use Rattle.job_words.specs.Options.{Says}
 use Rattle.view_words.specs.Quantities.{IsRate, IsSample, IsTime}

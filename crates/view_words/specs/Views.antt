@@ -10,8 +10,8 @@ use Rattle.job_words.specs.Options.{Says}
 use Rattle.job_words.specs.declared.command.WordsError.{WordsError}
 use Rattle.job_words.specs.declared.command.WordsError.TheVariants as errors
 use Rattle.job_words.specs.declared.command.WordsRefusal.TheVariants as refusals
-use Rattle.guest_units.specs.Scales.{TraceScale}
-use Rattle.guest_units.specs.declared.limits.Limits.{Limits}
+use Rattle.predictions.specs.Units.Scales.{TraceScale}
+use Rattle.predictions.specs.declared.units.limits.Limits.{Limits}
 use Rattle.trace_views.specs.declared.view.AskedPrediction.{AskedPrediction}
 use Rattle.trace_views.specs.declared.view.PredictionForm.{PredictionForm}
 use Rattle.trace_views.specs.declared.view.PredictionForm.TheVariants as predictions

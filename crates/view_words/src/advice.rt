@@ -2,7 +2,7 @@
 
 ghost use Rattle.std.specs.Prelude.{◌≡◌, IfErr, IfOk, None, Some, codes, false, true};
 ghost use Rattle.clap.specs.Words.{found_of, rows_of};
-ghost use Rattle.guest_units.specs.Limits.{ticks_for_pages};
+ghost use Rattle.predictions.specs.Units.Limits.{ticks_for_pages};
 ghost use Rattle.job_words.specs.Options.{Says};
 ghost use Rattle.view_words.specs.Measures.{AsksForMeasure, IsThere};
 ghost use Rattle.view_words.specs.Units.{HasNoUnits};
@@ -14,8 +14,8 @@ use crate::limits::{LimitsRefusal, says_units};
 use crate::measures::measure_of;
 use crate::options::settings_for;
 use clap::ArgMatches;
-use guest_units::{Limits, Scale};
 use job_words::{WordsError, WordsRefusal, said};
+use predictions::units::{Limits, Scale};
 use rate_limit::Settings;
 use trace_views::{Budget, Measured, View};
 

@@ -25,10 +25,10 @@ use crate::measures::{Measure, measure_of, scale_said};
 use crate::options::{style_of, with_budget, with_style};
 use crate::starts::{form_of, starts_of, with_chart, with_starts};
 use clap::{ArgMatches, Command};
-use guest_units::{Limits, Scale};
 use job_words::{
     WordsError, cases_of, leaf_command, refusal_of, sweep_options, with_cases, with_report,
 };
+use predictions::units::{Limits, Scale};
 use std::alloc::{AllocError, Global};
 use trace_views::{AskedPrediction, AskedStarts, PredictionForm, StartsForm, View};
 

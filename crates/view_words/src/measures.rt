@@ -10,8 +10,8 @@ ghost use Rattle.view_words.specs.Units.{IsSaid, scale_in};
 use crate::limits::{LimitsRefusal, Said, is_measured, limits_of, said_of, scale_of};
 use crate::ranges::limits_refused;
 use clap::ArgMatches;
-use guest_units::{Limits, Scale, UnitsError};
 use job_words::{said, settings_of};
+use predictions::units::{Limits, Scale, UnitsError};
 use rate_limit::Settings;
 
 /// Settings, and what ticks and pages of the trace stand for if options of limits are given.

@@ -1,11 +1,11 @@
 //! The nearest amounts that are taken in place of refused ones.
 
 ghost use Rattle.std.specs.Prelude.{◌≡◌, ◌+◌, ◌*◌, ◌<◌, ◌≤◌, ◌^◌, ◌↔◌, max, min, ℕ};
-ghost use Rattle.guest_units.specs.Limits.{link_rate};
-ghost use Rattle.guest_units.specs.Scales.{IsScale, rate_of};
+ghost use Rattle.predictions.specs.Units.Limits.{link_rate};
+ghost use Rattle.predictions.specs.Units.Scales.{IsScale, rate_of};
 ghost use Rattle.view_words.specs.Nearest.{HasDowntime, HasRate, IsNearest, IsNearestSample, IsWithin};
 
-use guest_units::{Limits, Scale};
+use predictions::units::{Limits, Scale};
 
 /// The longest tick, in microseconds.
 const MAX_TICK: u64 = 1_000_000;

@@ -1,14 +1,14 @@
 //! Why amounts are out of their range, and the nearest that are taken.
 
 ghost use Rattle.std.specs.Prelude.{◌≡◌, Some};
-ghost use Rattle.guest_units.specs.Limits.{limits_refusal};
-ghost use Rattle.guest_units.specs.Scales.{scale_refusal, scale_with};
+ghost use Rattle.predictions.specs.Units.Limits.{limits_refusal};
+ghost use Rattle.predictions.specs.Units.Scales.{scale_refusal, scale_with};
 ghost use Rattle.view_words.specs.Nearest.{TellsLimits, TellsScale};
 
 use crate::nearest::{
     nearest_downtime, nearest_first, nearest_link, nearest_page, nearest_sample, nearest_tick,
 };
-use guest_units::{Limits, Scale, UnitsError};
+use predictions::units::{Limits, Scale, UnitsError};
 use std::fmt;
 use thiserror::Error;
 

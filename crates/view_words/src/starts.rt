@@ -11,9 +11,9 @@ use crate::command::{ViewWordsError, limited, usage};
 use crate::limits::{LimitsRefusal, with_units};
 use crate::measures::{Measure, measure_of};
 use clap::{Arg, ArgAction, ArgMatches, Command};
-use guest_units::{Limits, Scale};
 use job_words::{Number, flag, is_flag, said, with_numbers};
-use migration_starts::Starts;
+use predictions::starts::Starts;
+use predictions::units::{Limits, Scale};
 use std::alloc::{AllocError, Global};
 use trace_views::{AskedStarts, StartsForm};
 

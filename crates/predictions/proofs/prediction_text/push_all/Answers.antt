@@ -1,6 +1,6 @@
 use Rattle.std.proofs.Common.{◌≡◌, ap, append_assoc}
 use Rattle.std.proofs.lemmas.List.{append-nil}
-use Rattle.redrawn_pages.specs.Errors.{SampleErrors}
+use Rattle.predictions.specs.Redrawn.Errors.{SampleErrors}
 use Rattle.predictions.proofs.prediction_text.push_all.Goals as goal
 
 pub returns : goal.returns

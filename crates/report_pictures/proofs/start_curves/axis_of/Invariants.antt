@@ -1,7 +1,7 @@
 use Rattle.std.proofs.Common.{◌≡◌, ◌-◌, ◌^◌, take}
 use Rattle.std.specs.List.{fold}
 use Rattle.std.specs.Prelude.{max, min}
-use Rattle.migration_starts.specs.Costs.{CostAtStart}
+use Rattle.predictions.specs.Starts.Costs.{CostAtStart}
 use Rattle.report_pictures.proofs.start_curves.axis_of.Given as goal
 
 abbrev pub invariant-loop-at : goal.invariant-loop-at

@@ -1,6 +1,6 @@
 use Rattle.std.proofs.Common.{◌++◌, List, [], ℕ, ap, ◌∙◌, sym, codes, map, slice_index, arith, Bor}
 use Rattle.std.proofs.lemmas.List.{get_or-map}
-use Rattle.migration_starts.specs.Texts.{right_in}
+use Rattle.predictions.specs.Starts.Texts.{right_in}
 use Rattle.report_pictures.proofs.Cells.{name_cell, one_cell_more}
 use Rattle.report_pictures.proofs.table.push_names.Goals as goal
 

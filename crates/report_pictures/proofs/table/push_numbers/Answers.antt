@@ -1,5 +1,5 @@
 use Rattle.std.proofs.Common.{◌++◌, List, ℕ, ap, ◌∙◌, codes, slice_index}
-use Rattle.migration_starts.specs.Texts.{right_in}
+use Rattle.predictions.specs.Starts.Texts.{right_in}
 use Rattle.report_pictures.proofs.Cells.{number_cell, one_cell_more}
 use Rattle.report_pictures.proofs.table.push_numbers.Goals as goal
 

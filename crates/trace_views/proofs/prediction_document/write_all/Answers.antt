@@ -1,5 +1,5 @@
 use Rattle.std.proofs.Common.{◌≡◌, ap, append_assoc}
-use Rattle.redrawn_pages.specs.Errors.{SampleErrors}
+use Rattle.predictions.specs.Redrawn.Errors.{SampleErrors}
 use Rattle.trace_views.proofs.prediction_document.write_all.Goals as goal
 
 pub returns : goal.returns

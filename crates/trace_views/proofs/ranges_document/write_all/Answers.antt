@@ -4,7 +4,7 @@ use Rattle.std.proofs.lemmas.List.Concat.{flat_map-append}
 use Rattle.std.specs.List.{flat_map}
 use Rattle.std.specs.Prelude.{codes}
 use Rattle.json.specs.Token.{Token, begin_object, end_object}
-use Rattle.migration_starts.specs.Ranges.{MigrationNumbers, RangesOfStarts}
+use Rattle.predictions.specs.Starts.Ranges.{MigrationNumbers, RangesOfStarts}
 use Rattle.trace_views.specs.Json.{member_of, object_of}
 use Rattle.trace_views.specs.RangesJson.{counts_members, numbers_object}
 use Rattle.trace_views.proofs.ranges_document.write_all.Goals as goal

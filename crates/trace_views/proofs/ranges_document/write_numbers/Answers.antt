@@ -1,5 +1,5 @@
 use Rattle.std.proofs.Common.{◌≡◌, ap, append_assoc}
-use Rattle.migration_starts.specs.Ranges.{MigrationNumbers}
+use Rattle.predictions.specs.Starts.Ranges.{MigrationNumbers}
 use Rattle.trace_views.proofs.ranges_document.write_numbers.Goals as goal
 
 pub returns : goal.returns

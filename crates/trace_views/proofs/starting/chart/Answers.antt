@@ -1,6 +1,6 @@
 use Rattle.std.proofs.Common.{rules, ◌≡◌, List, subst}
 use Rattle.migration_model.specs.Windows.{WorkingSets, working_sets_of}
-use Rattle.migration_starts.specs.Costs.{CostAtStart}
+use Rattle.predictions.specs.Starts.Costs.{CostAtStart}
 use Rattle.report_pictures.specs.StartCharts.{IsStartsChart}
 use Rattle.trace_views.proofs.starting.chart.Goals as goal
 

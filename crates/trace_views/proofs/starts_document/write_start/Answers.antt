@@ -1,5 +1,5 @@
 use Rattle.std.proofs.Common.{◌≡◌, ap, append_assoc}
-use Rattle.migration_starts.specs.Costs.{CostAtStart}
+use Rattle.predictions.specs.Starts.Costs.{CostAtStart}
 use Rattle.trace_views.proofs.starts_document.write_start.Goals as goal
 
 pub returns : goal.returns

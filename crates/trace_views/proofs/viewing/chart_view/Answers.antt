@@ -1,5 +1,5 @@
 use Rattle.std.proofs.Common.{rules, ◌≡◌, ◌^◌, ℕ, List, Option, length, subst}
-use Rattle.guest_units.specs.Scales.{TraceScale}
+use Rattle.predictions.specs.Units.Scales.{TraceScale}
 use Rattle.migration_model.specs.Rates.{MigrationSettings}
 use Rattle.migration_model.specs.Rounds.{MigrationPlan}
 use Rattle.migration_model.specs.Windows.{WorkingSets, working_sets_of}

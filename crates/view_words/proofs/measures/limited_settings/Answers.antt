@@ -1,6 +1,6 @@
 use Rattle.std.proofs.Common.{ap, refl, ◌∙◌, inl, inr}
-use Rattle.guest_units.specs.Limits.{settings_in}
-use Rattle.guest_units.specs.Scales.{TraceScale}
+use Rattle.predictions.specs.Units.Limits.{settings_in}
+use Rattle.predictions.specs.Units.Scales.{TraceScale}
 use Rattle.migration_model.specs.Rates.{MigrationSettings}
 use Rattle.view_words.specs.Units.{scale_in}
 use Rattle.view_words.proofs.measures.limited_settings.Goals as goal

@@ -1,5 +1,5 @@
 use Rattle.std.proofs.Common.{◌≡◌, ◌+◌, ◌-◌, ◌*◌, ◌/◌, arith}
-use Rattle.guest_units.specs.Limits.{link_rate}
+use Rattle.predictions.specs.Units.Limits.{link_rate}
 use Rattle.view_words.specs.Nearest.{HasDowntime}
 use Rattle.view_words.proofs.NearestLemmas.{downtime_iff, nearest_between}
 use Rattle.view_words.proofs.nearest.nearest_downtime.Goals as goal

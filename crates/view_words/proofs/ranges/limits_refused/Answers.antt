@@ -1,5 +1,5 @@
 use Rattle.std.proofs.Common.{◌≡◌, Option, Some, arith, ap, refl, ◌∙◌}
-use Rattle.guest_units.specs.declared.error.UnitsError.{UnitsError}
+use Rattle.predictions.specs.declared.units.error.UnitsError.{UnitsError}
 use Rattle.view_words.proofs.RefusalLemmas.{downtime_left, link_taken, reserve_longer}
 use Rattle.view_words.proofs.ranges.limits_refused.Goals as goal
 

@@ -1,6 +1,6 @@
 use Rattle.std.proofs.Common.{◌≡◌, Option, Some, ap, refl, ◌∙◌}
-use Rattle.guest_units.specs.Scales.{scale_with}
-use Rattle.guest_units.specs.declared.error.UnitsError.{UnitsError}
+use Rattle.predictions.specs.Units.Scales.{scale_with}
+use Rattle.predictions.specs.declared.units.error.UnitsError.{UnitsError}
 use Rattle.view_words.proofs.RefusalLemmas.{sampled_left}
 use Rattle.view_words.proofs.ranges.scale_refused.Goals as goal
 

@@ -1,6 +1,0 @@
-use Rattle.std.proofs.Common.{◌≡◌, take}
-use Rattle.migration_starts.specs.Choices.{known_of}
-use Rattle.migration_starts.proofs.choosing.known_starts.Given as goal
-
-abbrev pub invariant-loop-at : goal.invariant-loop-at
-invariant-loop-at l = l.known.items ≡ known_of (take l.at-index l.costs)

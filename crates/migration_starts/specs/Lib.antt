@@ -1,6 +1,0 @@
-pub mod Starts
-pub mod Costs
-pub mod Choices
-pub mod Texts
-pub mod Ranges
-pub mod RangeTexts

@@ -1,0 +1,52 @@
+-- The plan of redrawn pages on its way. No contract of a public call cites it.
+use Rattle.std.specs.Prelude.{◌≡◌, ℕ, ◌+◌, ◌*◌, ◌/◌, ◌&&◌, nat_le, List, length, slice_index}
+use Rattle.std.specs.List.{filter, range_with_len}
+use Rattle.migration_model.specs.Rates.{MigrationSettings}
+use Rattle.migration_model.specs.Rounds.{NextRound, PlannedRound, IsSent}
+use Rattle.migration_model.specs.Touches.{GuestTouch}
+use Rattle.page_bitmap.specs.Pages.{in_words}
+use Rattle.predictions.specs.Redrawn.{redrawn_touches}
+use Rattle.predictions.specs.declared.redrawn.plans.Coming.{Coming}
+use Rattle.predictions.specs.declared.redrawn.plans.Ran.{Ran}
+use Rattle.round_planner.specs.Scanning.{CanCome, HasRun, IsScan, IsScanWithin}
+
+-- the drawn pages that a bitmap has, by their places
+abbrev pub places_in : List ℕ → List ℕ → List ℕ
+places_in drawn set = filter (λ place. in_words set (slice_index drawn place)) (range_with_len 0 (length drawn))
+
+-- A round that may come, by its numbers and the bitmap of its pages. The walk is at its first tick, and no page is
+-- marked.
+pub record StandsAt (pages : ℕ) (touches : List GuestTouch) (drawn : List ℕ)
+    (s : MigrationSettings) (coming : NextRound) (now : Coming) (listed marks : List ℕ) : Type 0 where
+  pub can : CanCome (length drawn) s coming
+  pub done_is : now.done ≡ coming.done
+  pub from_is : now.from ≡ coming.from
+  pub rate_is : now.rate ≡ coming.rate
+  pub pages_are : coming.pages ≡ places_in drawn listed
+  pub scan : IsScan pages touches coming.from coming.from now.next marks
+
+-- some round that stands so
+pub record IsStanding (pages : ℕ) (touches : List GuestTouch) (drawn : List ℕ)
+    (s : MigrationSettings) (now : Coming) (listed marks : List ℕ) : Type 0 where
+  pub coming : NextRound
+  pub at : StandsAt pages touches drawn s coming now listed marks
+
+-- `count` of a round's pages are sent, and the walk is not past their ticks
+pub record HasSent (pages : ℕ) (touches : List GuestTouch) (drawn : List ℕ)
+    (s : MigrationSettings) (coming : NextRound) (count next : ℕ) (marks : List ℕ) : Type 0 where
+  pub list : List ℕ
+  pub sent : IsSent (s.skip && nat_le 1 coming.done) (redrawn_touches drawn touches) coming.from coming.rate
+      coming.pages list
+  pub count_is : count ≡ length list
+  pub within : IsScanWithin pages touches coming.from (coming.from + 1_000 * count / coming.rate) next marks
+
+-- the round that came, by its numbers; the walk is at its end
+pub record HasRunTo (pages : ℕ) (touches : List GuestTouch) (drawn : List ℕ)
+    (s : MigrationSettings) (coming : NextRound) (ran : Ran) (marks : List ℕ) : Type 0 where
+  pub round : PlannedRound
+  pub dirtied : List ℕ
+  pub run : HasRun (length drawn) (redrawn_touches drawn touches) s coming round dirtied
+  pub to_is : ran.to ≡ round.to
+  pub sent_is : ran.sent ≡ length round.sent
+  pub dirtied_is : ran.dirtied ≡ length dirtied
+  pub scan : IsScan pages touches coming.from round.to ran.next marks

@@ -1,0 +1,65 @@
+-- Migrations that are tried, and what may be changed of one. To slow the guest is what QEMU's auto-converge does; that
+-- its writes then keep their order, and each tick only lasts longer, is this project's own.
+use Rattle.std.specs.Prelude.{◌≡◌, ℕ, ◌*◌, ◌/◌, ◌^◌, ◌<◌, true, List, Option, None}
+use Rattle.predictions.specs.Units.Limits.{limits_refusal, settings_in}
+use Rattle.predictions.specs.Units.Scales.{TraceScale, scale_refusal}
+use Rattle.predictions.specs.declared.units.limits.Limits.{Limits}
+use Rattle.predictions.specs.declared.remedies.change.Change.{Change}
+use Rattle.predictions.specs.declared.remedies.change.Change.TheVariants as changes
+use Rattle.migration_model.specs.Rates.{AreSettings, MigrationSettings}
+use Rattle.migration_model.specs.Sweeps.{IsOutcome, PlanOutcome}
+use Rattle.migration_model.specs.Touches.{GuestTouch}
+use Rattle.predictions.specs.Predictions.{MigrationCost, cost_of, ends_with_few, kept_of, last_tick_of}
+use Rattle.predictions.specs.declared.verdict.Verdict.TheVariants as verdicts
+
+-- a migration that is tried: limits over a trace of some scale, the increment if it is given, and other settings
+pub record MigrationTrial : Type 0 where
+  pub scale : TraceScale
+  pub limits : Limits
+  pub increment : Option ℕ
+  pub others : MigrationSettings
+
+-- the settings that its limits make, beside the others
+abbrev pub settings_of : MigrationTrial → MigrationSettings
+settings_of trial = settings_in trial.scale trial.limits trial.increment trial.others
+
+-- the limits of a trial make settings
+pub record MakesSettings (trial : MigrationTrial) : Type 0 where
+  pub accepted : limits_refusal trial.scale trial.limits ≡ None
+  pub in_range : AreSettings (settings_of trial)
+
+-- what a trial costs whose plan has this result, over touches with this last tick
+abbrev pub trial_cost : MigrationTrial → PlanOutcome → ℕ → MigrationCost
+trial_cost trial outcome last_tick = cost_of trial.scale trial.limits trial.others.start outcome last_tick
+
+-- a trial whose plan has this result ends with few pages left, within the trace and within the downtime
+pub record EndsWell (trial : MigrationTrial) (outcome : PlanOutcome) (last_tick : ℕ) : Type 0 where
+  pub converges : ends_with_few outcome.reason ≡ true
+  pub kept : kept_of (trial_cost trial outcome last_tick) ≡ verdicts.Yes
+
+-- a trial keeps its limit: its limits make settings, and the plan of these ends well
+pub record KeepsLimit (pages : ℕ) (touches : List GuestTouch) (trial : MigrationTrial) : Type 0 where
+  pub makes : MakesSettings trial
+  pub outcome : PlanOutcome
+  pub is_outcome : IsOutcome pages touches (settings_of trial) outcome
+  pub well : EndsWell trial outcome (last_tick_of touches)
+
+-- a trial with another amount: of the link in Kbit a second, of the downtime in microseconds, or of the guest's speed
+-- in per cent: a tick of a slower guest lasts longer
+abbrev pub changed : MigrationTrial → Change → ℕ → MigrationTrial
+changed trial changes.Link kbit = record trial { limits = record trial.limits { link = kbit * 125 } }
+changed trial changes.Downtime micros = record trial { limits = record trial.limits { downtime = micros } }
+changed trial changes.Speed percent =
+    record trial { scale = record trial.scale { tick = trial.scale.tick * 100 / percent } }
+
+-- there is such a trial: its link fits 64 bits, and its scale is accepted
+abbrev pub CanChange : MigrationTrial → Change → ℕ → Type 0
+CanChange trial changes.Link kbit = kbit * 125 < 2 ^ 64
+CanChange trial changes.Downtime micros = micros < 2 ^ 64
+CanChange trial changes.Speed percent = scale_refusal (changed trial changes.Speed percent).scale ≡ None
+
+-- the limit is kept with another amount
+pub record KeepsWith (pages : ℕ) (touches : List GuestTouch) (trial : MigrationTrial) (change : Change) (amount : ℕ)
+    : Type 0 where
+  pub can : CanChange trial change amount
+  pub keeps : KeepsLimit pages touches (changed trial change amount)

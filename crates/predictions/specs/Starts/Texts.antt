@@ -1,0 +1,58 @@
+-- The starts as a table, and the best and the worst of them. This project's own.
+use Rattle.std.specs.Prelude.{ℕ, ◌-◌, List, [], ◌∷◌, ◌++◌, length, replicate, codes}
+use Rattle.std.specs.Prelude.{Option, None, Some}
+use Rattle.std.specs.Fmt.{decimal}
+use Rattle.std.specs.List.{flat_map}
+use Rattle.predictions.specs.Units.Scales.{TraceScale, micros_of}
+use Rattle.predictions.specs.Starts.Costs.{CostAtStart}
+use Rattle.predictions.specs.Predictions.{MigrationCost, kept_of}
+use Rattle.predictions.specs.Quantities.{bytes_text, seconds_text}
+use Rattle.predictions.specs.declared.verdict.Verdict.{Verdict}
+use Rattle.predictions.specs.declared.verdict.Verdict.TheVariants as verdicts
+use Rattle.sweep_report.specs.Lines.{field}
+
+-- words at the right end of a column of this width (32 is a blank)
+abbrev pub right_in : ℕ → List ℕ → List ℕ
+right_in width words = replicate (width - length words) 32 ++ words
+
+-- whether the limit is kept, in words
+abbrev pub mark_of : Verdict → List ℕ
+mark_of verdicts.Yes = codes "kept"
+mark_of verdicts.No = codes "not kept"
+mark_of verdicts.Unknown = codes "unknown"
+
+-- what a migration costs, as columns
+unfoldable pub cost_cells : MigrationCost → List ℕ
+cost_cells cost = right_in 14 (seconds_text cost.time) ++ (right_in 14 (bytes_text cost.bytes)
+    ++ (right_in 14 (seconds_text cost.downtime) ++ (codes "  " ++ mark_of (kept_of cost))))
+
+-- a start, and what the migration costs from there
+abbrev pub start_row : TraceScale → CostAtStart → List ℕ
+start_row scale at = right_in 14 (decimal at.start) ++ (right_in 14 (seconds_text (micros_of scale at.start))
+    ++ (cost_cells at.cost ++ 10 ∷ []))
+
+abbrev pub start_rows : TraceScale → List CostAtStart → List ℕ
+start_rows scale costs = flat_map (start_row scale) costs
+
+-- the names of the columns
+abbrev pub heading : List ℕ
+heading = codes "          tick         start          time          sent      downtime\n"
+
+-- what a migration costs from a chosen start
+unfoldable pub chosen_cost : MigrationCost → List ℕ
+chosen_cost cost = codes ": time " ++ (seconds_text cost.time ++ (codes ", sent " ++ (bytes_text cost.bytes
+    ++ (codes ", downtime " ++ (seconds_text cost.downtime ++ (codes ", " ++ (mark_of (kept_of cost) ++ 10 ∷ [])))))))
+
+-- a chosen start
+unfoldable pub chosen_text : TraceScale → CostAtStart → List ℕ
+chosen_text scale at = seconds_text (micros_of scale at.start)
+    ++ (field (codes ", --start ") at.start ++ chosen_cost at.cost)
+
+-- the line of a chosen start, or of none
+abbrev pub choice_line : TraceScale → List ℕ → Option CostAtStart → List ℕ
+choice_line scale name None = name ++ codes "none, since no migration ends within the trace; record longer\n"
+choice_line scale name (Some at) = name ++ chosen_text scale at
+
+abbrev pub starts_text_of : TraceScale → List CostAtStart → Option CostAtStart → Option CostAtStart → List ℕ
+starts_text_of scale costs best worst = heading ++ (start_rows scale costs ++ (choice_line scale (codes "best:  ") best
+    ++ choice_line scale (codes "worst: ") worst))

@@ -1,0 +1,109 @@
+//! Migrations that are tried.
+
+ghost use Rattle.std.specs.Prelude.{◌≡◌, ◌↔◌, ◌≤◌, IfSome, IsTrue, None, length};
+ghost use Rattle.predictions.specs.Remedies.Trials.{EndsWell, KeepsLimit, MakesSettings, settings_of};
+ghost use Rattle.page_bitmap.specs.Listing.{word_count};
+ghost use Rattle.predictions.specs.Predictions.{last_tick_of};
+
+use crate::cost::Cost;
+use crate::units::{Limits, Scale};
+use crate::verdict::Verdict;
+use guest_log::Timeline;
+use rate_limit::{Asked, Reason, Settings};
+use round_planner::{Outcome, RoundRow, plan_rows};
+use std::marker::Model;
+
+/// A migration that is tried.
+#[derive(Clone, Copy, Debug, PartialEq, Eq)]
+pub struct Trial {
+    /// What ticks and pages of the trace stand for.
+    pub scale: Scale,
+    /// What the migration may take.
+    pub limits: Limits,
+    /// What is added to a dirtying rate, in pages per 1,000 ticks; a tenth of what the link has above the first round
+    /// if none is given.
+    pub increment: Option<u64>,
+    /// The settings that the limits do not make.
+    pub others: Asked,
+}
+
+impl Model for Trial {
+    ghost use Rattle.predictions.specs.Remedies.Trials.{MigrationTrial};
+
+    ghost Value = { MigrationTrial };
+
+    ghost view = { λ t. record {
+      scale = t.scale;
+      limits = t.limits;
+      increment = t.increment;
+      others = t.others;
+    } };
+
+    ghost inverse = { λ t. record {
+      scale = t.scale;
+      limits = t.limits;
+      increment = t.increment;
+      others = t.others;
+    } };
+}
+
+impl Trial {
+    /// Returns the settings of the trial, if its limits make any.
+    fn settings(&self) -> Option<Settings>
+        ensures made { IfSome result (λ settings. settings ≡ settings_of self.now) }
+        ensures some { IfSome result (λ settings. MakesSettings self.now) }
+        ensures none { result ≡ None → ¬ MakesSettings self.now }
+    {
+        match self
+            .limits
+            .settings(&self.scale, self.increment, self.others)
+        {
+            Ok(settings) => Some(settings),
+            Err(_) => None,
+        }
+    }
+
+    /// Returns whether the trial ends well if its plan has these sums, over a trace with this last tick.
+    fn ends_well(&self, outcome: &Outcome, last_tick: u64) -> bool
+        ensures { IsTrue result ↔ EndsWell self.now outcome.now last_tick }
+    {
+        let start = self.others.start;
+        let cost = Cost::new(&self.scale, &self.limits, start, outcome, last_tick);
+        matches!(outcome.reason, Reason::Few) && matches!(cost.kept(), Verdict::Yes)
+    }
+}
+
+/// Returns the tick of the last touch, or 0 if there is none.
+fn last_tick<T: Timeline>(timeline: &T) -> u64
+    ensures { result ≡ last_tick_of (T.touches timeline.now) }
+{
+    match timeline.touch_count() {
+        0 => 0,
+        count => timeline.touch(count - 1).tick,
+    }
+}
+
+/// Returns whether a trial keeps its limit, over a timeline.
+///
+/// It allocates nothing: the caller lends a bit of `marks` and a slot of `list` for each page, and 64 slots of `rows`.
+/// What they hold does not matter. It costs as much as a plan.
+pub fn keeps_limit<T: Timeline>(
+    timeline: &T,
+    trial: &Trial,
+    marks: &mut [u64],
+    list: &mut [u32],
+    rows: &mut [RoundRow],
+) -> bool
+    requires marks { length marks.old ≡ word_count (T.pages timeline.now) }
+    requires list { length list.old ≡ T.pages timeline.now }
+    requires rows { 64 ≤ length rows.old }
+    ensures { IsTrue result ↔ KeepsLimit (T.pages timeline.now) (T.touches timeline.now) trial.now }
+{
+    match trial.settings() {
+        Some(settings) => {
+            let outcome = plan_rows(timeline, &settings, marks, list, rows);
+            trial.ends_well(&outcome, last_tick(timeline))
+        }
+        None => false,
+    }
+}

@@ -1,0 +1,179 @@
+//! The starts as a table.
+
+ghost use Rattle.std.specs.Prelude.{◌≡◌, ◌++◌, ◌<◌, ◌^◌, IfOk, OnOk};
+ghost use Rattle.std.specs.Fmt.{decimal};
+ghost use Rattle.predictions.specs.Predictions.{kept_of};
+ghost use Rattle.predictions.specs.Quantities.{bytes_text, seconds_text};
+ghost use Rattle.predictions.specs.Starts.Texts.{choice_line, chosen_cost, chosen_text, cost_cells, mark_of, right_in};
+ghost use Rattle.predictions.specs.Starts.Texts.{start_row, start_rows, starts_text_of};
+
+use crate::cost::Cost;
+use crate::quantities::{push_bytes, push_seconds, push_wide};
+use crate::starts::starting::StartCost;
+use crate::units::Scale;
+use crate::verdict::Verdict;
+use std::alloc::{AllocError, Global};
+use sweep_report::{end_line, push_field};
+
+/// The names of the columns.
+const HEADING: &str = "          tick         start          time          sent      downtime\n";
+
+/// How wide a column is.
+const WIDTH: usize = 14;
+
+/// Appends words at the right end of a column of this width.
+pub fn push_right(text: &mut Vec<u8>, width: usize, words: &[u8]) -> Result<(), AllocError>
+    ensures { OnOk result (text.new.items ≡ text.old.items ++ right_in width words.now) }
+{
+    for _column in words.len()..width {
+        text.push(b' ')?;
+    }
+    text.extend_from_slice(words)?;
+    Ok(())
+}
+
+/// Appends a number as a column.
+fn push_number_cell(alloc: Global, text: &mut Vec<u8>, number: u64) -> Result<(), AllocError>
+    ensures { OnOk result (text.new.items ≡ text.old.items ++ right_in 14 (decimal number)) }
+{
+    let mut words = Vec::new(alloc);
+    push_wide(&mut words, number as u128)?;
+    push_right(text, WIDTH, &words)
+}
+
+/// Appends a time, given in microseconds, as a column.
+fn push_time_cell(alloc: Global, text: &mut Vec<u8>, micros: u128) -> Result<(), AllocError>
+    ensures { OnOk result (text.new.items ≡ text.old.items ++ right_in 14 (seconds_text micros)) }
+{
+    let mut words = Vec::new(alloc);
+    push_seconds(&mut words, micros)?;
+    push_right(text, WIDTH, &words)
+}
+
+/// Appends a size as a column.
+fn push_size_cell(alloc: Global, text: &mut Vec<u8>, bytes: u128) -> Result<(), AllocError>
+    requires { bytes < 2 ^ 120 }
+    ensures { OnOk result (text.new.items ≡ text.old.items ++ right_in 14 (bytes_text bytes)) }
+{
+    let mut words = Vec::new(alloc);
+    push_bytes(&mut words, bytes)?;
+    push_right(text, WIDTH, &words)
+}
+
+/// Returns whether the limit is kept, in words.
+fn mark_words(cost: &Cost) -> &'static str
+    ensures { result.now ≡ mark_of (kept_of cost.now) }
+{
+    match cost.kept() {
+        Verdict::Yes => "kept",
+        Verdict::No => "not kept",
+        Verdict::Unknown => "unknown",
+    }
+}
+
+/// Appends what a migration costs, as columns.
+#[tactic(auto, unfolding(crate::specs::Starts::Texts::cost_cells))]
+fn push_cost(alloc: Global, text: &mut Vec<u8>, cost: &Cost) -> Result<(), AllocError>
+    ensures { OnOk result (text.new.items ≡ text.old.items ++ cost_cells cost.now) }
+{
+    push_time_cell(alloc, text, cost.time)?;
+    push_size_cell(alloc, text, cost.bytes)?;
+    push_time_cell(alloc, text, cost.downtime)?;
+    text.extend_from_slice("  ".as_bytes())?;
+    text.extend_from_slice(mark_words(cost).as_bytes())?;
+    Ok(())
+}
+
+/// Appends the line of a start.
+fn push_row(
+    alloc: Global,
+    text: &mut Vec<u8>,
+    scale: &Scale,
+    at: &StartCost,
+) -> Result<(), AllocError>
+    ensures { OnOk result (text.new.items ≡ text.old.items ++ start_row scale.now at.now) }
+{
+    push_number_cell(alloc, text, at.start)?;
+    push_time_cell(alloc, text, scale.micros(at.start))?;
+    push_cost(alloc, text, &at.cost)?;
+    end_line(text)
+}
+
+/// Appends a line for each start.
+fn push_rows(
+    alloc: Global,
+    text: &mut Vec<u8>,
+    scale: &Scale,
+    costs: &[StartCost],
+) -> Result<(), AllocError>
+    ensures { OnOk result (text.new.items ≡ text.old.items ++ start_rows scale.now costs.now) }
+{
+    for at in costs {
+        push_row(alloc, text, scale, at)?;
+    }
+    Ok(())
+}
+
+/// Appends what a migration costs from a chosen start.
+#[tactic(auto, unfolding(crate::specs::Starts::Texts::chosen_cost))]
+fn push_chosen_cost(text: &mut Vec<u8>, cost: &Cost) -> Result<(), AllocError>
+    ensures { OnOk result (text.new.items ≡ text.old.items ++ chosen_cost cost.now) }
+{
+    text.extend_from_slice(": time ".as_bytes())?;
+    push_seconds(text, cost.time)?;
+    text.extend_from_slice(", sent ".as_bytes())?;
+    push_bytes(text, cost.bytes)?;
+    text.extend_from_slice(", downtime ".as_bytes())?;
+    push_seconds(text, cost.downtime)?;
+    text.extend_from_slice(", ".as_bytes())?;
+    text.extend_from_slice(mark_words(cost).as_bytes())?;
+    end_line(text)?;
+    Ok(())
+}
+
+/// Appends a chosen start.
+#[tactic(auto, unfolding(crate::specs::Starts::Texts::chosen_text))]
+fn push_chosen(text: &mut Vec<u8>, scale: &Scale, at: &StartCost) -> Result<(), AllocError>
+    ensures { OnOk result (text.new.items ≡ text.old.items ++ chosen_text scale.now at.now) }
+{
+    push_seconds(text, scale.micros(at.start))?;
+    push_field(text, ", --start ", at.start)?;
+    push_chosen_cost(text, &at.cost)
+}
+
+/// Appends the line of a chosen start, or of none.
+fn push_choice(
+    text: &mut Vec<u8>,
+    scale: &Scale,
+    name: &str,
+    chosen: &Option<StartCost>,
+) -> Result<(), AllocError>
+    ensures { OnOk result (text.new.items ≡ text.old.items ++ choice_line scale.now name.now chosen.now) }
+{
+    text.extend_from_slice(name.as_bytes())?;
+    match chosen {
+        Some(at) => push_chosen(text, scale, at),
+        None => text.extend_from_slice(NONE.as_bytes()),
+    }
+}
+
+/// What is printed if no start is known.
+const NONE: &str = "none, since no migration ends within the trace; record longer\n";
+
+/// Returns starts as a table, in ASCII: what a migration costs from each, and which is the best and which the worst.
+pub fn starts_text(
+    alloc: Global,
+    scale: &Scale,
+    costs: &[StartCost],
+    best: &Option<StartCost>,
+    worst: &Option<StartCost>,
+) -> Result<Vec<u8>, AllocError>
+    ensures { IfOk result (λ text. text.items ≡ starts_text_of scale.now costs.now best.now worst.now) }
+{
+    let mut text = Vec::new(alloc);
+    text.extend_from_slice(HEADING.as_bytes())?;
+    push_rows(alloc, &mut text, scale, costs)?;
+    push_choice(&mut text, scale, "best:  ", best)?;
+    push_choice(&mut text, scale, "worst: ", worst)?;
+    Ok(text)
+}

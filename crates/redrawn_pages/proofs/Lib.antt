@@ -1,3 +1,0 @@
-pub mod Drawn
-pub mod Ways
-pub mod Drawing

@@ -1,5 +1,0 @@
-pub mod Redrawn
-pub mod Rounds
-pub mod Draws
-pub mod Errors
-pub mod Sums
