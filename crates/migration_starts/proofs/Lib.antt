@@ -1,3 +1,4 @@
 pub mod Orders
 pub mod Extremes
 pub mod SpreadStarts
+pub mod Ticks
