@@ -4,7 +4,7 @@ pub mod Choices
 pub mod Texts
 pub mod Ranges
 pub mod RangeTexts
-use Rattle.std.specs.Prelude.{◌≡◌, ℕ, ◌+◌, ◌-◌, ◌*◌, ◌/◌, ◌<◌, ◌≤◌, ⊤, max, map, unwrap_or, List, Some, None}
+use Rattle.std.specs.Prelude.{◌≡◌, ℕ, ◌+◌, ◌-◌, ◌*◌, ◌/◌, ◌<◌, ◌≤◌, max, map, unwrap_or, List, Some, None}
 use Rattle.std.specs.Int.{div_ceil}
 use Rattle.std.specs.List.{range_with_len}
 use Rattle.migration_model.specs.Rates.{MigrationSettings}
@@ -47,8 +47,15 @@ pub record RefusesStart (settings : MigrationSettings) (starts : Starts) (last_t
   pub before : (k : ℕ) → k < number → refusal_of (case_from settings starts last_tick k) ≡ None
   pub refused : refusal_of (case_from settings starts last_tick number) ≡ Some e
 
--- The starts are refused for this: there are more than 4,096 of them, or else the settings of one are out of range.
+-- the settings of each start are in range
+abbrev pub AreAccepted : MigrationSettings → Starts → ℕ → Type 0
+AreAccepted settings starts last_tick =
+    (k : ℕ) → k < count_of starts last_tick → refusal_of (case_from settings starts last_tick k) ≡ None
+
+-- The starts are refused for this: there are more than 4,096 of them, or else the settings of one are out of range, or
+-- else memory ran out.
 abbrev pub RefusesStarts : MigrationSettings → Starts → ℕ → StartsError → Type 0
-RefusesStarts settings starts last_tick errors.Memory = ⊤
+RefusesStarts settings starts last_tick errors.Memory =
+    (count_of starts last_tick ≤ 4_096) × AreAccepted settings starts last_tick
 RefusesStarts settings starts last_tick errors.TooMany = 4_096 < count_of starts last_tick
 RefusesStarts settings starts last_tick (errors.Settings e) = RefusesStart settings starts last_tick e

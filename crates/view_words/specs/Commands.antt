@@ -3,7 +3,6 @@ use Rattle.std.specs.Prelude.{◌≡◌, ◌⊎◌, List, [], ◌∷◌, ◌++�
 use Rattle.std.specs.Str.{bytes_eq}
 use Rattle.clap.specs.Simple.{App, new_shape}
 use Rattle.clap.specs.Walk.{Rule, Text}
-use Rattle.clap.specs.declared.builder.value_parser.ValueParser.TheVariants as parsers
 use Rattle.job_words.specs.Commands.{case_rule, flag_rule, leaf, number_rule, report_rules, sweep_rules}
 use Rattle.view_words.specs.Units.{scale_rules, unit_rules}
 

@@ -1,5 +1,6 @@
 -- What the options of starts ask for, and why they are refused. The first start replaces `start`.
-use Rattle.std.specs.Prelude.{◌≡◌, ◌⊎◌, ℕ, ◌<◌, ◌≤◌, ◌^◌, true, false, ⊤, List, Option, Some, codes, unwrap_or}
+use Rattle.std.specs.Prelude.{◌≡◌, ◌⊎◌, ℕ, ◌<◌, ◌≤◌, ◌^◌, true, false, List, Option, Some, codes, string_bytes}
+use Rattle.std.specs.Prelude.{unwrap_or}
 use Rattle.clap.specs.Walk.{Row}
 use Rattle.predictions.specs.Units.Scales.{TraceScale}
 use Rattle.predictions.specs.declared.units.limits.Limits.{Limits}
@@ -57,10 +58,14 @@ pub record RefusesTicks (rows : List Row) : Type 0 where
   pub measured : AsksForMeasure rows settings scale limits
   pub refused : AreTicksRefused rows settings.start
 
--- the options of starts are refused for this
+-- what is told of starts that are out of range
+abbrev pub ticks_text : List ℕ
+ticks_text = codes "error: --every is at least 1, and --to is not before --from and below 2^40\n"
+
+-- The options of starts are refused for this. Memory can run out only for the text on starts that are out of range.
 abbrev pub RefusesStarts : List Row → ViewWordsError → Type 0
-RefusesStarts rows (asked.Words errors.Memory) = ⊤
-RefusesStarts rows (asked.Words (errors.Usage text)) = RefusesTicks rows
+RefusesStarts rows (asked.Words errors.Memory) = RefusesTicks rows
+RefusesStarts rows (asked.Words (errors.Usage text)) = RefusesTicks rows × (string_bytes text ≡ ticks_text)
 RefusesStarts rows (asked.Words (errors.Help text)) = ⊥
 RefusesStarts rows (asked.Words (errors.Refused refusal)) = ⊥
 RefusesStarts rows (asked.Limits e) = RefusesMeasure rows e ⊎ ((e ≡ refused.Missing) × LacksLimits rows)

@@ -1,5 +1,5 @@
 -- Which view a command asks for, by its name and by what clap found after it, and why it is refused.
-use Rattle.std.specs.Prelude.{◌≡◌, ◌⊎◌, List, Option, Some, MatchOption, [], ⊤, codes}
+use Rattle.std.specs.Prelude.{◌≡◌, ◌⊎◌, ℕ, List, Option, Some, MatchOption, [], ⊤, codes}
 use Rattle.clap.specs.Faults.{fault_of}
 use Rattle.clap.specs.Simple.{App, subcommand_of}
 use Rattle.clap.specs.Walk.{Row, Text}
@@ -9,7 +9,6 @@ use Rattle.job_words.specs.Jobs.{AsksForCases, RefusesSweep}
 use Rattle.job_words.specs.Options.{Says}
 use Rattle.job_words.specs.declared.command.WordsError.{WordsError}
 use Rattle.job_words.specs.declared.command.WordsError.TheVariants as errors
-use Rattle.job_words.specs.declared.command.WordsRefusal.TheVariants as refusals
 use Rattle.predictions.specs.Units.Scales.{TraceScale}
 use Rattle.predictions.specs.declared.units.limits.Limits.{Limits}
 use Rattle.trace_views.specs.declared.view.AskedPrediction.{AskedPrediction}
@@ -25,6 +24,7 @@ use Rattle.view_words.specs.Commands.{json_line, json_words, view_line}
 use Rattle.view_words.specs.Lacks.{LacksLimits}
 use Rattle.view_words.specs.Starts.{AsksForForm, AsksForStarts, RefusesStarts}
 use Rattle.view_words.specs.Styles.{AsksForStyle, IsWidthRefused}
+use Rattle.view_words.specs.Usage.{IsUsage}
 use Rattle.view_words.specs.declared.command.AskedView.{AskedView}
 use Rattle.view_words.specs.declared.command.ViewWordsError.{ViewWordsError}
 use Rattle.view_words.specs.declared.command.ViewWordsError.TheVariants as asked
@@ -69,13 +69,12 @@ AsksForDocument name rows (views.Predict asked) scale =
 AsksForDocument name rows (views.When asked) scale =
     (name ≡ codes "when") × AsksForStarts rows forms.Json asked × (scale ≡ Some asked.scale)
 
--- a text about words that are not taken, or memory ran out
-abbrev pub IsUsage : ViewWordsError → Type 0
-IsUsage (asked.Words errors.Memory) = ⊤
-IsUsage (asked.Words (errors.Usage text)) = ⊤
-IsUsage (asked.Words (errors.Help text)) = ⊥
-IsUsage (asked.Words (errors.Refused refusal)) = ⊥
-IsUsage (asked.Limits refusal) = ⊥
+-- what is told of a width that is out of range, and of words without a command
+abbrev pub width_text : List ℕ
+width_text = codes "error: the width is not 72 to 512\n"
+
+abbrev pub command_text : List ℕ
+command_text = codes "error: a command is required\n"
 
 -- settings in either kind of words are refused for this
 abbrev pub RefusesSettings : List Row → ViewWordsError → Type 0
@@ -104,10 +103,10 @@ RefusesSweepWords rows (asked.Limits e) = RefusesScaleWords rows e
 -- A command of this name is refused for this. `json` is one if it does not come right after the program's name.
 abbrev pub RefusesView : Text → List Row → ViewWordsError → Type 0
 RefusesView name rows e = ((name ≡ codes "advise") × RefusesAdvice rows e)
-    ⊎ (((name ≡ codes "show") × (RefusesSettings rows e ⊎ (IsUsage e × IsWidthRefused rows)))
+    ⊎ (((name ≡ codes "show") × (RefusesSettings rows e ⊎ (IsUsage width_text e × IsWidthRefused rows)))
     ⊎ (((name ≡ codes "chart") × RefusesSettings rows e)
     ⊎ (((name ≡ codes "predict") × RefusesPrediction rows e)
-    ⊎ (((name ≡ codes "when") × RefusesStarts rows e) ⊎ ((name ≡ codes "json") × IsUsage e)))))
+    ⊎ (((name ≡ codes "when") × RefusesStarts rows e) ⊎ ((name ≡ codes "json") × IsUsage command_text e)))))
 
 -- a command of this name below `json` is refused for this
 abbrev pub RefusesDocument : Text → List Row → ViewWordsError → Type 0

@@ -12,11 +12,12 @@ ghost use Rattle.view_words.specs.Views.{IsOutOfMemory};
 ghost use Rattle.job_words.specs.declared.command.WordsError.TheVariants.{Memory};
 ghost use Rattle.view_words.specs.Commands.{IsCommand, IsDocument, json_line, json_words, start_rules, view_line};
 ghost use Rattle.view_words.specs.Starts.{RefusesStarts};
-ghost use Rattle.view_words.specs.Views.{AsksForDocument, AsksForPrediction, AsksForView, FailsOn, IsUsage, Names};
+ghost use Rattle.view_words.specs.Usage.{IsUsage};
+ghost use Rattle.view_words.specs.Views.{AsksForDocument, AsksForPrediction, AsksForView, FailsOn, Names};
 ghost use Rattle.view_words.specs.Views.{RefusesCases};
 ghost use Rattle.view_words.specs.Views.{RefusesDocument, RefusesPrediction, RefusesSettings, RefusesSweepWords};
 ghost use Rattle.view_words.specs.Views.{RefusesView, WordsAsk};
-ghost use Rattle.view_words.specs.Views.{WordsFail};
+ghost use Rattle.view_words.specs.Views.{WordsFail, width_text};
 ghost use Rattle.view_words.specs.declared.command.ViewWordsError.TheVariants.{Words};
 
 use crate::advice::advice_of;
@@ -180,7 +181,7 @@ fn commands<'a>(alloc: Global) -> Result<Command<'a>, AllocError>
 
 /// Returns the error for words that the command line does not have, with its text.
 pub(crate) fn usage(alloc: Global, text: &str) -> ViewWordsError
-    ensures { IsUsage result }
+    ensures { IsUsage text.now result }
 {
     match String::from_str(alloc, text) {
         Ok(text) => ViewWordsError::Words(WordsError::Usage(text)),
@@ -282,7 +283,7 @@ fn show_of(alloc: Global, options: &ArgMatches) -> Result<AskedView, ViewWordsEr
     ensures made { IfOk result (λ asked. AsksForView (codes "show") (rows_of (found_of options.now)) asked.view
         asked.scale) }
     ensures refused { IfErr result (λ e. RefusesSettings (rows_of (found_of options.now)) e
-        ⊎ (IsUsage e × IsWidthRefused (rows_of (found_of options.now)))) }
+        ⊎ (IsUsage width_text e × IsWidthRefused (rows_of (found_of options.now)))) }
 {
     let measure = match measure_of(options) {
         Ok(measure) => measure,

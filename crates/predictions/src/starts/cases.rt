@@ -1,12 +1,13 @@
 //! At which ticks a migration may begin.
 
 ghost use Rattle.std.specs.Prelude.{◌≡◌, ◌≤◌, ◌<◌, ◌+◌, ◌-◌, ◌*◌, ◌/◌, IfErr, IfOk, None, OnOk, Some, max};
-ghost use Rattle.predictions.specs.Starts.{RefusesStarts, cases_from, count_of, last_start, spacing_of};
+ghost use Rattle.predictions.specs.Starts.{AreAccepted, RefusesStart, RefusesStarts, cases_from, count_of};
+ghost use Rattle.predictions.specs.Starts.{last_start, spacing_of};
 ghost use Rattle.rate_limit.specs.Refusals.{refusal_of};
 
 use crate::starts::error::StartsError;
 use rate_limit::{Asked, Settings, SettingsError};
-use std::alloc::Global;
+use std::alloc::{AllocError, Global};
 
 /// Into how many parts starts cut a trace, if no spacing is given.
 const PARTS: u64 = 200;
@@ -49,7 +50,50 @@ impl Starts {
         (span / self.spacing(last_tick)) as u128 + 1
     }
 
-    /// Returns the settings of a migration from each start, in order, over a trace with this last tick.
+    /// Tests the settings of a migration from each start, in order, over a trace with this last tick. It allocates
+    /// nothing.
+    fn test(&self, settings: &Settings, last_tick: u64, count: u64) -> Result<(), SettingsError>
+        requires count { count ≡ count_of self.now last_tick }
+        requires few { count ≤ 4_096 }
+        ensures accepted { OnOk result (AreAccepted settings.now self.now last_tick) }
+        ensures refused { IfErr result (RefusesStart settings.now self.now last_tick) }
+    {
+        let last = self.last(last_tick);
+        let every = self.spacing(last_tick);
+        for number in 0..count {
+            if let Err(error) = case_at(settings, tick_at(self.from, last, every, number)) {
+                return Err(error);
+            }
+        }
+        Ok(())
+    }
+
+    /// Returns the settings of a migration from each start, none of which is refused.
+    fn made(
+        &self,
+        alloc: Global,
+        settings: &Settings,
+        last_tick: u64,
+        count: u64,
+    ) -> Result<Vec<Settings>, AllocError>
+        requires count { count ≡ count_of self.now last_tick }
+        requires accepted { AreAccepted settings.now self.now last_tick }
+        ensures { IfOk result (λ cases. cases.items ≡ cases_from settings.now self.now last_tick) }
+    {
+        let last = self.last(last_tick);
+        let every = self.spacing(last_tick);
+        let mut cases = Vec::with_capacity(alloc, count as usize)?;
+        for number in 0..count {
+            let Ok(case) = case_at(settings, tick_at(self.from, last, every, number)) else {
+                unreachable!()
+            };
+            cases.push(case)?;
+        }
+        Ok(cases)
+    }
+
+    /// Returns the settings of a migration from each start, in order, over a trace with this last tick. All of them are
+    /// tested before memory is taken for them.
     pub fn cases(
         &self,
         alloc: Global,
@@ -58,24 +102,20 @@ impl Starts {
     ) -> Result<Vec<Settings>, StartsError>
         ensures made { IfOk result (λ cases. cases.items ≡ cases_from settings.now self.now last_tick) }
         ensures few { OnOk result (count_of self.now last_tick ≤ 4_096) }
+        ensures accepted { OnOk result (AreAccepted settings.now self.now last_tick) }
         ensures refused { IfErr result (RefusesStarts settings.now self.now last_tick) }
     {
         let count = self.count(last_tick);
         if count > MOST_STARTS as u128 {
             return Err(StartsError::TooMany);
         }
-        let count = count as u64;
-        let last = self.last(last_tick);
-        let every = self.spacing(last_tick);
-        let mut cases = Vec::with_capacity(alloc, count as usize)?;
-        for number in 0..count {
-            let tick = tick_at(self.from, last, every, number);
-            match case_at(settings, tick) {
-                Ok(case) => cases.push(case)?,
-                Err(error) => return Err(StartsError::Settings(error)),
-            }
+        if let Err(error) = self.test(settings, last_tick, count as u64) {
+            return Err(StartsError::Settings(error));
         }
-        Ok(cases)
+        match self.made(alloc, settings, last_tick, count as u64) {
+            Ok(cases) => Ok(cases),
+            Err(_) => Err(StartsError::Memory),
+        }
     }
 }
 

@@ -3,16 +3,16 @@ use Rattle.clap.specs.Walk.{Row}
 use Rattle.clap.specs.Words.{found_of, rows_of}
 use Rattle.job_words.specs.declared.command.WordsError.TheVariants.{Help, Memory, Refused, Usage}
 use Rattle.migration_model.specs.Rates.{MigrationSettings}
-use Rattle.view_words.specs.Starts.{AreTicksRefused, RefusesStarts, RefusesTicks}
-use Rattle.view_words.specs.Views.{IsUsage}
+use Rattle.view_words.specs.Starts.{AreTicksRefused, RefusesStarts, RefusesTicks, ticks_text}
+use Rattle.view_words.specs.Usage.{IsUsage}
 use Rattle.view_words.specs.declared.command.ViewWordsError.{ViewWordsError}
 use Rattle.view_words.specs.declared.command.ViewWordsError.TheVariants.{Limits, Words}
 use Rattle.view_words.proofs.starts.starts_with.Goals as goal
 
 -- a text about starts that are out of range refuses them
-refuses : (rows : List Row) (e : ViewWordsError) → RefusesTicks rows → IsUsage e → RefusesStarts rows e
-refuses rows (Words Memory) ticks usage = tt
-refuses rows (Words (Usage text)) ticks usage = ticks
+refuses : (rows : List Row) (e : ViewWordsError) → RefusesTicks rows → IsUsage ticks_text e → RefusesStarts rows e
+refuses rows (Words Memory) ticks usage = ticks
+refuses rows (Words (Usage text)) ticks usage = (ticks, usage)
 refuses rows (Words (Help text)) ticks usage = absurd usage
 refuses rows (Words (Refused refusal)) ticks usage = absurd usage
 refuses rows (Limits refusal) ticks usage = absurd usage
