@@ -214,7 +214,7 @@ static void last_places(const struct room *trace, uint32_t writes, uint32_t *pla
     }
 }
 
-/* Makes two streams of a guest's last memory, in which all is right. */
+/* Makes two streams of a guest's last memory, in which all is right, and the states that they leave. */
 static void make_streams(struct guest *guest, const struct precopy_sizes *sizes, const uint8_t *whole) {
     size_t size = (size_t)1 << sizes->shift, lengths[2] = {0, 0}, length = 0;
     uint8_t *stream = __real_malloc(sizes->pages * (size + 9));
@@ -229,6 +229,13 @@ static void make_streams(struct guest *guest, const struct precopy_sizes *sizes,
         lengths[page > sizes->pages / 2] += needed;
         length += needed;
     }
+    struct precopy_page *states = __real_malloc(2 * sizes->pages * sizeof *states);
+    for (uint32_t page = 0; page < sizes->pages; page++) {
+        states[page] = (struct precopy_page){0, 0};
+        states[sizes->pages + page] = (struct precopy_page){1, places[page]};
+    }
+    guest->states = input_of(states, 2 * sizes->pages * sizeof *states);
+    __real_free(states);
     guest->streams = input_of(stream, length);
     guest->lengths = input_of(lengths, sizeof lengths);
     guest->stamp = places[0];
@@ -319,12 +326,20 @@ static struct precopy_question question_of(uint64_t size, uint64_t pages) {
 static void try_refused(const struct guest *guest, uint32_t status, const struct room *record) {
     call_of *calls[] = {plan,          rounds,        report,      sweep,         predict, enough,      memory,
                         memory_before, writes_before, memory_step, version_after, page_at, page_writes, check_streams,
-                        check_piece};
+                        check_piece,   check_pages};
     for (size_t i = 0; i < sizeof calls / sizeof *calls; i++) {
         struct outputs out = outputs_of(1920, sizeof(struct precopy_prediction) + sizeof(struct precopy_errors));
         uint32_t told = calls[i](guest, &out);
         expect(told == status && is_untouched(&out.room, 0) && is_untouched(&out.told, 0), "a refused trace", "a call");
         expect(!memcmp(out.record.at, record->at, record->length), "a refused trace", "its record");
+        drop_outputs(&out);
+    }
+    call_of *tests_first[] = {check_piece, check_pages};
+    for (size_t i = 0; i < sizeof tests_first / sizeof *tests_first; i++) {
+        struct outputs out = outputs_of(0, sizeof(struct precopy_finding));
+        atomic_store(&asked, 0);
+        expect(tests_first[i](guest, &out) == status, "a refused trace", "in pieces");
+        expect(atomic_load(&asked) == 0, "a refused trace", "memory for a check in pieces");
         drop_outputs(&out);
     }
 }
@@ -367,6 +382,7 @@ static void try_all(struct guest *guest, const struct precopy_sizes *sizes) {
         {"page_writes", page_writes, writes * row, sizeof(size_t), row},
         {"check_streams", check_streams, 0, sizeof(struct precopy_finding), 1},
         {"check_piece", check_piece, 0, 2 * sizes->pages * sizeof(struct precopy_page), 1},
+        {"check_pages", check_pages, 0, sizeof(struct precopy_finding), 1},
         {"encode_frame", encode, needed, sizeof(size_t), 1},
         {"decode_frame", decode, size, sizeof(struct precopy_frame), 1},
     };

@@ -7,7 +7,7 @@
 #include <string.h>
 
 struct guest {
-    struct room trace, settings, cases, question, sizes, page, stream, streams, lengths;
+    struct room trace, settings, cases, question, sizes, page, stream, streams, lengths, states;
     uint64_t tick;
     uint32_t stamp; /* the last version of page 0 */
 };
@@ -117,6 +117,14 @@ static uint32_t check_piece(const struct guest *g, struct outputs *out) {
         memset(out->told.at, PATTERN, out->told.length);
     }
     return status;
+}
+
+/* The end of the streams, by the states that they leave. */
+static uint32_t check_pages(const struct guest *g, struct outputs *out) {
+    struct precopy_progress progress = {2, 0, 0, UINT32_MAX};
+    return precopy_check_pages(g->trace.at, g->trace.length, &progress, (void *)g->states.at,
+                               g->states.length / sizeof(struct precopy_page), (void *)out->told.at,
+                               (void *)out->record.at);
 }
 
 static uint32_t encode(const struct guest *g, struct outputs *out) {

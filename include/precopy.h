@@ -586,8 +586,9 @@ struct precopy_progress {
  *
  * If a frame is wrong, it returns why, PRECOPY_FRAME_PAGE to PRECOPY_FRAME_ZEROS or PRECOPY_NO_VERSION to
  * PRECOPY_OTHER_BYTES, sets *found, and has taken the frames before it. Any other status leaves all as it was. If there
- * are not so many states, it returns PRECOPY_PAGE_COUNT. It takes memory as precopy_check_streams does, and as long as
- * an index of the trace, so a piece should have more than a few frames.
+ * are not so many states, it returns PRECOPY_PAGE_COUNT. The trace is tested first, then the states, and only then it
+ * takes memory, as precopy_check_streams does. It also takes as long as an index of the trace, whatever the piece, so
+ * gather some MiB before each call.
  */
 PRECOPY_ANSWERS PRECOPY_NOT_NULL(5, 8, 9)
 uint32_t precopy_check_piece(const uint8_t *trace, size_t trace_length, const uint8_t *piece, size_t piece_length,

@@ -7,3 +7,6 @@ pub mod PageVersions
 pub mod PageRows
 pub mod MemorySteps
 pub mod PieceStates
+pub mod PieceRefusals
+pub mod PieceRuns
+pub mod PieceStreams

@@ -10,4 +10,5 @@ pub mod Frames
 pub mod FlatMemory
 pub mod StreamChecks
 pub mod Pieces
+pub mod PieceRuns
 pub mod Places

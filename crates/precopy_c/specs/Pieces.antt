@@ -5,9 +5,11 @@ use Rattle.std.specs.Prelude.{Option, Some, None}
 use Rattle.migration_model.specs.Final.{shape_of_trace}
 use Rattle.migration_model.specs.Frames.{GuestShape}
 use Rattle.migration_model.specs.Trace.{GuestTrace, Spells}
-use Rattle.trace_codec.specs.Refusals.{RefusesUnlessMemory}
+use Rattle.page_message.specs.declared.error.FrameError.TheVariants.{Short}
+use Rattle.trace_codec.specs.Refusals.{Refuses}
 use Rattle.stream_check.specs.Checked.{Checked, StopsAt, TakesAll, checked_with}
 use Rattle.stream_check.specs.Ends.{IsFirstBehind}
+use Rattle.stream_check.specs.declared.faults.FrameCause.TheVariants.{Refused}
 use Rattle.stream_check.specs.declared.faults.WrongFrame.{WrongFrame}
 use Rattle.stream_check.specs.declared.taken.Taken.{Taken}
 use Rattle.precopy_c.specs.Answers.{number_of_trace, record_after}
@@ -67,15 +69,24 @@ abbrev pub IsPiece : List ℕ → ℕ → List ℕ → List PageState → List P
 IsPiece trace stop piece old new taken =
     OfStates trace old (λ t. TakesAll t (checked_in t stop old) (checked_in t stop new) piece taken)
 
--- no piece is taken: the bytes are no trace, or else there are not as many states; or memory ran out. Or a frame is
--- wrong, and those before it are taken.
+-- there is nothing to check against: the bytes are no trace, or else there are not as many states, or else memory ran
+-- out
+abbrev pub RefusesStates : List ℕ → List PageState → PieceRefusal → Type 0
+RefusesStates trace states (refusals.Trace e) = Refuses trace e
+RefusesStates trace states refusals.States = (t : GuestTrace) × Spells trace t × (length states ≢ 2 * t.pages)
+RefusesStates trace states refusals.Memory = OfStates trace states (λ t. Unit {0})
+RefusesStates trace states (refusals.Frame found) = ⊥
+RefusesStates trace states (refusals.Page found) = ⊥
+
+-- no piece is taken, since there is nothing to check against, and nothing changes. Or a frame is wrong, and those before
+-- it are taken. The beginning of a frame is not wrong.
 abbrev pub RefusesPiece : List ℕ → ℕ → List ℕ → List PageState → List PageState → PieceRefusal → Type 0
-RefusesPiece trace stop piece old new (refusals.Trace e) = RefusesUnlessMemory trace e × (new ≡ old)
+RefusesPiece trace stop piece old new (refusals.Trace e) = Refuses trace e × (new ≡ old)
 RefusesPiece trace stop piece old new refusals.States =
     (t : GuestTrace) × Spells trace t × (length old ≢ 2 * t.pages) × (new ≡ old)
-RefusesPiece trace stop piece old new refusals.Memory = new ≡ old
-RefusesPiece trace stop piece old new (refusals.Frame found) =
-    OfStates trace old (λ t. StopsAt t (checked_in t stop old) (checked_in t stop new) piece found)
+RefusesPiece trace stop piece old new refusals.Memory = OfStates trace old (λ t. new ≡ old)
+RefusesPiece trace stop piece old new (refusals.Frame found) = (found.fault.cause ≢ Refused Short)
+    × OfStates trace old (λ t. StopsAt t (checked_in t stop old) (checked_in t stop new) piece found)
 RefusesPiece trace stop piece old new (refusals.Page found) = ⊥
 
 abbrev pub number_of_piece : PieceRefusal → ℕ
@@ -100,12 +111,11 @@ found_in_piece at refusals.Memory old = old
 found_in_piece at (refusals.Frame found) old = piece_finding at found
 found_in_piece at (refusals.Page found) old = page_finding found
 
--- the pages are not all current: the bytes are no trace, or else there are not as many states; or memory ran out. Or
--- this is the first page that is not.
+-- the pages are not all current, or there is nothing to check against: this is the first page that is not
 abbrev pub RefusesPages : List ℕ → ℕ → List PageState → PieceRefusal → Type 0
-RefusesPages trace stop states (refusals.Trace e) = RefusesUnlessMemory trace e
+RefusesPages trace stop states (refusals.Trace e) = Refuses trace e
 RefusesPages trace stop states refusals.States = (t : GuestTrace) × Spells trace t × (length states ≢ 2 * t.pages)
-RefusesPages trace stop states refusals.Memory = Unit {0}
+RefusesPages trace stop states refusals.Memory = OfStates trace states (λ t. Unit {0})
 RefusesPages trace stop states (refusals.Frame found) = ⊥
 RefusesPages trace stop states (refusals.Page found) =
     OfStates trace states (λ t. IsFirstBehind t stop (map stamp_in (drop t.pages states)) found)

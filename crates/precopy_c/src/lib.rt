@@ -14,6 +14,7 @@ mod frames;
 mod memories;
 mod memory_steps;
 mod page_writes;
+mod piece_laws;
 mod pieces;
 mod place_answers;
 mod plans;

@@ -1,13 +1,17 @@
 //! Streams that are checked in pieces, as they come.
 
-ghost use Rattle.std.specs.Prelude.{◌≡◌, ◌≢◌, ◌*◌, IfErr, IfOk, OnOk, drop, length, map};
+ghost use Rattle.std.specs.Prelude.{◌≡◌, ◌≢◌, ◌⊎◌, ◌*◌, IfErr, IfOk, OnOk, drop, length, map};
 ghost use Rattle.migration_model.specs.Final.{shape_of_trace};
+ghost use Rattle.migration_model.specs.Trace.{GuestTrace, Spells};
+ghost use Rattle.page_message.specs.declared.error.FrameError.TheVariants.{Short};
 ghost use Rattle.page_message.specs.Shapes.{shape_of};
 ghost use Rattle.page_versions.specs.Index.{IsIndexOf};
-ghost use Rattle.stream_check.specs.Checked.{StopsAt, TakesAll};
+ghost use Rattle.stream_check.specs.Checked.{Checked, StopsAt, TakesAll};
+ghost use Rattle.stream_check.specs.declared.faults.FrameCause.TheVariants.{Refused};
 ghost use Rattle.stream_check.specs.declared.taken.Taken.{Taken as TakenFrames};
 ghost use Rattle.stream_check.specs.Ends.{AreCurrentStamps};
-ghost use Rattle.precopy_c.specs.Pieces.{IsPiece, OfStates, RefusesPages, RefusesPiece, checked_in, counted};
+ghost use Rattle.precopy_c.specs.Pieces.{IsPiece, OfStates, RefusesPages, RefusesPiece, RefusesStates, checked_in};
+ghost use Rattle.precopy_c.specs.Pieces.{counted};
 ghost use Rattle.precopy_c.specs.Pieces.{found_in_piece, gone_on, known_by, number_of_piece, record_of_piece, stamp_in};
 ghost use Rattle.precopy_c.specs.Pieces.{state_of};
 ghost use Rattle.precopy_c.specs.declared.pieces.PieceRefusal.TheVariants.{Frame as OfFrame, Memory as OutOfMemory};
@@ -22,7 +26,7 @@ use guest_log::Shape;
 use page_versions::{IndexError, PageIndex};
 use std::alloc::{AllocError, AllocFailed, Global};
 use stream_check::{StreamChecker, Taken, WrongFrame, WrongPage};
-use trace_codec::TraceError;
+use trace_codec::{TraceError, TraceView};
 use trace_readers::HeldTrace;
 
 /// How far streams have come that are checked in pieces: C's `struct precopy_progress`.
@@ -165,6 +169,22 @@ impl PieceRefusal {
     }
 }
 
+/// Reads a trace for whose guest there are two states for each page. It tests both before it takes memory.
+fn read_trace(alloc: Global, trace: &[u8], states: &[PageState]) -> Result<HeldTrace, PieceRefusal>
+    ensures found { IfOk result (λ held. Spells trace.now held) }
+    ensures states { IfOk result (λ held. length states.now ≡ 2 * held.pages) }
+    ensures refused { IfErr result (RefusesStates trace.now states.now) }
+{
+    let view = TraceView::parse(trace)?;
+    if states.len() != 2 * view.shape().pages as usize {
+        return Err(PieceRefusal::States);
+    }
+    match HeldTrace::parse(alloc, Vec::from_slice(alloc, trace)?) {
+        Ok(held) => Ok(held),
+        Err(_) => Err(PieceRefusal::Memory),
+    }
+}
+
 /// Returns the stamp in a state, if the page came.
 fn stamp_of(state: &PageState) -> Option<u32>
     ensures { result ≡ stamp_in state.now }
@@ -247,6 +267,7 @@ fn take_into(
     requires states { length states.old ≡ 2 * held.now.pages }
     ensures taken { IfOk result (TakesAll held.now checker (checked_in held.now checker.stop states.new) piece.now) }
     ensures wrong { IfErr result (StopsAt held.now checker (checked_in held.now checker.stop states.new) piece.now) }
+    ensures whole { IfErr result (λ found. found.fault.cause ≢ Refused Short) }
 {
     let mut checker = checker;
     let taken = checker.take(held, index, piece);
@@ -265,13 +286,9 @@ fn take_piece(
     ensures taken { IfOk result (IsPiece trace.now stop piece.now states.old states.new) }
     ensures refused { IfErr result (RefusesPiece trace.now stop piece.now states.old states.new) }
 {
-    let held = HeldTrace::parse(alloc, Vec::from_slice(alloc, trace)?)?;
-    let shape = held.shape();
-    if states.len() != 2 * shape.pages as usize {
-        return Err(PieceRefusal::States);
-    }
+    let held = read_trace(alloc, trace, states)?;
     let index = PageIndex::build_alone(alloc, &held)?;
-    let checker = checker_of(alloc, shape, stop, states)?;
+    let checker = checker_of(alloc, held.shape(), stop, states)?;
     match take_into(&held, &index, checker, piece, states) {
         Ok(taken) => Ok(taken),
         Err(found) => Err(PieceRefusal::Frame(found)),
@@ -299,6 +316,10 @@ pub extern "C" fn precopy_check_piece(
         × RefusesPiece trace.now progress.old.stop piece.now states.old states.new refusal
         × (progress.new ≡ progress.old) × (found.new ≡ found_in_piece progress.old refusal found.old)
         × (record.new ≡ record_of_piece refusal record.old) }
+    ensures only { (t : GuestTrace) (after : Checked) (all : TakenFrames) → Spells trace.now t
+        → length states.old ≡ 2 * t.pages
+        → TakesAll t (checked_in t progress.old.stop states.old) after piece.now all
+        → (result ≡ 0) ⊎ (result ≡ 16) }
 {
     match take_piece(alloc, trace, progress.stop, piece, states) {
         Ok(taken) => {
@@ -320,13 +341,9 @@ fn test_pages(
         (map stamp_in (drop t.pages states.now)))) }
     ensures refused { IfErr result (RefusesPages trace.now stop states.now) }
 {
-    let held = HeldTrace::parse(alloc, Vec::from_slice(alloc, trace)?)?;
-    let shape = held.shape();
-    if states.len() != 2 * shape.pages as usize {
-        return Err(PieceRefusal::States);
-    }
+    let held = read_trace(alloc, trace, states)?;
     let index = PageIndex::build_alone(alloc, &held)?;
-    let checker = checker_of(alloc, shape, stop, states)?;
+    let checker = checker_of(alloc, held.shape(), stop, states)?;
     Ok(checker.finish(&held, &index)?)
 }
 
@@ -347,6 +364,9 @@ pub extern "C" fn precopy_check_pages(
         × RefusesPages trace.now progress.now.stop states.now refusal
         × (found.new ≡ found_in_piece progress.now refusal found.old)
         × (record.new ≡ record_of_piece refusal record.old) }
+    ensures only { (t : GuestTrace) → Spells trace.now t → length states.now ≡ 2 * t.pages
+        → AreCurrentStamps t progress.now.stop (map stamp_in (drop t.pages states.now))
+        → (result ≡ 0) ⊎ (result ≡ 16) }
 {
     match test_pages(alloc, trace, progress.stop, states) {
         Ok(()) => 0,

@@ -1,15 +1,19 @@
 -- Streams in which all is right have nothing that is wrong.
-use Rattle.std.proofs.Common.{◌≡◌, ℕ, ◌<◌, ◌≤◌, List, [], ◌∷◌, ◌++◌, length, drop, Option, Some, None}
+use Rattle.std.proofs.Common.{◌≡◌, ◌≢◌, ℕ, ◌<◌, ◌≤◌, List, [], ◌∷◌, ◌++◌, length, drop, Option, Some, None}
 use Rattle.std.proofs.Common.{IfSome, inl, inr, refl, sym, ap, subst, append_assoc, ◌∙◌, arith}
 use Rattle.std.specs.List.{All, flat_map}
 use Rattle.std.proofs.lemmas.List.{length-append, length-drop, take-append-drop}
 use Rattle.std.proofs.lemmas.List.Elements.{All-head, All-tail}
+use Rattle.std.proofs.lemmas.Option.{same_Some}
 use Rattle.migration_model.specs.Trace.{GuestTrace, IsTrace}
 use Rattle.migration_model.specs.Frames.{GuestShape, IsGuestShape, PageFrame, IsFrame, frame_text}
 use Rattle.migration_model.specs.Final.{shape_of_trace}
 use Rattle.migration_model.proofs.Frames.{same_front, one_stream_lem}
 use Rattle.page_message.proofs.Found.{never_refused}
 use Rattle.page_message.specs.Refusals.{frame_refusal}
+use Rattle.page_message.specs.declared.error.FrameError.{FrameError}
+use Rattle.page_message.specs.declared.error.FrameError.TheVariants.{Short}
+use Rattle.stream_check.specs.Checked.{Checked, StopsAt, TakesAll}
 use Rattle.stream_check.specs.Stamps.{no_stamps, stamp_of, keep_last, last_stamps, greatest_stamps}
 use Rattle.stream_check.specs.Faults.{IsRight, AreRight, IsFault, IsWrongFront, IsFirstWrong}
 use Rattle.stream_check.specs.Ends.{AreCurrentStamps}
@@ -21,6 +25,7 @@ use Rattle.stream_check.specs.declared.faults.FrameCause.{FrameCause}
 use Rattle.stream_check.specs.declared.faults.FrameCause.TheVariants.{Refused, NoVersion, AfterStop, Older, Bytes}
 use Rattle.stream_check.specs.declared.faults.FrameFault.{FrameFault}
 use Rattle.stream_check.specs.declared.faults.WrongFrame.{WrongFrame}
+use Rattle.stream_check.specs.declared.taken.Taken.{Taken}
 
 shape_is : (trace : GuestTrace) → IsTrace trace → IsGuestShape (shape_of_trace trace)
 shape_is trace is = record { size = is.size; few = is.count }
@@ -31,10 +36,10 @@ text_of_frames frames = flat_map frame_text frames
 -- the frame behind those that are taken from a right stream
 record NextRight (trace : GuestTrace) (stop : ℕ) (last : List (Option ℕ)) (rest : List ℕ) : Type 0 where
   pub frame : PageFrame
-  pub others : List PageFrame
+  pub behind : List ℕ
   pub fits : IsFrame (shape_of_trace trace) frame
   pub right : IsRight trace stop (stamp_of last frame.page) frame
-  pub text : rest ≡ frame_text frame ++ text_of_frames others
+  pub text : rest ≡ frame_text frame ++ behind
 
 next_right : (trace : GuestTrace) (stop : ℕ) (last : List (Option ℕ)) (fs gs : List PageFrame) (rest : List ℕ)
     → IsTrace trace → All (IsFrame (shape_of_trace trace)) fs → All (IsFrame (shape_of_trace trace)) gs
@@ -43,7 +48,7 @@ next_right : (trace : GuestTrace) (stop : ℕ) (last : List (Option ℕ)) (fs gs
 next_right trace stop last [] [] rest is fit_f fit_g right some same = absurd (omega (arith, some, ap length same))
 next_right trace stop last [] (g ∷ gs) rest is fit_f fit_g right some same = record {
   frame = g;
-  others = gs;
+  behind = text_of_frames gs;
   fits = All-head (IsFrame (shape_of_trace trace)) g gs fit_g;
   right = right.0;
   text = same;
@@ -80,16 +85,14 @@ front_not : (trace : GuestTrace) (stop : ℕ) (last : List (Option ℕ)) (rest :
 front_not trace stop last rest fault is next wrong = elim wrong [
   | inl refused ↦
       let none : frame_refusal (shape_of_trace trace) rest ≡ None =
-      never_refused (shape_of_trace trace) rest (text_of_frames next.others) next.frame (shape_is trace is) next.fits
-      next.text in
+      never_refused (shape_of_trace trace) rest next.behind next.frame (shape_is trace is) next.fits next.text in
       absurd (cc (refused.2, none))
   | inr begins ↦
-      let parted : frame_text begins.frame ++ drop begins.size rest ≡ frame_text next.frame
-      ++ text_of_frames next.others =
+      let parted : frame_text begins.frame ++ drop begins.size rest ≡ frame_text next.frame ++ next.behind =
       ap (λ (x : List ℕ). x ++ drop begins.size rest) (sym begins.spells.text)
       ∙ take-append-drop begins.size rest ∙ next.text in
-      let front = same_front (shape_of_trace trace) begins.frame next.frame (drop begins.size rest)
-      (text_of_frames next.others) (shape_is trace is) begins.spells.is_frame next.fits parted in
+      let front = same_front (shape_of_trace trace) begins.frame next.frame (drop begins.size rest) next.behind
+      (shape_is trace is) begins.spells.is_frame next.fits parted in
       fault_not trace stop (stamp_of last next.frame.page) next.frame fault.cause fault.wanted next.right
       (subst (λ (f : PageFrame). IsFault trace stop (stamp_of last f.page) f fault.cause fault.wanted) front.0
       begins.wrong)
@@ -103,6 +106,75 @@ stream_not trace stop frames bytes found is fit right text wrong =
     (next_right trace stop (no_stamps trace.pages) wrong.frames frames (drop found.offset bytes) is
     wrong.begins.are_frames fit right (omega (arith, wrong.within, length-drop found.offset bytes))
     (sym wrong.begins.text ∙ text)) wrong.wrong
+
+-- ---- a piece
+
+-- no frame is at the front of bytes that are the beginning of one
+no_front : (trace : GuestTrace) (rest behind : List ℕ) (frame : PageFrame) → IsTrace trace
+    → IsFrame (shape_of_trace trace) frame → rest ≡ frame_text frame ++ behind
+    → frame_refusal (shape_of_trace trace) rest ≡ Some Short → ⊥
+no_front trace rest behind frame is fits text short =
+    let none : frame_refusal (shape_of_trace trace) rest ≡ None =
+    never_refused (shape_of_trace trace) rest behind frame (shape_is trace is) fits text in
+    absurd (cc (short, none))
+
+-- and nothing else is wrong with them
+short_not : (trace : GuestTrace) (stop : ℕ) (last : List (Option ℕ)) (rest : List ℕ) (fault : FrameFault)
+    → IsTrace trace → frame_refusal (shape_of_trace trace) rest ≡ Some Short → fault.cause ≢ Refused Short
+    → IsWrongFront trace stop last rest fault → ⊥
+short_not trace stop last rest fault is short other wrong = elim wrong [
+  | inl refused ↦
+      let same : refused.0 ≡ Short = same_Some refused.0 Short (sym refused.2 ∙ short) in
+      other (refused.1 ∙ ap (λ (e : FrameError). Refused e) same)
+  | inr begins ↦
+      let text : rest ≡ frame_text begins.frame ++ drop begins.size rest =
+      sym (take-append-drop begins.size rest) ∙ ap (λ (x : List ℕ). x ++ drop begins.size rest) begins.spells.text in
+      no_front trace rest (drop begins.size rest) begins.frame is begins.spells.is_frame text short
+]
+
+-- where right frames are followed by no whole one, no frame is wrong
+piece_not : (trace : GuestTrace) (stop : ℕ) (last : List (Option ℕ)) (fs gs : List PageFrame) (rest left : List ℕ)
+    (fault : FrameFault) → IsTrace trace → All (IsFrame (shape_of_trace trace)) fs
+    → All (IsFrame (shape_of_trace trace)) gs → AreRight trace stop last gs
+    → text_of_frames fs ++ rest ≡ text_of_frames gs ++ left
+    → frame_refusal (shape_of_trace trace) left ≡ Some Short → fault.cause ≢ Refused Short
+    → IsWrongFront trace stop (last_stamps last fs) rest fault → ⊥
+piece_not trace stop last [] [] rest left fault is fit_f fit_g right same short other wrong =
+    short_not trace stop last rest fault is (ap (frame_refusal (shape_of_trace trace)) same ∙ short) other wrong
+piece_not trace stop last [] (g ∷ gs) rest left fault is fit_f fit_g right same short other wrong =
+    front_not trace stop last rest fault is (record {
+      frame = g;
+      behind = text_of_frames gs ++ left;
+      fits = All-head (IsFrame (shape_of_trace trace)) g gs fit_g;
+      right = right.0;
+      text = same ∙ append_assoc (frame_text g) (text_of_frames gs) left;
+    }) wrong
+piece_not trace stop last (f ∷ fs) [] rest left fault is fit_f fit_g right same short other wrong =
+    no_front trace left (text_of_frames fs ++ rest) f is (All-head (IsFrame (shape_of_trace trace)) f fs fit_f)
+    (sym same ∙ append_assoc (frame_text f) (text_of_frames fs) rest) short
+piece_not trace stop last (f ∷ fs) (g ∷ gs) rest left fault is fit_f fit_g right same short other wrong =
+    let shape : GuestShape = shape_of_trace trace in
+    let grouped : frame_text f ++ (text_of_frames fs ++ rest) ≡ frame_text g ++ (text_of_frames gs ++ left) =
+    sym (append_assoc (frame_text f) (text_of_frames fs) rest) ∙ same
+    ∙ append_assoc (frame_text g) (text_of_frames gs) left in
+    let front = same_front shape f g (text_of_frames fs ++ rest) (text_of_frames gs ++ left) (shape_is trace is)
+    (All-head (IsFrame shape) f fs fit_f) (All-head (IsFrame shape) g gs fit_g) grouped in
+    piece_not trace stop (keep_last last f) fs gs rest left fault is (All-tail (IsFrame shape) f fs fit_f)
+    (All-tail (IsFrame shape) g gs fit_g)
+    (subst (λ (h : PageFrame). AreRight trace stop (keep_last last h) gs) (sym front.0) right.1) front.1 short other
+    wrong
+
+pub takes_not_stops : (trace : GuestTrace) (old mid new : Checked) (bytes : List ℕ) (all : Taken) (found : WrongFrame)
+    → IsTrace trace → TakesAll trace old mid bytes all → found.fault.cause ≢ Refused Short
+    → StopsAt trace old new bytes found → ⊥
+takes_not_stops trace old mid new bytes all found is takes other stops =
+    let first = stops.first in
+    let right = takes.takes.begins in
+    piece_not trace old.stop old.last first.frames takes.takes.frames (drop found.offset bytes) (drop all.bytes bytes)
+    found.fault is first.begins.are_frames right.are_frames right.right (sym first.begins.text ∙ right.text)
+    takes.part other first.wrong
+
+-- ---- all streams
 
 -- the stream behind others, among right ones
 record StreamAt (trace : GuestTrace) (stop : ℕ) (bytes : List ℕ) : Type 0 where

@@ -27,7 +27,7 @@ use Rattle.stream_check.proofs.Fronts.{Takes-both}
 
 -- ---- where the second piece ends in both
 
-drop_in_two : (front more : List ℕ) (a b : ℕ) → a ≤ length front
+pub drop_in_two : (front more : List ℕ) (a b : ℕ) → a ≤ length front
     → drop (a + b) (front ++ more) ≡ drop b (drop a front ++ more)
 drop_in_two front more a b low =
     let parts : front ++ more ≡ take a front ++ (drop a front ++ more) =

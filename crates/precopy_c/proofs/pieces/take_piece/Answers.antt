@@ -1,15 +1,12 @@
-use Rattle.std.proofs.Common.{List, ℕ, refl, subst, sym}
+use Rattle.std.proofs.Common.{subst, sym}
 use Rattle.std.proofs.lemmas.Result.{err_from_is_err_and}
-use Rattle.trace_codec.specs.Refusals.{RefusesUnlessMemory}
 use Rattle.precopy_c.specs.Pieces.{RefusesPiece}
+use Rattle.precopy_c.proofs.PieceRefusals.{no_piece}
 use Rattle.precopy_c.proofs.pieces.take_piece.Goals as goal
 
 pub returns-in_err-held-clause-refused : goal.returns-in_err-held-clause-refused
 returns-in_err-held-clause-refused c =
-    let p = err_from_is_err_and c.from_residual-in_err-held.result c.from_residual-in_err-held.ensures.1 in
+    let p = err_from_is_err_and c.from_residual.result c.from_residual.ensures.1 in
     rw p.1 (subst (RefusesPiece c.args.trace.now c.args.stop c.args.piece.now c.args.states.now c.args.states.now)
-    (sym p.2) (
-      subst (λ (t : List ℕ). RefusesUnlessMemory t c.in_err-held.field-0.0) c.in_ok-from_slice.ensures.items
-          c.in_err-held.ensures.refused,
-      refl,
-    ))
+    (sym p.2) (no_piece c.args.trace.now c.args.stop c.args.piece.now c.args.states.now c.in_err-held.field-0.0
+    c.in_err-held.ensures.refused))
