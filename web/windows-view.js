@@ -67,10 +67,10 @@ export class WindowsView {
     const key = JSON.stringify([width, tick, this.range, this.isSample]);
     if (this.held.windows !== windows || this.held.key !== key) {
       const axis = traceAxis(width, trace.sizes, length, this.range);
-      const { panel, drawn, parts } = windowParts(axis, windows, length, { tick, isSample: this.isSample });
+      const { panel, drawn, parts, above } = windowParts(axis, windows, length, { tick, isSample: this.isSample });
       const marks = svg("g");
       this.held = { windows, key, axis, panel, marks };
-      this.plot.replaceChildren(windowsPicture(width, [...parts, marks]));
+      this.plot.replaceChildren(windowsPicture(width, [...parts, marks, ...above]));
       this.inspector.hold(this.lookAt(axis, windows, drawn, settings));
     }
     return this.held;
