@@ -37,7 +37,7 @@ const CURVES = [
 ];
 
 function shortNumber(number) {
-  return String(number < 10 ? Number(number.toPrecision(2)) : Math.round(number));
+  return String(number < 100 ? Number(number.toPrecision(3)) : Math.round(number));
 }
 
 /** How far a panel reaches: to the greatest number, or past the next if the greatest is an outlier. */
@@ -130,8 +130,11 @@ export function startsPicture(axis, asked) {
   return pictureOf(axis.width, bottom + AXIS_HEIGHT, parts);
 }
 
-/** What a migration costs, in words. */
+/** What a migration costs, in words. Of one that ends after the trace nothing is known. */
 export function costWords(cost) {
+  if (cost.kept === "unknown") {
+    return "unknown, since the trace ends before the migration does";
+  }
   const [time, sent, downtime] = [timeText(cost.time), bytesText(cost.bytes), timeText(cost.downtime)].map(unbroken);
   return `time ${time}, sent ${sent}, downtime ${downtime}, ${keptWords(cost)}`;
 }
