@@ -81,8 +81,7 @@ export function bytesText(bytes) {
 export function rateText(bytes) {
   const steps = [[1_000_000_000n, "GB/s"], [1_000_000n, "MB/s"], [1_000n, "KB/s"]];
   const [unit, name] = steps.find(([size]) => bytes >= size) ?? [1n, "B/s"];
-  const tenths = (bytes * 10n) / unit;
-  return `${tenths / 10n}.${tenths % 10n} ${name}`;
+  return `${decimalText(bytes, unit, 2)} ${name}`;
 }
 
 /** A difference of two numbers as text: its sign, and what `text` makes of its amount. */
