@@ -2,6 +2,9 @@
 
 import { area, html } from "./elements.js";
 
+/** Whether it is a finger that points. */
+const FINGER = matchMedia("(pointer: coarse)");
+
 /** Pixels from the pointer to the words beside it. */
 const TIP_GAP = 14;
 
@@ -26,13 +29,14 @@ export class Inspector {
     plot.addEventListener("click", (event) => this.click(event));
     plot.addEventListener("keydown", (event) => this.press(event));
     offer?.addEventListener("click", () => this.take(this.offered));
+    FINGER.addEventListener("change", () => this.show(this.at));
     this.readout.textContent = this.hint();
   }
 
   /** How items are looked at: with a finger, or with a pointer and keys. */
   hint() {
     const { hint, touch } = this.readout.dataset;
-    return touch && matchMedia("(pointer: coarse)").matches ? touch : hint;
+    return touch && FINGER.matches ? touch : hint;
   }
 
   /** Takes the items of a picture that has just been drawn, or none. */
