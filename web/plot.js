@@ -8,9 +8,10 @@ import { counted } from "./numbers.js";
 const LEFT = 64;
 const RIGHT = 12;
 
-/** The least pixels between two labels of an axis, and the width of one of their letters. */
-const LABEL_ROOM = 84;
+/** The least pixels from one label of an axis to the next, the width of one of their letters, and what parts them. */
+const LABEL_ROOM = 64;
 const DIGIT_WIDTH = 7;
+const LABEL_GAP = 8;
 
 /** An axis of ticks over a picture of some width: it has the ticks [first, last). */
 export function axisOf(width, first, last) {
@@ -89,7 +90,7 @@ export function axisLabels(axis, tick, bottom, title) {
     marks.push(area("line", x, bottom + 1, 1, 5));
     if (left >= taken) {
       marks.push(label(isAtEnd ? "end" : "middle", isAtEnd ? axis.width - 2 : x, bottom + 19, words));
-      taken = left + width;
+      taken = left + width + LABEL_GAP;
     }
   }
   return marks;
