@@ -10,7 +10,7 @@ const RIGHT = 12;
 
 /** The least pixels between two labels of an axis, and the width of one of their letters. */
 const LABEL_GAP = 28;
-const DIGIT_WIDTH = 7;
+const DIGIT_WIDTH = 7.7;
 
 /** An axis of ticks over a picture of some width: it has the ticks [first, last). */
 export function axisOf(width, first, last) {
