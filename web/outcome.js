@@ -111,7 +111,7 @@ function cellOf(row, name, prediction, ...more) {
 /** How this plan differs from a kept one, and whether that is better or worse. */
 function differenceOf(row, prediction, kept) {
   const difference = row.number(prediction) - row.number(kept);
-  const words = signed(difference, (amount) => row.text(amount, prediction));
+  const words = unbroken(signed(difference, (amount) => row.text(amount, prediction)));
   const [className, mark] = difference == 0 || !row.isPrice ? ["difference", ""]
     : difference < 0 ? ["difference better", " \u25bc\u00a0better"] : ["difference worse", " \u25b2\u00a0worse"];
   return html("span", { class: className }, `this plan: ${words}${mark}`);
@@ -130,8 +130,8 @@ function keptHead(place) {
   const name = keptName(place);
   const button = (kind, label, words) =>
     html("button", { type: "button", class: "small", [kind]: place, "aria-label": `${name}: ${label}` }, words);
-  return html("th", { scope: "col", role: "columnheader" }, name, " ",
-    button("data-exchanges", "exchange with this", "Exchange"), " ", button("data-drops", "drop", "Drop"));
+  return html("th", { scope: "col", role: "columnheader" }, name, " ", html("span", {},
+    button("data-exchanges", "exchange with this", "Exchange"), " ", button("data-drops", "drop", "Drop")));
 }
 
 /**

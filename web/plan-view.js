@@ -112,7 +112,7 @@ export class PlanView {
       byId("verdict").replaceChildren(...this.refusedParts(found.refusal));
     }
     byId("summary").textContent = found.value ? this.summaryOf(found.value) : "No plan with these settings";
-    this.noteUnknown();
+    this.noteUnknown(kept);
     this.drawPlans(settings, kept);
     for (const button of document.querySelectorAll("#outcome .saves button, #rounds .saves button")) {
       button.disabled = !found.value;
@@ -120,12 +120,15 @@ export class PlanView {
   }
 
   /** Says of rounds that go on after the trace what they are of. */
-  noteUnknown() {
-    const isBeyond = this.last !== null && isUnknown(this.last);
-    byId("rounds-note").hidden = !isBeyond;
-    if (isBeyond) {
-      byId("rounds-note").textContent = `The trace ends ${timeText(this.last.cost.recorded)} after the start. What is `
-        + "drawn later is of a guest that writes nothing from then on.";
+  noteUnknown(kept) {
+    const plans = [["the start", this.last],
+      ...kept.map(({ found }, place) => [`the start of kept plan ${place + 1}`, found.value])];
+    const beyond = plans.filter(([, some]) => some && isUnknown(some));
+    const ends = beyond.map(([start, { cost }]) => `${timeText(cost.recorded)} after ${start}`);
+    byId("rounds-note").hidden = ends.length === 0;
+    if (ends.length > 0) {
+      byId("rounds-note").textContent = `The trace ends ${ends.join(", ")}. What is drawn later is of a guest that `
+        + "writes nothing from then on.";
     }
   }
 
