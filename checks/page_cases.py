@@ -170,10 +170,12 @@ def error_text(micros):
 
 
 def size_text(size):
-    """A size as the page writes it: as precopy-view does, but for what would be zeros."""
-    if 0 < size * 100 < 1 << 20:
-        return f"{size} byte{'' if size == 1 else 's'}"
-    return told_size(size)
+    """A size as the page writes it: from a MiB on as precopy-view does, below in KiB or bytes."""
+    if size >= 1 << 20:
+        return told_size(size)
+    if size >= 1 << 10:
+        return f"{size >> 10}.{(size * 100 >> 10) % 100:02} KiB"
+    return f"{size} byte{'' if size == 1 else 's'}"
 
 
 def plural(count, noun):
