@@ -42,7 +42,7 @@ const ROWS = [
   { name: "time", title: "Total time", isPrice: true, number: ({ cost }) => cost.time, text: timeText,
     more: (some) => joined(errorText(some, "time", errorTimeText),
       tickWords(some, `${countOf(some.plan.stop - some.settings.start, "tick")} of pre-copy`)),
-    unknown: ({ cost }) => `more than ${timeText(cost.recorded)}` },
+    unknown: ({ cost }) => (cost.recorded > 0n ? `more than ${timeText(cost.recorded)}` : "unknown") },
   { name: "sent", title: "Sent", isPrice: true, number: ({ cost }) => cost.bytes, text: bytesText,
     more: (some) => joined(errorText(some, "bytes", bytesText), sentText(some)) },
   { name: "rounds", title: "Rounds", number: ({ plan }) => plan.rounds.length, text: counted, more: reasonWords },
@@ -58,8 +58,8 @@ const ROWS = [
 export function verdictOf(prediction) {
   const { cost, limits } = prediction;
   if (isUnknown(prediction)) {
-    return `The trace ends before the migration does, which takes more than ${unbroken(timeText(cost.recorded))}: `
-      + "record longer.";
+    const least = cost.recorded > 0n ? `, which takes more than ${unbroken(timeText(cost.recorded))}` : "";
+    return `The trace ends before the migration does${least}: record longer.`;
   }
   return `${endingOf(prediction)} The guest stands still for ${unbroken(timeText(cost.downtime))}; the limit of `
     + `${unbroken(timeText(limits.downtime))} ${cost.kept === "yes" ? "is kept" : "is not kept"}.`;
