@@ -170,10 +170,12 @@ def error_text(micros):
 
 
 def size_text(size):
-    """A size as the page writes it: as precopy-view does, but for what would be zeros."""
-    if 0 < size * 100 < 1 << 20:
-        return f"{size} byte{'' if size == 1 else 's'}"
-    return told_size(size)
+    """A size as the page writes it: from a MiB on as precopy-view does, below in KiB or bytes."""
+    if size >= 1 << 20:
+        return told_size(size)
+    if size >= 1 << 10:
+        return f"{size >> 10}.{(size * 100 >> 10) % 100:02} KiB"
+    return f"{size} byte{'' if size == 1 else 's'}"
 
 
 def plural(count, noun):
@@ -301,8 +303,9 @@ def comparison(asked, report, document):
     """The rows of the comparison, as the page writes them."""
     stop, found = report["stop"], figures(asked, report)
     if found["kept"] == "unknown":
+        least = f"more than {time_text(found['recorded'])}" if found["recorded"] else "unknown"
         return {**{name: ["unknown", ""] for name in ("downtime", "sent", "rounds", "left", "stop")},
-                "time": [f"more than {time_text(found['recorded'])}", ""]}
+                "time": [least, ""]}
     drawn = errors(asked, document)
     sent, time, down = drawn or (0, 0, 0)
 
@@ -334,7 +337,8 @@ def verdict(asked, report):
     """Words of the verdict."""
     found = figures(asked, report)
     if found["kept"] == "unknown":
-        return f"which takes more than {time_text(found['recorded'])}: record longer."
+        least = f", which takes more than {time_text(found['recorded'])}" * (found["recorded"] > 0)
+        return f"The trace ends before the migration does{least}: record longer."
     return f"It {'converges' if found['converges'] == 'yes' else 'does not converge'}: {reason(asked, report)}."
 
 

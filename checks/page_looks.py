@@ -74,35 +74,44 @@ OVERLAPS = """
 
 
 # Marks of pictures with a contrast below a bound to what they lie on: the paper, a halo of its colour, or another mark.
+# Opacity counts. PAIRS are names of marks, each with that of the mark below it, or null.
 MARKS = """
 (() => {
-  const pairs = ["sent", "skipped", "dirtied", "rate", "link", "stop", "down", "again", "earlier", "fresh", "span.top",
-    "known", "late", "limit", "best", "worst", "halo"].map((name) => [name, null]);
-  pairs.push(["dirtied", "sent"], ["again", "earlier"], ["earlier", "fresh"], ["link", "rate"]);
+  const pairs = PAIRS;
   const canvas = new OffscreenCanvas(1, 1).getContext("2d", { willReadFrequently: true });
-  const light = (words) => {
+  const paint = (words, opacity) => {
+    canvas.globalAlpha = opacity;
     canvas.fillStyle = words;
     canvas.fillRect(0, 0, 1, 1);
+  };
+  const ground = getComputedStyle(document.getElementById("rounds")).backgroundColor;
+  const light = (words, opacity) => {
+    paint(ground, 1);
+    paint(words, opacity);
     const part = (value) => (value / 255 <= 0.04045 ? value / 255 / 12.92 : ((value / 255 + 0.055) / 1.055) ** 2.4);
     const [r, g, b] = canvas.getImageData(0, 0, 1, 1).data;
     return 0.2126 * part(r) + 0.7152 * part(g) + 0.0722 * part(b);
   };
-  const paper = light(getComputedStyle(document.getElementById("rounds")).backgroundColor);
+  const paper = light(ground, 1);
   const inkOf = (name) => {
     const mark = document.querySelector(`svg .${name}`);
     const style = mark && getComputedStyle(mark);
-    return style && light(style.fill === "none" ? style.stroke : style.fill);
+    return style && light(style.fill === "none" ? style.stroke : style.fill, Number(style.opacity));
   };
   return pairs.flatMap(([name, below]) => {
-    const [ink, ground] = [inkOf(name), below ? inkOf(below) : paper];
-    if (ink === null || ground === null) { return [`${name} on ${below}: not seen`]; }
-    const [high, low] = [ink, ground].sort((one, other) => other - one);
+    const [ink, under] = [inkOf(name), below ? inkOf(below) : paper];
+    if (ink === null || under === null) { return [`${name} on ${below}: not seen`]; }
+    const [high, low] = [ink, under].sort((one, other) => other - one);
     const ratio = (high + 0.05) / (low + 0.05);
     const isRight = name === "halo" ? ratio < 1.01 : ratio >= BOUND;
     return isRight ? [] : [`${name} on ${below ?? "paper"}: ${ratio.toFixed(2)}`];
   });
 })()
 """
+STARTS_MARKS = [[name, None] for name in ("known", "limit", "best", "worst")]
+ALL_MARKS = [[name, None] for name in ("sent", "skipped", "dirtied", "rate", "link", "stop", "down", "again", "earlier",
+                                       "fresh", "span.top", "late", "halo")]
+ALL_MARKS += [*STARTS_MARKS, ["dirtied", "sent"], ["again", "earlier"], ["earlier", "fresh"], ["link", "rate"]]
 
 
 def require(holds, words):

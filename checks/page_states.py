@@ -3,12 +3,13 @@ and in the files that it saves."""
 
 import base64
 import collections
+import json
 import os
 import re
 
 import page_shapes
 from page_cases import example
-from page_looks import HEIGHT, MARKS, check_look, check_names, read_nodes, require
+from page_looks import ALL_MARKS, HEIGHT, MARKS, STARTS_MARKS, check_look, check_names, read_nodes, require
 from page_uses import end_worker, read, saved_files
 
 WIDTHS = [390, 900, 1400]
@@ -171,6 +172,9 @@ STATES = {"no-trace": no_trace, "first-look": first_look, "starts": with_starts,
           "enough": what_is_enough, "warm": warm_start, "short": nothing_fits, "ended": ended_worker,
           "looked-at": looked_at}
 
+# The marks of a state whose contrast is tested, with what they lie on.
+MARKED = {"kept": ALL_MARKS, "old-starts": STARTS_MARKS}
+
 # What is done in a state each time that the page is drawn anew.
 ACTS = {"looked-at": """(() => {
   const rounds = document.getElementById("rounds-plot-this");
@@ -209,8 +213,9 @@ def check_state(page, name, folder):
             check_look(page, look)
             if folder:
                 browser.picture(os.path.join(folder, f"{look}.png"))
-        marks = browser.value(MARKS.replace("BOUND", str(LEAST_MARK_CONTRAST))) if is_full else []
-        require(not marks, f"marks, dark {is_dark}: {marks}")
+        asked = MARKS.replace("PAIRS", json.dumps(MARKED.get(name, []))).replace("BOUND", str(LEAST_MARK_CONTRAST))
+        marks = browser.value(asked) if name in MARKED else []
+        require(not marks, f"marks of {name}, dark {is_dark}: {marks}")
     browser.dress(1400, HEIGHT)
     if is_full:
         check_names(page)

@@ -459,8 +459,36 @@ def saved_files(page, count):
     return {name: base64.b64decode(text) for name, text in files}
 
 
+# The heads of the tables that are saved: each number has a unit.
+HEADS = {
+    "prediction": "plan,downtime_us,time_us,sent_bytes,rounds,left_pages,stop_us,start_us,reason,kept,converges",
+    "rounds-this": "round,from_ticks,to_ticks,rate_pages_per_1000_ticks,pages,sent_pages,dirtied_pages",
+    "working-set": "window,from_us,to_us,writes,pages,again_pages,fresh_pages",
+    "starts": "tick,start_us,time_us,sent_bytes,downtime_us,kept",
+}
+LEGENDS = {"rounds-this": ["Rounds", "sent", "downtime"], "working-set": ["Working set", "never before", "stop"],
+           "starts": ["When to move", "by start", "worst"]}
+
+
+def check_table(name, text, shown):
+    """A table has the heads and the rows that it should."""
+    head, *lines = text.splitlines()
+    require(head == HEADS[name], f"{name}: {head}")
+    require({line.count(",") for line in lines} == {head.count(",")}, f"{name}: {lines[:3]}")
+    rows = [line.split(",") for line in lines]
+    if name == "rounds-this":
+        rows = [[int(cell) for cell in row] for row in rows]
+        require(rows == shown["rounds"], f"{rows} in place of {shown['rounds']}")
+    elif name == "working-set":
+        tick, length = 1_000, int(PLAIN["window"])
+        times = [[int(row[0]) * length * tick, (int(row[0]) + 1) * length * tick] for row in rows]
+        require([list(map(int, row[1:3])) for row in rows] == times, f"{name}: {rows[:3]}")
+    elif name == "prediction":
+        require([row[0] for row in rows] == ["This plan"], f"{name}: {rows}")
+
+
 def check_files_saved(page):
-    """Each picture is saved as PNG and SVG, and each table as CSV."""
+    """Each picture is saved as PNG and SVG, with its name and its legend, and each table as CSV."""
     asked(page)
     page.browser.value("document.getElementById('ask').click()")
     page.browser.wait("document.querySelector('#starts-plot svg') !== null")
@@ -468,19 +496,19 @@ def check_files_saved(page):
     files = saved_files(page, wanted)
     require(len(files) == wanted, f"files: {sorted(files)}")
     shown = page.shown()
-    rows = [[int(cell) for cell in line.split(",")] for line in files["rounds-this.csv"].decode().splitlines()[1:]]
-    require(rows == shown["rounds"], f"{rows} in place of {shown['rounds']}")
-    for name, data in files.items():
-        if name.endswith(".svg"):
+    for file, data in files.items():
+        name, _, kind = file.rpartition(".")
+        if kind == "svg":
             root = xml.etree.ElementTree.fromstring(data)
-            parts = len(list(root.iter()))
-            require(root.tag.endswith("svg") and parts > 20, f"{name} has {parts} parts")
-        elif name.endswith(".png"):
+            parts = list(root.iter())
+            texts = [part.text for part in parts if part.tag.endswith("text")]
+            require(root.tag.endswith("svg") and len(parts) > 20, f"{file} has {len(parts)} parts")
+            require(texts[0] == LEGENDS[name][0] and set(LEGENDS[name]) <= set(texts), f"{file} says {texts}")
+        elif kind == "png":
             pixels = struct.unpack(">II", data[16:24])
-            require(data.startswith(b"\x89PNG") and min(pixels) > 300, f"{name}: {pixels} pixels")
+            require(data.startswith(b"\x89PNG") and min(pixels) > 300, f"{file}: {pixels} pixels")
         else:
-            lines = data.decode().splitlines()
-            require(len({line.count(",") for line in lines}) == 1 and len(lines) > 1, f"{name}: {lines[:3]}")
+            check_table(name, data.decode(), shown)
 
 
 def check_uses(tally, page, folder):

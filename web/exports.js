@@ -1,6 +1,6 @@
 // Pictures and tables as files: PNG, SVG and CSV, made in the page and saved by the browser.
 
-import { html } from "./elements.js";
+import { html, svg } from "./elements.js";
 import { Slice } from "./slices.js";
 
 /** What a picture's own file needs of the page's style. */
@@ -9,6 +9,11 @@ const STYLES = ["fill", "fill-opacity", "stroke", "stroke-width", "stroke-dashar
 
 /** How many pixels of a PNG one of the page is. */
 const FINENESS = 2;
+
+/** Where what is above a picture in its own file begins, its lines, and the room between its items, in pixels. */
+const ABOVE_LEFT = 12;
+const ABOVE_LINE = 22;
+const ABOVE_GAP = 16;
 
 /** For how long a file is kept for the browser to save it, in milliseconds. */
 const KEPT = 60_000;
@@ -19,8 +24,8 @@ function save(name, parts, type) {
   setTimeout(() => URL.revokeObjectURL(address), KEPT);
 }
 
-/** A picture as the text of a file of its own, with its styles and the page's ground. */
-function pictureText(picture) {
+/** A copy of a picture's parts that needs no style of the page. */
+function styledParts(picture) {
   const copy = picture.cloneNode(true);
   copy.querySelector(".looked")?.remove();
   const originals = [...picture.querySelectorAll("*")].filter((element) => !element.matches(".looked"));
@@ -28,20 +33,65 @@ function pictureText(picture) {
     const style = getComputedStyle(originals[place]);
     element.setAttribute("style", STYLES.map((name) => `${name}:${style.getPropertyValue(name)}`).join(";"));
   });
-  const paper = getComputedStyle(picture.closest("section")).backgroundColor;
-  const ground = copy.ownerDocument.createElementNS(picture.namespaceURI, "rect");
-  for (const [name, value] of Object.entries({ width: "100%", height: "100%", fill: paper })) {
-    ground.setAttribute(name, value);
+  return [...copy.childNodes];
+}
+
+/** A text above a picture, in the style of an element of the page. */
+function textAbove(element, x, y, words) {
+  const { color, fontFamily, fontSize, fontWeight } = getComputedStyle(element);
+  const style = `fill:${color};font-family:${fontFamily};font-size:${fontSize};font-weight:${fontWeight}`;
+  return svg("text", { x, y, style }, words);
+}
+
+/** What a picture is of: its section, and its plan if there are more. */
+function pictureName(picture) {
+  const caption = picture.closest("figure")?.querySelector("figcaption");
+  const words = [picture.closest("section").querySelector("h2"), caption].map((element) => element?.textContent.trim());
+  return words.filter(Boolean).join(": ");
+}
+
+/** What a colour of a picture means, as its parts, from `x` on in the line that begins at `y`. */
+function legendItem(item, x, y) {
+  const { width, height, backgroundColor } = getComputedStyle(item.querySelector(".key"));
+  const [wide, high] = [width, height].map(parseFloat);
+  const key = { x, y: y + (ABOVE_LINE - high) / 2, width: wide, height: high, style: `fill:${backgroundColor}` };
+  return [svg("rect", key), textAbove(item, x + wide + 6, y + ABOVE_LINE / 2 + 4.5, item.textContent.trim())];
+}
+
+/** What is above a picture in its own file, its name and the legend of its section, and how high that is. */
+function aboveOf(picture, width) {
+  const section = picture.closest("section");
+  const parts = [textAbove(section.querySelector("h2"), ABOVE_LEFT, ABOVE_LINE - 4, pictureName(picture))];
+  let [x, y] = [ABOVE_LEFT, ABOVE_LINE + 4];
+  for (const item of section.querySelectorAll(".legend li:not([hidden])")) {
+    const room = Math.ceil(item.getBoundingClientRect().width);
+    if (x > ABOVE_LEFT && x + room > width) {
+      [x, y] = [ABOVE_LEFT, y + ABOVE_LINE];
+    }
+    parts.push(...legendItem(item, x, y));
+    x += room + ABOVE_GAP;
   }
-  copy.prepend(ground);
-  copy.removeAttribute("aria-hidden");
-  return new XMLSerializer().serializeToString(copy);
+  return { parts, height: y + ABOVE_LINE + 6 };
+}
+
+/** A picture as one of a file of its own, with its name, its legend, its styles and the page's ground. */
+function pictureAlone(picture) {
+  const [width, height] = ["width", "height"].map((name) => Number(picture.getAttribute(name)));
+  const above = aboveOf(picture, width);
+  const all = { width, height: above.height + height };
+  const paper = getComputedStyle(picture.closest("section")).backgroundColor;
+  return svg("svg", { ...all, viewBox: `0 0 ${all.width} ${all.height}` }, svg("rect", { ...all, fill: paper }),
+    ...above.parts, svg("g", { transform: `translate(0 ${above.height})` }, ...styledParts(picture)));
+}
+
+function svgText(picture) {
+  return new XMLSerializer().serializeToString(picture);
 }
 
 /** A picture as the pixels of a file. */
 async function pixelsOf(picture) {
   const image = new Image();
-  image.src = `data:image/svg+xml;charset=utf-8,${encodeURIComponent(pictureText(picture))}`;
+  image.src = `data:image/svg+xml;charset=utf-8,${encodeURIComponent(svgText(picture))}`;
   await image.decode();
   const canvas = html("canvas", {
     width: FINENESS * Number(picture.getAttribute("width")), height: FINENESS * Number(picture.getAttribute("height")),
@@ -78,9 +128,10 @@ export function saveButtons(name, title, { picture, table }) {
     made.addEventListener("click", act);
     return made;
   };
+  const alone = () => picture() && pictureAlone(picture());
   const ofPicture = picture ? [
-    button("PNG", async () => picture() && save(`${name}.png`, [await pixelsOf(picture())], "image/png")),
-    button("SVG", () => picture() && save(`${name}.svg`, [pictureText(picture())], "image/svg+xml")),
+    button("PNG", async () => picture() && save(`${name}.png`, [await pixelsOf(alone())], "image/png")),
+    button("SVG", () => picture() && save(`${name}.svg`, [svgText(alone())], "image/svg+xml")),
   ] : [];
   const ofTable = table ? [
     button("CSV", async () => table() && save(`${name}.csv`, await csvParts(...table()), "text/csv")),

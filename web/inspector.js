@@ -17,6 +17,7 @@ export class Inspector {
     this.offer = offer;
     this.at = null;
     this.look = null;
+    this.finger = matchMedia("(pointer: coarse)");
     this.tip = html("div", { class: "tip", "aria-hidden": "true" });
     const values = { "aria-valuemin": "0", "aria-valuenow": "0", "aria-valuetext": "none" };
     const attributes = { tabindex: "0", role: "slider", "aria-label": name, ...values };
@@ -26,13 +27,14 @@ export class Inspector {
     plot.addEventListener("click", (event) => this.click(event));
     plot.addEventListener("keydown", (event) => this.press(event));
     offer?.addEventListener("click", () => this.take(this.offered));
+    this.finger.addEventListener("change", () => this.show(this.at));
     this.readout.textContent = this.hint();
   }
 
   /** How items are looked at: with a finger, or with a pointer and keys. */
   hint() {
     const { hint, touch } = this.readout.dataset;
-    return touch && matchMedia("(pointer: coarse)").matches ? touch : hint;
+    return touch && this.finger.matches ? touch : hint;
   }
 
   /** Takes the items of a picture that has just been drawn, or none. */

@@ -1,11 +1,8 @@
-// Numbers as text, without commas where they have a unit. Sizes are those of `precopy-view predict`, rounded down. How
-// long something takes has the unit in which the controls say it.
+// Numbers as text, without commas where they have a unit. Sizes are rounded down; from a MiB on they are those of
+// `precopy-view predict`. How long something takes has the unit in which the controls say it.
 
-const MIB = 1n << 20n;
-const GIB = 1n << 30n;
-
-/** The least bytes that are a hundredth of a MiB. */
-const LEAST_IN_MIB = (MIB + 99n) / 100n;
+/** The units of sizes, from the greatest to bytes, and their names. */
+export const SIZE_UNITS = [[1n << 30n, "GiB"], [1n << 20n, "MiB"], [1n << 10n, "KiB"], [1n, "bytes"]];
 
 /** A number, with commas between thousands. */
 export function counted(number) {
@@ -67,22 +64,22 @@ export function unbroken(text) {
   return text.replace(" ", "\u00a0");
 }
 
-/** A size: in GiB if it has one, else in MiB, with two digits after the point; below a hundredth of a MiB in bytes. */
+/** A size, in the greatest unit that it has one of, with two digits after the point; bytes without. */
 export function bytesText(bytes) {
-  if (bytes > 0n && bytes < LEAST_IN_MIB) {
-    return `${bytes} ${bytes === 1n ? "byte" : "bytes"}`;
+  if (bytes === 1n) {
+    return "1 byte";
   }
-  const [unit, name] = bytes < GIB ? [MIB, "MiB"] : [GIB, "GiB"];
+  const [unit, name] = SIZE_UNITS.find(([size]) => bytes >= size) ?? SIZE_UNITS.at(-1);
   const hundredths = (bytes * 100n) / unit;
-  return `${hundredths / 100n}.${String(hundredths % 100n).padStart(2, "0")} ${name}`;
+  const rest = unit === 1n ? "" : `.${String(hundredths % 100n).padStart(2, "0")}`;
+  return `${hundredths / 100n}${rest} ${name}`;
 }
 
 /** A rate in bytes a second, in the greatest decimal unit that it has one of. */
 export function rateText(bytes) {
   const steps = [[1_000_000_000n, "GB/s"], [1_000_000n, "MB/s"], [1_000n, "KB/s"]];
   const [unit, name] = steps.find(([size]) => bytes >= size) ?? [1n, "B/s"];
-  const tenths = (bytes * 10n) / unit;
-  return `${tenths / 10n}.${tenths % 10n} ${name}`;
+  return `${decimalText(bytes, unit, 2)} ${name}`;
 }
 
 /** A difference of two numbers as text: its sign, and what `text` makes of its amount. */

@@ -42,7 +42,7 @@ const ROWS = [
   { name: "time", title: "Total time", isPrice: true, number: ({ cost }) => cost.time, text: timeText,
     more: (some) => joined(errorText(some, "time", errorTimeText),
       tickWords(some, `${countOf(some.plan.stop - some.settings.start, "tick")} of pre-copy`)),
-    unknown: ({ cost }) => `more than ${timeText(cost.recorded)}` },
+    unknown: ({ cost }) => (cost.recorded > 0n ? `more than ${timeText(cost.recorded)}` : "unknown") },
   { name: "sent", title: "Sent", isPrice: true, number: ({ cost }) => cost.bytes, text: bytesText,
     more: (some) => joined(errorText(some, "bytes", bytesText), sentText(some)) },
   { name: "rounds", title: "Rounds", number: ({ plan }) => plan.rounds.length, text: counted, more: reasonWords },
@@ -58,8 +58,8 @@ const ROWS = [
 export function verdictOf(prediction) {
   const { cost, limits } = prediction;
   if (isUnknown(prediction)) {
-    return `The trace ends before the migration does, which takes more than ${unbroken(timeText(cost.recorded))}: `
-      + "record longer.";
+    const least = cost.recorded > 0n ? `, which takes more than ${unbroken(timeText(cost.recorded))}` : "";
+    return `The trace ends before the migration does${least}: record longer.`;
   }
   return `${endingOf(prediction)} The guest stands still for ${unbroken(timeText(cost.downtime))}; the limit of `
     + `${unbroken(timeText(limits.downtime))} ${cost.kept === "yes" ? "is kept" : "is not kept"}.`;
@@ -111,7 +111,7 @@ function cellOf(row, name, prediction, ...more) {
 /** How this plan differs from a kept one, and whether that is better or worse. */
 function differenceOf(row, prediction, kept) {
   const difference = row.number(prediction) - row.number(kept);
-  const words = signed(difference, (amount) => row.text(amount, prediction));
+  const words = unbroken(signed(difference, (amount) => row.text(amount, prediction)));
   const [className, mark] = difference == 0 || !row.isPrice ? ["difference", ""]
     : difference < 0 ? ["difference better", " \u25bc\u00a0better"] : ["difference worse", " \u25b2\u00a0worse"];
   return html("span", { class: className }, `this plan: ${words}${mark}`);
@@ -130,8 +130,8 @@ function keptHead(place) {
   const name = keptName(place);
   const button = (kind, label, words) =>
     html("button", { type: "button", class: "small", [kind]: place, "aria-label": `${name}: ${label}` }, words);
-  return html("th", { scope: "col", role: "columnheader" }, name, " ",
-    button("data-exchanges", "exchange with this", "Exchange"), " ", button("data-drops", "drop", "Drop"));
+  return html("th", { scope: "col", role: "columnheader" }, name, " ", html("span", {},
+    button("data-exchanges", "exchange with this", "Exchange"), " ", button("data-drops", "drop", "Drop")));
 }
 
 /**
@@ -156,12 +156,14 @@ function priceCells(prediction) {
     : [cost.downtime, cost.time, cost.bytes, plan.rounds.length, plan.left, microsOf(scale, plan.stop)];
 }
 
-/** The plans as columns and rows of numbers, for a file. */
-export function comparisonRows(predictions) {
-  const rows = predictions.map((some) => [...priceCells(some), microsOf(some.scale, some.settings.start),
-    isUnknown(some) ? "" : some.plan.reason, some.cost.kept, some.cost.converges]);
-  return [["downtime_us", "time_us", "sent_bytes", "rounds", "left_pages", "stop_us", "start_us", "reason", "kept",
-    "converges"], rows];
+/** A plan, and those of the kept ones that are not refused, as columns and rows for a file. */
+export function comparisonRows(prediction, kept) {
+  const plans = [[THIS_PLAN, prediction], ...kept.map(({ found }, place) => [keptName(place), found.value])];
+  const rows = plans.filter(([, some]) => some).map(([name, some]) => [name, ...priceCells(some),
+    microsOf(some.scale, some.settings.start), isUnknown(some) ? "" : some.plan.reason, some.cost.kept,
+    some.cost.converges]);
+  return [["plan", "downtime_us", "time_us", "sent_bytes", "rounds", "left_pages", "stop_us", "start_us", "reason",
+    "kept", "converges"], rows];
 }
 
 /** A table of numbers, row by row; the first column heads its row. */
@@ -173,11 +175,19 @@ function numbersTable(caption, columns, rows) {
     html("tbody", {}, ...cells));
 }
 
-export const ROUND_COLUMNS = ["round", "from", "to", "rate", "pages", "sent", "dirtied"];
+const ROUND_COLUMNS = ["round", "from", "to", "rate", "pages", "sent", "dirtied"];
 
-/** The rounds of a plan as rows of numbers. */
-export function roundRows({ plan }) {
+/** The columns of a file of rounds: the same, with units. */
+const ROUND_HEADS = ["round", "from_ticks", "to_ticks", "rate_pages_per_1000_ticks", "pages", "sent_pages",
+  "dirtied_pages"];
+
+function roundRows({ plan }) {
   return plan.rounds.map((round, place) => [place, ...ROUND_COLUMNS.slice(1).map((name) => round[name])]);
+}
+
+/** The rounds of a plan as columns and rows of numbers, for a file. */
+export function roundsFile(prediction) {
+  return [ROUND_HEADS, roundRows(prediction)];
 }
 
 /** The rounds of a plan as a table, in ticks and pages. */
@@ -187,16 +197,32 @@ export function roundsTable(prediction) {
     roundRows(prediction));
 }
 
-export const WINDOW_COLUMNS = ["window", "writes", "pages", "again", "fresh"];
+const WINDOW_COLUMNS = ["window", "writes", "pages", "again", "fresh"];
+
+/** The columns of a file of windows: the same, with units and with the time of each. */
+const WINDOW_HEADS = ["window", "from_us", "to_us", "writes", "pages", "again_pages", "fresh_pages"];
 
 /** The most windows that a table has. */
 const MOST_ROWS = 1000;
 
 /** The first windows of a trace, at most so many, as rows of numbers, one at a time: there may be a million. */
-export function* windowRows(windows, most = windows.count) {
+function* windowRows(windows, most = windows.count) {
   for (let row = 0; row < Math.min(windows.count, most); row += 1) {
     yield [windows.number[row], ...WINDOW_COLUMNS.slice(1).map((name) => windows[name][row])];
   }
+}
+
+function* timedRows(windows, length, scale) {
+  const width = microsOf(scale, length);
+  for (const [number, ...numbers] of windowRows(windows)) {
+    const from = BigInt(number) * width;
+    yield [number, from, from + width, ...numbers];
+  }
+}
+
+/** The windows of a trace as columns and rows of numbers, for a file. A window has `length` ticks. */
+export function windowsFile(windows, length, scale) {
+  return [WINDOW_HEADS, timedRows(windows, length, scale)];
 }
 
 /** The windows of a trace as a table. */

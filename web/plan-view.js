@@ -5,8 +5,7 @@ import { ControlRefusal } from "./asking.js";
 import { byId, html } from "./elements.js";
 import { bytesText, momentText, timeText } from "./numbers.js";
 import {
-  comparisonOf, comparisonRows, refusalPart, refusedWords, ROUND_COLUMNS, roundRows, roundsTable, verdictOf,
-  verdictParts,
+  comparisonOf, comparisonRows, refusalPart, refusedWords, roundsFile, roundsTable, verdictOf, verdictParts,
 } from "./outcome.js";
 import { saveButtons } from "./exports.js";
 import { Inspector } from "./inspector.js";
@@ -60,7 +59,7 @@ class RoundsFigure {
       this.table);
     const saves = saveButtons(`rounds-${name}`, `the rounds${title && `, ${title}`}`, {
       picture: () => this.plot.querySelector("svg"),
-      table: () => this.prediction && [ROUND_COLUMNS, roundRows(this.prediction)],
+      table: () => this.prediction && roundsFile(this.prediction),
     });
     this.prediction = null;
     this.whole = html("figure", { id: `plan-${name}` }, this.title, this.plot, this.readout,
@@ -87,9 +86,9 @@ export class PlanView {
     this.last = null;
     byId("plans").append(this.figures[0].whole);
     byId("keep").after(saveButtons("prediction", "the prediction", {
-      table: () => this.last && comparisonRows([this.last, ...this.others]),
+      table: () => this.last && comparisonRows(this.last, this.kept),
     }));
-    this.others = [];
+    this.kept = [];
     watchWidths([this.figures[0].plot], changed);
   }
 
@@ -112,7 +111,7 @@ export class PlanView {
       byId("verdict").replaceChildren(...this.refusedParts(found.refusal));
     }
     byId("summary").textContent = found.value ? this.summaryOf(found.value) : "No plan with these settings";
-    this.noteUnknown();
+    this.noteUnknown(kept);
     this.drawPlans(settings, kept);
     for (const button of document.querySelectorAll("#outcome .saves button, #rounds .saves button")) {
       button.disabled = !found.value;
@@ -120,12 +119,15 @@ export class PlanView {
   }
 
   /** Says of rounds that go on after the trace what they are of. */
-  noteUnknown() {
-    const isBeyond = this.last !== null && isUnknown(this.last);
-    byId("rounds-note").hidden = !isBeyond;
-    if (isBeyond) {
-      byId("rounds-note").textContent = `The trace ends ${timeText(this.last.cost.recorded)} after the start. What is `
-        + "drawn later is of a guest that writes nothing from then on.";
+  noteUnknown(kept) {
+    const plans = [["the start", this.last],
+      ...kept.map(({ found }, place) => [`the start of kept plan ${place + 1}`, found.value])];
+    const beyond = plans.filter(([, some]) => some && isUnknown(some));
+    const ends = beyond.map(([start, { cost }]) => `${timeText(cost.recorded)} after ${start}`);
+    byId("rounds-note").hidden = ends.length === 0;
+    if (ends.length > 0) {
+      byId("rounds-note").textContent = `The trace ends ${ends.join(", ")}. What is drawn later is of a guest that `
+        + "writes nothing from then on.";
     }
   }
 
@@ -187,7 +189,7 @@ export class PlanView {
 
   drawRounds(prediction, kept) {
     const others = kept.map(({ found }) => found.value ?? null);
-    this.others = others.filter(Boolean);
+    this.kept = kept;
     const reach = reachOf([prediction, ...others.filter(Boolean)]);
     this.figureAt(0).title.textContent = others.some(Boolean) ? "This plan" : "";
     this.figureAt(0).draw(prediction, reach);

@@ -9,8 +9,8 @@ const LEFT = 64;
 const RIGHT = 12;
 
 /** The least pixels between two labels of an axis, and the width of one of their letters. */
-const LABEL_ROOM = 84;
-const DIGIT_WIDTH = 7;
+const LABEL_GAP = 28;
+const DIGIT_WIDTH = 7.7;
 
 /** An axis of ticks over a picture of some width: it has the ticks [first, last). */
 export function axisOf(width, first, last) {
@@ -65,11 +65,23 @@ function stepFor(span, most) {
   return [1, 2, 5, 10].map((factor) => factor * power).find((step) => step >= least * 0.999);
 }
 
-/** A time in microseconds as a label, if labels are `step` microseconds apart. */
-function timeLabel(micros, step) {
-  const [unit, name] = step >= 1e5 ? [1e6, "s"] : step >= 100 ? [1e3, "ms"] : [1, "\u00b5s"];
+/** A time in microseconds as a label, if labels are `step` microseconds apart, up to `last`. */
+function timeLabel(micros, step, last) {
+  const [unit, name] = step >= 1e5 && last >= 1e6 ? [1e6, "s"] : step >= 100 ? [1e3, "ms"] : [1, "\u00b5s"];
   const digits = Math.max(0, Math.ceil(-Math.log10(step / unit) - 1e-9));
   return `${(micros / unit).toFixed(Math.min(digits, 6))} ${name}`;
+}
+
+/** The least step, in microseconds, whose labels have room beside each other. */
+function labelStep(axis, tick) {
+  const [span, last] = [(axis.last - axis.first) * tick, axis.last * tick];
+  const isTight = (step) =>
+    (step / span) * axis.room < timeLabel(last, step, last).length * DIGIT_WIDTH + LABEL_GAP;
+  let step = stepFor(span, axis.room / LABEL_GAP);
+  while (step < span && isTight(step)) {
+    step = stepFor(1.5 * step, 1);
+  }
+  return step;
 }
 
 /** The room below a plot for the labels of its axis and their title. */
@@ -77,19 +89,19 @@ export const AXIS_HEIGHT = 50;
 
 /** The marks and labels below a plot that ends at `bottom`, and their title. A tick has `tick` microseconds. */
 export function axisLabels(axis, tick, bottom, title) {
-  const step = stepFor((axis.last - axis.first) * tick, Math.max(1, axis.room / LABEL_ROOM));
+  const step = labelStep(axis, tick);
   const marks = [label("middle title", LEFT + axis.room / 2, bottom + 40, title)];
   let taken = 0;
   for (let at = Math.ceil((axis.first * tick) / step) * step; at <= axis.last * tick; at += step) {
     const x = axis.place(at / tick);
-    const words = timeLabel(at, step);
+    const words = timeLabel(at, step, axis.last * tick);
     const width = words.length * DIGIT_WIDTH;
     const isAtEnd = x + width / 2 > axis.width;
     const left = isAtEnd ? axis.width - width : x - width / 2;
     marks.push(area("line", x, bottom + 1, 1, 5));
     if (left >= taken) {
       marks.push(label(isAtEnd ? "end" : "middle", isAtEnd ? axis.width - 2 : x, bottom + 19, words));
-      taken = left + width;
+      taken = left + width + LABEL_GAP;
     }
   }
   return marks;

@@ -70,7 +70,8 @@ export function warningsOf(prediction) {
   if (plan.total === 0 && settings.base !== null) {
     warnings.push("No page is written between the copy and the start, so nothing is sent: take an earlier copy.");
   } else if (plan.left < MANY_PAGES) {
-    warnings.push("Fewer than 100 pages decided the stop: chance moves it.");
+    warnings.push("Fewer than 100 pages decided the stop: a real migration may stop earlier or later, and its downtime "
+      + "differ by more than a tenth.");
   }
   if (plan.reason === "fast") {
     warnings.push("Pre-copy gave up, so nothing bounds the downtime: give more of the link.");

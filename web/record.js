@@ -65,10 +65,10 @@ function fieldsOf(text) {
   }
   for (const [name, holds] of Object.entries(FIELDS)) {
     if (!Object.hasOwn(fields, name)) {
-      throw new RecordRefusal(name, `The field ${name} is missing.`);
+      throw new RecordRefusal(name, `The field \u201c${name}\u201d is missing.`);
     }
     if (!holds(fields[name])) {
-      throw new RecordRefusal(name, `The field ${name} has a value that it cannot have.`);
+      throw new RecordRefusal(name, `The field \u201c${name}\u201d has a value that it cannot have.`);
     }
   }
   return fields;

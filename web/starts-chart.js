@@ -2,7 +2,7 @@
 // starts whose migration ends after the trace nothing is drawn but where they lie.
 
 import { area, grounded, svg } from "./elements.js";
-import { bytesText, counted, momentText, timeText, unbroken } from "./numbers.js";
+import { bytesText, counted, momentText, SIZE_UNITS, timeText, unbroken } from "./numbers.js";
 import { AXIS_HEIGHT, axisLabels, frameOf, panelOf, pictureOf } from "./plot.js";
 import { keptWords } from "./predictions.js";
 import { microsOf } from "./units.js";
@@ -24,9 +24,10 @@ function timeUnit(most) {
   return most < 1e3 ? [1, "\u00b5s"] : most < 1e6 ? [1e3, "ms"] : [1e6, "s"];
 }
 
+/** The same of sizes. */
 function sizeUnit(most) {
-  return most < 2 ** 10 ? [1, "bytes"] : most < 2 ** 20 ? [2 ** 10, "KiB"] : most < 2 ** 30 ? [2 ** 20, "MiB"]
-    : [2 ** 30, "GiB"];
+  const [size, name] = SIZE_UNITS.find(([unit]) => most >= unit) ?? SIZE_UNITS.at(-1);
+  return [Number(size), name];
 }
 
 /** The curves: what each shows of a start, as a number, and the unit of a greatest one, or of the limit. */
@@ -37,7 +38,7 @@ const CURVES = [
 ];
 
 function shortNumber(number) {
-  return String(number < 10 ? Number(number.toPrecision(2)) : Math.round(number));
+  return String(number < 100 ? Number(number.toPrecision(3)) : Math.round(number));
 }
 
 /** How far a panel reaches: to the greatest number, or past the next if the greatest is an outlier. */
@@ -130,8 +131,11 @@ export function startsPicture(axis, asked) {
   return pictureOf(axis.width, bottom + AXIS_HEIGHT, parts);
 }
 
-/** What a migration costs, in words. */
+/** What a migration costs, in words. Of one that ends after the trace nothing is known. */
 export function costWords(cost) {
+  if (cost.kept === "unknown") {
+    return "unknown, since the trace ends before the migration does";
+  }
   const [time, sent, downtime] = [timeText(cost.time), bytesText(cost.bytes), timeText(cost.downtime)].map(unbroken);
   return `time ${time}, sent ${sent}, downtime ${downtime}, ${keptWords(cost)}`;
 }

@@ -124,8 +124,7 @@ export class StartsView {
     if (!this.asked) {
       return;
     }
-    const { best } = this.asked.chosen;
-    byId("starts-choice").replaceChildren(...this.choiceLines(), ...this.savingParts(best));
+    byId("starts-choice").replaceChildren(...this.choiceLines(), ...this.savingParts(this.asked.chosen));
   }
 
   /** The best and the worst start. If they are one, all starts that tell something cost the same. */
@@ -142,8 +141,8 @@ export class StartsView {
       line(name, startWords(this.asked, at, hasTicks)));
   }
 
-  /** The start of now against the best. */
-  savingParts(best) {
+  /** The start of now against the best. Nothing is said of the best one if all cost the same. */
+  savingParts({ best, worst }) {
     const { prediction } = this;
     if (!best || !prediction || keyOf(prediction, this.ticks) !== this.asked.key) {
       return [];
@@ -152,8 +151,12 @@ export class StartsView {
     if (cost.kept === "unknown") {
       return [html("p", { id: "saving" }, "This plan ends after the trace: what the best saves is unknown.")];
     }
+    const isBest = prediction.settings.start === best.start;
+    if (isBest && best.start === worst.start) {
+      return [];
+    }
     const saved = (text, name) => unbroken(signed(best.cost[name] - cost[name], text));
-    const words = prediction.settings.start === best.start ? "This plan starts there."
+    const words = isBest ? "This plan starts there."
       : `At the best start instead of this one: time ${saved(timeText, "time")}, sent ${saved(bytesText, "bytes")}, `
         + `downtime ${saved(timeText, "downtime")}.`;
     return [html("p", { id: "saving" }, words)];

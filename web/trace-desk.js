@@ -199,9 +199,10 @@ export class TraceDesk {
     const { pages, pageBytes, writes, last } = sizes;
     const scale = scaleOf(settings, sizes);
     const sample = scale.isSample ? `, a sample of a guest of ${countOf(scale.guest, "page")} `
-      + `(${bytesText(scale.guest * scale.page)})` : ` (${bytesText(BigInt(pages) * BigInt(pageBytes))})`;
+      + `(${unbroken(bytesText(scale.guest * scale.page))})`
+      : ` (${unbroken(bytesText(BigInt(pages) * BigInt(pageBytes)))})`;
     const whence = this.trace.record ? `, as ${source.record.name} says` : "";
-    const words = `${source.name}: ${countOf(pages, "page")} of ${pageBytes} bytes${sample}; `
+    const words = `${source.name}: ${countOf(pages, "page")} of ${unbroken(`${pageBytes} bytes`)}${sample}; `
       + `${countOf(writes, "write")} in ${unbroken(timeText(microsOf(scale, last)))}${whence}`;
     if (byId("trace-state").textContent !== words) {
       byId("trace-state").textContent = words;

@@ -92,7 +92,10 @@ function pathsOf(drawn, windows, panel) {
   return Object.entries(paths).map(([name, d]) => svg("path", { class: name, d }));
 }
 
-/** The bars of the windows with axis and frame: they stay while only the limits of a migration change. */
+/**
+ * The bars of the windows with axis and frame: they stay while only the limits of a migration change. What is `above`
+ * is drawn over the marks of a plan, so that none crosses a number.
+ */
 export function windowParts(axis, windows, length, { tick, isSample }) {
   const rows = seenRows(axis, windows, length);
   const panel = panelOf(WINDOWS_TOP, WINDOWS_HEIGHT, reachOfPages(windows, rows));
@@ -100,10 +103,9 @@ export function windowParts(axis, windows, length, { tick, isSample }) {
   const parts = [
     ...frameOf(axis, panel, isSample ? "Sample pages written in a window" : "Pages written in a window"),
     ...pathsOf(drawn, windows, panel),
-    ...cutLabels(axis, drawn, windows, panel),
     ...axisLabels(axis, tick, panel.bottom, "time in the trace"),
   ];
-  return { panel, drawn, parts };
+  return { panel, drawn, parts, above: cutLabels(axis, drawn, windows, panel) };
 }
 
 /** The mark of a tick, if it lies in the axis, with a halo that parts it from the bars. */

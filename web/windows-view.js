@@ -4,7 +4,7 @@ import { area, byId, svg } from "./elements.js";
 import { saveButtons } from "./exports.js";
 import { Inspector } from "./inspector.js";
 import { momentText } from "./numbers.js";
-import { WINDOW_COLUMNS, windowRows, windowsTable } from "./outcome.js";
+import { windowsFile, windowsTable } from "./outcome.js";
 import { widthOf } from "./plot.js";
 import { amountOf, microsOf } from "./units.js";
 import { drawnAt, planMarks, traceAxis, windowParts, windowsPicture, windowWords } from "./windows-chart.js";
@@ -35,7 +35,7 @@ export class WindowsView {
     this.details.addEventListener("toggle", () => this.fill());
     byId("zoom-out").after(saveButtons("working-set", "the working set", {
       picture: () => this.plot.querySelector("svg"),
-      table: () => this.counted.windows && [WINDOW_COLUMNS, windowRows(this.counted.windows)],
+      table: () => this.counted.windows && this.file(),
     }));
     byId("zoom-out").addEventListener("click", () => this.zoom(null));
     byId("zoom-plan").addEventListener("click", () => this.zoomToPlan());
@@ -67,10 +67,10 @@ export class WindowsView {
     const key = JSON.stringify([width, tick, this.range, this.isSample]);
     if (this.held.windows !== windows || this.held.key !== key) {
       const axis = traceAxis(width, trace.sizes, length, this.range);
-      const { panel, drawn, parts } = windowParts(axis, windows, length, { tick, isSample: this.isSample });
+      const { panel, drawn, parts, above } = windowParts(axis, windows, length, { tick, isSample: this.isSample });
       const marks = svg("g");
-      this.held = { windows, key, axis, panel, marks };
-      this.plot.replaceChildren(windowsPicture(width, [...parts, marks]));
+      this.held = { windows, key, axis, panel, marks, tick };
+      this.plot.replaceChildren(windowsPicture(width, [...parts, marks, ...above]));
       this.inspector.hold(this.lookAt(axis, windows, drawn, settings));
     }
     return this.held;
@@ -165,6 +165,12 @@ export class WindowsView {
     if (picture && from !== to) {
       picture.append(area("brush", Math.min(from, to), 0, Math.abs(to - from), Number(picture.getAttribute("height"))));
     }
+  }
+
+  /** The windows as a file, with times by the tick that is drawn. */
+  file() {
+    const { windows, length } = this.counted;
+    return windowsFile(windows, length, { tick: BigInt(this.held.tick) });
   }
 
   /** Fills the table, if it is open. */
