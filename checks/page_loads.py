@@ -10,7 +10,8 @@ from page_shown import tried
 from view_texts import Failure
 
 MOST_BYTES = 1 << 28
-MOST_MILLIS, MOST_TASK_MILLIS, MOST_CANCEL_SECONDS = 30, 50, 1
+# A change takes 20 ms on a quiet machine, and twice that on a busy one; with plans over the trace's bytes it was 137.
+MOST_MILLIS, MOST_TASK_MILLIS, MOST_CANCEL_SECONDS = 60, 50, 1
 # By how many times a plan may take longer if each write has more bytes, and the bytes of each.
 MOST_TIMES, LENGTHS = 2, (1, 236)
 # What a trace that is read may add to the memory of the browser.
