@@ -127,9 +127,12 @@ def calls_in(crate, path):
         owner = next((one for one in owners if one[0] <= found.start() < one[1]), None)
         if not found["pub"] and not (owner and owner[3]):
             continue
-        if names is not None and not found["c"] and (owner[2] if owner else found["name"]) not in names:
-            continue
         clauses, end = contract_from(text, found.start())
+        # Nobody calls a law, so a library for C need not pass it on.
+        is_law = not owner and text[end:].lstrip().startswith("{}")
+        is_given = names is None or found["c"] or (owner[2] if owner else found["name"]) in names
+        if not is_given and not is_law:
+            continue
         name = f"{owner[2]}::{found['name']}" if owner else found["name"]
         comment = comment_above(text, found.start(), "///")
         if owner and owner[3] and not comment:
