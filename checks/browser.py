@@ -22,6 +22,10 @@ class BrowserError(Exception):
     """The browser did not do what it was asked."""
 
 
+class NoAnswer(BrowserError):
+    """The browser said nothing for too long."""
+
+
 class Driven:
     """A browser of its own profile, with one tab, that answers calls by their numbers. Its low priority leaves
     processors to others. How it is started, and how a message goes to it and comes from it, is its own."""
@@ -108,7 +112,7 @@ class Browser(Driven):
             ready, _, _ = select.select([self.back], [], [], max(0, until - time.monotonic()))
             piece = os.read(self.back, 1 << 20) if ready else b""
             if not piece:
-                raise BrowserError("the browser ended" if ready else "the browser does not answer")
+                raise BrowserError("the browser ended") if ready else NoAnswer("the browser does not answer")
             self.rest += piece
         message, _, self.rest = self.rest.partition(b"\0")
         return message

@@ -10,7 +10,7 @@ import struct
 import subprocess
 import time
 
-from browser import SECONDS, BrowserError, Driven
+from browser import SECONDS, BrowserError, Driven, NoAnswer
 
 LISTENING = re.compile(rb"WebDriver BiDi listening on ws://([\d.]+):(\d+)")
 PREFERENCES = {"remote.active-protocols": 1, "datareporting.policy.dataSubmissionEnabled": False,
@@ -122,7 +122,7 @@ class Firefox(Driven):
         try:
             return self.socket.receive()
         except TimeoutError as fault:
-            raise BrowserError("the browser does not answer") from fault
+            raise NoAnswer("the browser does not answer") from fault
 
     def value(self, expression, seconds=SECONDS):
         """The value of an expression of JavaScript, waited for if it is a promise."""

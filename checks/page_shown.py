@@ -4,7 +4,7 @@ import base64
 import json
 import time
 
-from browser import BrowserError
+from browser import BrowserError, NoAnswer
 from view_texts import Failure
 
 SECONDS_TO_BECOME = 10
@@ -159,9 +159,13 @@ class Page:
 
 
 def tried(tally, told_of, act, *words):
-    """Counts a trial that fails by an exception."""
+    """Counts a trial that fails by an exception. If the browser does not answer, the trial is begun once more."""
     try:
-        act(*words)
+        try:
+            act(*words)
+        except NoAnswer as error:
+            print(f"  {told_of}: {error}, and the trial is begun once more", flush=True)
+            act(*words)
         return tally.add(True, told_of)
     except (Failure, BrowserError, OSError, KeyError, ValueError, IndexError) as error:
         return tally.add(False, f"{told_of}: {str(error)[:900]}")
