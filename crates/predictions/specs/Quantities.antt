@@ -30,7 +30,7 @@ unfoldable pub exact_seconds_text : ℕ → List ℕ
 exact_seconds_text micros = decimal (micros / 1_000_000)
     ++ (codes "." ++ (three_digits (micros / 1_000 % 1_000) ++ (three_digits (micros % 1_000) ++ codes " s")))
 
--- how long something takes, in microseconds: only whole seconds are rounded, to milliseconds
+-- how long something takes, in microseconds: it is rounded only from a second on
 unfoldable pub time_text : ℕ → List ℕ
 time_text micros =
     if micros == 0 then codes "0 s"
@@ -38,13 +38,14 @@ time_text micros =
     else (if nat_lt micros 1_000_000 then millis_text micros
     else seconds_text micros))
 
--- the standard error of a time: in tenths of a millisecond from 1 ms on, and in whole ones from 10 ms on
+-- an error with few digits: in tenths of a millisecond from 1 ms on, and in whole ones from 10 ms on
 unfoldable pub rounded_error : ℕ → ℕ
 rounded_error micros =
     if nat_lt micros 1_000 then micros
     else (if nat_lt micros 10_000 then micros / 100 * 100
     else micros / 1_000 * 1_000)
 
+-- the standard error of a time
 unfoldable pub error_text : ℕ → List ℕ
 error_text micros = time_text (rounded_error micros)
 
