@@ -1,8 +1,10 @@
-//! Worked examples of settings, working sets, plans, reports and sweeps: only for tests.
+//! Worked examples of settings, working sets, plans, reports, sweeps, times and sizes: only for tests.
 #![tactic(auto)]
 
 #[cfg(test)]
 mod plan_rows;
+#[cfg(test)]
+mod quantity_rows;
 #[cfg(test)]
 mod rate_rows;
 #[cfg(test)]

@@ -7,13 +7,13 @@ use std::test::Fail;
 /// From 1200 to 2500 there is a start at each 65th tick. From the first the destination has all, from the last the
 /// first round ends after the trace, and from the others one page is sent.
 static WARM: &str = "converges: yes, rounds: 1
-total time: 0.073 s
-sent: 0.00 MiB
-downtime: 0.010 s, limit: 0.200 s, kept
-standard errors: sent 0.00 MiB, time 0.052 s, downtime 0.000 s
+total time: 73 ms
+sent: 64 bytes
+downtime: 10 ms, limit: 200 ms, kept
+standard errors: sent 64 bytes, time 52 ms, downtime 0 s
 warning: fewer than 100 pages decided the stop; chance moves it
 starts: 21, known: 20, converging: 20, limit kept: 20
-over known starts: sent 0.00 MiB to 0.00 MiB, time 0.010 s to 0.073 s, downtime 0.010 s to 0.010 s
+over known starts: sent 0 bytes to 64 bytes, time 10 ms to 73 ms, downtime 10 ms to 10 ms
 enough: what is asked; also one of these, changed alone
 enough: --link 1Kbit
 enough: --downtime 10009us
@@ -71,14 +71,14 @@ fn no_range_is_told_of_no_known_start(rt: HostRuntime) -> Result<(), Fail> {
 /// There is a start at each 125th tick. From three of those that are known, pages are left after the only round, and
 /// the limit has no time for them.
 static MISSED: &str = "converges: no, all rounds that are allowed are done; rounds: 1
-total time: 0.525 s
-sent: 0.00 MiB
-downtime: 0.275 s, limit: 0.200 s, not kept
-standard errors: sent 0.00 MiB, time 0.054 s, downtime 0.054 s
+total time: 525 ms
+sent: 384 bytes
+downtime: 275 ms, limit: 200 ms, not kept
+standard errors: sent 64 bytes, time 54 ms, downtime 54 ms
 warning: fewer than 100 pages decided the stop; chance moves it
 warning: the plan ends with `rounds`, so nothing bounds the downtime; allow more rounds
 starts: 21, known: 19, converging: 16, limit kept: 16
-over known starts: sent 0.00 MiB to 0.00 MiB, time 0.400 s to 0.525 s, downtime 0.150 s to 0.275 s
+over known starts: sent 256 bytes to 384 bytes, time 400 ms to 525 ms, downtime 150 ms to 275 ms
 enough: one of these, changed alone
 enough: --link 21Kbit
 enough: --downtime 275000us

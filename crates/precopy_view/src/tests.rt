@@ -216,13 +216,13 @@ fn unknown_words_are_told(rt: HostRuntime) -> Result<(), Fail> {
 /// errors come from `bench/redrawn.py`, and what is enough from `bench/remedies.py`. Neither shares code with the
 /// crates.
 static PREDICTION: &str = "converges: yes, rounds: 1
-total time: 0.385 s
-sent: 0.00 MiB
-downtime: 0.135 s, limit: 0.200 s, kept
-standard errors: sent 0.00 MiB, time 0.054 s, downtime 0.060 s
+total time: 385 ms
+sent: 384 bytes
+downtime: 135 ms, limit: 200 ms, kept
+standard errors: sent 64 bytes, time 54 ms, downtime 60 ms
 warning: fewer than 100 pages decided the stop; chance moves it
 starts: 21, known: 19, converging: 19, limit kept: 19
-over known starts: sent 0.00 MiB to 0.00 MiB, time 0.260 s to 0.385 s, downtime 0.010 s to 0.135 s
+over known starts: sent 256 bytes to 384 bytes, time 260 ms to 385 ms, downtime 10 ms to 135 ms
 enough: what is asked; also one of these, changed alone
 enough: --link 2Kbit
 enough: --downtime 10009us
@@ -250,9 +250,9 @@ fn predicts_a_migration(rt: HostRuntime) -> Result<(), Fail> {
 
 /// From tick 2400 on the trace has 100 ticks, and the first round takes 250.
 static UNKNOWN: &str = "converges: unknown, the trace ends before the migration does; record longer
-total time: more than 0.100 s
+total time: more than 100 ms
 starts: 21, known: 19, converging: 19, limit kept: 19
-over known starts: sent 0.00 MiB to 0.00 MiB, time 0.260 s to 0.385 s, downtime 0.010 s to 0.135 s
+over known starts: sent 256 bytes to 384 bytes, time 260 ms to 385 ms, downtime 10 ms to 135 ms
 enough: unknown, since the trace ends before the migration does
 precopy live --min 16 --max 16 --inc 0 --threshold 4 --rounds 30 --start 2400
 QEMU: migrate_set_parameter max-bandwidth 1024B

@@ -11,26 +11,27 @@ a tick is 1000 us; the trace has 4 of the guest's 16 pages
 
 windows of 1.000 s; written: █ again ▓ earlier ░ fresh
       window        from     written
-           0     0.000 s    0.00 MiB  ░░░░░░░░░░░░░░░░░░░░░░░░░░░░░░░░░░░░░░░░░░
-           1     1.000 s    0.00 MiB  █████████████████████
-           2     2.000 s    0.00 MiB  █████████████████████░░░░░░░░░░░░░░░░░░░░░
+           0     0.000 s   128 bytes  ░░░░░░░░░░░░░░░░░░░░░░░░░░░░░░░░░░░░░░░░░░░░
+           1     1.000 s    64 bytes  ██████████████████████
+           2     2.000 s   128 bytes  ██████████████████████░░░░░░░░░░░░░░░░░░░░░░
 
 hot pages, in 2 windows or more: 1
  1
  | █  |
 
-round  0   0.000 s to 0.250 s   0.00 MiB sent   0.00 MiB dirtied   100% of link
+round  0   0.000 s to 0.250 s   256 bytes sent   128 bytes dirtied   100% of link
 
 stop: few, at 0.250 s
-left: 0.00 MiB
-downtime: 0.125 s
-sent in all: 0.00 MiB
+left: 128 bytes
+downtime: 125 ms
+sent in all: 384 bytes
 ";
 
 #[test]
 fn shows_times_and_bytes(rt: HostRuntime) -> Result<(), Fail> {
     let words = [
         "show",
+        "--width=82",
         "--link=1KiB",
         "--downtime=200ms",
         "--reserve=10ms",
@@ -53,7 +54,7 @@ grid threshold 4 2 1 1 1
 grid limit 2 8 30
 grid skip 0 1
 cases 241 fits 7
-time 0.375 s, sent 0.00 MiB, downtime 0.000 s
+time 375 ms, sent 384 bytes, downtime 0 s
 case 7 min 16 max 16 inc 0 threshold 2 limit 2 skip 0 rounds 2 stop few at 375 down 0 total 6
 precopy live --min 16 --max 16 --inc 0 --threshold 2 --rounds 2 --start 0
 ";
@@ -202,12 +203,12 @@ fn predicts_as_a_document(rt: HostRuntime) -> Result<(), Fail> {
 /// first round: 2 of them, which take another 125 ticks. The migration from 2400 on ends after the last tick of the
 /// trace, 2500.
 static STARTS: &str = "          tick         start          time          sent      downtime
-             0       0.000 s       0.385 s      0.00 MiB       0.135 s  kept
-           800       0.800 s       0.260 s      0.00 MiB       0.010 s  kept
-          1600       1.600 s       0.260 s      0.00 MiB       0.010 s  kept
-          2400       2.400 s       0.385 s      0.00 MiB       0.135 s  unknown
-best:  0.800 s, --start 800: time 0.260 s, sent 0.00 MiB, downtime 0.010 s, kept
-worst: 0.000 s, --start 0: time 0.385 s, sent 0.00 MiB, downtime 0.135 s, kept
+             0       0.000 s        385 ms     384 bytes        135 ms  kept
+           800       0.800 s        260 ms     256 bytes         10 ms  kept
+          1600       1.600 s        260 ms     256 bytes         10 ms  kept
+          2400       2.400 s        385 ms     384 bytes        135 ms  unknown
+best:  0.800 s, --start 800: time 260 ms, sent 256 bytes, downtime 10 ms, kept
+worst: 0.000 s, --start 0: time 385 ms, sent 384 bytes, downtime 135 ms, kept
 ";
 
 #[test]

@@ -3,7 +3,7 @@ use Rattle.std.specs.Prelude.{ℕ, nat_lt, Bool, true, false, if◌then◌else�
 use Rattle.std.specs.Prelude.{Option, None, Some}
 use Rattle.migration_model.specs.Rates.{StopReason, few_remain, rounds_done, too_fast}
 use Rattle.predictions.specs.Predictions.{GuestPrediction}
-use Rattle.predictions.specs.Quantities.{bytes_text, seconds_text}
+use Rattle.predictions.specs.Quantities.{bytes_text, error_text, time_text}
 use Rattle.predictions.specs.Redrawn.Errors.{SampleErrors}
 use Rattle.sweep_report.specs.Lines.{field, line}
 
@@ -18,12 +18,12 @@ verdict is_kept = if is_kept then codes ", kept" else codes ", not kept"
 
 -- the line on the downtime, beside its limit
 abbrev pub downtime_line : ℕ → GuestPrediction → List ℕ
-downtime_line limit p = line (codes "downtime: " ∷ seconds_text p.cost.downtime ∷ codes ", limit: " ∷ seconds_text limit
+downtime_line limit p = line (codes "downtime: " ∷ time_text p.cost.downtime ∷ codes ", limit: " ∷ time_text limit
     ∷ verdict p.cost.is_kept ∷ [])
 
 -- the line on the total time
 abbrev pub time_line : ℕ → List ℕ
-time_line time = codes "total time: " ++ (seconds_text time ++ 10 ∷ [])
+time_line time = codes "total time: " ++ (time_text time ++ 10 ∷ [])
 
 -- what a migration will be
 abbrev pub facts_text : ℕ → GuestPrediction → List ℕ
@@ -56,7 +56,7 @@ warnings p = line_if (nat_lt p.left 100) (codes "warning: fewer than 100 pages d
 abbrev pub errors_line : Option SampleErrors → List ℕ
 errors_line None = []
 errors_line (Some errors) = line (codes "standard errors: sent " ∷ bytes_text errors.bytes ∷ codes ", time "
-    ∷ seconds_text errors.time ∷ codes ", downtime " ∷ seconds_text errors.downtime ∷ [])
+    ∷ error_text errors.time ∷ codes ", downtime " ∷ error_text errors.downtime ∷ [])
 
 -- a prediction of a migration that ends within the trace
 abbrev pub known_text : ℕ → GuestPrediction → Option SampleErrors → List ℕ
@@ -65,7 +65,7 @@ known_text limit p errors = facts_text limit p ++ (errors_line errors ++ warning
 -- all that is known of a migration if the trace, which goes on for so many microseconds, ends before it
 abbrev pub unknown_text : ℕ → List ℕ
 unknown_text recorded = codes "converges: unknown, the trace ends before the migration does; record longer\n"
-    ++ line (codes "total time: more than " ∷ seconds_text recorded ∷ [])
+    ++ line (codes "total time: more than " ∷ time_text recorded ∷ [])
 
 abbrev pub prediction_text : ℕ → GuestPrediction → Option SampleErrors → List ℕ
 prediction_text limit p errors = if p.cost.is_late then unknown_text p.recorded else known_text limit p errors

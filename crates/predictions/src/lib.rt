@@ -20,6 +20,6 @@ pub use cost::Cost;
 pub use hosts::{link_in_mib, millis_for_pages, push_hosts};
 pub use prediction::Prediction;
 pub use prediction_text::push_prediction;
-pub use quantities::{push_bytes, push_seconds, push_wide};
+pub use quantities::{push_bytes, push_error, push_moment, push_time, push_wide};
 pub use question::{Misfit, Question, Terms, check_fit};
 pub use verdict::Verdict;

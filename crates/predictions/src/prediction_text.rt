@@ -1,14 +1,14 @@
 //! A prediction as lines.
 
 ghost use Rattle.std.specs.Prelude.{◌≡◌, ◌++◌, ◌∷◌, ◌<◌, ◌^◌, [], OnOk, Some, codes};
-ghost use Rattle.predictions.specs.Quantities.{bytes_text, seconds_text};
+ghost use Rattle.predictions.specs.Quantities.{bytes_text, time_text};
 ghost use Rattle.predictions.specs.Texts.{ending, ends_early, errors_line, facts_text, known_text, line_if};
 ghost use Rattle.predictions.specs.Texts.{prediction_text, reason_words, time_line, unknown_text, verdict, warnings};
 ghost use Rattle.rate_limit.specs.Pacing.{reason_of};
 ghost use Rattle.sweep_report.specs.Lines.{field, line};
 
 use crate::prediction::Prediction;
-use crate::quantities::{push_bytes, push_seconds};
+use crate::quantities::{push_bytes, push_error, push_time};
 use crate::redrawn::Errors;
 use rate_limit::Reason;
 use std::alloc::AllocError;
@@ -42,11 +42,11 @@ fn push_ending(text: &mut Vec<u8>, reason: &Reason, rounds: u64) -> Result<(), A
 }
 
 /// Appends the line on the total time.
-fn push_time(text: &mut Vec<u8>, time: u128) -> Result<(), AllocError>
+fn push_time_line(text: &mut Vec<u8>, time: u128) -> Result<(), AllocError>
     ensures { OnOk result (text.new.items ≡ text.old.items ++ time_line time) }
 {
     text.extend_from_slice("total time: ".as_bytes())?;
-    push_seconds(text, time)?;
+    push_time(text, time)?;
     end_line(text)?;
     Ok(())
 }
@@ -75,13 +75,13 @@ fn push_downtime(
     limit: u64,
     is_kept: bool,
 ) -> Result<(), AllocError>
-    ensures { OnOk result (text.new.items ≡ text.old.items ++ line (codes "downtime: " ∷ seconds_text downtime
-        ∷ codes ", limit: " ∷ seconds_text limit ∷ verdict is_kept ∷ [])) }
+    ensures { OnOk result (text.new.items ≡ text.old.items ++ line (codes "downtime: " ∷ time_text downtime
+        ∷ codes ", limit: " ∷ time_text limit ∷ verdict is_kept ∷ [])) }
 {
     text.extend_from_slice("downtime: ".as_bytes())?;
-    push_seconds(text, downtime)?;
+    push_time(text, downtime)?;
     text.extend_from_slice(", limit: ".as_bytes())?;
-    push_seconds(text, limit as u128)?;
+    push_time(text, limit as u128)?;
     text.extend_from_slice(verdict_of(is_kept).as_bytes())?;
     end_line(text)
 }
@@ -91,7 +91,7 @@ fn push_facts(text: &mut Vec<u8>, limit: u64, prediction: &Prediction) -> Result
     ensures { OnOk result (text.new.items ≡ text.old.items ++ facts_text limit prediction.now) }
 {
     push_ending(text, &prediction.reason, prediction.cost.rounds)?;
-    push_time(text, prediction.cost.time)?;
+    push_time_line(text, prediction.cost.time)?;
     push_sent(text, prediction.cost.bytes)?;
     push_downtime(
         text,
@@ -156,9 +156,9 @@ fn push_all(text: &mut Vec<u8>, errors: &Errors) -> Result<(), AllocError>
     text.extend_from_slice("standard errors: sent ".as_bytes())?;
     push_bytes(text, errors.bytes)?;
     text.extend_from_slice(", time ".as_bytes())?;
-    push_seconds(text, errors.time)?;
+    push_error(text, errors.time)?;
     text.extend_from_slice(", downtime ".as_bytes())?;
-    push_seconds(text, errors.downtime)?;
+    push_error(text, errors.downtime)?;
     end_line(text)?;
     Ok(())
 }
@@ -193,7 +193,7 @@ fn push_unknown(text: &mut Vec<u8>, recorded: u128) -> Result<(), AllocError>
 {
     text.extend_from_slice(UNKNOWN.as_bytes())?;
     text.extend_from_slice("total time: more than ".as_bytes())?;
-    push_seconds(text, recorded)?;
+    push_time(text, recorded)?;
     end_line(text)?;
     Ok(())
 }

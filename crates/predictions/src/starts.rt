@@ -16,4 +16,4 @@ pub use range_text::push_ranges;
 pub use ranges::{CostNumbers, StartRanges, ranges_over};
 pub use spread::spread_cases;
 pub use starting::{StartCost, start_costs};
-pub use table::{push_right, starts_text};
+pub use table::{push_cell, push_right, starts_text};

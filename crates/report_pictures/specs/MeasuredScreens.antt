@@ -7,8 +7,8 @@ use Rattle.predictions.specs.Units.Scales.{TraceScale, bytes_of, micros_of}
 use Rattle.migration_model.specs.Rates.{MigrationSettings, word_of}
 use Rattle.migration_model.specs.Rounds.{MigrationPlan, PlannedRound, total_of}
 use Rattle.migration_model.specs.Windows.{WindowRow, WorkingSets}
-use Rattle.predictions.specs.Starts.Texts.{right_in}
-use Rattle.predictions.specs.Quantities.{bytes_text, seconds_text}
+use Rattle.predictions.specs.Starts.Texts.{cell_in, right_in}
+use Rattle.predictions.specs.Quantities.{bytes_text, moment_text, time_text}
 use Rattle.sweep_report.specs.Lines.{field}
 use Rattle.report_pictures.specs.Bars.{bar_text, window_key, window_parts}
 use Rattle.report_pictures.specs.Columns.{most_of}
@@ -16,9 +16,12 @@ use Rattle.report_pictures.specs.HotStrips.{spots_text}
 use Rattle.report_pictures.specs.Screens.{hot_text, trace_words}
 use Rattle.report_pictures.specs.declared.table.Style.{Style}
 
--- some ticks as a time, and some pages as a size
+-- some ticks as how long something takes, a tick as when something is, and some pages as a size
 abbrev pub time_words : TraceScale → ℕ → List ℕ
-time_words scale ticks = seconds_text (micros_of scale ticks)
+time_words scale ticks = time_text (micros_of scale ticks)
+
+abbrev pub moment_words : TraceScale → ℕ → List ℕ
+moment_words scale tick = moment_text (micros_of scale tick)
 
 abbrev pub size_words : TraceScale → ℕ → List ℕ
 size_words scale pages = bytes_text (bytes_of scale pages)
@@ -26,6 +29,9 @@ size_words scale pages = bytes_text (bytes_of scale pages)
 -- with words before it
 unfoldable pub named_time : List ℕ → TraceScale → ℕ → List ℕ
 named_time name scale ticks = name ++ time_words scale ticks
+
+unfoldable pub named_moment : List ℕ → TraceScale → ℕ → List ℕ
+named_moment name scale tick = name ++ moment_words scale tick
 
 unfoldable pub named_size : List ℕ → TraceScale → ℕ → List ℕ
 named_size name scale pages = name ++ size_words scale pages
@@ -46,8 +52,8 @@ first_tick ticks row = min (row.number * ticks) (2 ^ 64 - 1)
 
 -- a window: its number, when it begins, what is written in it, and its bar
 abbrev pub window_line : Style → TraceScale → ℕ → ℕ → WindowRow → List ℕ
-window_line style scale ticks most row = right_in 12 (decimal row.number)
-    ++ (right_in 12 (time_words scale (first_tick ticks row)) ++ (right_in 12 (size_words scale row.pages)
+window_line style scale ticks most row = cell_in 11 (decimal row.number)
+    ++ (cell_in 11 (moment_words scale (first_tick ticks row)) ++ (cell_in 11 (size_words scale row.pages)
     ++ (codes "  " ++ (bar_text style.colors most (style.width - 38) (window_parts row) ++ 10 ∷ []))))
 
 abbrev pub window_lines : Style → TraceScale → ℕ → List WindowRow → List ℕ
@@ -62,9 +68,12 @@ unfoldable pub windows_text : Style → TraceScale → ℕ → List WindowRow �
 windows_text style scale ticks rows =
     windows_head style scale ticks ++ (window_lines style scale ticks rows ++ 10 ∷ [])
 
--- how wide the times of rounds are, and their sizes
-abbrev pub time_width : TraceScale → MigrationPlan → ℕ
-time_width scale plan = length (time_words scale plan.stop)
+-- how wide the moments of rounds are, and their sizes
+abbrev pub moments_width : TraceScale → PlannedRound → ℕ
+moments_width scale round = max (length (moment_words scale round.to)) (length (moment_words scale round.from))
+
+abbrev pub moment_width : TraceScale → MigrationPlan → ℕ
+moment_width scale plan = most_of (moments_width scale) plan.rounds
 
 abbrev pub sizes_width : TraceScale → PlannedRound → ℕ
 sizes_width scale round =
@@ -76,7 +85,7 @@ size_width scale plan = most_of (sizes_width scale) plan.rounds
 -- a round: when it begins and ends, what it sends, and what is dirtied meanwhile
 unfoldable pub round_words : TraceScale → ℕ → ℕ → ℕ → PlannedRound → List ℕ
 round_words scale time size number round = codes "round " ++ (right_in 2 (decimal number) ++ (codes "   "
-    ++ (right_in time (time_words scale round.from) ++ (codes " to " ++ (right_in time (time_words scale round.to)
+    ++ (right_in time (moment_words scale round.from) ++ (codes " to " ++ (right_in time (moment_words scale round.to)
     ++ (codes "   " ++ (right_in size (size_words scale (length round.sent)) ++ (codes " sent   "
     ++ (right_in size (size_words scale round.dirtied) ++ codes " dirtied")))))))))
 
@@ -91,12 +100,12 @@ round_line style scale settings time size number round = round_words scale time 
     ++ (share_words style settings (length (round_words scale time size number round)) round.rate ++ 10 ∷ [])
 
 unfoldable pub round_lines : Style → TraceScale → MigrationSettings → MigrationPlan → List ℕ
-round_lines style scale settings plan = flat_map (λ at. round_line style scale settings (time_width scale plan)
+round_lines style scale settings plan = flat_map (λ at. round_line style scale settings (moment_width scale plan)
     (size_width scale plan) at.0 at.1) (enumerate_from 0 plan.rounds)
 
 -- the end of a plan: why and when the guest stops, and then what is left, how long that takes, and all that is sent
 unfoldable pub reason_words : TraceScale → MigrationPlan → List ℕ
-reason_words scale plan = codes "stop: " ++ (word_of plan.reason ++ named_time (codes ", at ") scale plan.stop)
+reason_words scale plan = codes "stop: " ++ (word_of plan.reason ++ named_moment (codes ", at ") scale plan.stop)
 
 unfoldable pub left_words : TraceScale → MigrationPlan → List ℕ
 left_words scale plan = named_size (codes "\nleft: ") scale (length plan.last)

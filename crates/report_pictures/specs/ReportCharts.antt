@@ -9,7 +9,7 @@ use Rattle.migration_model.specs.Windows.{WindowRow, WorkingSets}
 use Rattle.sweep_report.specs.Lines.{field}
 use Rattle.report_pictures.specs.Columns.{most_of}
 use Rattle.report_pictures.specs.Labels.{AreLabels, capped, place_on}
-use Rattle.report_pictures.specs.MeasuredScreens.{named_size, named_time}
+use Rattle.report_pictures.specs.MeasuredScreens.{named_moment, named_size, named_time}
 use Rattle.report_pictures.specs.Panels.{bar_height, bar_mark, bottom_of, frame_text, key_mark, level_of, parted_of}
 use Rattle.report_pictures.specs.Panels.{span_mark}
 use Rattle.report_pictures.specs.Spans.{axis_over, axis_with, panel_with}
@@ -125,7 +125,7 @@ stop_mark plan = text_head (codes "foot") 90 684 ++ (stop_reason plan ++ (stop_n
 
 unfoldable pub stop_times : TraceScale → MigrationPlan → List ℕ
 stop_times scale plan =
-    named_time (codes "Stop at ") scale plan.stop ++ named_time (codes "; downtime ") scale plan.down
+    named_moment (codes "Stop at ") scale plan.stop ++ named_time (codes "; downtime ") scale plan.down
 
 unfoldable pub stop_sizes : TraceScale → MigrationPlan → List ℕ
 stop_sizes scale plan = named_size (codes " for ") scale (length plan.last)

@@ -8,7 +8,7 @@ use Rattle.predictions.specs.declared.units.limits.Limits.{Limits}
 use Rattle.migration_model.specs.Rates.{MigrationSettings}
 use Rattle.migration_model.specs.Windows.{WindowRow, WorkingSets}
 use Rattle.predictions.specs.Starts.Costs.{CostAtStart}
-use Rattle.predictions.specs.Quantities.{bytes_text, seconds_text}
+use Rattle.predictions.specs.Quantities.{bytes_text, moment_text, time_text}
 use Rattle.sweep_report.specs.Lines.{field}
 use Rattle.report_pictures.specs.Labels.{AreLabels, place_on}
 use Rattle.report_pictures.specs.Panels.{frame_text, key_mark, level_of, span_mark}
@@ -110,10 +110,10 @@ curves_marks axis limit costs best worst =
 -- the line of a chosen start
 unfoldable pub start_words : TraceScale → List ℕ → ℕ → ℕ → List ℕ
 start_words scale name start downtime =
-    name ++ (seconds_text (micros_of scale start) ++ (codes ": downtime " ++ seconds_text downtime))
+    name ++ (moment_text (micros_of scale start) ++ (codes ": downtime " ++ time_text downtime))
 
 unfoldable pub cost_words : CostAtStart → List ℕ
-cost_words at = codes ", time " ++ (seconds_text at.cost.time ++ (codes ", " ++ (bytes_text at.cost.bytes
+cost_words at = codes ", time " ++ (time_text at.cost.time ++ (codes ", " ++ (bytes_text at.cost.bytes
     ++ codes " sent")))
 
 unfoldable pub chosen_line : TraceScale → List ℕ → ℕ → CostAtStart → List ℕ

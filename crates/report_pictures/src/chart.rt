@@ -9,7 +9,7 @@ use crate::axis::{Axis, LEFT};
 use crate::panel::Panel;
 use crate::round_panels::{panels_of_rounds, push_rounds};
 use crate::svg::{begin_picture, begin_text, end_picture, end_text};
-use crate::units_screen::{push_named_size, push_named_time};
+use crate::units_screen::{push_named_moment, push_named_size, push_named_time};
 use crate::window_panel::{panel_of_windows, push_windows};
 use crate::words::push_words;
 use guest_log::Shape;
@@ -89,7 +89,7 @@ fn push_stop(text: &mut Vec<u8>, plan: &Plan) -> Result<(), AllocError>
 fn push_stop_times(text: &mut Vec<u8>, scale: &Scale, plan: &Plan) -> Result<(), AllocError>
     ensures { OnOk result (text.new.items ≡ text.old.items ++ stop_times scale.now plan.now) }
 {
-    push_named_time(text, "Stop at ", scale, plan.stop)?;
+    push_named_moment(text, "Stop at ", scale, plan.stop)?;
     push_named_time(text, "; downtime ", scale, plan.down)
 }
 

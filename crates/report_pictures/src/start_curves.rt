@@ -17,7 +17,7 @@ use crate::window_panel::push_windows;
 use crate::words::push_words;
 use predictions::starts::StartCost;
 use predictions::units::{Limits, Scale};
-use predictions::{push_bytes, push_seconds};
+use predictions::{push_bytes, push_moment, push_time};
 use rate_limit::Settings;
 use std::alloc::{AllocError, Global};
 use sweep_report::push_field;
@@ -250,9 +250,9 @@ fn push_start_words(
     ensures { OnOk result (text.new.items ≡ text.old.items ++ start_words scale.now name.now start downtime) }
 {
     push_words(text, name)?;
-    push_seconds(text, scale.micros(start))?;
+    push_moment(text, scale.micros(start))?;
     push_words(text, ": downtime ")?;
-    push_seconds(text, downtime)?;
+    push_time(text, downtime)?;
     Ok(())
 }
 
@@ -262,7 +262,7 @@ fn push_cost_words(text: &mut Vec<u8>, at: &StartCost) -> Result<(), AllocError>
     ensures { OnOk result (text.new.items ≡ text.old.items ++ cost_words at.now) }
 {
     push_words(text, ", time ")?;
-    push_seconds(text, at.cost.time)?;
+    push_time(text, at.cost.time)?;
     push_words(text, ", ")?;
     push_bytes(text, at.cost.bytes)?;
     push_words(text, " sent")?;

@@ -3,38 +3,39 @@
 ghost use Rattle.std.specs.Prelude.{◌≡◌, ◌++◌, ◌∷◌, [], IfOk, OnOk, length};
 ghost use Rattle.std.specs.Fmt.{decimal};
 ghost use Rattle.std.specs.List.{enumerate_from, flat_map};
-ghost use Rattle.report_pictures.specs.MeasuredScreens.{first_tick, round_line, round_lines, round_words, sample_words};
-ghost use Rattle.report_pictures.specs.MeasuredScreens.{scale_words, share_words, size_width, size_words, sizes_width};
-ghost use Rattle.report_pictures.specs.MeasuredScreens.{stop_words, time_words, window_line, window_lines};
-ghost use Rattle.report_pictures.specs.MeasuredScreens.{left_words, named_size, named_time, reason_words};
+ghost use Rattle.report_pictures.specs.MeasuredScreens.{first_tick, left_words, moment_width, moment_words};
+ghost use Rattle.report_pictures.specs.MeasuredScreens.{moments_width, named_moment, named_size, named_time};
+ghost use Rattle.report_pictures.specs.MeasuredScreens.{reason_words, round_line, round_lines, round_words};
+ghost use Rattle.report_pictures.specs.MeasuredScreens.{sample_words, scale_words, share_words, size_width, size_words};
+ghost use Rattle.report_pictures.specs.MeasuredScreens.{sizes_width, stop_words, window_line, window_lines};
 ghost use Rattle.report_pictures.specs.MeasuredScreens.{windows_head, windows_text};
-ghost use Rattle.predictions.specs.Starts.Texts.{right_in};
+ghost use Rattle.predictions.specs.Starts.Texts.{cell_in, right_in};
 
 use crate::bar::{push_bar, push_window_key};
 use crate::screen::{greatest_of_windows, window_bar};
 use crate::table::Style;
 use crate::words::push_words;
-use predictions::starts::push_right;
+use predictions::starts::{push_cell, push_right};
 use predictions::units::Scale;
-use predictions::{push_bytes, push_seconds, push_wide};
+use predictions::{push_bytes, push_moment, push_time, push_wide};
 use rate_limit::Settings;
 use round_planner::{Plan, Round};
 use std::alloc::{AllocError, Global};
 use sweep_report::{end_line, push_field};
 use working_sets::Window;
 
-/// How wide the columns of windows are.
-const COLUMN: usize = 12;
+/// How wide the columns of windows are, without the blank before each.
+const COLUMN: usize = 11;
 
 /// The columns of windows.
 const NAMES: &str = "      window        from     written\n";
 
-/// Returns ticks as a time in words.
-fn words_of_time(alloc: Global, scale: &Scale, ticks: u64) -> Result<Vec<u8>, AllocError>
-    ensures { IfOk result (λ words. words.items ≡ time_words scale.now ticks) }
+/// Returns a tick as a moment in words.
+fn words_of_moment(alloc: Global, scale: &Scale, tick: u64) -> Result<Vec<u8>, AllocError>
+    ensures { IfOk result (λ words. words.items ≡ moment_words scale.now tick) }
 {
     let mut words = Vec::new(alloc);
-    push_seconds(&mut words, scale.micros(ticks))?;
+    push_moment(&mut words, scale.micros(tick))?;
     Ok(words)
 }
 
@@ -58,7 +59,21 @@ pub(crate) fn push_named_time(
     ensures { OnOk result (text.new.items ≡ text.old.items ++ named_time name.now scale.now ticks) }
 {
     push_words(text, name)?;
-    push_seconds(text, scale.micros(ticks))
+    push_time(text, scale.micros(ticks))
+}
+
+/// Appends some words, and a tick as a moment after them.
+#[tactic(auto, unfolding(crate::specs::MeasuredScreens::named_moment))]
+pub(crate) fn push_named_moment(
+    text: &mut Vec<u8>,
+    name: &str,
+    scale: &Scale,
+    tick: u64,
+) -> Result<(), AllocError>
+    ensures { OnOk result (text.new.items ≡ text.old.items ++ named_moment name.now scale.now tick) }
+{
+    push_words(text, name)?;
+    push_moment(text, scale.micros(tick))
 }
 
 /// Appends some words, and pages as a size after them.
@@ -89,17 +104,17 @@ fn push_number(
     push_right(text, width, &words)
 }
 
-/// Appends ticks as a time at the right end of a column.
-fn push_time(
+/// Appends a tick as a moment at the right end of a column.
+fn push_right_moment(
     alloc: Global,
     text: &mut Vec<u8>,
     width: usize,
     scale: &Scale,
-    ticks: u64,
+    tick: u64,
 ) -> Result<(), AllocError>
-    ensures { OnOk result (text.new.items ≡ text.old.items ++ right_in width (time_words scale.now ticks)) }
+    ensures { OnOk result (text.new.items ≡ text.old.items ++ right_in width (moment_words scale.now tick)) }
 {
-    push_right(text, width, &words_of_time(alloc, scale, ticks)?)
+    push_right(text, width, &words_of_moment(alloc, scale, tick)?)
 }
 
 /// Appends pages as a size at the right end of a column.
@@ -113,6 +128,39 @@ fn push_size(
     ensures { OnOk result (text.new.items ≡ text.old.items ++ right_in width (size_words scale.now pages)) }
 {
     push_right(text, width, &words_of_size(alloc, scale, pages)?)
+}
+
+/// Appends a number as a column of windows.
+fn push_number_cell(alloc: Global, text: &mut Vec<u8>, number: u64) -> Result<(), AllocError>
+    ensures { OnOk result (text.new.items ≡ text.old.items ++ cell_in 11 (decimal number)) }
+{
+    let mut words = Vec::new(alloc);
+    push_wide(&mut words, number as u128)?;
+    push_cell(text, COLUMN, &words)
+}
+
+/// Appends a tick as a moment, as a column of windows.
+fn push_moment_cell(
+    alloc: Global,
+    text: &mut Vec<u8>,
+    scale: &Scale,
+    tick: u64,
+) -> Result<(), AllocError>
+    ensures { OnOk result (text.new.items ≡ text.old.items ++ cell_in 11 (moment_words scale.now tick)) }
+{
+    push_cell(text, COLUMN, &words_of_moment(alloc, scale, tick)?)
+}
+
+/// Appends pages as a size, as a column of windows.
+fn push_size_cell(
+    alloc: Global,
+    text: &mut Vec<u8>,
+    scale: &Scale,
+    pages: u64,
+) -> Result<(), AllocError>
+    ensures { OnOk result (text.new.items ≡ text.old.items ++ cell_in 11 (size_words scale.now pages)) }
+{
+    push_cell(text, COLUMN, &words_of_size(alloc, scale, pages)?)
 }
 
 /// Appends how many of the guest's pages were sampled, if not all.
@@ -150,12 +198,12 @@ fn push_window(
 ) -> Result<(), AllocError>
     ensures { OnOk result (text.new.items ≡ text.old.items ++ window_line style.now scale.now ticks most window.now) }
 {
-    push_number(alloc, text, COLUMN, window.number)?;
+    push_number_cell(alloc, text, window.number)?;
     let from = window.number.saturating_mul(ticks);
-    push_time(alloc, text, COLUMN, scale, from)?;
-    push_size(alloc, text, COLUMN, scale, window.pages as u64)?;
+    push_moment_cell(alloc, text, scale, from)?;
+    push_size_cell(alloc, text, scale, window.pages as u64)?;
     push_words(text, "  ")?;
-    let room = style.width.saturating_sub(3 * COLUMN + 2);
+    let room = style.width.saturating_sub(3 * (COLUMN + 1) + 2);
     push_bar(text, style.colors, most, room, &window_bar(window))?;
     end_line(text)
 }
@@ -218,6 +266,26 @@ struct Widths {
     size: usize,
 }
 
+/// Returns how wide the moments of a round are.
+fn moments_of(alloc: Global, scale: &Scale, round: &Round) -> Result<usize, AllocError>
+    ensures { IfOk result (λ width. width ≡ moments_width scale.now round.now) }
+{
+    let from = words_of_moment(alloc, scale, round.from)?.len();
+    let to = words_of_moment(alloc, scale, round.to)?.len();
+    Ok(to.max(from))
+}
+
+/// Returns how wide the moments of rounds are.
+fn widest_moment(alloc: Global, scale: &Scale, plan: &Plan) -> Result<usize, AllocError>
+    ensures { IfOk result (λ width. width ≡ moment_width scale.now plan.now) }
+{
+    let mut width = 0;
+    for round in &plan.rounds {
+        width = moments_of(alloc, scale, round)?.max(width);
+    }
+    Ok(width)
+}
+
 /// Returns how wide the sizes of a round are.
 fn sizes_of(alloc: Global, scale: &Scale, round: &Round) -> Result<usize, AllocError>
     ensures { IfOk result (λ width. width ≡ sizes_width scale.now round.now) }
@@ -228,7 +296,7 @@ fn sizes_of(alloc: Global, scale: &Scale, round: &Round) -> Result<usize, AllocE
 }
 
 /// Returns how wide the sizes of rounds are.
-fn widest_of(alloc: Global, scale: &Scale, plan: &Plan) -> Result<usize, AllocError>
+fn widest_size(alloc: Global, scale: &Scale, plan: &Plan) -> Result<usize, AllocError>
     ensures { IfOk result (λ width. width ≡ size_width scale.now plan.now) }
 {
     let mut width = 0;
@@ -254,9 +322,9 @@ fn words_of_round(
     push_words(&mut line, "round ")?;
     push_number(alloc, &mut line, 2, number as u64)?;
     push_words(&mut line, "   ")?;
-    push_time(alloc, &mut line, widths.time, scale, round.from)?;
+    push_right_moment(alloc, &mut line, widths.time, scale, round.from)?;
     push_words(&mut line, " to ")?;
-    push_time(alloc, &mut line, widths.time, scale, round.to)?;
+    push_right_moment(alloc, &mut line, widths.time, scale, round.to)?;
     push_words(&mut line, "   ")?;
     push_size(
         alloc,
@@ -343,8 +411,8 @@ pub(crate) fn push_rounds(
     ensures { OnOk result (text.new.items ≡ text.old.items
         ++ (round_lines style.now scale.now settings.now plan.now ++ 10 ∷ [])) }
 {
-    let time = words_of_time(alloc, scale, plan.stop)?.len();
-    let size = widest_of(alloc, scale, plan)?;
+    let time = widest_moment(alloc, scale, plan)?;
+    let size = widest_size(alloc, scale, plan)?;
     let widths = Widths { time, size };
     push_round_lines(alloc, text, style, scale, settings, &widths, &plan.rounds)?;
     end_line(text)
@@ -357,7 +425,7 @@ fn push_reason(text: &mut Vec<u8>, scale: &Scale, plan: &Plan) -> Result<(), All
 {
     push_words(text, "stop: ")?;
     push_words(text, plan.reason.word())?;
-    push_named_time(text, ", at ", scale, plan.stop)
+    push_named_moment(text, ", at ", scale, plan.stop)
 }
 
 /// Appends what is left at the stop, how long that takes, and all that is sent.

@@ -4,7 +4,7 @@ use Rattle.std.specs.List.{flat_map}
 use Rattle.migration_model.specs.Rates.{MigrationSettings}
 use Rattle.migration_model.specs.Sweeps.{SweepLine}
 use Rattle.predictions.specs.Predictions.{MigrationCost, cost_of}
-use Rattle.predictions.specs.Quantities.{bytes_text, seconds_text}
+use Rattle.predictions.specs.Quantities.{bytes_text, time_text}
 use Rattle.sweep_report.specs.Lines.{field, line, case_line}
 use Rattle.trace_views.specs.declared.budget.Advice.{Advice}
 use Rattle.trace_views.specs.declared.budget.Advice.TheVariants as advices
@@ -76,8 +76,8 @@ live_line s = line (live_fields s)
 
 -- what a migration costs, in time and bytes
 abbrev pub measures_line : MigrationCost → List ℕ
-measures_line cost = line (codes "time " ∷ seconds_text cost.time ∷ codes ", sent " ∷ bytes_text cost.bytes
-    ∷ codes ", downtime " ∷ seconds_text cost.downtime ∷ [])
+measures_line cost = line (codes "time " ∷ time_text cost.time ∷ codes ", sent " ∷ bytes_text cost.bytes
+    ∷ codes ", downtime " ∷ time_text cost.downtime ∷ [])
 
 abbrev pub cost_line : Option MigrationCost → List ℕ
 cost_line None = []

@@ -8,7 +8,7 @@ ghost use Rattle.trace_views.specs.AdviceText.{reason_fields, reason_line, total
 
 use crate::budget::{Advice, Budget};
 use crate::grid::Grid;
-use predictions::{Cost, push_bytes, push_seconds};
+use predictions::{Cost, push_bytes, push_time};
 use rate_limit::Settings;
 use std::alloc::{AllocError, Global};
 use sweep_report::{Line, end_line, push_case, push_field};
@@ -154,11 +154,11 @@ fn push_measures(text: &mut Vec<u8>, cost: &Cost) -> Result<(), AllocError>
     ensures { OnOk result (text.new.items ≡ text.old.items ++ measures_line cost.now) }
 {
     text.extend_from_slice("time ".as_bytes())?;
-    push_seconds(text, cost.time)?;
+    push_time(text, cost.time)?;
     text.extend_from_slice(", sent ".as_bytes())?;
     push_bytes(text, cost.bytes)?;
     text.extend_from_slice(", downtime ".as_bytes())?;
-    push_seconds(text, cost.downtime)?;
+    push_time(text, cost.downtime)?;
     end_line(text)
 }
 

@@ -6,7 +6,7 @@ use Rattle.std.specs.List.{flat_map}
 use Rattle.predictions.specs.Units.Scales.{TraceScale, micros_of}
 use Rattle.predictions.specs.Starts.Costs.{CostAtStart}
 use Rattle.predictions.specs.Predictions.{MigrationCost, kept_of}
-use Rattle.predictions.specs.Quantities.{bytes_text, seconds_text}
+use Rattle.predictions.specs.Quantities.{bytes_text, moment_text, time_text}
 use Rattle.predictions.specs.declared.verdict.Verdict.{Verdict}
 use Rattle.predictions.specs.declared.verdict.Verdict.TheVariants as verdicts
 use Rattle.sweep_report.specs.Lines.{field}
@@ -21,14 +21,18 @@ mark_of verdicts.Yes = codes "kept"
 mark_of verdicts.No = codes "not kept"
 mark_of verdicts.Unknown = codes "unknown"
 
+-- a column beside others: a blank, and words at the right end of this width
+unfoldable pub cell_in : ℕ → List ℕ → List ℕ
+cell_in width words = codes " " ++ right_in width words
+
 -- what a migration costs, as columns
 unfoldable pub cost_cells : MigrationCost → List ℕ
-cost_cells cost = right_in 14 (seconds_text cost.time) ++ (right_in 14 (bytes_text cost.bytes)
-    ++ (right_in 14 (seconds_text cost.downtime) ++ (codes "  " ++ mark_of (kept_of cost))))
+cost_cells cost = cell_in 13 (time_text cost.time) ++ (cell_in 13 (bytes_text cost.bytes)
+    ++ (cell_in 13 (time_text cost.downtime) ++ (codes "  " ++ mark_of (kept_of cost))))
 
 -- a start, and what the migration costs from there
 abbrev pub start_row : TraceScale → CostAtStart → List ℕ
-start_row scale at = right_in 14 (decimal at.start) ++ (right_in 14 (seconds_text (micros_of scale at.start))
+start_row scale at = cell_in 13 (decimal at.start) ++ (cell_in 13 (moment_text (micros_of scale at.start))
     ++ (cost_cells at.cost ++ 10 ∷ []))
 
 abbrev pub start_rows : TraceScale → List CostAtStart → List ℕ
@@ -40,12 +44,12 @@ heading = codes "          tick         start          time          sent      d
 
 -- what a migration costs from a chosen start
 unfoldable pub chosen_cost : MigrationCost → List ℕ
-chosen_cost cost = codes ": time " ++ (seconds_text cost.time ++ (codes ", sent " ++ (bytes_text cost.bytes
-    ++ (codes ", downtime " ++ (seconds_text cost.downtime ++ (codes ", " ++ (mark_of (kept_of cost) ++ 10 ∷ [])))))))
+chosen_cost cost = codes ": time " ++ (time_text cost.time ++ (codes ", sent " ++ (bytes_text cost.bytes
+    ++ (codes ", downtime " ++ (time_text cost.downtime ++ (codes ", " ++ (mark_of (kept_of cost) ++ 10 ∷ [])))))))
 
 -- a chosen start
 unfoldable pub chosen_text : TraceScale → CostAtStart → List ℕ
-chosen_text scale at = seconds_text (micros_of scale at.start)
+chosen_text scale at = moment_text (micros_of scale at.start)
     ++ (field (codes ", --start ") at.start ++ chosen_cost at.cost)
 
 -- the line of a chosen start, or of none

@@ -1,9 +1,9 @@
 //! The ranges over starts as lines.
 
 ghost use Rattle.std.specs.Prelude.{◌≡◌, ◌++◌, ◌<◌, ◌^◌, OnOk, Some};
-ghost use Rattle.predictions.specs.Starts.RangeTexts.{bytes_span, counts_line, ranges_text, seconds_span, spans_line};
+ghost use Rattle.predictions.specs.Starts.RangeTexts.{bytes_span, counts_line, ranges_text, spans_line, time_span};
 
-use crate::quantities::{push_bytes, push_seconds};
+use crate::quantities::{push_bytes, push_time};
 use crate::starts::ranges::{CostNumbers, StartRanges};
 use std::alloc::AllocError;
 use sweep_report::{end_line, push_field};
@@ -33,13 +33,13 @@ fn push_bytes_span(text: &mut Vec<u8>, least: u128, greatest: u128) -> Result<()
 }
 
 /// Appends the least and the greatest of some times, in microseconds.
-#[tactic(auto, unfolding(crate::specs::Starts::RangeTexts::seconds_span))]
-fn push_seconds_span(text: &mut Vec<u8>, least: u128, greatest: u128) -> Result<(), AllocError>
-    ensures { OnOk result (text.new.items ≡ text.old.items ++ seconds_span least greatest) }
+#[tactic(auto, unfolding(crate::specs::Starts::RangeTexts::time_span))]
+fn push_time_span(text: &mut Vec<u8>, least: u128, greatest: u128) -> Result<(), AllocError>
+    ensures { OnOk result (text.new.items ≡ text.old.items ++ time_span least greatest) }
 {
-    push_seconds(text, least)?;
+    push_time(text, least)?;
     text.extend_from_slice(" to ".as_bytes())?;
-    push_seconds(text, greatest)
+    push_time(text, greatest)
 }
 
 /// Appends what a migration costs from the known starts, at least and at most.
@@ -53,9 +53,9 @@ fn push_spans(
     text.extend_from_slice("over known starts: sent ".as_bytes())?;
     push_bytes_span(text, least.bytes, greatest.bytes)?;
     text.extend_from_slice(", time ".as_bytes())?;
-    push_seconds_span(text, least.time, greatest.time)?;
+    push_time_span(text, least.time, greatest.time)?;
     text.extend_from_slice(", downtime ".as_bytes())?;
-    push_seconds_span(text, least.downtime, greatest.downtime)?;
+    push_time_span(text, least.downtime, greatest.downtime)?;
     end_line(text)?;
     Ok(())
 }

@@ -3,12 +3,12 @@
 ghost use Rattle.std.specs.Prelude.{◌≡◌, ◌++◌, ◌<◌, ◌^◌, IfOk, OnOk};
 ghost use Rattle.std.specs.Fmt.{decimal};
 ghost use Rattle.predictions.specs.Predictions.{kept_of};
-ghost use Rattle.predictions.specs.Quantities.{bytes_text, seconds_text};
-ghost use Rattle.predictions.specs.Starts.Texts.{choice_line, chosen_cost, chosen_text, cost_cells, mark_of, right_in};
-ghost use Rattle.predictions.specs.Starts.Texts.{start_row, start_rows, starts_text_of};
+ghost use Rattle.predictions.specs.Quantities.{bytes_text, moment_text, time_text};
+ghost use Rattle.predictions.specs.Starts.Texts.{cell_in, choice_line, chosen_cost, chosen_text, cost_cells, mark_of};
+ghost use Rattle.predictions.specs.Starts.Texts.{right_in, start_row, start_rows, starts_text_of};
 
 use crate::cost::Cost;
-use crate::quantities::{push_bytes, push_seconds, push_wide};
+use crate::quantities::{push_bytes, push_moment, push_time, push_wide};
 use crate::starts::starting::StartCost;
 use crate::units::Scale;
 use crate::verdict::Verdict;
@@ -18,8 +18,8 @@ use sweep_report::{end_line, push_field};
 /// The names of the columns.
 const HEADING: &str = "          tick         start          time          sent      downtime\n";
 
-/// How wide a column is.
-const WIDTH: usize = 14;
+/// How wide a column is, without the blank before it.
+const WIDTH: usize = 13;
 
 /// Appends words at the right end of a column of this width.
 pub fn push_right(text: &mut Vec<u8>, width: usize, words: &[u8]) -> Result<(), AllocError>
@@ -32,32 +32,50 @@ pub fn push_right(text: &mut Vec<u8>, width: usize, words: &[u8]) -> Result<(), 
     Ok(())
 }
 
+/// Appends words at the right end of a column of this width, and a blank before it.
+#[tactic(auto, unfolding(crate::specs::Starts::Texts::cell_in))]
+pub fn push_cell(text: &mut Vec<u8>, width: usize, words: &[u8]) -> Result<(), AllocError>
+    ensures { OnOk result (text.new.items ≡ text.old.items ++ cell_in width words.now) }
+{
+    text.extend_from_slice(" ".as_bytes())?;
+    push_right(text, width, words)
+}
+
 /// Appends a number as a column.
 fn push_number_cell(alloc: Global, text: &mut Vec<u8>, number: u64) -> Result<(), AllocError>
-    ensures { OnOk result (text.new.items ≡ text.old.items ++ right_in 14 (decimal number)) }
+    ensures { OnOk result (text.new.items ≡ text.old.items ++ cell_in 13 (decimal number)) }
 {
     let mut words = Vec::new(alloc);
     push_wide(&mut words, number as u128)?;
-    push_right(text, WIDTH, &words)
+    push_cell(text, WIDTH, &words)
 }
 
 /// Appends a time, given in microseconds, as a column.
 fn push_time_cell(alloc: Global, text: &mut Vec<u8>, micros: u128) -> Result<(), AllocError>
-    ensures { OnOk result (text.new.items ≡ text.old.items ++ right_in 14 (seconds_text micros)) }
+    ensures { OnOk result (text.new.items ≡ text.old.items ++ cell_in 13 (time_text micros)) }
 {
     let mut words = Vec::new(alloc);
-    push_seconds(&mut words, micros)?;
-    push_right(text, WIDTH, &words)
+    push_time(&mut words, micros)?;
+    push_cell(text, WIDTH, &words)
+}
+
+/// Appends a moment, given in microseconds, as a column.
+fn push_moment_cell(alloc: Global, text: &mut Vec<u8>, micros: u128) -> Result<(), AllocError>
+    ensures { OnOk result (text.new.items ≡ text.old.items ++ cell_in 13 (moment_text micros)) }
+{
+    let mut words = Vec::new(alloc);
+    push_moment(&mut words, micros)?;
+    push_cell(text, WIDTH, &words)
 }
 
 /// Appends a size as a column.
 fn push_size_cell(alloc: Global, text: &mut Vec<u8>, bytes: u128) -> Result<(), AllocError>
     requires { bytes < 2 ^ 120 }
-    ensures { OnOk result (text.new.items ≡ text.old.items ++ right_in 14 (bytes_text bytes)) }
+    ensures { OnOk result (text.new.items ≡ text.old.items ++ cell_in 13 (bytes_text bytes)) }
 {
     let mut words = Vec::new(alloc);
     push_bytes(&mut words, bytes)?;
-    push_right(text, WIDTH, &words)
+    push_cell(text, WIDTH, &words)
 }
 
 /// Returns whether the limit is kept, in words.
@@ -94,7 +112,7 @@ fn push_row(
     ensures { OnOk result (text.new.items ≡ text.old.items ++ start_row scale.now at.now) }
 {
     push_number_cell(alloc, text, at.start)?;
-    push_time_cell(alloc, text, scale.micros(at.start))?;
+    push_moment_cell(alloc, text, scale.micros(at.start))?;
     push_cost(alloc, text, &at.cost)?;
     end_line(text)
 }
@@ -120,11 +138,11 @@ fn push_chosen_cost(text: &mut Vec<u8>, cost: &Cost) -> Result<(), AllocError>
     ensures { OnOk result (text.new.items ≡ text.old.items ++ chosen_cost cost.now) }
 {
     text.extend_from_slice(": time ".as_bytes())?;
-    push_seconds(text, cost.time)?;
+    push_time(text, cost.time)?;
     text.extend_from_slice(", sent ".as_bytes())?;
     push_bytes(text, cost.bytes)?;
     text.extend_from_slice(", downtime ".as_bytes())?;
-    push_seconds(text, cost.downtime)?;
+    push_time(text, cost.downtime)?;
     text.extend_from_slice(", ".as_bytes())?;
     text.extend_from_slice(mark_words(cost).as_bytes())?;
     end_line(text)?;
@@ -136,7 +154,7 @@ fn push_chosen_cost(text: &mut Vec<u8>, cost: &Cost) -> Result<(), AllocError>
 fn push_chosen(text: &mut Vec<u8>, scale: &Scale, at: &StartCost) -> Result<(), AllocError>
     ensures { OnOk result (text.new.items ≡ text.old.items ++ chosen_text scale.now at.now) }
 {
-    push_seconds(text, scale.micros(at.start))?;
+    push_moment(text, scale.micros(at.start))?;
     push_field(text, ", --start ", at.start)?;
     push_chosen_cost(text, &at.cost)
 }

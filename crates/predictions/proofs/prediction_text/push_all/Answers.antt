@@ -11,10 +11,10 @@ returns c =
     ap (λ (e : SampleErrors). e.downtime) c.errors.view_is in
     rw (
       c.in_ok-end_line.ensures,
-      c.in_ok-push_seconds-2.ensures,
+      c.in_ok-push_error-2.ensures,
       c.in_ok-extend_from_slice-3.ensures.items,
       c.as_bytes-3.ensures.value,
-      c.in_ok-push_seconds.ensures,
+      c.in_ok-push_error.ensures,
       c.in_ok-extend_from_slice-2.ensures.items,
       c.as_bytes-2.ensures.value,
       c.in_ok-push_bytes.ensures,

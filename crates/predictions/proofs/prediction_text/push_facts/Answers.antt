@@ -14,6 +14,6 @@ returns c =
     (subst D c.prediction-inside.view_is (rw (
       c.in_ok-push_downtime.ensures,
       c.in_ok-push_sent.ensures,
-      c.in_ok-push_time.ensures,
+      c.in_ok-push_time_line.ensures,
       c.in_ok-push_ending.ensures,
     ) (simp append_assoc)))

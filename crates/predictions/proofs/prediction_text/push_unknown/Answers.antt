@@ -6,7 +6,7 @@ pub returns : goal.returns
 returns c =
     rw (
       c.in_ok-end_line.ensures,
-      c.in_ok-push_seconds.ensures,
+      c.in_ok-push_time.ensures,
       c.in_ok-extend_from_slice-2.ensures.items,
       c.as_bytes-2.ensures.value,
       c.in_ok-extend_from_slice.ensures.items,

@@ -18,10 +18,10 @@ returns c =
     ap (λ (n : MigrationNumbers). n.downtime) high in
     rw (
       c.in_ok-end_line.ensures,
-      c.in_ok-push_seconds_span-2.ensures,
+      c.in_ok-push_time_span-2.ensures,
       c.in_ok-extend_from_slice-3.ensures.items,
       c.as_bytes-3.ensures.value,
-      c.in_ok-push_seconds_span.ensures,
+      c.in_ok-push_time_span.ensures,
       c.in_ok-extend_from_slice-2.ensures.items,
       c.as_bytes-2.ensures.value,
       c.in_ok-push_bytes_span.ensures,
