@@ -6,16 +6,18 @@ ghost use Rattle.migration_model.specs.Trace.{GuestTrace, Spells, last_by, last_
 ghost use Rattle.predictions.specs.Predictions.{prediction_with};
 ghost use Rattle.predictions.specs.Questions.{AcceptsQuestion, Fits, RefusesQuestion, answer_of, scale_in};
 ghost use Rattle.predictions.specs.Questions.{settings_of, terms_of};
-ghost use Rattle.lent_planner.specs.Answers.{IsNumberOf, number_of_units};
+ghost use Rattle.c_layout.specs.Refusals.{number_of_units};
+ghost use Rattle.lent_planner.specs.Answers.{IsNumberOf};
 ghost use Rattle.lent_planner.specs.Plans.{HasRoom, room_of};
 ghost use Rattle.lent_planner.specs.Predictions.{IsAnswerTo, OfTrace, RefusesAsked};
 ghost use Rattle.lent_planner.specs.Settings.{lent_of};
 
-use crate::answers::{Refusal, units_number};
+use crate::answers::Refusal;
 use crate::plans::{PlanRoom, plan_of};
 use crate::settings::{LentSettings, lent_settings};
 use crate::touches::LentTouch;
 use crate::traces::last_tick;
+use c_layout::units_number;
 use predictions::{Answer, Prediction, Question, Terms, check_fit};
 use round_planner::{Outcome, RoundRow};
 use trace_codec::TraceView;

@@ -4,7 +4,7 @@ ghost use Rattle.std.specs.Prelude.{◌≡◌, ◌≢◌, ◌↔◌, Some};
 ghost use Rattle.migration_model.specs.Rates.{AreSettings};
 ghost use Rattle.rate_limit.specs.Refusals.{refusal_of};
 ghost use Rattle.rate_limit.specs.declared.error.SettingsError.{SettingsError};
-ghost use Rattle.lent_planner.specs.Answers.{number_of_settings};
+ghost use Rattle.c_layout.specs.Refusals.{number_of_settings};
 ghost use Rattle.lent_planner.specs.Settings.{lent_of, settings_in};
 
 use crate::answers::Refusal;

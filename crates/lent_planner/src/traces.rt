@@ -1,14 +1,14 @@
 //! Tests of traces.
 
-ghost use Rattle.std.specs.Prelude.{◌≡◌, ◌≢◌, unwrap_or};
+ghost use Rattle.std.specs.Prelude.{◌≡◌, ◌≢◌};
 ghost use Rattle.migration_model.specs.Trace.{GuestTrace, Spells, last_tick};
 ghost use Rattle.trace_codec.specs.Refusals.{Refuses};
 ghost use Rattle.trace_codec.specs.declared.error.TraceError.{TraceError};
-ghost use Rattle.lent_planner.specs.Answers.{number_of_trace, record_in};
+ghost use Rattle.c_layout.specs.Refusals.{number_of_trace, record_after};
 ghost use Rattle.lent_planner.specs.Traces.{AreSizesOf};
 
-use crate::answers::Refusal;
-use trace_codec::{TraceError, TraceView};
+use c_layout::refuse_trace;
+use trace_codec::TraceView;
 
 /// The sizes of a trace.
 #[derive(Clone, Copy)]
@@ -48,28 +48,13 @@ fn sizes_in(trace: &TraceView<'_>) -> LentSizes
     }
 }
 
-/// Returns the record that a refusal names.
-fn record_of(error: TraceError) -> Option<u32>
-    ensures { result ≡ record_in error }
-{
-    match error {
-        TraceError::ShortRecord(record) => Some(record),
-        TraceError::TickOrder(record) => Some(record),
-        TraceError::TickTooLarge(record) => Some(record),
-        TraceError::PageOutOfRange(record) => Some(record),
-        TraceError::EmptyWrite(record) => Some(record),
-        TraceError::OutOfPage(record) => Some(record),
-        _ => None,
-    }
-}
-
 /// Tests the bytes of a trace, and says its sizes. If they are refused for a record, it says which, from 0.
 #[unsafe(no_mangle)]
 pub extern "C" fn lent_check_trace(trace: &[u8], sizes: &mut LentSizes, number: &mut u32) -> u32
     ensures found { result ≡ 0 → (t : GuestTrace) × Spells trace.now t × AreSizesOf t sizes.new
         × (number.new ≡ number.old) }
     ensures refused { result ≢ 0 → (e : TraceError) × Refuses trace.now e × (result ≡ number_of_trace e)
-        × (number.new ≡ unwrap_or (record_in e) number.old) }
+        × (number.new ≡ record_after e number.old) }
     ensures only { (t : GuestTrace) → Spells trace.now t → result ≡ 0 }
     ensures unchanged { result ≢ 0 → sizes.new ≡ sizes.old }
 {
@@ -78,9 +63,6 @@ pub extern "C" fn lent_check_trace(trace: &[u8], sizes: &mut LentSizes, number: 
             *sizes = sizes_in(&view);
             0
         }
-        Err(error) => {
-            *number = record_of(error).unwrap_or(*number);
-            Refusal::Trace(error).number()
-        }
+        Err(error) => refuse_trace(error, number),
     }
 }

@@ -12,7 +12,7 @@ use Rattle.stream_check.specs.Ends.{IsFirstBehind}
 use Rattle.stream_check.specs.declared.faults.FrameCause.TheVariants.{Refused}
 use Rattle.stream_check.specs.declared.faults.WrongFrame.{WrongFrame}
 use Rattle.stream_check.specs.declared.taken.Taken.{Taken}
-use Rattle.precopy_c.specs.Answers.{number_of_trace, record_after}
+use Rattle.c_layout.specs.Refusals.{number_of_trace, record_after}
 use Rattle.precopy_c.specs.StreamChecks.{frame_finding, number_of_cause, number_of_stamp, page_finding}
 use Rattle.precopy_c.specs.declared.checking.StreamFinding.{StreamFinding}
 use Rattle.precopy_c.specs.declared.flat_memory.PageState.{PageState}

@@ -6,7 +6,7 @@ use Rattle.migration_model.specs.Memory.{apply, image_after, memory_with}
 use Rattle.migration_model.specs.Trace.{GuestTrace, GuestWrite, Spells}
 use Rattle.page_versions.specs.Index.{version_after}
 use Rattle.trace_codec.specs.Refusals.{Refuses}
-use Rattle.precopy_c.specs.Answers.{number_of_trace, record_after}
+use Rattle.c_layout.specs.Refusals.{number_of_trace, record_after}
 use Rattle.precopy_c.specs.Memories.{memory_length}
 use Rattle.precopy_c.specs.declared.page_writes.PageWrite.{PageWrite}
 use Rattle.precopy_c.specs.declared.place_answers.PlaceRefusal.{PlaceRefusal}

@@ -1,8 +1,6 @@
--- What C sees of predictions, and why there is none. The numbers of a question that is out of range, in the order in
--- which it is tested, and of a trace that does not have its scale, begin at 81. This project's own.
+-- What C sees of predictions, and why there is none.
 use Rattle.std.specs.Prelude.{◌≡◌, ◌≢◌, ℕ, List, Option}
-use Rattle.predictions.specs.declared.units.error.UnitsError.{UnitsError}
-use Rattle.predictions.specs.declared.units.error.UnitsError.TheVariants as units
+use Rattle.c_layout.specs.Refusals.{number_of_misfit, number_of_trace, number_of_units, record_after}
 use Rattle.migration_model.specs.Rounds.{IsPlan, MigrationPlan}
 use Rattle.migration_model.specs.Sweeps.{outcome_of}
 use Rattle.migration_model.specs.Touches.{GuestTouches, touches_in}
@@ -12,30 +10,13 @@ use Rattle.predictions.specs.Questions.{AcceptsQuestion, Fits, IsMisfit, Refuses
 use Rattle.predictions.specs.Questions.{scale_in, terms_of}
 use Rattle.predictions.specs.declared.answer.Answer.{Answer}
 use Rattle.predictions.specs.declared.answer.ErrorNumbers.{ErrorNumbers}
-use Rattle.predictions.specs.declared.question.Misfit.{Misfit}
-use Rattle.predictions.specs.declared.question.Misfit.TheVariants as misfits
 use Rattle.predictions.specs.declared.question.Question.{Question}
 use Rattle.predictions.specs.declared.question.Terms.{Terms}
 use Rattle.predictions.specs.Redrawn.Errors.{AreErrors, SampleErrors}
 use Rattle.trace_codec.specs.Refusals.{RefusesUnlessMemory}
-use Rattle.precopy_c.specs.Answers.{number_of_settings, number_of_trace, record_after}
 use Rattle.precopy_c.specs.declared.questions.QuestionRefusal.{QuestionRefusal}
 use Rattle.precopy_c.specs.declared.questions.QuestionRefusal.TheVariants as refusals
 use Rattle.precopy_c.specs.declared.questions.SizedQuestion.{SizedQuestion}
-
-abbrev pub number_of_units : UnitsError → ℕ
-number_of_units units.Tick = 81
-number_of_units units.Page = 82
-number_of_units units.Sampled = 83
-number_of_units units.Link = 84
-number_of_units units.First = 85
-number_of_units units.Reserve = 86
-number_of_units units.Downtime = 87
-number_of_units (units.Setting e) = number_of_settings e
-
-abbrev pub number_of_misfit : Misfit → ℕ
-number_of_misfit misfits.PageSize = 88
-number_of_misfit misfits.TooManyPages = 89
 
 abbrev pub number_of_question : QuestionRefusal → ℕ
 number_of_question refusals.Size = 31

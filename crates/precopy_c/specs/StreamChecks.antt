@@ -12,7 +12,8 @@ use Rattle.stream_check.specs.declared.faults.WrongPage.{WrongPage}
 use Rattle.precopy_c.specs.declared.checking.StreamsRefusal.{StreamsRefusal}
 use Rattle.precopy_c.specs.declared.checking.StreamsRefusal.TheVariants as refusals
 use Rattle.precopy_c.specs.declared.checking.StreamFinding.{StreamFinding}
-use Rattle.precopy_c.specs.Answers.{number_of_frame, number_of_trace, record_after}
+use Rattle.c_layout.specs.Refusals.{number_of_trace, record_after}
+use Rattle.precopy_c.specs.Answers.{number_of_frame}
 
 abbrev pub number_of_cause : FrameCause → ℕ
 number_of_cause (causes.Refused e) = number_of_frame e

@@ -1,11 +1,11 @@
 //! What calls return.
 
 ghost use Rattle.std.specs.Prelude.{◌≡◌, ◌≤◌};
-ghost use Rattle.precopy_c.specs.Answers.{number_of_frame, number_of_settings, number_of_trace, record_after};
-ghost use Rattle.precopy_c.specs.Answers.{record_in};
+ghost use Rattle.precopy_c.specs.Answers.{number_of_frame};
 ghost use Rattle.precopy_c.specs.declared.answers.Refusal.TheVariants.{Frame as OfFrame, Memory as OutOfMemory};
 ghost use Rattle.precopy_c.specs.declared.answers.Refusal.TheVariants.{Settings as OfSettings, Trace as OfTrace};
 
+use c_layout::{refuse_trace, settings_number, trace_number};
 use page_message::FrameError;
 use rate_limit::SettingsError;
 use round_planner::PlanError;
@@ -100,78 +100,6 @@ impl From<SweepError> for Refusal {
 
     fn from(_error: SweepError) -> Refusal {
         Refusal::Memory
-    }
-}
-
-/// Returns the number of a refusal of a trace.
-fn trace_number(error: TraceError) -> u32
-    ensures number { result ≡ number_of_trace error }
-    ensures some { 1 ≤ result }
-{
-    match error {
-        TraceError::ShortHeader => 1,
-        TraceError::BadMagic => 2,
-        TraceError::BadVersion => 3,
-        TraceError::BadShift => 4,
-        TraceError::BadReserved => 5,
-        TraceError::BadPages => 6,
-        TraceError::TooManyWrites => 7,
-        TraceError::ShortRecord(_) => 8,
-        TraceError::TickOrder(_) => 9,
-        TraceError::TickTooLarge(_) => 10,
-        TraceError::PageOutOfRange(_) => 11,
-        TraceError::EmptyWrite(_) => 12,
-        TraceError::OutOfPage(_) => 13,
-        TraceError::TrailingBytes => 14,
-        TraceError::TooLong => 15,
-        TraceError::Memory => 16,
-        TraceError::ReadFault => 17,
-    }
-}
-
-/// Returns the record that a refusal names.
-fn record_of(error: TraceError) -> Option<u32>
-    ensures { result ≡ record_in error }
-{
-    match error {
-        TraceError::ShortRecord(record) => Some(record),
-        TraceError::TickOrder(record) => Some(record),
-        TraceError::TickTooLarge(record) => Some(record),
-        TraceError::PageOutOfRange(record) => Some(record),
-        TraceError::EmptyWrite(record) => Some(record),
-        TraceError::OutOfPage(record) => Some(record),
-        _ => None,
-    }
-}
-
-/// Tells C of a refused trace: sets `record` to the record that is named, if one is, and returns the refusal's number.
-pub(crate) fn refuse_trace(error: TraceError, record: &mut u32) -> u32
-    ensures number { result ≡ number_of_trace error }
-    ensures some { 1 ≤ result }
-    ensures record { record.new ≡ record_after error record.old }
-{
-    if let Some(number) = record_of(error) {
-        *record = number;
-    }
-    trace_number(error)
-}
-
-/// Returns the number of a refusal of settings.
-fn settings_number(error: SettingsError) -> u32
-    ensures number { result ≡ number_of_settings error }
-    ensures some { 1 ≤ result }
-{
-    match error {
-        SettingsError::MinRate => 21,
-        SettingsError::MaxRate => 22,
-        SettingsError::Increment => 23,
-        SettingsError::Threshold => 24,
-        SettingsError::Rounds => 25,
-        SettingsError::WindowLength => 26,
-        SettingsError::HotWindows => 27,
-        SettingsError::StartTick => 28,
-        SettingsError::Parallelism => 29,
-        SettingsError::BaseTick => 30,
     }
 }
 

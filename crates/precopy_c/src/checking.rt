@@ -9,7 +9,8 @@ ghost use Rattle.precopy_c.specs.StreamChecks.{page_finding, record_beside};
 ghost use Rattle.precopy_c.specs.declared.checking.StreamsRefusal.TheVariants.{Memory as OutOfMemory};
 ghost use Rattle.precopy_c.specs.declared.checking.StreamsRefusal.TheVariants.{Trace as OfTrace, Wrong as OfThing};
 
-use crate::answers::{Refusal, refuse_trace};
+use crate::answers::Refusal;
+use c_layout::refuse_trace;
 use page_versions::{IndexError, PageIndex};
 use std::alloc::{AllocError, AllocFailed, Global};
 use stream_check::{FrameCause, StreamsError, WrongFrame, WrongPage, check_streams};

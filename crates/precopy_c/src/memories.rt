@@ -6,11 +6,12 @@ ghost use Rattle.migration_model.specs.Trace.{GuestTrace, Spells};
 ghost use Rattle.guest_log.specs.Writes.{shown};
 ghost use Rattle.trace_codec.specs.Refusals.{Refuses};
 ghost use Rattle.trace_codec.specs.declared.error.TraceError.{TraceError};
-ghost use Rattle.precopy_c.specs.Answers.{number_of_trace, record_after};
+ghost use Rattle.c_layout.specs.Refusals.{number_of_trace, record_after};
 ghost use Rattle.precopy_c.specs.Buffers.{over};
 ghost use Rattle.precopy_c.specs.Memories.{memory_length, writes_before};
 
-use crate::answers::{Refusal, refuse_trace};
+use crate::answers::Refusal;
+use c_layout::refuse_trace;
 use guest_log::{Shape, WriteView};
 use trace_codec::TraceView;
 

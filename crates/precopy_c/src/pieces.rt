@@ -17,7 +17,8 @@ ghost use Rattle.precopy_c.specs.Pieces.{state_of};
 ghost use Rattle.precopy_c.specs.declared.pieces.PieceRefusal.TheVariants.{Frame as OfFrame, Memory as OutOfMemory};
 ghost use Rattle.precopy_c.specs.declared.pieces.PieceRefusal.TheVariants.{Page as OfPage, Trace as OfTrace};
 
-use crate::answers::{Refusal, refuse_trace};
+use crate::answers::Refusal;
+use c_layout::refuse_trace;
 use crate::checking::{
     StreamFinding, cause_number, finding_of_frame, finding_of_page, stamp_number,
 };

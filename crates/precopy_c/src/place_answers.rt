@@ -5,7 +5,8 @@ ghost use Rattle.migration_model.specs.Trace.{GuestTrace, Spells};
 ghost use Rattle.precopy_c.specs.Places.{RefusesPage};
 ghost use Rattle.precopy_c.specs.declared.place_answers.PlaceRefusal.TheVariants.{Trace as OfTrace};
 
-use crate::answers::{Refusal, refuse_trace};
+use crate::answers::Refusal;
+use c_layout::refuse_trace;
 use trace_codec::{TraceError, TraceView};
 
 /// Why a call about a page or a place of a trace refuses.

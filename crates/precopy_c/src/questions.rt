@@ -1,12 +1,12 @@
 //! Questions about a migration as C asks them, and why there is no answer.
 
-ghost use Rattle.std.specs.Prelude.{◌≡◌, ◌≤◌};
-ghost use Rattle.precopy_c.specs.Predictions.{number_of_misfit, number_of_units};
+ghost use Rattle.std.specs.Prelude.{◌≡◌};
 ghost use Rattle.precopy_c.specs.declared.questions.QuestionRefusal.TheVariants.{Memory as OutOfMemory};
 ghost use Rattle.precopy_c.specs.declared.questions.QuestionRefusal.TheVariants.{Misfit as OfMisfit};
 ghost use Rattle.precopy_c.specs.declared.questions.QuestionRefusal.TheVariants.{Trace as OfTrace, Units as OfUnits};
 
-use crate::answers::{Refusal, refuse_trace};
+use crate::answers::Refusal;
+use c_layout::{misfit_number, refuse_trace, units_number};
 use predictions::units::UnitsError;
 use predictions::{Misfit, Question};
 use round_planner::PlanError;
@@ -78,34 +78,6 @@ impl From<AllocError> for QuestionRefusal {
 
     fn from(_error: AllocError) -> QuestionRefusal {
         QuestionRefusal::Memory
-    }
-}
-
-/// Returns the number of a question that is out of range.
-fn units_number(error: UnitsError) -> u32
-    ensures number { result ≡ number_of_units error }
-    ensures some { 1 ≤ result }
-{
-    match error {
-        UnitsError::Tick => 81,
-        UnitsError::Page => 82,
-        UnitsError::Sampled => 83,
-        UnitsError::Link => 84,
-        UnitsError::First => 85,
-        UnitsError::Reserve => 86,
-        UnitsError::Downtime => 87,
-        UnitsError::Setting(error) => Refusal::Settings(error).number(),
-    }
-}
-
-/// Returns the number of a trace that does not have the question's scale.
-fn misfit_number(misfit: Misfit) -> u32
-    ensures number { result ≡ number_of_misfit misfit }
-    ensures some { 1 ≤ result }
-{
-    match misfit {
-        Misfit::PageSize => 88,
-        Misfit::TooManyPages => 89,
     }
 }
 

@@ -5,11 +5,11 @@ ghost use Rattle.migration_model.specs.Final.{shape_of_trace};
 ghost use Rattle.migration_model.specs.Trace.{GuestTrace, Spells};
 ghost use Rattle.trace_codec.specs.Refusals.{Refuses};
 ghost use Rattle.trace_codec.specs.declared.error.TraceError.{TraceError};
-ghost use Rattle.precopy_c.specs.Answers.{number_of_trace, record_after};
+ghost use Rattle.c_layout.specs.Refusals.{number_of_trace, record_after};
 ghost use Rattle.precopy_c.specs.Settings.{shape_in};
 
-use crate::answers::refuse_trace;
 use crate::sizes::GuestSizes;
+use c_layout::refuse_trace;
 use trace_codec::TraceView;
 
 /// Tests the bytes of a trace, and sets its sizes.

@@ -1,0 +1,8 @@
+//! What the calls for C and those of a web page lay out alike, so that both lists of calls read it from one place.
+#![tactic(auto)]
+
+mod refusals;
+mod sums;
+
+pub use refusals::{misfit_number, refuse_trace, settings_number, trace_number, units_number};
+pub use sums::PlanSums;
