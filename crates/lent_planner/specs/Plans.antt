@@ -5,25 +5,15 @@ use Rattle.migration_model.specs.Touches.{touches_of}
 use Rattle.migration_model.specs.Rates.{AreSettings, MigrationSettings}
 use Rattle.migration_model.specs.Sweeps.{PlanOutcome}
 use Rattle.page_bitmap.specs.Listing.{word_count}
-use Rattle.predictions.specs.Questions.{reason_number}
 use Rattle.rate_limit.specs.Refusals.{refusal_of}
 use Rattle.trace_codec.specs.Refusals.{Refuses}
 use Rattle.round_planner.specs.Rows.{IsPlanned}
 use Rattle.round_planner.specs.declared.parts.RoundRow.{RoundRow}
+use Rattle.c_layout.specs.Sums.{sums_of}
+use Rattle.c_layout.specs.declared.sums.PlanSums.{PlanSums}
 use Rattle.lent_planner.specs.declared.answers.Refusal.{Refusal}
 use Rattle.lent_planner.specs.declared.answers.Refusal.TheVariants as refusals
-use Rattle.lent_planner.specs.declared.plans.LentSums.{LentSums}
 use Rattle.lent_planner.specs.declared.plans.PlanRoom.{PlanRoom}
-
--- the sums of a plan as a caller sees them
-abbrev pub sums_of : PlanOutcome → LentSums
-sums_of outcome = record {
-  rounds = outcome.rounds;
-  reason = reason_number outcome.reason;
-  stop = outcome.stop;
-  down = outcome.down;
-  total = outcome.total;
-}
 
 -- how long what a caller lends for a plan is: room for touches, marks, room for a list of pages, and rows for rounds
 abbrev pub room_of : ℕ → ℕ → ℕ → ℕ → PlanRoom
@@ -45,7 +35,7 @@ pub record IsPlannedOf (bytes : List ℕ) (settings : MigrationSettings)
 
 -- the same, by its sums as a caller sees them
 pub record IsSummedOf (bytes : List ℕ) (settings : MigrationSettings)
-    (sums : LentSums) (old new : List RoundRow) : Type 0 where
+    (sums : PlanSums) (old new : List RoundRow) : Type 0 where
   pub outcome : PlanOutcome
   pub is_planned : IsPlannedOf bytes settings outcome old new
   pub sums_are : sums ≡ sums_of outcome

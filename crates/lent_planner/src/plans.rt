@@ -3,11 +3,8 @@
 ghost use Rattle.std.specs.Prelude.{◌≡◌, ◌≢◌, IfErr, IfOk, IsOk, OnErr, length};
 ghost use Rattle.migration_model.specs.Rates.{AreSettings};
 ghost use Rattle.migration_model.specs.Trace.{GuestTrace, Spells};
-ghost use Rattle.rate_limit.specs.Pacing.{reason_of};
 ghost use Rattle.lent_planner.specs.Answers.{IsNumberOf};
 ghost use Rattle.lent_planner.specs.Plans.{HasRoom, IsPlannedOf, IsSummedOf, RefusesPlan, room_of};
-ghost use Rattle.predictions.specs.Questions.{reason_number};
-ghost use Rattle.lent_planner.specs.Plans.{sums_of};
 ghost use Rattle.migration_model.specs.Touches.{touches_of};
 ghost use Rattle.round_planner.specs.Rows.{IsPlanned};
 ghost use Rattle.lent_planner.specs.Settings.{settings_in};
@@ -15,51 +12,12 @@ ghost use Rattle.lent_planner.specs.Settings.{settings_in};
 use crate::answers::Refusal;
 use crate::settings::LentSettings;
 use crate::touches::{LentLog, LentTouch, put_touches};
+use c_layout::PlanSums;
 use guest_log::Shape;
 use page_bitmap::word_count;
-use rate_limit::{Reason, Settings};
+use rate_limit::Settings;
 use round_planner::{Outcome, RoundRow, plan_rows};
 use trace_codec::TraceView;
-
-/// The sums of a plan, as in C's `struct precopy_sums`.
-#[derive(Clone, Copy)]
-#[repr(C)]
-pub struct LentSums {
-    /// How many rounds there are.
-    pub rounds: u64,
-    /// Why there are no more rounds: 0 if few pages remain, 1 if the next rate is too high, 2 after the last round.
-    pub reason: u64,
-    /// The tick at which the guest is stopped.
-    pub stop: u64,
-    /// The downtime, in ticks.
-    pub down: u64,
-    /// How many pages are sent, over all rounds and after the stop.
-    pub total: u64,
-}
-
-/// Returns the number of a reason.
-fn number_of_reason(reason: Reason) -> u64
-    ensures { result ≡ reason_number (reason_of reason) }
-{
-    match reason {
-        Reason::Few => 0,
-        Reason::Fast => 1,
-        Reason::Rounds => 2,
-    }
-}
-
-/// Returns the sums as the caller sees them.
-fn sums_in(outcome: &Outcome) -> LentSums
-    ensures { result ≡ sums_of outcome.now }
-{
-    LentSums {
-        rounds: outcome.rounds,
-        reason: number_of_reason(outcome.reason),
-        stop: outcome.stop,
-        down: outcome.down,
-        total: outcome.total,
-    }
-}
 
 /// How long what is lent for a plan is.
 #[derive(Clone, Copy)]
@@ -152,7 +110,7 @@ pub extern "C" fn lent_plan(
     marks: &mut [u64],
     list: &mut [u32],
     rounds: &mut [RoundRow],
-    sums: &mut LentSums,
+    sums: &mut PlanSums,
 ) -> u32
     ensures made { result ≡ 0 → IsSummedOf trace.now (settings_in settings.now) sums.new rounds.old rounds.new }
     ensures refused { result ≢ 0 → IsNumberOf result (RefusesPlan trace.now (settings_in settings.now)
@@ -165,7 +123,7 @@ pub extern "C" fn lent_plan(
 {
     match planned(trace, settings, touches, marks, list, rounds) {
         Ok(outcome) => {
-            *sums = sums_in(&outcome);
+            *sums = PlanSums::of(&outcome);
             0
         }
         Err(refusal) => refusal.number(),

@@ -1,10 +1,11 @@
 //! Worked examples, whose results were worked out by hand.
 
-use crate::plans::{LentSums, lent_plan};
+use crate::plans::lent_plan;
 use crate::settings::LentSettings;
 use crate::touches::LentTouch;
 use crate::traces::{LentSizes, lent_check_trace};
 use crate::windows::lent_windows;
+use c_layout::PlanSums;
 use round_planner::RoundRow;
 use working_sets::{PageSeen, WindowNumbers};
 
@@ -80,7 +81,7 @@ type Planned = (u32, [u64; 5], [[u64; 6]; 3]);
 fn planned(trace: &[u8], settings: &LentSettings, slots: usize) -> Planned {
     let mut touches = [TOUCH; 6];
     let mut rounds = [ROUND; 8];
-    let mut sums = LentSums {
+    let mut sums = PlanSums {
         rounds: 7,
         reason: 7,
         stop: 7,

@@ -1,46 +1,16 @@
 -- What C sees of plans and reports, and why there is none.
-use Rattle.std.specs.Prelude.{◌≡◌, ◌≢◌, ℕ, List, length, Some}
+use Rattle.std.specs.Prelude.{◌≡◌, ◌≢◌, ℕ, List, Some}
 use Rattle.migration_model.specs.Trace.{GuestTrace, Spells}
 use Rattle.migration_model.specs.Touches.{touches_of}
-use Rattle.migration_model.specs.Rates.{MigrationSettings, StopReason, few_remain, too_fast, rounds_done}
-use Rattle.migration_model.specs.Rounds.{IsPlan, MigrationPlan, PlannedRound}
-use Rattle.migration_model.specs.Sweeps.{PlanOutcome}
+use Rattle.migration_model.specs.Rates.{MigrationSettings}
+use Rattle.migration_model.specs.Rounds.{IsPlan, MigrationPlan}
 use Rattle.rate_limit.specs.Refusals.{refusal_of}
 use Rattle.trace_codec.specs.Refusals.{RefusesUnlessMemory}
 use Rattle.sweep_report.specs.Reports.{IsReport}
 use Rattle.precopy_c.specs.declared.answers.Refusal.{Refusal}
 use Rattle.precopy_c.specs.declared.answers.Refusal.TheVariants as refusals
-use Rattle.precopy_c.specs.declared.plans.PlanSums.{PlanSums}
-use Rattle.precopy_c.specs.declared.plans.PlanRound.{PlanRound}
 use Rattle.precopy_c.specs.declared.settings.PlanSettings.{PlanSettings}
 use Rattle.precopy_c.specs.Settings.{AreGiven, settings_in}
-
--- the number of a reason
-abbrev pub reason_number : StopReason → ℕ
-reason_number few_remain = 0
-reason_number too_fast = 1
-reason_number rounds_done = 2
-
--- the sums of a plan as C sees them
-abbrev pub sums_of : PlanOutcome → PlanSums
-sums_of outcome = record {
-  rounds = outcome.rounds;
-  reason = reason_number outcome.reason;
-  stop = outcome.stop;
-  down = outcome.down;
-  total = outcome.total;
-}
-
--- a round of a plan as C sees it
-abbrev pub row_of : PlannedRound → PlanRound
-row_of round = record {
-  from = round.from;
-  to = round.to;
-  rate = round.rate;
-  pages = length round.pages;
-  sent = length round.sent;
-  dirtied = round.dirtied;
-}
 
 -- the plan of the trace that these bytes encode
 pub record IsPlanOf (bytes : List ℕ) (settings : MigrationSettings) (plan : MigrationPlan) : Type 0 where

@@ -6,11 +6,11 @@ use Rattle.migration_model.specs.Touches.{touches_of}
 use Rattle.migration_model.specs.Rates.{MigrationSettings}
 use Rattle.migration_model.specs.Sweeps.{AreLines, SweepLine}
 use Rattle.trace_codec.specs.Refusals.{RefusesUnlessMemory}
+use Rattle.c_layout.specs.Sums.{sums_of}
+use Rattle.c_layout.specs.declared.sums.PlanSums.{PlanSums}
 use Rattle.precopy_c.specs.declared.answers.Refusal.{Refusal}
 use Rattle.precopy_c.specs.declared.answers.Refusal.TheVariants as refusals
-use Rattle.precopy_c.specs.declared.plans.PlanSums.{PlanSums}
 use Rattle.precopy_c.specs.declared.settings.PlanSettings.{PlanSettings}
-use Rattle.precopy_c.specs.Plans.{sums_of}
 use Rattle.precopy_c.specs.Settings.{AreGiven, RefusesSettings}
 
 -- a line of a sweep as C sees it: the sums of its plan

@@ -4,82 +4,25 @@ ghost use Rattle.std.specs.Prelude.{◌≡◌, ◌≢◌, ◌<◌, ◌≤◌, �
 ghost use Rattle.migration_model.specs.Rounds.{MigrationPlan};
 ghost use Rattle.migration_model.specs.Sweeps.{outcome_of};
 ghost use Rattle.migration_model.specs.Trace.{GuestTrace, Spells};
-ghost use Rattle.rate_limit.specs.Pacing.{reason_of};
+ghost use Rattle.round_planner.specs.Rows.{row_of};
+ghost use Rattle.c_layout.specs.Sums.{sums_of};
 ghost use Rattle.precopy_c.specs.Answers.{IsToldBy, number_of};
 ghost use Rattle.precopy_c.specs.Buffers.{over};
-ghost use Rattle.precopy_c.specs.Plans.{IsPlanOf, RefusesPlan, reason_number, row_of, sums_of};
+ghost use Rattle.precopy_c.specs.Plans.{IsPlanOf, RefusesPlan};
 ghost use Rattle.precopy_c.specs.Settings.{AreGiven, settings_in};
 
 use crate::answers::Refusal;
 use crate::settings::PlanSettings;
-use rate_limit::Reason;
-use round_planner::{Outcome, Plan, Round, plan};
+use c_layout::PlanSums;
+use round_planner::{Plan, Round, RoundRow, plan};
 use std::alloc::Global;
 use trace_readers::TouchLog;
 
-/// The sums of a plan: C's `struct precopy_sums`.
-#[derive(Clone, Copy)]
-#[repr(C)]
-pub struct PlanSums {
-    /// How many rounds there are.
-    pub rounds: u64,
-    /// Why no further round follows: 0 if few pages remain, 1 if the next rate is too high, 2 after the last round.
-    pub reason: u64,
-    /// The tick at which the guest is stopped.
-    pub stop: u64,
-    /// The downtime, in ticks.
-    pub down: u64,
-    /// How many pages are sent, over all rounds and after the stop.
-    pub total: u64,
-}
-
-/// A round of a plan: C's `struct precopy_round`.
-#[derive(Clone, Copy)]
-#[repr(C)]
-pub struct PlanRound {
-    /// The round's first tick.
-    pub from: u64,
-    /// The first tick after it.
-    pub to: u64,
-    /// Its rate, in pages per 1,000 ticks.
-    pub rate: u64,
-    /// How many pages it has.
-    pub pages: u64,
-    /// How many of them it sends.
-    pub sent: u64,
-    /// How many pages are written while it lasts.
-    pub dirtied: u64,
-}
-
-/// Returns the number of a reason.
-fn number_of_reason(reason: Reason) -> u64
-    ensures { result ≡ reason_number (reason_of reason) }
-{
-    match reason {
-        Reason::Few => 0,
-        Reason::Fast => 1,
-        Reason::Rounds => 2,
-    }
-}
-
-/// Returns the sums as C sees them.
-pub(crate) fn sums(outcome: &Outcome) -> PlanSums
-    ensures { result ≡ sums_of outcome.now }
-{
-    PlanSums {
-        rounds: outcome.rounds,
-        reason: number_of_reason(outcome.reason),
-        stop: outcome.stop,
-        down: outcome.down,
-        total: outcome.total,
-    }
-}
-
-/// Returns a round as C sees it.
-fn row(round: &Round) -> PlanRound
+/// Returns a round as C sees it: its `struct precopy_round`.
+fn row(round: &Round) -> RoundRow
     ensures { result ≡ row_of round.now }
 {
-    PlanRound {
+    RoundRow {
         from: round.from,
         to: round.to,
         rate: round.rate,
@@ -124,7 +67,7 @@ pub extern "C" fn precopy_plan(
 {
     match planned(alloc, trace, settings) {
         Ok(plan) => {
-            *found = sums(&plan.outcome());
+            *found = PlanSums::of(&plan.outcome());
             0
         }
         Err(refusal) => refusal.told(record),
@@ -132,7 +75,7 @@ pub extern "C" fn precopy_plan(
 }
 
 /// Writes rounds over the front of a buffer.
-fn put_rounds(rounds: &[Round], room: &mut [PlanRound])
+fn put_rounds(rounds: &[Round], room: &mut [RoundRow])
     requires { length rounds.now ≤ length room.old }
     ensures { room.new ≡ over (map row_of rounds.now) room.old }
 {
@@ -148,7 +91,7 @@ pub extern "C" fn precopy_rounds(
     alloc: Global,
     trace: &[u8],
     settings: &PlanSettings,
-    rounds: &mut [PlanRound],
+    rounds: &mut [RoundRow],
     count: &mut usize,
     record: &mut u32,
 ) -> u32

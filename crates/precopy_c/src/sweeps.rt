@@ -10,8 +10,8 @@ ghost use Rattle.precopy_c.specs.Settings.{AreGiven, settings_in};
 ghost use Rattle.precopy_c.specs.Sweeps.{IsSweepOf, RefusesCase, RefusesSweep, line_sums};
 
 use crate::answers::Refusal;
-use crate::plans::{PlanSums, sums};
 use crate::settings::PlanSettings;
+use c_layout::PlanSums;
 use rate_limit::Settings;
 use round_planner::Outcome;
 use std::alloc::{AllocError, Global};
@@ -65,7 +65,7 @@ fn swept(alloc: Global, trace: &[u8], cases: &[PlanSettings]) -> Result<Vec<Line
 fn sums_of_line(line: &Line) -> PlanSums
     ensures { result ≡ line_sums line.now }
 {
-    sums(&Outcome {
+    PlanSums::of(&Outcome {
         rounds: line.rounds,
         reason: line.reason,
         stop: line.stop,

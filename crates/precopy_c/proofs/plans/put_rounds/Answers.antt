@@ -1,5 +1,5 @@
 use Rattle.std.proofs.Common.{◌∙◌, arith}
-use Rattle.precopy_c.specs.Plans.{row_of}
+use Rattle.round_planner.specs.Rows.{row_of}
 use Rattle.precopy_c.proofs.Fronts.{front_all, front_more}
 use Rattle.precopy_c.proofs.plans.put_rounds.Goals as goal
 

@@ -1,6 +1,6 @@
 use Rattle.std.proofs.Common.{◌≡◌, map, take}
 use Rattle.precopy_c.specs.Buffers.{over}
-use Rattle.precopy_c.specs.Plans.{row_of}
+use Rattle.round_planner.specs.Rows.{row_of}
 use Rattle.precopy_c.proofs.plans.put_rounds.Given as goal
 
 abbrev pub invariant-loop-number : goal.invariant-loop-number
