@@ -2,7 +2,9 @@
 #![tactic(auto)]
 
 mod refusals;
+mod settings;
 mod sums;
 
 pub use refusals::{misfit_number, refuse_trace, settings_number, trace_number, units_number};
+pub use settings::PlanSettings;
 pub use sums::PlanSums;

@@ -1,5 +1,4 @@
 pub mod Answers
-pub mod Settings
 pub mod Touches
 pub mod Traces
 pub mod Plans

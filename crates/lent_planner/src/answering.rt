@@ -7,25 +7,24 @@ ghost use Rattle.predictions.specs.Predictions.{prediction_with};
 ghost use Rattle.predictions.specs.Questions.{AcceptsQuestion, Fits, RefusesQuestion, answer_of, scale_in};
 ghost use Rattle.predictions.specs.Questions.{settings_of, terms_of};
 ghost use Rattle.c_layout.specs.Refusals.{number_of_units};
+ghost use Rattle.c_layout.specs.Settings.{settings_told};
 ghost use Rattle.lent_planner.specs.Answers.{IsNumberOf};
 ghost use Rattle.lent_planner.specs.Plans.{HasRoom, room_of};
 ghost use Rattle.lent_planner.specs.Predictions.{IsAnswerTo, OfTrace, RefusesAsked};
-ghost use Rattle.lent_planner.specs.Settings.{lent_of};
 
 use crate::answers::Refusal;
 use crate::plans::{PlanRoom, plan_of};
-use crate::settings::{LentSettings, lent_settings};
 use crate::touches::LentTouch;
 use crate::traces::last_tick;
-use c_layout::units_number;
+use c_layout::{PlanSettings, units_number};
 use predictions::{Answer, Prediction, Question, Terms, check_fit};
 use round_planner::{Outcome, RoundRow};
 use trace_codec::TraceView;
 
 /// Answers the settings that the limits of a question make, or the number of what is out of its range.
 #[unsafe(no_mangle)]
-pub extern "C" fn lent_question(question: &Question, settings: &mut LentSettings) -> u32
-    ensures made { result ≡ 0 → settings.new ≡ lent_of (settings_of question.now) }
+pub extern "C" fn lent_question(question: &Question, settings: &mut PlanSettings) -> u32
+    ensures made { result ≡ 0 → settings.new ≡ settings_told (settings_of question.now) }
     ensures accepted { result ≡ 0 → AcceptsQuestion question.now }
     ensures refused { result ≢ 0 → (e : UnitsError) × (result ≡ number_of_units e) × RefusesQuestion question.now e }
     ensures only { AcceptsQuestion question.now → result ≡ 0 }
@@ -33,7 +32,7 @@ pub extern "C" fn lent_question(question: &Question, settings: &mut LentSettings
 {
     match question.terms() {
         Ok(terms) => {
-            *settings = lent_settings(&terms.settings);
+            *settings = PlanSettings::of(&terms.settings);
             0
         }
         Err(error) => units_number(error),

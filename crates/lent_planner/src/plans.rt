@@ -3,16 +3,16 @@
 ghost use Rattle.std.specs.Prelude.{◌≡◌, ◌≢◌, IfErr, IfOk, IsOk, OnErr, length};
 ghost use Rattle.migration_model.specs.Rates.{AreSettings};
 ghost use Rattle.migration_model.specs.Trace.{GuestTrace, Spells};
+ghost use Rattle.c_layout.specs.Settings.{settings_in};
+ghost use Rattle.c_layout.specs.Sums.{sums_of};
 ghost use Rattle.lent_planner.specs.Answers.{IsNumberOf};
 ghost use Rattle.lent_planner.specs.Plans.{HasRoom, IsPlannedOf, IsSummedOf, RefusesPlan, room_of};
 ghost use Rattle.migration_model.specs.Touches.{touches_of};
 ghost use Rattle.round_planner.specs.Rows.{IsPlanned};
-ghost use Rattle.lent_planner.specs.Settings.{settings_in};
 
 use crate::answers::Refusal;
-use crate::settings::LentSettings;
 use crate::touches::{LentLog, LentTouch, put_touches};
-use c_layout::PlanSums;
+use c_layout::{PlanSettings, PlanSums};
 use guest_log::Shape;
 use page_bitmap::word_count;
 use rate_limit::Settings;
@@ -69,7 +69,7 @@ pub(crate) fn plan_of(
 /// The settings are tested first, and the room last.
 fn planned(
     bytes: &[u8],
-    settings: &LentSettings,
+    settings: &PlanSettings,
     touches: &mut [LentTouch],
     marks: &mut [u64],
     list: &mut [u32],
@@ -105,7 +105,7 @@ fn planned(
 #[unsafe(no_mangle)]
 pub extern "C" fn lent_plan(
     trace: &[u8],
-    settings: &LentSettings,
+    settings: &PlanSettings,
     touches: &mut [LentTouch],
     marks: &mut [u64],
     list: &mut [u32],

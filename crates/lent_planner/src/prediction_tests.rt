@@ -3,9 +3,9 @@
 
 use crate::answering::{lent_predict, lent_question};
 use crate::errors::lent_errors;
-use crate::settings::LentSettings;
 use crate::starts::{LentChoice, lent_chosen_starts};
 use crate::tests::{ROUND, TOUCH, TRACE, settings};
+use c_layout::PlanSettings;
 use predictions::{Answer, ErrorNumbers, Question};
 
 /// A link of 64 pages of the guest in 1,000 ticks, a guest of which one page in four was recorded, and a downtime of
@@ -74,7 +74,7 @@ fn settings_of_limits(rt: HostRuntime) {
         ..ASKED
     };
     assert!(rt; lent_question(&asked, &mut made) == 0);
-    let LentSettings {
+    let PlanSettings {
         min,
         max,
         increment,

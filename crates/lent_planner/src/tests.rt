@@ -1,11 +1,10 @@
 //! Worked examples, whose results were worked out by hand.
 
 use crate::plans::lent_plan;
-use crate::settings::LentSettings;
 use crate::touches::LentTouch;
 use crate::traces::{LentSizes, lent_check_trace};
 use crate::windows::lent_windows;
-use c_layout::PlanSums;
+use c_layout::{PlanSettings, PlanSums};
 use round_planner::RoundRow;
 use working_sets::{PageSeen, WindowNumbers};
 
@@ -54,8 +53,8 @@ const WINDOW: WindowNumbers = WindowNumbers {
     fresh: 7,
 };
 
-pub(crate) fn settings(start: u64, base: Option<u64>, skip: u32) -> LentSettings {
-    LentSettings {
+pub(crate) fn settings(start: u64, base: Option<u64>, skip: u32) -> PlanSettings {
+    PlanSettings {
         min: 2,
         max: 4,
         increment: 1,
@@ -78,7 +77,7 @@ fn numbers_of_round(row: &RoundRow) -> [u64; 6] {
 type Planned = (u32, [u64; 5], [[u64; 6]; 3]);
 
 /// Plans with this many slots for touches, and all else that a plan needs. The marks are not clear before.
-fn planned(trace: &[u8], settings: &LentSettings, slots: usize) -> Planned {
+fn planned(trace: &[u8], settings: &PlanSettings, slots: usize) -> Planned {
     let mut touches = [TOUCH; 6];
     let mut rounds = [ROUND; 8];
     let mut sums = PlanSums {

@@ -3,13 +3,13 @@
 ghost use Rattle.std.specs.Prelude.{◌≡◌, ◌≢◌, IfErr, IfOk, IsOk, OnErr, length};
 ghost use Rattle.migration_model.specs.Rates.{AreSettings};
 ghost use Rattle.migration_model.specs.Trace.{GuestTrace, Spells};
+ghost use Rattle.c_layout.specs.Settings.{settings_in};
 ghost use Rattle.lent_planner.specs.Answers.{IsNumberOf};
-ghost use Rattle.lent_planner.specs.Settings.{settings_in};
 ghost use Rattle.lent_planner.specs.Windows.{ArePut, AreWindowsOf, HasRoom, RefusesWindows, room_of};
 
 use crate::answers::Refusal;
-use crate::settings::LentSettings;
 use crate::touches::{LentLog, LentTouch, put_touches};
+use c_layout::PlanSettings;
 use guest_log::Shape;
 use rate_limit::Settings;
 use trace_codec::TraceView;
@@ -53,7 +53,7 @@ fn put_windows(
 /// Writes the rows of the windows of the trace that the bytes encode. The settings are tested first, and the room last.
 fn windows(
     bytes: &[u8],
-    settings: &LentSettings,
+    settings: &PlanSettings,
     touches: &mut [LentTouch],
     marks: &mut [PageSeen],
     rows: &mut [WindowNumbers],
@@ -77,7 +77,7 @@ fn windows(
 #[unsafe(no_mangle)]
 pub extern "C" fn lent_windows(
     trace: &[u8],
-    settings: &LentSettings,
+    settings: &PlanSettings,
     touches: &mut [LentTouch],
     marks: &mut [PageSeen],
     rows: &mut [WindowNumbers],

@@ -6,13 +6,13 @@ use Rattle.std.proofs.lemmas.List.Elements.{All-append, All-cons, All-nil}
 use Rattle.migration_model.specs.Rates.{MigrationSettings}
 use Rattle.precopy_c.specs.declared.answers.Refusal.{Refusal}
 use Rattle.precopy_c.specs.declared.answers.Refusal.TheVariants as refusals
-use Rattle.precopy_c.specs.declared.settings.PlanSettings.{PlanSettings}
+use Rattle.precopy_c.specs.declared.settings.SizedSettings.{SizedSettings}
 use Rattle.precopy_c.specs.Plans.{RefusesPlan}
 use Rattle.precopy_c.specs.Settings.{AreGiven, RefusesSettings, settings_in}
 use Rattle.precopy_c.specs.Sweeps.{RefusesCase, RefusesSweep}
 
 -- with refused settings there is no plan
-pub no_plan : (bytes : List ℕ) (s : PlanSettings) (refusal : Refusal) → RefusesSettings s refusal
+pub no_plan : (bytes : List ℕ) (s : SizedSettings) (refusal : Refusal) → RefusesSettings s refusal
     → RefusesPlan bytes s refusal
 no_plan bytes s refusals.SettingsSize r = r
 no_plan bytes s (refusals.Settings e) r = r
@@ -26,7 +26,7 @@ no_plan bytes s refusals.PageCount r = r
 no_plan bytes s refusals.PageMissing r = r
 
 -- with a refused case there is no sweep
-pub no_sweep : (bytes : List ℕ) (cases : List PlanSettings) (refusal : Refusal) → RefusesCase cases refusal
+pub no_sweep : (bytes : List ℕ) (cases : List SizedSettings) (refusal : Refusal) → RefusesCase cases refusal
     → RefusesSweep bytes cases refusal
 no_sweep bytes cases refusals.SettingsSize r = r
 no_sweep bytes cases (refusals.Settings e) r = r
@@ -40,19 +40,19 @@ no_sweep bytes cases refusals.PageCount r = absurd r.refused
 no_sweep bytes cases refusals.PageMissing r = absurd r.refused
 
 -- the case at an index is refused, after others that are not
-pub RefusesCase-at : (cases : List PlanSettings) (i : ℕ) (d : PlanSettings) (refusal : Refusal) → i < length cases
+pub RefusesCase-at : (cases : List SizedSettings) (i : ℕ) (d : SizedSettings) (refusal : Refusal) → i < length cases
     → All AreGiven (take i cases) → RefusesSettings (get_or cases i d) refusal → RefusesCase cases refusal
 RefusesCase-at cases i d refusal low given refused = record {
   before = take i cases;
   case = get_or cases i d;
   after = drop (i + 1) cases;
-  parts = sym (take-append-drop i cases) ∙ ap (λ (l : List PlanSettings). take i cases ++ l) (drop_more cases i d low);
+  parts = sym (take-append-drop i cases) ∙ ap (λ (l : List SizedSettings). take i cases ++ l) (drop_more cases i d low);
   given = given;
   refused = refused;
 }
 
 -- one more case
-pub made_more : (cases : List PlanSettings) (i : ℕ) (d : PlanSettings) (checked next : List MigrationSettings)
+pub made_more : (cases : List SizedSettings) (i : ℕ) (d : SizedSettings) (checked next : List MigrationSettings)
     (settings : MigrationSettings) → i < length cases
     → checked ≡ map settings_in (take i cases) → settings ≡ settings_in (get_or cases i d)
     → next ≡ checked ++ settings ∷ []
@@ -62,7 +62,7 @@ made_more cases i d checked next settings low made is pushed =
     ∙ ap (λ (l : List MigrationSettings). l ++ settings_in (get_or cases i d) ∷ []) made
     ∙ sym (map_more settings_in cases i d low)
 
-pub given_more : (cases : List PlanSettings) (i : ℕ) (d : PlanSettings) → i < length cases
+pub given_more : (cases : List SizedSettings) (i : ℕ) (d : SizedSettings) → i < length cases
     → All AreGiven (take i cases) → AreGiven (get_or cases i d) → All AreGiven (take (i + 1) cases)
 given_more cases i d low before given =
     rw (take_more cases i d low) (All-append AreGiven (take i cases) (get_or cases i d ∷ []) before

@@ -9,7 +9,7 @@ use Rattle.trace_codec.specs.Refusals.{RefusesUnlessMemory}
 use Rattle.sweep_report.specs.Reports.{IsReport}
 use Rattle.precopy_c.specs.declared.answers.Refusal.{Refusal}
 use Rattle.precopy_c.specs.declared.answers.Refusal.TheVariants as refusals
-use Rattle.precopy_c.specs.declared.settings.PlanSettings.{PlanSettings}
+use Rattle.precopy_c.specs.declared.settings.SizedSettings.{SizedSettings}
 use Rattle.precopy_c.specs.Settings.{AreGiven, settings_in}
 
 -- the plan of the trace that these bytes encode
@@ -25,7 +25,7 @@ pub record IsReportOf (bytes : List ℕ) (settings : MigrationSettings) (text : 
   pub is_report : IsReport trace settings text
 
 -- no plan or report is made: the settings are refused, or else the bytes, or memory ran out
-abbrev pub RefusesPlan : List ℕ → PlanSettings → Refusal → Type 0
+abbrev pub RefusesPlan : List ℕ → SizedSettings → Refusal → Type 0
 RefusesPlan bytes s refusals.SettingsSize = s.size ≢ 88
 RefusesPlan bytes s (refusals.Settings e) = (s.size ≡ 88) × (refusal_of (settings_in s) ≡ Some e)
 RefusesPlan bytes s (refusals.Trace e) = AreGiven s × RefusesUnlessMemory bytes e

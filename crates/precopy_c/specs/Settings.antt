@@ -1,45 +1,27 @@
 -- The settings and sizes that C asks for, as the definitions' values.
-use Rattle.std.specs.Prelude.{◌≡◌, ◌≢◌, ℕ, ◌==◌, not, if◌then◌else◌, Option, Some, None, true}
+use Rattle.std.specs.Prelude.{◌≡◌, ◌≢◌, Option, Some, true}
 use Rattle.migration_model.specs.Frames.{GuestShape, shape_with}
 use Rattle.migration_model.specs.Rates.{AreSettings, MigrationSettings}
 use Rattle.rate_limit.specs.Refusals.{refusal_of}
 use Rattle.trace_codec.specs.Refusals.{sizes_refusal}
 use Rattle.trace_codec.specs.declared.error.TraceError.{TraceError}
+use Rattle.c_layout.specs.Settings as layout
 use Rattle.precopy_c.specs.declared.answers.Refusal.{Refusal}
 use Rattle.precopy_c.specs.declared.answers.Refusal.TheVariants as refusals
-use Rattle.precopy_c.specs.declared.settings.PlanSettings.{PlanSettings}
+use Rattle.precopy_c.specs.declared.settings.SizedSettings.{SizedSettings}
 use Rattle.precopy_c.specs.declared.sizes.GuestSizes.{GuestSizes}
 
--- the tick of a base, if there is one
-abbrev pub base_in : PlanSettings → Option ℕ
-base_in s = if s.has_base == 0 then None else Some s.base
-
--- what a plan uses; no call starts a thread, so there is one worker, one stream, one replayer, and a lane of one
-abbrev pub settings_in : PlanSettings → MigrationSettings
-settings_in s = record {
-  min = s.min;
-  max = s.max;
-  increment = s.increment;
-  threshold = s.threshold;
-  rounds = s.rounds;
-  start = s.start;
-  window = s.window;
-  hot = s.hot;
-  workers = 1;
-  streams = 1;
-  replayers = 1;
-  lane = 1;
-  skip = not (s.skip == 0);
-  base = base_in s;
-}
+-- what a plan uses
+abbrev pub settings_in : SizedSettings → MigrationSettings
+settings_in s = layout.settings_in s.settings
 
 -- the struct is as long as this library knows it, and each setting is in its range
-pub record AreGiven (s : PlanSettings) : Type 0 where
+pub record AreGiven (s : SizedSettings) : Type 0 where
   pub size : s.size ≡ 88
   pub in_range : AreSettings (settings_in s)
 
 -- settings are refused: the struct is longer or shorter, or else one of them is out of its range
-abbrev pub RefusesSettings : PlanSettings → Refusal → Type 0
+abbrev pub RefusesSettings : SizedSettings → Refusal → Type 0
 RefusesSettings s refusals.SettingsSize = s.size ≢ 88
 RefusesSettings s (refusals.Settings e) = (s.size ≡ 88) × (refusal_of (settings_in s) ≡ Some e)
 RefusesSettings s (refusals.Trace e) = ⊥

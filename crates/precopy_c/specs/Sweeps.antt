@@ -10,7 +10,7 @@ use Rattle.c_layout.specs.Sums.{sums_of}
 use Rattle.c_layout.specs.declared.sums.PlanSums.{PlanSums}
 use Rattle.precopy_c.specs.declared.answers.Refusal.{Refusal}
 use Rattle.precopy_c.specs.declared.answers.Refusal.TheVariants as refusals
-use Rattle.precopy_c.specs.declared.settings.PlanSettings.{PlanSettings}
+use Rattle.precopy_c.specs.declared.settings.SizedSettings.{SizedSettings}
 use Rattle.precopy_c.specs.Settings.{AreGiven, RefusesSettings}
 
 -- a line of a sweep as C sees it: the sums of its plan
@@ -24,16 +24,16 @@ pub record IsSweepOf (bytes : List ℕ) (cases : List MigrationSettings) (lines 
   pub are_lines : AreLines trace.pages (touches_of trace) cases lines
 
 -- the first case that is not as it must be is refused for this, and all before it are
-pub record RefusesCase (cases : List PlanSettings) (refusal : Refusal) : Type 0 where
-  pub before : List PlanSettings
-  pub case : PlanSettings
-  pub after : List PlanSettings
+pub record RefusesCase (cases : List SizedSettings) (refusal : Refusal) : Type 0 where
+  pub before : List SizedSettings
+  pub case : SizedSettings
+  pub after : List SizedSettings
   pub parts : cases ≡ before ++ case ∷ after
   pub given : All AreGiven before
   pub refused : RefusesSettings case refusal
 
 -- no lines are made: a case is refused, or else the bytes, or memory ran out after all cases were tested
-abbrev pub RefusesSweep : List ℕ → List PlanSettings → Refusal → Type 0
+abbrev pub RefusesSweep : List ℕ → List SizedSettings → Refusal → Type 0
 RefusesSweep bytes cases refusals.SettingsSize = RefusesCase cases refusals.SettingsSize
 RefusesSweep bytes cases (refusals.Settings e) = RefusesCase cases (refusals.Settings e)
 RefusesSweep bytes cases (refusals.Trace e) = All AreGiven cases × RefusesUnlessMemory bytes e

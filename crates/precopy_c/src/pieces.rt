@@ -18,11 +18,11 @@ ghost use Rattle.precopy_c.specs.declared.pieces.PieceRefusal.TheVariants.{Frame
 ghost use Rattle.precopy_c.specs.declared.pieces.PieceRefusal.TheVariants.{Page as OfPage, Trace as OfTrace};
 
 use crate::answers::Refusal;
-use c_layout::refuse_trace;
 use crate::checking::{
     StreamFinding, cause_number, finding_of_frame, finding_of_page, stamp_number,
 };
 use crate::flat_memory::PageState;
+use c_layout::refuse_trace;
 use guest_log::Shape;
 use page_versions::{IndexError, PageIndex};
 use std::alloc::{AllocError, AllocFailed, Global};

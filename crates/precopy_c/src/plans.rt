@@ -12,7 +12,7 @@ ghost use Rattle.precopy_c.specs.Plans.{IsPlanOf, RefusesPlan};
 ghost use Rattle.precopy_c.specs.Settings.{AreGiven, settings_in};
 
 use crate::answers::Refusal;
-use crate::settings::PlanSettings;
+use crate::settings::SizedSettings;
 use c_layout::PlanSums;
 use round_planner::{Plan, Round, RoundRow, plan};
 use std::alloc::Global;
@@ -33,7 +33,7 @@ fn row(round: &Round) -> RoundRow
 }
 
 /// Returns the plan of the trace that the bytes encode. The settings are tested first.
-fn planned(alloc: Global, trace: &[u8], settings: &PlanSettings) -> Result<Plan, Refusal>
+fn planned(alloc: Global, trace: &[u8], settings: &SizedSettings) -> Result<Plan, Refusal>
     ensures made { IfOk result (IsPlanOf trace.now (settings_in settings.now)) }
     ensures refused { IfErr result (RefusesPlan trace.now settings.now) }
     ensures only { (t : GuestTrace) → Spells trace.now t → AreGiven settings.now
@@ -52,7 +52,7 @@ fn planned(alloc: Global, trace: &[u8], settings: &PlanSettings) -> Result<Plan,
 pub extern "C" fn precopy_plan(
     alloc: Global,
     trace: &[u8],
-    settings: &PlanSettings,
+    settings: &SizedSettings,
     found: &mut PlanSums,
     record: &mut u32,
 ) -> u32
@@ -90,7 +90,7 @@ fn put_rounds(rounds: &[Round], room: &mut [RoundRow])
 pub extern "C" fn precopy_rounds(
     alloc: Global,
     trace: &[u8],
-    settings: &PlanSettings,
+    settings: &SizedSettings,
     rounds: &mut [RoundRow],
     count: &mut usize,
     record: &mut u32,

@@ -9,7 +9,7 @@ ghost use Rattle.precopy_c.specs.Settings.{AreGiven, settings_in};
 
 use crate::answers::Refusal;
 use crate::buffers::answer_bytes;
-use crate::settings::PlanSettings;
+use crate::settings::SizedSettings;
 use round_planner::plan;
 use std::alloc::Global;
 use sweep_report::report_text;
@@ -17,7 +17,7 @@ use trace_readers::TouchLog;
 use working_sets::tables;
 
 /// Returns the text of the report on the trace that the bytes encode. The settings are tested first.
-fn reported(alloc: Global, trace: &[u8], settings: &PlanSettings) -> Result<Vec<u8>, Refusal>
+fn reported(alloc: Global, trace: &[u8], settings: &SizedSettings) -> Result<Vec<u8>, Refusal>
     ensures made { IfOk result (λ text. IsReportOf trace.now (settings_in settings.now) text.items) }
     ensures refused { IfErr result (RefusesPlan trace.now settings.now) }
     ensures only { (t : GuestTrace) → Spells trace.now t → AreGiven settings.now
@@ -39,7 +39,7 @@ fn reported(alloc: Global, trace: &[u8], settings: &PlanSettings) -> Result<Vec<
 pub extern "C" fn precopy_report(
     alloc: Global,
     trace: &[u8],
-    settings: &PlanSettings,
+    settings: &SizedSettings,
     text: &mut [u8],
     needed: &mut usize,
     record: &mut u32,

@@ -10,7 +10,7 @@ ghost use Rattle.precopy_c.specs.Settings.{AreGiven, settings_in};
 ghost use Rattle.precopy_c.specs.Sweeps.{IsSweepOf, RefusesCase, RefusesSweep, line_sums};
 
 use crate::answers::Refusal;
-use crate::settings::PlanSettings;
+use crate::settings::SizedSettings;
 use c_layout::PlanSums;
 use rate_limit::Settings;
 use round_planner::Outcome;
@@ -19,7 +19,7 @@ use sweep_report::{Line, best_case, sweep_in_turn};
 use trace_readers::TouchLog;
 
 /// Tests the cases, in order: an error is the refusal of the first that is out of range. It allocates nothing.
-fn test_cases(cases: &[PlanSettings]) -> Result<(), Refusal>
+fn test_cases(cases: &[SizedSettings]) -> Result<(), Refusal>
     ensures given { OnOk result (All AreGiven cases.now) }
     ensures refused { IfErr result (RefusesCase cases.now) }
 {
@@ -32,7 +32,7 @@ fn test_cases(cases: &[PlanSettings]) -> Result<(), Refusal>
 }
 
 /// Returns the settings of all cases, none of which is refused.
-fn settings_of_cases(alloc: Global, cases: &[PlanSettings]) -> Result<Vec<Settings>, AllocError>
+fn settings_of_cases(alloc: Global, cases: &[SizedSettings]) -> Result<Vec<Settings>, AllocError>
     requires { All AreGiven cases.now }
     ensures { IfOk result (λ checked. checked.items ≡ map settings_in cases.now) }
 {
@@ -47,7 +47,7 @@ fn settings_of_cases(alloc: Global, cases: &[PlanSettings]) -> Result<Vec<Settin
 }
 
 /// Returns the lines of a sweep of the trace that the bytes encode. The cases are tested first.
-fn swept(alloc: Global, trace: &[u8], cases: &[PlanSettings]) -> Result<Vec<Line>, Refusal>
+fn swept(alloc: Global, trace: &[u8], cases: &[SizedSettings]) -> Result<Vec<Line>, Refusal>
     ensures made { IfOk result (λ lines. IsSweepOf trace.now (map settings_in cases.now) lines.items) }
     ensures refused { IfErr result (RefusesSweep trace.now cases.now) }
     ensures only { (t : GuestTrace) → Spells trace.now t → All AreGiven cases.now
@@ -100,7 +100,7 @@ fn best(lines: &[Line]) -> usize
 pub extern "C" fn precopy_sweep(
     alloc: Global,
     trace: &[u8],
-    cases: &[PlanSettings],
+    cases: &[SizedSettings],
     found: &mut [PlanSums],
     chosen: &mut usize,
     record: &mut u32,

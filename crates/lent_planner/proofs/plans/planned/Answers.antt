@@ -1,7 +1,7 @@
 use Rattle.std.proofs.Common.{length, refl, subst, sym}
 use Rattle.std.proofs.lemmas.Result.{err_from_is_err_and}
 use Rattle.lent_planner.specs.Plans.{RefusesPlan, room_of}
-use Rattle.lent_planner.specs.Settings.{settings_in}
+use Rattle.c_layout.specs.Settings.{settings_in}
 use Rattle.lent_planner.proofs.plans.planned.Goals as goal
 
 pub returns-in_err-trace-clause-refused : goal.returns-in_err-trace-clause-refused

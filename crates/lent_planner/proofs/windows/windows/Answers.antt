@@ -1,6 +1,6 @@
 use Rattle.std.proofs.Common.{length, refl, subst, sym}
 use Rattle.std.proofs.lemmas.Result.{err_from_is_err_and}
-use Rattle.lent_planner.specs.Settings.{settings_in}
+use Rattle.c_layout.specs.Settings.{settings_in}
 use Rattle.lent_planner.specs.Windows.{RefusesWindows, room_of}
 use Rattle.lent_planner.proofs.windows.windows.Goals as goal
 

@@ -1,14 +1,14 @@
 -- The settings that a caller asks for, as the definitions' value.
 use Rattle.std.specs.Prelude.{ℕ, ◌==◌, not, is_some, unwrap_or, if◌then◌else◌, Option, Some, None}
 use Rattle.migration_model.specs.Rates.{MigrationSettings}
-use Rattle.lent_planner.specs.declared.settings.LentSettings.{LentSettings}
+use Rattle.c_layout.specs.declared.settings.PlanSettings.{PlanSettings}
 
 -- the tick of a base, if there is one
-abbrev pub base_in : LentSettings → Option ℕ
+abbrev pub base_in : PlanSettings → Option ℕ
 base_in s = if s.has_base == 0 then None else Some s.base
 
 -- what a plan keeps to; no call starts a thread, so there is one worker, one stream, one replayer, and a lane of one
-abbrev pub settings_in : LentSettings → MigrationSettings
+abbrev pub settings_in : PlanSettings → MigrationSettings
 settings_in s = record {
   min = s.min;
   max = s.max;
@@ -27,8 +27,8 @@ settings_in s = record {
 }
 
 -- settings as a caller gets them
-abbrev pub lent_of : MigrationSettings → LentSettings
-lent_of s = record {
+abbrev pub settings_told : MigrationSettings → PlanSettings
+settings_told s = record {
   min = s.min;
   max = s.max;
   increment = s.increment;
