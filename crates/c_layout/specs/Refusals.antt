@@ -1,4 +1,4 @@
--- The numbers that a caller sees for refusals. Those of traces are the numbers of their names in fault lines, E1 to E17;
+-- The numbers that callers see for refusals. Those of traces are the numbers of their names in fault lines, E1 to E17;
 -- those of settings, S1 to S10, begin at 21; those of a question that is out of range, in the order in which it is
 -- tested, and of a trace that does not have its scale, begin at 81. This project's own.
 use Rattle.std.specs.Prelude.{ℕ, Option, Some, None, unwrap_or}
