@@ -11,9 +11,8 @@ ghost use Rattle.page_message.specs.Shapes.{shape_of};
 use crate::error::PartError;
 use crate::part::Part;
 use guest_log::Shape;
-use page_message::{Body, Frame};
+use page_message::{Body, Frame, is_zero};
 use std::alloc::{AllocError, Global};
-use zero_pages::is_zero;
 
 /// Returns the frame with these page bytes. It copies them once, or not at all if each is 0.
 fn frame_at(

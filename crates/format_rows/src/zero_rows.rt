@@ -1,6 +1,6 @@
 //! Worked examples.
 
-use zero_pages::is_zero;
+use page_message::is_zero;
 
 #[test]
 fn no_bytes(rt: HostRuntime) {

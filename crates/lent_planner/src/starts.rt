@@ -1,6 +1,6 @@
 //! The choice of a start: the best and the worst of several answers.
 
-ghost use Rattle.std.specs.Prelude.{◌≡◌, ◌≤◌, ◌<◌, length, slice_index_or};
+ghost use Rattle.std.specs.Prelude.{◌≡◌, ◌≤◌, ◌<◌, [], length, slice_index_or};
 ghost use Rattle.std.specs.List.{IsFirstBest};
 ghost use Rattle.predictions.specs.declared.answer.Answer.{Answer};
 ghost use Rattle.lent_planner.specs.Starts.{AreChosen, is_better_answer, is_worse_answer, known_count, start_in};
@@ -118,6 +118,7 @@ fn count_known(answers: &[Answer]) -> usize
 pub extern "C" fn lent_chosen_starts(answers: &[Answer], choice: &mut LentChoice) -> usize
     ensures known { result ≡ known_count answers.now }
     ensures chosen { 1 ≤ length answers.now → AreChosen answers.now choice.new }
+    ensures kept { answers.now ≡ [] → choice.new ≡ choice.old }
 {
     if !answers.is_empty() {
         *choice = LentChoice {

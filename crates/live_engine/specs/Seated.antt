@@ -1,8 +1,8 @@
 -- What the threads of a round give back.
 use Rattle.std.specs.Prelude.{◌≡◌, ℕ, ◌<◌, slice_index_or, Bool, List, [], length}
 use Rattle.migration_model.specs.Trace.{GuestTrace}
-use Rattle.packed_writes.specs.declared.trace_pages.TracePages.{TracePages}
-use Rattle.packed_writes.specs.Copies.{ArePagesOf}
+use Rattle.page_versions.specs.declared.trace_pages.TracePages.{TracePages}
+use Rattle.page_versions.specs.Copies.{ArePagesOf}
 use Rattle.dirty_words.specs.Seats.{TableView, GuestView, guest_table}
 use Rattle.stream_lanes.specs.Ends.{OutView}
 use Rattle.live_tasks.specs.Replays.{HasReplayed}

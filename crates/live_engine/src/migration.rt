@@ -5,7 +5,7 @@ ghost use Rattle.image_build.specs.Joins.{memory_by};
 ghost use Rattle.live_engine.specs.Runs.{AreNewStates, HaveEnded, IsLiveRun, IsStopped, IsTeam};
 ghost use Rattle.migration_model.specs.Rounds.{IsPlan};
 ghost use Rattle.migration_model.specs.Touches.{touches_of};
-ghost use Rattle.packed_writes.specs.Copies.{ArePagesOf};
+ghost use Rattle.page_versions.specs.Copies.{ArePagesOf};
 
 use crate::error::LiveError;
 use crate::live_round::LiveRound;

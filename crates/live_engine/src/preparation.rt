@@ -6,14 +6,14 @@ ghost use Rattle.migration_model.specs.Memory.{image_before};
 ghost use Rattle.migration_model.specs.Rounds.{IsPlan};
 ghost use Rattle.migration_model.specs.Touches.{touches_of};
 ghost use Rattle.migration_model.specs.Warm.{first_part};
-ghost use Rattle.packed_writes.specs.Copies.{ArePagesOf};
+ghost use Rattle.page_versions.specs.Copies.{ArePagesOf};
 
 use crate::error::LiveError;
 use crate::warm::part_of_memory;
 use collector::Part;
 use guest_log::WriteLog;
 use image_build::{Image, ImageError, replay_before};
-use packed_writes::TracePages;
+use page_versions::TracePages;
 use rate_limit::Settings;
 use round_planner::{Plan, PlanError, plan};
 use std::alloc::Global;

@@ -7,7 +7,7 @@ ghost use Rattle.live_engine.specs.Runs.{AreDone, AreNewStates, IsTeam, IsUnderW
 ghost use Rattle.migration_model.specs.Live.{LiveRounds};
 ghost use Rattle.migration_model.specs.Rounds.{IsPlan, PlannedRound};
 ghost use Rattle.migration_model.specs.Touches.{touches_of};
-ghost use Rattle.packed_writes.specs.Copies.{ArePagesOf};
+ghost use Rattle.page_versions.specs.Copies.{ArePagesOf};
 ghost use Rattle.std.proofs.Props.{props};
 
 use crate::error::LiveError;
@@ -20,7 +20,7 @@ use dirty_core::Opening;
 use dirty_words::{Closed, CopySeat, Opened, RoundTable};
 use guest_log::WriteLog;
 use live_tasks::{Copier, CopierState, Gate, Point, Round, Ticks};
-use packed_writes::TracePages;
+use page_versions::TracePages;
 use rate_limit::Settings;
 use round_planner::Plan;
 use std::alloc::Global;

@@ -6,7 +6,7 @@ ghost use Rattle.dirty_words.specs.Facts.{after_harvest, after_read, first_copie
 ghost use Rattle.dirty_words.specs.Plays.{IsAnswer, MakesFresh};
 ghost use Rattle.dirty_words.specs.Seats.{copy_table};
 ghost use Rattle.live_tasks.specs.CopierStates.{IsCopierState};
-ghost use Rattle.packed_writes.specs.Copies.{ArePagesOf};
+ghost use Rattle.page_versions.specs.Copies.{ArePagesOf};
 ghost use Rattle.std.proofs.Props.{props};
 ghost use Rattle.live_tasks.specs.RoundLogs.{IsCrowded, SpellsPage};
 ghost use Rattle.live_tasks.specs.Scans.{HoldsFrom, IsLeast, IsOwn};
@@ -18,10 +18,10 @@ use crate::error::SeatError;
 use crate::gate::{Gate, Point};
 use dirty_words::{CopySeat, RoundTable};
 use guest_log::WriteLog;
-use packed_writes::{PageSource, TracePages};
 use page_bitmap::word_count;
 use page_cache::PageCache;
 use page_message::append_frame;
+use page_versions::{PageSource, TracePages};
 use std::alloc::Global;
 
 /// What all copiers of a round share: a trace, what its pages are made from, and a table of them.

@@ -3,9 +3,8 @@
 ghost use Rattle.std.specs.Prelude.{◌≡◌, IfOk};
 
 use crate::fixtures::{FIRST, FOURTH, Page, SECOND, THIRD, ZEROS, guest, page_of};
-use packed_writes::PageSource;
 use page_cache::PageCache;
-use page_versions::PageIndex;
+use page_versions::{PageIndex, PageSource};
 use std::alloc::Global;
 use std::test::Fail;
 use std::thread::Threads;

@@ -4,9 +4,8 @@ ghost use Rattle.std.specs.Prelude.{◌≡◌};
 
 use crate::cache_rows::page_at;
 use crate::fixtures::{FIRST, FOURTH, Page, SECOND, THIRD, ZEROS, guest, page_of, releasing_guest};
-use packed_writes::{PackedWrites, PageSource, are_short};
 use page_cache::{KeptPages, PageCache};
-use page_versions::{PageIndex, PageProgress};
+use page_versions::{PackedWrites, PageIndex, PageProgress, PageSource, are_short};
 use std::alloc::Global;
 use std::test::Fail;
 use trace_codec::{Trace, Write};

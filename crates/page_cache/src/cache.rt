@@ -13,8 +13,7 @@ use crate::pages::KeptPages;
 use crate::recent::keep_recent;
 use guest_log::WriteLog;
 use lru::LruCache;
-use packed_writes::PageSource;
-use page_versions::PageIndex;
+use page_versions::{PageIndex, PageSource};
 use std::alloc::Global;
 use std::marker::Model;
 

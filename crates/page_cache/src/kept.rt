@@ -5,8 +5,7 @@ ghost use Rattle.migration_model.specs.Versions.{page_at};
 ghost use Rattle.page_cache.specs.Cache.{IsKept, KeptPage, page_with};
 
 use guest_log::WriteLog;
-use packed_writes::PageSource;
-use page_versions::PageProgress;
+use page_versions::{PageProgress, PageSource};
 use std::marker::Model;
 
 /// How far a page of zeros has come.

@@ -11,8 +11,7 @@ use crate::error::CacheError;
 use crate::kept::Kept;
 use guest_log::WriteLog;
 use lru::LruCache;
-use packed_writes::PageSource;
-use page_versions::PageProgress;
+use page_versions::{PageProgress, PageSource};
 
 /// Brings what is kept of a page to a version, in place. Returns whether anything is kept of the page.
 fn bring_kept<W: WriteLog>(

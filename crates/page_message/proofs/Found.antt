@@ -16,7 +16,7 @@ use Rattle.page_message.specs.Reading.{page_in, stamp_in, kind_in, bytes_in, bod
 use Rattle.page_message.specs.Refusals.{frame_refusal}
 use Rattle.page_message.specs.declared.error.FrameError.{FrameError}
 use Rattle.page_message.proofs.Steps.{passed, passes}
-use Rattle.page_message.proofs.Zeros.{not_zeros, some_from_false}
+use Rattle.page_message.proofs.ZeroBytes.{not_zeros, some_from_false}
 
 -- ---- what is read
 

@@ -1,3 +1,3 @@
-pub mod Zeros
+pub mod ZeroBytes
 pub mod Steps
 pub mod Found

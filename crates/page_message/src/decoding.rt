@@ -13,10 +13,10 @@ ghost use Rattle.page_message.specs.Shapes.{shape_of};
 use crate::encoding::HEAD;
 use crate::error::FrameError;
 use crate::frame::{Frame, FrameView};
+use crate::zeros::is_zero;
 use byteorder::{ByteOrder, LittleEndian};
 use guest_log::Shape;
 use std::alloc::Global;
-use zero_pages::is_zero;
 
 #[tactic(auto, unfolding(migration_model::specs::Numbers::number_in))]
 fn u32_in(bytes: &[u8]) -> u32

@@ -9,10 +9,10 @@ ghost use Rattle.page_message.specs.Shapes.{shape_of};
 
 use crate::error::FrameError;
 use crate::frame::{Body, Frame};
+use crate::zeros::is_zero;
 use byteorder::{ByteOrder, LittleEndian};
 use guest_log::Shape;
 use std::alloc::Global;
-use zero_pages::is_zero;
 
 /// How many bytes a frame has before the page.
 pub(crate) const HEAD: usize = 9;

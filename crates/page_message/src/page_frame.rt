@@ -5,8 +5,8 @@ ghost use Rattle.migration_model.specs.Frames.{IsFrame, IsZeros, content_of};
 ghost use Rattle.page_message.specs.Shapes.{shape_of};
 
 use crate::frame::{Body, Frame};
+use crate::zeros::is_zero;
 use guest_log::Shape;
-use zero_pages::is_zero;
 
 /// Returns the frame with these page bytes, which it takes over, or drops if each is 0. It allocates nothing.
 pub fn frame_of(shape: &Shape, page: u32, stamp: u32, bytes: Vec<u8>) -> Frame

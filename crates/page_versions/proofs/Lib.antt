@@ -8,3 +8,5 @@ pub mod Ranked
 pub mod Sorted
 pub mod Laid
 pub mod Later
+pub mod Copied
+pub mod Joined

@@ -1,5 +1,5 @@
 -- What C sees of sweeps, and why there is none.
-use Rattle.std.specs.Prelude.{◌≡◌, ℕ, List, ◌∷◌, ◌++◌, ⊤}
+use Rattle.std.specs.Prelude.{◌≡◌, ℕ, List, ◌∷◌, ◌++◌}
 use Rattle.std.specs.List.{All}
 use Rattle.migration_model.specs.Trace.{GuestTrace, Spells}
 use Rattle.migration_model.specs.Touches.{touches_of}
@@ -32,12 +32,12 @@ pub record RefusesCase (cases : List PlanSettings) (refusal : Refusal) : Type 0 
   pub given : All AreGiven before
   pub refused : RefusesSettings case refusal
 
--- no lines are made: a case is refused, or else the bytes, or memory ran out
+-- no lines are made: a case is refused, or else the bytes, or memory ran out after all cases were tested
 abbrev pub RefusesSweep : List ℕ → List PlanSettings → Refusal → Type 0
 RefusesSweep bytes cases refusals.SettingsSize = RefusesCase cases refusals.SettingsSize
 RefusesSweep bytes cases (refusals.Settings e) = RefusesCase cases (refusals.Settings e)
 RefusesSweep bytes cases (refusals.Trace e) = All AreGiven cases × RefusesUnlessMemory bytes e
-RefusesSweep bytes cases refusals.Memory = ⊤
+RefusesSweep bytes cases refusals.Memory = All AreGiven cases
 RefusesSweep bytes cases (refusals.Frame e) = ⊥
 RefusesSweep bytes cases refusals.ShortBuffer = ⊥
 RefusesSweep bytes cases refusals.PageLength = ⊥

@@ -154,5 +154,5 @@ pub extern "C" fn precopy_decode_frame(
 pub extern "C" fn precopy_is_zero(bytes: &[u8]) -> bool
     ensures { IsTrue result ↔ All (λ byte. byte ≡ 0) bytes.now }
 {
-    zero_pages::is_zero(bytes)
+    page_message::is_zero(bytes)
 }

@@ -7,30 +7,41 @@ ghost use Rattle.migration_model.specs.Trace.{GuestTrace, Spells};
 ghost use Rattle.precopy_c.specs.Answers.{IsToldBy, number_of};
 ghost use Rattle.precopy_c.specs.Buffers.{over};
 ghost use Rattle.precopy_c.specs.Settings.{AreGiven, settings_in};
-ghost use Rattle.precopy_c.specs.Sweeps.{IsSweepOf, RefusesSweep, line_sums};
+ghost use Rattle.precopy_c.specs.Sweeps.{IsSweepOf, RefusesCase, RefusesSweep, line_sums};
 
 use crate::answers::Refusal;
 use crate::plans::{PlanSums, sums};
 use crate::settings::PlanSettings;
 use rate_limit::Settings;
 use round_planner::Outcome;
-use std::alloc::Global;
+use std::alloc::{AllocError, Global};
 use sweep_report::{Line, best_case, sweep_in_turn};
 use trace_readers::TouchLog;
 
-/// Returns the settings of all cases, or the refusal of the first that is out of range.
-fn checked_cases(alloc: Global, cases: &[PlanSettings]) -> Result<Vec<Settings>, Refusal>
-    ensures made { IfOk result (λ checked. checked.items ≡ map settings_in cases.now) }
+/// Tests the cases, in order: an error is the refusal of the first that is out of range. It allocates nothing.
+fn test_cases(cases: &[PlanSettings]) -> Result<(), Refusal>
     ensures given { OnOk result (All AreGiven cases.now) }
-    ensures refused { (bytes : List ℕ) → IfErr result (RefusesSweep bytes cases.now) }
-    ensures only { All AreGiven cases.now → IfErr result (λ e. e ≡ Refusal.Memory) }
+    ensures refused { IfErr result (RefusesCase cases.now) }
+{
+    for case in cases {
+        if let Err(refusal) = case.checked() {
+            return Err(refusal);
+        }
+    }
+    Ok(())
+}
+
+/// Returns the settings of all cases, none of which is refused.
+fn settings_of_cases(alloc: Global, cases: &[PlanSettings]) -> Result<Vec<Settings>, AllocError>
+    requires { All AreGiven cases.now }
+    ensures { IfOk result (λ checked. checked.items ≡ map settings_in cases.now) }
 {
     let mut checked = Vec::with_capacity(alloc, cases.len())?;
     for case in cases {
-        match case.checked() {
-            Ok(settings) => checked.push(settings)?,
-            Err(refusal) => return Err(refusal),
-        }
+        let Ok(settings) = case.checked() else {
+            unreachable!()
+        };
+        checked.push(settings)?;
     }
     Ok(checked)
 }
@@ -42,10 +53,10 @@ fn swept(alloc: Global, trace: &[u8], cases: &[PlanSettings]) -> Result<Vec<Line
     ensures only { (t : GuestTrace) → Spells trace.now t → All AreGiven cases.now
         → IfErr result (λ e. number_of e ≡ 16) }
 {
-    let checked = match checked_cases(alloc, cases) {
-        Ok(checked) => checked,
-        Err(refusal) => return Err(refusal),
-    };
+    if let Err(refusal) = test_cases(cases) {
+        return Err(refusal);
+    }
+    let checked = settings_of_cases(alloc, cases)?;
     let log = TouchLog::parse(alloc, trace)?;
     Ok(sweep_in_turn(alloc, &log, &checked)?)
 }

@@ -1,6 +1,7 @@
 pub mod Axes
 pub mod Bars
 pub mod Columns
+pub mod HotStrips
 pub mod Screens
 pub mod MeasuredScreens
 pub mod Svg

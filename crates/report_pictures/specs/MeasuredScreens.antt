@@ -12,6 +12,7 @@ use Rattle.predictions.specs.Quantities.{bytes_text, moment_text, time_text}
 use Rattle.sweep_report.specs.Lines.{field}
 use Rattle.report_pictures.specs.Bars.{bar_text, window_key, window_parts}
 use Rattle.report_pictures.specs.Columns.{most_of}
+use Rattle.report_pictures.specs.HotStrips.{spots_text}
 use Rattle.report_pictures.specs.Screens.{hot_text, trace_words}
 use Rattle.report_pictures.specs.declared.table.Style.{Style}
 
@@ -114,10 +115,11 @@ left_words scale plan = named_size (codes "\nleft: ") scale (length plan.last)
 unfoldable pub stop_words : TraceScale → MigrationPlan → List ℕ
 stop_words scale plan = reason_words scale plan ++ left_words scale plan
 
--- This is a whole report. Of the hot pages it is said how many there are; their runs and the strip are only tested.
+-- This is a whole report. Of the runs of the hot pages nothing is said: they are only tested.
 pub record IsMeasuredScreen (style : Style) (scale : TraceScale) (pages size writes : ℕ) (settings : MigrationSettings)
     (sets : WorkingSets) (plan : MigrationPlan) (text : List ℕ) : Type 0 where
-  pub spots : List ℕ
+  pub lines : List ℕ
   pub text_is : text ≡ trace_words pages size writes ++ (scale_words scale
-      ++ (windows_text style scale settings.window sets.windows ++ (hot_text settings.hot (length sets.hot) spots
+      ++ (windows_text style scale settings.window sets.windows
+      ++ (hot_text settings.hot (length sets.hot) (spots_text style.width pages sets.hot lines)
       ++ (round_lines style scale settings plan ++ (10 ∷ [] ++ stop_words scale plan)))))

@@ -8,6 +8,7 @@ use Rattle.migration_model.specs.Windows.{WindowRow, WorkingSets}
 use Rattle.sweep_report.specs.Lines.{field}
 use Rattle.report_pictures.specs.Bars.{round_key, round_parts, window_key, window_parts}
 use Rattle.report_pictures.specs.Columns.{most_of, names_text, row_text, widths_of}
+use Rattle.report_pictures.specs.HotStrips.{spots_text}
 use Rattle.report_pictures.specs.declared.table.Style.{Style}
 
 unfoldable pub trace_words : ℕ → ℕ → ℕ → List ℕ
@@ -99,9 +100,10 @@ left_words plan = field (codes "\nleft: ") (length plan.last) ++ (field (codes "
 unfoldable pub stop_words : MigrationPlan → List ℕ
 stop_words plan = reason_words plan ++ left_words plan
 
--- This is a whole report. Of the hot pages it is said how many there are; their runs and the strip are only tested.
+-- This is a whole report. Of the runs of the hot pages nothing is said: they are only tested.
 pub record IsScreen (style : Style) (pages size writes : ℕ) (settings : MigrationSettings) (sets : WorkingSets)
     (plan : MigrationPlan) (text : List ℕ) : Type 0 where
-  pub spots : List ℕ
+  pub lines : List ℕ
   pub text_is : text ≡ trace_words pages size writes ++ (10 ∷ [] ++ (windows_text style settings.window sets.windows
-      ++ (hot_text settings.hot (length sets.hot) spots ++ (rounds_text style plan.rounds ++ stop_words plan))))
+      ++ (hot_text settings.hot (length sets.hot) (spots_text style.width pages sets.hot lines)
+      ++ (rounds_text style plan.rounds ++ stop_words plan))))

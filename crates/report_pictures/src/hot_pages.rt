@@ -1,6 +1,9 @@
 //! Hot pages as runs, and a strip that shows where in the guest they lie.
 
-ghost use Rattle.std.specs.Prelude.{◌≡◌, ℕ, List, ◌++◌, OnOk, length};
+ghost use Rattle.std.specs.Prelude.{◌≡◌, ℕ, ◌<◌, List, ◌++◌, IfOk, OnOk, length};
+ghost use Rattle.std.specs.List.{flat_map, range_with_len};
+ghost use Rattle.report_pictures.specs.HotStrips.{cell_text, count_within, first_page, shade_of, spots_text};
+ghost use Rattle.report_pictures.specs.HotStrips.{strip_text};
 ghost use Rattle.report_pictures.specs.Screens.{hot_count, hot_text};
 
 use crate::table::Style;
@@ -11,9 +14,6 @@ use sweep_report::{end_line, push_field};
 
 /// The most lines of runs.
 const MOST_LINES: usize = 8;
-
-/// The shades of a cell of the strip, by how many of its pages are hot, from none to all.
-const SHADES: [&str; 5] = [" ", "░", "▒", "▓", "█"];
 
 /// Pages one after another: the first and the last.
 #[derive(Clone, Copy)]
@@ -95,69 +95,92 @@ fn push_runs(
     Ok(shown)
 }
 
-/// Returns how many of some pages, which are below `count`, lie in each of `cells` cells.
-fn cells_of(
-    alloc: Global,
-    pages: &[u32],
-    count: u64,
-    cells: usize,
-) -> Result<Vec<u64>, AllocError> {
-    let mut hot = Vec::from_elem(alloc, 0u64, cells)?;
-    for page in pages {
-        let place = (*page as u64).saturating_mul(cells as u64) / count.max(1);
-        if let Some(cell) = hot.get_mut(place as usize) {
-            *cell = cell.saturating_add(1);
-        }
-    }
-    Ok(hot)
+/// Returns how many of some pages lie from one page up to another.
+fn count_within(pages: &[u32], from: u64, to: u64) -> u64
+    ensures { result ≡ count_within pages.now from to }
+{
+    pages
+        .iter()
+        .filter(|page| from <= **page as u64 && (**page as u64) < to)
+        .count() as u64
 }
 
 /// Returns the shade for `hot` hot pages of `pages`.
-fn shade_of(hot: u64, pages: u64) -> &'static str {
+fn shade_of(hot: u64, pages: u64) -> &'static str
+    ensures { result.now ≡ shade_of hot pages }
+{
+    let thirds = hot as u128 * 3;
     if hot == 0 {
-        return SHADES[0];
+        " "
+    } else if hot >= pages {
+        "█"
+    } else if thirds < pages as u128 {
+        "░"
+    } else if thirds < pages as u128 * 2 {
+        "▒"
+    } else {
+        "▓"
     }
-    if hot >= pages {
-        return SHADES[4];
-    }
-    let part = hot.saturating_mul(3) / pages.max(1);
-    SHADES[part.min(2) as usize + 1]
 }
 
 /// Returns the first page of a cell, of `cells` cells.
-fn first_page(cell: u64, cells: u64, count: u64) -> u64 {
-    cell.saturating_mul(count).div_ceil(cells.max(1))
+fn first_page(cells: u32, count: u32, cell: u32) -> u64
+    ensures { result ≡ first_page cells count cell }
+{
+    (cell as u64 * count as u64).div_ceil(cells.max(1) as u64)
+}
+
+/// Appends a cell of the strip, of `cells` cells.
+fn push_cell(
+    text: &mut Vec<u8>,
+    cells: u32,
+    count: u32,
+    cell: u32,
+    pages: &[u32],
+) -> Result<(), AllocError>
+    requires { cell < cells }
+    ensures { OnOk result (text.new.items ≡ text.old.items ++ cell_text pages.now cells count cell) }
+{
+    let from = first_page(cells, count, cell);
+    let to = first_page(cells, count, cell + 1);
+    push_words(text, shade_of(count_within(pages, from, to), to.saturating_sub(from)))
+}
+
+/// Appends all cells of the strip.
+fn push_cells(
+    text: &mut Vec<u8>,
+    cells: u32,
+    count: u32,
+    pages: &[u32],
+) -> Result<(), AllocError>
+    ensures { OnOk result (text.new.items
+        ≡ text.old.items ++ flat_map (cell_text pages.now cells count) (range_with_len 0 cells)) }
+{
+    for cell in 0..cells {
+        push_cell(text, cells, count, cell, pages)?;
+    }
+    Ok(())
 }
 
 /// Appends the strip that shows where in a guest of `count` pages the hot ones lie.
+#[tactic(auto, unfolding(crate::specs::HotStrips::strip_text))]
 fn push_strip(
-    alloc: Global,
     text: &mut Vec<u8>,
     style: &Style,
-    count: u64,
+    count: u32,
     pages: &[u32],
-) -> Result<(), AllocError> {
-    let cells = style.width.saturating_sub(3).min(count as usize);
+) -> Result<(), AllocError>
+    ensures { OnOk result (text.new.items ≡ text.old.items ++ strip_text style.now.width count pages.now) }
+{
+    let cells = style.width.saturating_sub(3).min(count as usize) as u32;
     push_words(text, " |")?;
-    for (number, hot) in cells_of(alloc, pages, count, cells)?.iter().enumerate() {
-        let from = first_page(number as u64, cells as u64, count);
-        let to = first_page((number as u64).saturating_add(1), cells as u64, count);
-        push_words(text, shade_of(*hot, to.saturating_sub(from)))?;
-    }
+    push_cells(text, cells, count, pages)?;
     push_words(text, "|\n")
 }
 
-/// Returns where the hot pages of a guest of `count` pages lie: their runs, and a strip. Of no pages it is empty.
-fn spots_of(
-    alloc: Global,
-    style: &Style,
-    count: u64,
-    pages: &[u32],
-) -> Result<Vec<u8>, AllocError> {
+/// Returns the lines of the runs of hot pages, and of how many more there are.
+fn run_lines(alloc: Global, style: &Style, pages: &[u32]) -> Result<Vec<u8>, AllocError> {
     let mut text = Vec::new(alloc);
-    if pages.is_empty() {
-        return Ok(text);
-    }
     let runs = runs_of(alloc, pages)?;
     let shown = push_runs(alloc, &mut text, style, &runs)?;
     let more = (pages.len() as u64).saturating_sub(shown);
@@ -165,7 +188,24 @@ fn spots_of(
         push_field(&mut text, " and ", more)?;
         push_words(&mut text, " more\n")?;
     }
-    push_strip(alloc, &mut text, style, count, pages)?;
+    Ok(text)
+}
+
+/// Returns where the hot pages of a guest of `count` pages lie: their runs, and a strip. Of no pages it is empty.
+fn spots_of(
+    alloc: Global,
+    style: &Style,
+    count: u32,
+    pages: &[u32],
+) -> Result<Vec<u8>, AllocError>
+    ensures { IfOk result (λ spots. (lines : List ℕ)
+        × (spots.items ≡ spots_text style.now.width count pages.now lines)) }
+{
+    if pages.is_empty() {
+        return Ok(Vec::new(alloc));
+    }
+    let mut text = run_lines(alloc, style, pages)?;
+    push_strip(&mut text, style, count, pages)?;
     Ok(text)
 }
 
@@ -186,11 +226,11 @@ pub(crate) fn push_hot(
     text: &mut Vec<u8>,
     style: &Style,
     windows: u64,
-    count: u64,
+    count: u32,
     pages: &[u32],
 ) -> Result<(), AllocError>
-    ensures { OnOk result ((spots : List ℕ)
-        × (text.new.items ≡ text.old.items ++ hot_text windows (length pages.now) spots)) }
+    ensures { OnOk result ((lines : List ℕ) × (text.new.items ≡ text.old.items
+        ++ hot_text windows (length pages.now) (spots_text style.now.width count pages.now lines))) }
 {
     let spots = spots_of(alloc, style, count, pages)?;
     push_count(text, windows, pages.len() as u64)?;

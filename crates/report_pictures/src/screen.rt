@@ -314,7 +314,7 @@ pub fn report_screen(
         &mut text,
         style,
         asked.hot,
-        shape.pages as u64,
+        shape.pages,
         &tables.hot,
     )?;
     push_rounds(alloc, &mut text, style, &plan.rounds)?;
@@ -352,7 +352,7 @@ pub fn measured_screen(
         &mut text,
         style,
         asked.hot,
-        shape.pages as u64,
+        shape.pages,
         &tables.hot,
     )?;
     units_screen::push_rounds(alloc, &mut text, style, scale, settings, plan)?;

@@ -6,3 +6,6 @@ pub mod Holding
 pub mod Stood
 pub mod Ends
 pub mod Viewed
+mod Joins
+mod FinalJoin
+mod Received

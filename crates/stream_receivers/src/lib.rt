@@ -4,9 +4,11 @@
 mod error;
 mod first_part;
 mod keeping;
+mod laws;
 mod receiver;
 mod taking;
 
 pub use error::ReceiverError;
 pub use first_part::join_first;
+pub use laws::{final_copy_is_a_join, first_part_is_joined, received_part_is_a_join};
 pub use receiver::Receiver;

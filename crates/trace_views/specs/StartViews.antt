@@ -1,5 +1,5 @@
 -- What the same migration costs from each of some starts.
-use Rattle.std.specs.Prelude.{◌≡◌, ℕ, ◌≤◌, List, Option, None, Some, ⊤}
+use Rattle.std.specs.Prelude.{◌≡◌, ℕ, ◌≤◌, List, Option, None, Some}
 use Rattle.migration_model.specs.Sweeps.{SweepLine, AreLines}
 use Rattle.migration_model.specs.Touches.{GuestTouches}
 use Rattle.migration_model.specs.Windows.{working_sets_of}
@@ -54,9 +54,10 @@ pub record IsStartsView (log : GuestTouches) (asked : AskedStarts) (text : List 
   pub text_is : IsStartsText asked.form log asked costs best worst text
   pub kept_is : kept ≡ kept_from best
 
--- why the starts cannot be shown: memory ran out, or the starts are refused
+-- why the starts cannot be shown: they are refused, or else memory ran out
 abbrev pub RefusesStartsView : GuestTouches → AskedStarts → ViewError → Type 0
-RefusesStartsView log asked errors.Memory = ⊤
+RefusesStartsView log asked errors.Memory =
+    RefusesStarts asked.settings asked.starts (last_tick_of log.touches) refusals.Memory
 RefusesStartsView log asked errors.TooManyStarts =
     RefusesStarts asked.settings asked.starts (last_tick_of log.touches) refusals.TooMany
 RefusesStartsView log asked (errors.Settings e) =

@@ -1,4 +1,4 @@
-use Rattle.page_message.proofs.Zeros.{zeros_test}
+use Rattle.page_message.proofs.ZeroBytes.{zeros_test}
 use Rattle.page_message.proofs.decoding.has_zeros.Goals as goal
 
 pub returns : goal.returns

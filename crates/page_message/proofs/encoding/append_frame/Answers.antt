@@ -3,7 +3,7 @@ use Rattle.std.specs.Int.{w32}
 use Rattle.std.proofs.lemmas.List.{append_assoc}
 use Rattle.migration_model.specs.Frames.{frame_text, frame_with}
 use Rattle.migration_model.specs.Numbers.{text_of}
-use Rattle.page_message.proofs.Zeros.{all_same}
+use Rattle.page_message.proofs.ZeroBytes.{all_same}
 use Rattle.page_message.proofs.encoding.append_frame.Goals as goal
 
 pub returns-then-is_zero-clause-appended : goal.returns-then-is_zero-clause-appended

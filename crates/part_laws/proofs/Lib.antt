@@ -1,3 +1,0 @@
-mod Joins
-mod FinalJoin
-mod Received
