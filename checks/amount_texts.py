@@ -1,5 +1,5 @@
-"""Times and sizes as precopy-view and the page write them (docs/COMMANDS.md), of whole microseconds and bytes. It shares
-no code with either."""
+"""Times and sizes as precopy-view, the tools and the page write them (docs/COMMANDS.md), of whole microseconds and bytes.
+It shares no code with any of them."""
 
 
 def seconds(micros: int) -> str:
@@ -23,7 +23,7 @@ def error_text(micros: int) -> str:
 
 
 def moment_text(micros: int) -> str:
-    """When something is, since a begin: in seconds, with three digits after the point if these are exact, else with six."""
+    """When something is, since a begin: seconds with three digits after the point if these are exact, else with six."""
     return f"{micros // 1_000_000}.{f'{micros % 1_000_000:06}'.removesuffix('000')} s"
 
 

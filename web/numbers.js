@@ -34,7 +34,7 @@ function secondsText(micros) {
   return `${millis / 1_000n}.${String(millis % 1_000n).padStart(3, "0")} s`;
 }
 
-/** A moment, in microseconds since a begin: seconds with three digits after the point if that is exact, else with six. */
+/** A moment, in microseconds since a begin: seconds with three digits after the point if these are exact, else six. */
 export function momentText(micros) {
   const whole = micros / 1_000_000n;
   return micros % 1_000n === 0n ? secondsText(micros) : `${whole}.${String(micros % 1_000_000n).padStart(6, "0")} s`;
