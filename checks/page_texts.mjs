@@ -1,5 +1,5 @@
-// Writes amounts as the page does: `node page_texts.mjs` with amounts as JSON on standard input, in decimal. Each is told
-// as how long something takes, as the error of that, as when something is, and as a size.
+// Writes amounts as the page does: `node page_texts.mjs` with amounts as JSON on standard input, in decimal. Each is a
+// time that something takes, the error of one, a moment, and a size.
 
 import { readFileSync } from "node:fs";
 import { bytesText, errorTimeText, momentText, timeText } from "./numbers.js";
