@@ -6,7 +6,8 @@ Also sweeps as documents in times and bytes.
 import itertools
 import random
 
-from limit_cases import Known, Limits, costs_of, ran_in_range, seconds, size_text
+from amount_texts import size_text, time_text
+from limit_cases import Known, Limits, costs_of, ran_in_range
 from view_texts import Failure, document_of, facts, ran, sweep_facts, told
 
 BUDGETS = [
@@ -76,7 +77,7 @@ def advised_lines(precopy, trace, asked, budget, words, limits=None):
     lines = [reason]
     if limits:
         time, downtime, sent = costs_of(limits, start, plans[chosen])
-        lines.append(f"time {seconds(time)}, sent {size_text(sent)}, downtime {seconds(downtime)}")
+        lines.append(f"time {time_text(time)}, sent {size_text(sent)}, downtime {time_text(downtime)}")
     return [*lines, swept[chosen], live_line(plans[chosen], start, base)]
 
 

@@ -16,6 +16,7 @@ import host_costs
 import host_schedules
 import samples
 import traces
+from amount_texts import time_text
 from view_texts import Failure, keeps
 
 TOP = os.path.dirname(os.path.dirname(os.path.abspath(__file__)))
@@ -230,7 +231,7 @@ def whole_runs(programs: Programs, folder: str) -> None:
 def expect_waits(text: str, told: dict) -> None:
     """Each guest begins at once, or when one has moved that ends just then: that of its slot, if it does."""
     moves = {move["guest"]: move for move in told["best"]["moves"]}
-    waits = re.findall(r"^# (\w+): (?:at once|when (\w+) has moved, after about ([\d.]+) s)$", text, re.M)
+    waits = re.findall(r"^# (\w+): (?:at once|when (\w+) has moved, after about ([\d.]+ \w+))$", text, re.M)
     expect(sorted(name for name, _, _ in waits) == sorted(moves), f"{waits}")
     for name, before, after in waits:
         start = moves[name]["start_seconds"]
@@ -238,7 +239,8 @@ def expect_waits(text: str, told: dict) -> None:
         if before:
             slot_ends = [move["end_seconds"] for move in moves.values() if move["slot"] == moves[name]["slot"]]
             is_of_slot = moves[before]["slot"] == moves[name]["slot"]
-            expect(moves[before]["end_seconds"] == start and after == f"{start:.1f}", f"{name} after {before}")
+            is_then = moves[before]["end_seconds"] == start and after == time_text(round(1e6 * start))
+            expect(is_then, f"{name} after {before}")
             expect(is_of_slot or start not in slot_ends, f"{name} waits for its slot, and not for {before}")
 
 
@@ -262,11 +264,14 @@ def deadlines(programs: Programs, folder: str) -> None:
     """A deadline that no schedule keeps gives status 3, and one that some keep status 0; QMP lines tell the rate."""
     records = four_guests(folder)
     picture = f"{folder}/host.svg"
-    text, fault = run_tool(programs, *records, "--link", LINK, "--deadline", "1s", "--picture", picture, status=3)
+    written = ["--picture", picture, "--json", f"{folder}/told.json"]
+    text, fault = run_tool(programs, *records, "--link", LINK, "--deadline", "1s", *written, status=3)
     expect("missed: the deadline  <- best" in text, text)
     line = xml.etree.ElementTree.parse(picture).getroot().find(f"{SVG}line[@class='limit']")
     expect(abs(float(line.get("x1")) - 170 - 640 * 1.0 / 2.5) < 1, f"the deadline is at {line.get('x1')}")
-    expect("no schedule ends within 1 s: the shortest takes 2.5 s" in fault, fault)
+    shortest = min(schedule["time_seconds"] for schedule in document_of(folder)["schedules"])
+    told = f"no schedule ends within 1.000 s: the shortest takes {time_text(round(1e6 * shortest))}\n"
+    expect(abs(shortest - 2.5) < 0.05 and told in fault, fault)
     text, _ = run_tool(programs, *records, "--link", LINK, "--deadline", "20m", "--at-once", "2", "--lines", "qmp")
     expect('"max-bandwidth": 33554432, "downtime-limit": 300' in text and "kept  <- best" in text, text)
     expect(not re.search(r"^ +[14]  ", text, re.M), "another number at once")
@@ -347,7 +352,9 @@ def settings(programs: Programs, folder: str) -> None:
     half = document_of(folder)["guests"][0]["costs"][0]
     expect(half["link_bytes_per_second"] == RATE / 2 and half["time_seconds"] > 1.9 * cold["time_seconds"], f"{half}")
     text, fault = with_settings({"guests": {"db": {"time": "100ms"}}}, 3)
-    expect("db keeps its limits at no share" in fault and "time 1.0 s over 0.1 s" in fault, fault)
+    least = min(cost["time_seconds"] for cost in document_of(folder)["guests"][1]["costs"])
+    told = f"time {time_text(round(1e6 * least))} over 100 ms"
+    expect("db keeps its limits at no share" in fault and abs(least - 1) < 0.05 and told in fault, fault)
     with_settings({"guests": {"db": {"link": "16MiB"}}}, 0)
     expect(document_of(folder)["guests"][1]["costs"][0]["link_bytes_per_second"] == RATE / 4, "its own link")
 

@@ -11,6 +11,7 @@ import sys
 import xml.etree.ElementTree
 from concurrent.futures import ThreadPoolExecutor
 
+from amount_texts import size_text, time_text
 from recorder_runs import SECONDS, TOP, expect
 
 import day_chart
@@ -201,11 +202,11 @@ def thinned_pages(_, folder):
 
 
 def numbers_of(printed):
-    """What tools/predict prints: MiB or GiB sent, seconds, and seconds of downtime."""
+    """What tools/predict prints: bytes sent, the time and the downtime as texts."""
     sent, unit = re.search(r"^sent: ([0-9.]+) (\w+)", printed, re.M).groups()
-    time = re.search(r"^total time: ([0-9.]+) s", printed, re.M)[1]
-    downtime = re.search(r"^downtime: ([0-9.]+) s", printed, re.M)[1]
-    return float(sent) * {"MiB": 1 << 20, "GiB": 1 << 30}[unit], time, downtime
+    time = re.search(r"^total time: ([0-9.]+ \w+)$", printed, re.M)[1]
+    downtime = re.search(r"^downtime: ([0-9.]+ \w+),", printed, re.M)[1]
+    return float(sent) * {"KiB": 1 << 10, "MiB": 1 << 20, "GiB": 1 << 30}[unit], time, downtime
 
 
 def reported(program, trace, weight, factor=1):
@@ -219,8 +220,8 @@ def reported(program, trace, weight, factor=1):
 def expect_prediction(printed, plan, weight, factor=1):
     sent, time, downtime = numbers_of(printed)
     expect(abs(sent / (plan.sent * weight * 4096) - 1) < 1e-3, printed)
-    expect(time == f"{(factor * (plan.tick + plan.down) - 1000) / 1000:.3f}", printed)
-    expect(downtime == f"{factor * plan.down / 1000:.3f}", printed)
+    expect(time == time_text(1000 * (factor * (plan.tick + plan.down) - 1000)), printed)
+    expect(downtime == time_text(1000 * factor * plan.down), printed)
 
 
 def thinned(folder, one_in):
@@ -249,7 +250,7 @@ def predicted(program, folder):
         (part, ["--link", "64MiB", "--downtime", "3ms"], 0, "decided the stop"),
         (part, ["--link", "64MiB", "--downtime", "9s"], 0, "converges: yes"),
         (path, ["--link", "100Mbit", "--downtime", "2s"], 4, "converges: unknown"),
-        (path, ["--link", "32MiB", "--downtime", "100ms", "--start", "1h"], 4, "time: more than 0.000 s"),
+        (path, ["--link", "32MiB", "--downtime", "100ms", "--start", "1h"], 4, "time: more than 0 s"),
         (path, ["--link", "1Kbit"], 1, "too slow for this sample"),
         (path, ["--link", "128Gbit"], 0, "at twice the link: no plan"),
         (path, ["--link", "1"], 2, "Kbit, Mbit, Gbit"),
@@ -265,7 +266,7 @@ def longer_ticks(program, folder):
     """If so few pages are drawn that their rate would be 128, ticks are five times as long."""
     _, trace, weight, printed = thinned(folder, 64)
     expect_prediction(printed, reported(program, trace, weight, 5), weight, 5)
-    expect("limit: 0.100 s" in printed and "decided the stop" in printed, printed)
+    expect("limit: 100 ms" in printed and "decided the stop" in printed, printed)
 
 
 def converted(_, folder):
@@ -407,9 +408,7 @@ def predicted_series(_, folder):
         for which in ("best", "worst"):
             start = told[which]
             at = moment + datetime.timedelta(seconds=start["start_seconds"] - 1)
-            hundredths = start["sent_bytes"] * 100 >> 20
-            size = f"{hundredths // 100}.{hundredths % 100:02} MiB"
-            expect(f"  {which} {at:%H:%M:%S} {size}" in line, f"{which}: {line}")
+            expect(f"  {which} {at:%H:%M:%S} {size_text(start['sent_bytes'])}" in line, f"{which}: {line}")
     dots = pictured(picture)
     expect(len(dots) == 3 * within > 100, f"{len(dots)} dots, {within} starts")
     expect({dot[2] for dot in dots} == {day_chart.KEPT, day_chart.NOT_KEPT}, "no colours")

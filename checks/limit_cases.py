@@ -6,6 +6,7 @@ import struct
 import sys
 
 import remedy_model
+from amount_texts import error_text, moment_text, size_text, time_text
 from view_texts import TOP, Failure, document_of, ran, report_facts, sweep_facts, told
 
 sys.path.insert(0, os.path.join(TOP, "bench"))
@@ -82,16 +83,6 @@ class Limits:
         return pages * self.page * self.guest // self.sampled
 
 
-def seconds(micros):
-    return f"{micros // 1_000_000}.{micros // 1_000 % 1_000:03} s"
-
-
-def size_text(size):
-    unit, name = (1 << 20, "MiB") if size < 1 << 30 else (1 << 30, "GiB")
-    hundredths = size * 100 // unit
-    return f"{hundredths // 100}.{hundredths % 100:02} {name}"
-
-
 def costs_of(limits, start, plan):
     """Returns the time and the downtime of a plan, in microseconds, and what it sends."""
     down = plan["down"] * limits.tick + limits.reserve
@@ -104,7 +95,7 @@ def predicted_lines(limits, report, start, last):
     if stop["at"] > last:
         recorded = max(0, last - start) * limits.tick
         return ["converges: unknown, the trace ends before the migration does; record longer",
-                f"total time: more than {seconds(recorded)}"], 0, 4
+                f"total time: more than {time_text(recorded)}"], 0, 4
     time, down, sent = costs_of(limits, start, stop)
     kept = down <= limits.downtime
     ends = {"few": "yes", "fast": "no, the guest writes faster than the link sends",
@@ -112,9 +103,9 @@ def predicted_lines(limits, report, start, last):
     if stop["why"] == "few" and not kept:
         raise Failure("few pages are left, and yet the limit is not kept")
     separator = "," if stop["why"] == "few" else ";"
-    lines = [f"converges: {ends}{separator} rounds: {len(report['rounds'])}", f"total time: {seconds(time)}",
+    lines = [f"converges: {ends}{separator} rounds: {len(report['rounds'])}", f"total time: {time_text(time)}",
              f"sent: {size_text(sent)}",
-             f"downtime: {seconds(down)}, limit: {seconds(limits.downtime)}, {'kept' if kept else 'not kept'}"]
+             f"downtime: {time_text(down)}, limit: {time_text(limits.downtime)}, {'kept' if kept else 'not kept'}"]
     warnings = [stop["pages"] < 100, stop["why"] != "few"]
     return lines, sum(warnings), 0 if kept else 3
 
@@ -162,7 +153,7 @@ class Ranges:
         if not self.known:
             return []
         spans = [f"{text(min(numbers))} to {text(max(numbers))}" for text, numbers in
-                 ((size_text, self.sizes), (seconds, self.times), (seconds, self.downs))]
+                 ((size_text, self.sizes), (time_text, self.times), (time_text, self.downs))]
         return [f"starts: {self.count}, known: {len(self.known)}, converging: {self.converging}, "
                 f"limit kept: {self.kept}",
                 f"over known starts: sent {spans[0]}, time {spans[1]}, downtime {spans[2]}"]
@@ -233,7 +224,7 @@ def check_prediction(view, precopy, limits, asked, known):
     enough = enough_of(limits, start, base, known, wanted == 4)
     if errors:
         sent, time, down = errors
-        lines.append(f"standard errors: sent {size_text(sent)}, time {seconds(time)}, downtime {seconds(down)}")
+        lines.append(f"standard errors: sent {size_text(sent)}, time {error_text(time)}, downtime {error_text(down)}")
     found = text.splitlines()
     told_warnings = [line for line in found if line.startswith("warning: ")]
     if status != wanted or found[: len(lines)] != lines or len(told_warnings) != warnings:
@@ -317,8 +308,8 @@ def preference(cost):
 
 def row_of(limits, cost):
     mark = "unknown" if not cost["known"] else "kept" if cost["kept"] else "not kept"
-    cells = [str(cost["start"]), seconds(cost["start"] * limits.tick), seconds(cost["time"]), size_text(cost["sent"]),
-             seconds(cost["down"])]
+    cells = [str(cost["start"]), moment_text(cost["start"] * limits.tick), time_text(cost["time"]),
+             size_text(cost["sent"]), time_text(cost["down"])]
     return "".join(cell.rjust(14) for cell in cells) + f"  {mark}"
 
 
@@ -326,8 +317,9 @@ def choice_of(limits, name, cost):
     if cost is None:
         return f"{name} none, since no migration ends within the trace; record longer"
     mark = "kept" if cost["kept"] else "not kept"
-    return (f"{name} {seconds(cost['start'] * limits.tick)}, --start {cost['start']}: time {seconds(cost['time'])}, "
-            f"sent {size_text(cost['sent'])}, downtime {seconds(cost['down'])}, {mark}")
+    moment = moment_text(cost["start"] * limits.tick)
+    return (f"{name} {moment}, --start {cost['start']}: time {time_text(cost['time'])}, "
+            f"sent {size_text(cost['sent'])}, downtime {time_text(cost['down'])}, {mark}")
 
 
 def object_of(limits, cost):

@@ -14,6 +14,7 @@ import time
 import uuid
 
 import known_guest
+from amount_texts import size_text
 from recorder_runs import RECORD, SECONDS, TOP, expect, read_until_recording
 from sample_cases import Drawn
 
@@ -207,7 +208,7 @@ def largest_or_refused(_, folder):
             drawn = Drawn(folder, ["--pid", str(known.pid), "--mapping", "largest"])
             drawn.end()
             ranges = known.ranges().values()
-            told = [f"{begin:x}-{end:x}  {mappings.size_text(end - begin):>10}" for begin, end in ranges]
+            told = [f"{begin:x}-{end:x}  {size_text(end - begin):>10}" for begin, end in ranges]
             expect("2 mappings may be" in drawn.faults and all(line in drawn.faults for line in told), drawn.faults)
             os.unlink(known.socket)
             drawn.expect_nothing(1, "--qmp SOCKET", "--mapping BEGIN-END")
@@ -450,7 +451,7 @@ def listed_guests(_, folder):
     with Known(folder, {"nodes": [["a", "memfd", 2000], ["b", "file", 1900]], "code": 9000}) as known:
         output = os.path.join(folder, "a.light.pcwt")
         pid = str(known.pid)
-        sizes = [mappings.size_text(end - begin) for begin, end in known.ranges().values()]
+        sizes = [size_text(end - begin) for begin, end in known.ranges().values()]
         for words, status, said in (
             ([], 0, ""),
             ([output], 2, "say what to record"),

@@ -10,8 +10,8 @@ import re
 from fractions import Fraction
 
 import page_shapes
-from limit_cases import RATES, TIMES, Known, redrawn, seconds
-from limit_cases import size_text as told_size
+from amount_texts import error_text, moment_text, size_text, time_text
+from limit_cases import RATES, TIMES, Known, redrawn
 from remedies import Limits, Others, Remedies, Trial, remedies
 from view_texts import TOP, Failure, document_of, ran, report_facts, sweep_facts, told
 
@@ -146,38 +146,6 @@ class Asked:
 # ---- What the page says of a plan.
 
 
-def moment_text(micros):
-    """A moment as the page writes it: in seconds, with all their digits, or below a millisecond in microseconds."""
-    if 0 < micros < 1_000:
-        return f"{micros} \u00b5s"
-    return f"{micros // 1_000_000}.{f'{micros % 1_000_000:06}'.rstrip('0').ljust(3, '0')} s"
-
-
-def time_text(micros):
-    """How long something takes, as the page writes it: in the greatest unit that it has one of."""
-    if micros == 0:
-        return "0 s"
-    if micros < 1_000:
-        return f"{micros} \u00b5s"
-    return seconds(micros) if micros >= 1_000_000 else f"{micros / 1_000:.3f}".rstrip("0").rstrip(".") + " ms"
-
-
-def error_text(micros):
-    """The standard error of a time as the page writes it: a time with few digits."""
-    if not 1_000 <= micros < 1_000_000:
-        return time_text(micros)
-    return time_text(micros - micros % (100 if micros < 10_000 else 1_000))
-
-
-def size_text(size):
-    """A size as the page writes it: from a MiB on as precopy-view does, below in KiB or bytes."""
-    if size >= 1 << 20:
-        return told_size(size)
-    if size >= 1 << 10:
-        return f"{size >> 10}.{(size * 100 >> 10) % 100:02} KiB"
-    return f"{size} byte{'' if size == 1 else 's'}"
-
-
 def plural(count, noun):
     return f"{count:,} {noun}{'' if count == 1 else 's'}"
 
@@ -257,7 +225,7 @@ def amount_in(lines, words, units):
     if line is None:
         return None
     count, unit = re.match(r"([\d.]+) (\S+?)(?:/s)?(?:,|$)", line.removeprefix(words)).groups()
-    return math.floor(Fraction(count) * units[unit.replace("\u00b5", "u")])
+    return math.floor(Fraction(count) * units[unit])
 
 
 def enough_in(lines):

@@ -151,7 +151,7 @@ def asked(page, **more):
 def check_said(text, unit, fault):
     """A refusal says what was typed, in the unit of its control. Rates are whole bytes a second."""
     if unit:
-        word = unit.replace("us", "\u00b5s") + "/s" * (unit in RATES)
+        word = unit + "/s" * (unit in RATES)
         said = re.search(rf"(\d[\d.]*)\u00a0{word}(?!\w)", fault)
         require(said and amount_in(said[1] + unit) == amount_in(text + unit), f"{text} {unit}: {fault!r}")
     else:
@@ -394,10 +394,10 @@ def micros_in(text):
     """A time of the page as microseconds: with a sign, or `same`."""
     if text == "same":
         return 0
-    found = re.fullmatch("([-\u2212+]?)([\\d.,]+) (s|ms|\u00b5s)", text)
+    found = re.fullmatch("([-\u2212+]?)([\\d.,]+) (s|ms|us)", text)
     require(found, f"{text!r} is no time")
     sign, number, unit = found.groups()
-    size = {"s": 1_000_000, "ms": 1_000, "\u00b5s": 1}[unit]
+    size = TIMES[unit]
     return round(Fraction(number.replace(",", "")) * size) * (1 if sign in ("", "+") else -1)
 
 

@@ -6,7 +6,8 @@ import random
 import struct
 import xml.etree.ElementTree
 
-from limit_cases import Known, Limits, seconds, size_text
+from amount_texts import moment_text, size_text, time_text
+from limit_cases import Known, Limits
 from view_texts import Failure, document_of, ran, report_facts, told
 
 SVG = "{http://www.w3.org/2000/svg}"
@@ -198,8 +199,9 @@ def report_lines(report, length, limits):
     feet = [f"Stop ({stop['why']}) at tick {stop['at']}; downtime {stop['down']} ticks for {stop['pages']} pages; "
             f"{stop['total']} pages sent in all"]
     if limits:
-        feet.append(f"Stop at {seconds(stop['at'] * limits.tick)}; downtime {seconds(stop['down'] * limits.tick)} for "
-                    f"{size_text(limits.bytes(stop['pages']))}; {size_text(limits.bytes(stop['total']))} sent in all")
+        at, down = moment_text(stop["at"] * limits.tick), time_text(stop["down"] * limits.tick)
+        feet.append(f"Stop at {at}; downtime {down} for {size_text(limits.bytes(stop['pages']))}; "
+                    f"{size_text(limits.bytes(stop['total']))} sent in all")
     return [head], feet
 
 
@@ -248,8 +250,9 @@ def read_curve(panel, axis, points, starts, number_of):
 
 
 def start_line(name, at, tick):
-    return (f"{name} start at {seconds(at['start'] * tick)}: downtime {seconds(micros(at['down_seconds']))}, time "
-            f"{seconds(micros(at['time_seconds']))}, {size_text(at['sent_bytes'])} sent")
+    down, time = time_text(micros(at["down_seconds"])), time_text(micros(at["time_seconds"]))
+    return (f"{name} start at {moment_text(at['start'] * tick)}: downtime {down}, time {time}, "
+            f"{size_text(at['sent_bytes'])} sent")
 
 
 def read_starts(picture, axis, document, limit):

@@ -14,6 +14,7 @@ sys.path.append(os.path.join(TOP, "bench"))
 import redrawn  # noqa: E402
 import remedies  # noqa: E402
 import remedy_model  # noqa: E402
+from amount_texts import error_text, size_text, time_text  # noqa: E402
 
 REASONS = {
     "few": ("yes, rounds: ", ""),
@@ -144,28 +145,18 @@ def rate_word(size: int) -> str:
     return f"{size // 125}Kbit" if size % 125 == 0 else f"{size // 1024}KiB"
 
 
-def seconds(micros: int) -> str:
-    return f"{micros // 1_000_000}.{micros // 1000 % 1000:03} s"
-
-
-def size_text(size: int) -> str:
-    unit, name = (1 << 20, "MiB") if size < 1 << 30 else (1 << 30, "GiB")
-    hundredths = size * 100 // unit
-    return f"{hundredths // 100}.{hundredths % 100:02} {name}"
-
-
 def lines_of(asked: Question, told: Answer) -> list[str]:
     """The lines of `precopy-view predict`."""
     if told.kept == "unknown":
         return ["converges: unknown, the trace ends before the migration does; record longer",
-                f"total time: more than {seconds(told.recorded)}"]
+                f"total time: more than {time_text(told.recorded)}"]
     ends, warning = REASONS[told.why]
-    down = f"{seconds(told.downtime)}, limit: {seconds(asked.downtime)}"
-    lines = [f"converges: {ends}{told.rounds}", f"total time: {seconds(told.time)}", f"sent: {size_text(told.sent)}",
+    down = f"{time_text(told.downtime)}, limit: {time_text(asked.downtime)}"
+    lines = [f"converges: {ends}{told.rounds}", f"total time: {time_text(told.time)}", f"sent: {size_text(told.sent)}",
              f"downtime: {down}, {'kept' if told.kept == 'yes' else 'not kept'}"]
     if told.errors:
         sent, time, down = told.errors
-        lines.append(f"standard errors: sent {size_text(sent)}, time {seconds(time)}, downtime {seconds(down)}")
+        lines.append(f"standard errors: sent {size_text(sent)}, time {error_text(time)}, downtime {error_text(down)}")
     lines += ["warning: fewer than 100 pages decided the stop; chance moves it"] * (told.left < 100)
     return lines + [f"warning: {warning}"] * (told.why != "few")
 

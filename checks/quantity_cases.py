@@ -1,4 +1,6 @@
-"""Times, rates and sizes as words: those of quantities.tsv, and random decimals. Each door makes the same of them."""
+"""Times, rates and sizes as words: those of quantities.tsv, and random decimals. Each door makes the same of them.
+
+And amounts as texts: the tools and the page write them as checks/amount_texts.py does."""
 
 import json
 import math
@@ -8,10 +10,12 @@ import re
 import sys
 from fractions import Fraction
 
+from amount_texts import error_text, moment_text, size_text, time_text
 from limit_cases import RATES, TIMES
 from view_texts import TOP, Failure, ran
 
 sys.path.insert(0, os.path.join(TOP, "tools"))
+import quantities as tool_texts  # noqa: E402
 import words as tool_words  # noqa: E402
 
 UNITS = {"time": {**TIMES, "m": 60 * TIMES["s"], "h": 3_600 * TIMES["s"]}, "rate": RATES}
@@ -42,6 +46,19 @@ def drawn():
 
 def quantities():
     return [*table(), *drawn()]
+
+
+def amounts():
+    """Amounts on both sides of those at which a form changes, and random ones."""
+    draw = random.Random(646)
+    edges = [*(10**power for power in range(10)), *(1 << power for power in (10, 20, 30, 40))]
+    some = (int(10 ** (draw.random() * 13)) for _ in range(DRAWN))
+    return sorted({*(edge + step for edge in edges for step in (-1, 0, 1)), *some})
+
+
+def texts_of(amount):
+    """As how long something takes, as the error of that, as when something is, and as a size."""
+    return [time_text(amount), error_text(amount), moment_text(amount), size_text(amount)]
 
 
 def words_for(kind, word, amount):
@@ -79,7 +96,15 @@ def check_tool(_, __, kind, word, amount, ___):
         raise Failure(f"a tool takes {word!r} as {found} in place of {amount}")
 
 
+def check_texts(_, __, amount):
+    tool = tool_texts
+    found = [tool.time_text(amount), tool.error_text(amount), tool.moment_text(amount), tool.size_text(amount)]
+    if found != texts_of(amount):
+        raise Failure(f"a tool writes {amount} as {found} in place of {texts_of(amount)}")
+
+
 def quantity_tries(trace):
-    """Returns the tries of words over a trace with pages of 4,096 bytes."""
-    tries = [(check_tool, *row, trace) for row in quantities()]
+    """Returns the tries of amounts, and those of words over a trace with pages of 4,096 bytes."""
+    tries = [(check_texts, amount) for amount in amounts()]
+    tries += [(check_tool, *row, trace) for row in quantities()]
     return tries + [(check_program, *row, trace) for row in quantities() if row[0] != "size"]

@@ -10,7 +10,7 @@ from typing import NamedTuple
 
 import mappings
 import qmp
-from mappings import size_text
+from quantities import size_text
 from memory import PAGE
 
 OBJECTS = "/objects/"

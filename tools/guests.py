@@ -9,6 +9,7 @@ from typing import NamedTuple
 import mappings
 from domains import command_words
 from memory import Gone
+from quantities import size_text
 
 HYPERVISORS = re.compile(r"qemu-(system|kvm)|kvm$|cloud-hyperviso|firecracker|crosvm|lkvm|VBoxHeadless|bhyve")
 MACHINE = "anon_inode:kvm-vm"
@@ -38,7 +39,7 @@ class Guest(NamedTuple):
         return f"--pid {self.process} " + " ".join(f"--mapping {it.begin:x}-{it.end:x}" for it in self.memory)
 
     def told(self) -> str:
-        count, size = len(self.memory), mappings.size_text(sum(it.size for it in self.memory))
+        count, size = len(self.memory), size_text(sum(it.size for it in self.memory))
         head = f"process {self.process}  {self.name}  {size} in {count} mapping{'s' if count > 1 else ''}"
         return f"{head}\n{mappings.listed(self.memory)}\n  say it by: {self.how()}"
 

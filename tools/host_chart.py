@@ -4,6 +4,7 @@ import html
 import math
 
 from host_schedules import Placed
+from quantities import moment_text, size_text, time_text
 
 WIDTH, LEFT, RIGHT, TOP, BELOW = 900, 170, 90, 76, 44
 # Rows are lower if there are many guests, and have no texts if those would touch.
@@ -71,8 +72,8 @@ def bar(move: Placed, ends: list[int], rows: Rows, y: float) -> list[str]:
     """One guest: its name, its bar with a line at the end of each round, its downtime, and when it ends."""
     name, cost = move.guest.name, move.cost
     begin, end, stop = (rows.x_of(at) for at in (move.start, move.end, move.end - cost.downtime))
-    told = (f"{name}: {move.start / 1e6:.1f} s to {move.end / 1e6:.1f} s, {cost.sent / (1 << 20):.1f} MiB, "
-            f"downtime {cost.downtime / 1000:.0f} ms" + (f"; {cost.why}" if cost.why else ""))
+    told = (f"{name}: {moment_text(move.start)} to {moment_text(move.end)}, {size_text(cost.sent)}, "
+            f"downtime {time_text(cost.downtime)}" + (f"; {cost.why}" if cost.why else ""))
     down = min(stop, end - LEAST_DOWN)
     lines = [
         f"<g><title>{html.escape(told)}</title>",
@@ -83,7 +84,7 @@ def bar(move: Placed, ends: list[int], rows: Rows, y: float) -> list[str]:
     if rows.height >= LEAST_TEXT:
         at = y + rows.bar / 2 + 4
         lines.append(f'<text x="{LEFT - 8}" y="{at:.1f}" text-anchor="end">{html.escape(ellipsis(name))}</text>')
-        lines.append(f'<text class="end" x="{end + 5:.1f}" y="{at:.1f}">{move.end / 1e6:.1f} s</text>')
+        lines.append(f'<text class="end" x="{end + 5:.1f}" y="{at:.1f}">{moment_text(move.end)}</text>')
     return [*lines, "</g>"]
 
 

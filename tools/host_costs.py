@@ -18,6 +18,7 @@ import refusals
 import samples
 import traces
 from forecast import Forecast, Link
+from quantities import micros_of, time_text
 from refusals import Refused
 
 FORMAT = "precopy costs 1"
@@ -123,7 +124,11 @@ def planner_of(path: str, asked: Asked, base: int | None) -> Forecast:
 
 
 def micros(seconds: float) -> int:
-    return min(round(1e6 * seconds), MOST_MICROS)
+    return min(micros_of(seconds), MOST_MICROS)
+
+
+def over(name: str, seconds: float, limit: float) -> str:
+    return f"{name} {time_text(micros_of(seconds))} over {time_text(micros_of(limit))}"
 
 
 def missed(told: dict, limits: Wanted) -> str:
@@ -132,9 +137,9 @@ def missed(told: dict, limits: Wanted) -> str:
         return "the recording ends before the migration"
     migration, found = told["migration"], []
     if told["kept"] == "no":
-        found.append(f"downtime {1000 * migration['down_seconds']:.0f} ms over {1000 * limits.downtime:g} ms")
+        found.append(over("downtime", migration["down_seconds"], limits.downtime))
     if limits.time is not None and migration["time_seconds"] > limits.time:
-        found.append(f"time {migration['time_seconds']:.1f} s over {limits.time:g} s")
+        found.append(over("time", migration["time_seconds"], limits.time))
     return " and ".join(found)
 
 

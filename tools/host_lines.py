@@ -4,6 +4,7 @@ import json
 import shlex
 
 from host_schedules import Placed
+from quantities import time_text
 
 
 def milliseconds(limit: float) -> int:
@@ -49,6 +50,6 @@ def lines(kind: str, moves: list[Placed], to: str) -> list[str]:
     found, before_of = [], waited_for(moves)
     for number in sorted(range(len(moves)), key=lambda number: moves[number].start):
         move, before = moves[number], before_of[number]
-        when = f"when {before} has moved, after about {move.start / 1e6:.1f} s" if move.start else "at once"
+        when = f"when {before} has moved, after about {time_text(move.start)}" if move.start else "at once"
         found += [f"# {move.guest.name}: {when}", *KINDS[kind](move, to)]
     return found

@@ -10,6 +10,7 @@ from collections.abc import Iterable
 from typing import NamedTuple
 
 from memory import PAGE, Gone, joined
+from quantities import size_text
 
 DELETED = " (deleted)"
 HEAP = "[heap]"
@@ -57,14 +58,6 @@ class Mapping(NamedTuple):
     def told(self) -> str:
         kind = "shared" if self.rights[3] == "s" else "private"
         return f"{self.begin:x}-{self.end:x}  {size_text(self.size):>10}  {kind} {self.name}".rstrip()
-
-
-def size_text(count: int) -> str:
-    """Bytes in the unit that suits them."""
-    for unit, power in (("TiB", 40), ("GiB", 30), ("MiB", 20), ("KiB", 10)):
-        if count >= 1 << power:
-            return f"{count / (1 << power):.2f} {unit}"
-    return f"{count} bytes"
 
 
 def mappings_of(process: int) -> list[Mapping]:

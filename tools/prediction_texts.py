@@ -1,22 +1,20 @@
 """What tools/predict says beside the lines of `precopy-view predict`: of the sample, of other links, of one of several
-traces. Bytes and times are written as the program writes them."""
+traces."""
 
 import datetime
 
 import samples
+from quantities import error_text, micros_of, size_text, time_text
 
 SHORT = "unknown, the recording ends before the migration does"
 
 
-def size(count: int) -> str:
-    unit, name = (1 << 20, "MiB") if count < 1 << 30 else (1 << 30, "GiB")
-    hundredths = count * 100 // unit
-    return f"{hundredths // 100}.{hundredths % 100:02} {name}"
+def time(seconds: float) -> str:
+    return time_text(micros_of(seconds))
 
 
-def seconds(time: float) -> str:
-    millis = round(1e6 * time) // 1000
-    return f"{millis // 1000}.{millis % 1000:03} s"
+def error(seconds: float) -> str:
+    return error_text(micros_of(seconds))
 
 
 def cost(told: dict) -> list[str]:
@@ -24,19 +22,21 @@ def cost(told: dict) -> list[str]:
     if not (migration := told.get("migration")):
         return [SHORT]
     errors, parts = migration.get("errors", {}), []
-    for name, text in (("sent_bytes", size), ("time_seconds", seconds), ("down_seconds", seconds)):
-        parts.append(text(migration[name]) + (f" +- {text(errors[name])}" if name in errors else ""))
+    for name, text, of_error in (
+        ("sent_bytes", size_text, size_text), ("time_seconds", time, error), ("down_seconds", time, error)
+    ):
+        parts.append(text(migration[name]) + (f" +- {of_error(errors[name])}" if name in errors else ""))
     return [*parts, "converges" if told["converges"] == "yes" else "does not converge"]
 
 
 def of_sample(sample: samples.Sample, page_size: int) -> list[str]:
     """What was recorded, and how."""
-    whole, part, size_in_mib = sample.guest_pages, sample.sampled_pages, sample.guest_pages * page_size / (1 << 20)
+    whole, part = sample.guest_pages, sample.sampled_pages
     length = (sample.last_tick - sample.first_tick) * sample.tick_seconds
     return [
-        f"guest: {size_in_mib:,.1f} MiB in {whole:,} pages, about {sample.guest_nonzero:,} not zero",
+        f"guest: {size_text(whole * page_size)} in {whole:,} pages, about {sample.guest_nonzero:,} not zero",
         f"sample: {part:,} pages, {sample.sampled_nonzero:,} not zero; each stands for {sample.weight:.2f}",
-        f"taken: of {sample.taken_of}, {sample.taken_at}, for {length:.1f} s, by {sample.method}",
+        f"taken: of {sample.taken_of}, {sample.taken_at}, for {time(length)}, by {sample.method}",
     ]
 
 
@@ -54,5 +54,5 @@ def warnings(sample: samples.Sample) -> list[str]:
 def of_several(told: dict, begun: datetime.datetime, starts: dict, sample: samples.Sample) -> str:
     """The line of one of several traces: when the migration begins, what it costs, the best and the worst start."""
     parts = [f"{begun:%Y-%m-%d %H:%M:%S}", *cost(told)]
-    parts += [f"{name} {moment:%H:%M:%S} {size(start['sent_bytes'])}" for name, (moment, start) in starts.items()]
+    parts += [f"{name} {moment:%H:%M:%S} {size_text(start['sent_bytes'])}" for name, (moment, start) in starts.items()]
     return "  ".join(parts + [f"{sample.late} of {sample.samples} looks late"] * (sample.late > 0))

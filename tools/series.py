@@ -18,6 +18,7 @@ import memory
 import samples
 import sources
 import traces
+from quantities import micros_of, time_text
 
 LIGHT = ".light.pcwt"
 STAMP = "%Y%m%dT%H%M%SZ"
@@ -81,7 +82,7 @@ class Series:
 
 def told(path: str, recorder, seconds: float, ended_by) -> str:
     """One line of a segment that is whole."""
-    writes = f"{recorder.writer.writes:,} writes in {seconds:.1f} s"
+    writes = f"{recorder.writer.writes:,} writes in {time_text(micros_of(seconds))}"
     looks = f"{recorder.samples} looks, {recorder.late} late"
     early = f"; ended early: {traces.told(ended_by)}" if ended_by is not None else ""
     return f"segment {os.path.basename(path)}: {writes}, {looks}{early}"

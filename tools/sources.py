@@ -8,7 +8,7 @@ import guest_memory
 import mappings
 import qmp
 from guests import name_of
-from mappings import size_text
+from quantities import size_text
 from memory import PAGE, FileSource
 
 # How long a monitor is waited for while the guest is recorded.

@@ -36,7 +36,7 @@ const CONTROLS = {
 };
 
 /** Between a number and its unit or noun, which stay on one line. */
-const BEFORE_UNIT = /(?<=\d) (?=[A-Za-z\u00b5%])/g;
+const BEFORE_UNIT = /(?<=\d) (?=[A-Za-z%])/g;
 
 /** The rate of a page per 1,000 ticks in words: what a rate has at least. */
 function leastRate({ sample, tick }) {
@@ -54,7 +54,7 @@ function isSlow(state, sizes) {
  * `precopy-view`: what is asked has no commas.
  */
 const SENTENCES = {
-  tick: ({ tick }) => `${timeWords(tick)} is not 1 \u00b5s to 1 s.`,
+  tick: ({ tick }) => `${timeWords(tick)} is not 1 us to 1 s.`,
   sample: (state, { pages }) => {
     const { part, whole } = state.sample ?? { part: pages, whole: pages };
     if (part < pages) {

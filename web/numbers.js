@@ -1,5 +1,5 @@
-// Numbers as text, without commas where they have a unit. Sizes are rounded down; from a MiB on they are those of
-// `precopy-view predict`. How long something takes has the unit in which the controls say it.
+// Numbers as text, without commas where they have a unit. Times, errors of times, moments and sizes have the forms of
+// `precopy-view predict`.
 
 /** The units of sizes, from the greatest to bytes, and their names. */
 export const SIZE_UNITS = [[1n << 30n, "GiB"], [1n << 20n, "MiB"], [1n << 10n, "KiB"], [1n, "bytes"]];
@@ -28,18 +28,16 @@ export function decimalText(number, divisor, digits) {
   return rest && digits > 0 ? `${whole}.${rest}` : String(whole);
 }
 
-/** A time, given in microseconds: seconds with three digits after the point. */
+/** A time, given in microseconds: seconds with three digits after the point, rounded down. */
 function secondsText(micros) {
   const millis = micros / 1_000n;
   return `${millis / 1_000n}.${String(millis % 1_000n).padStart(3, "0")} s`;
 }
 
-/** A moment, in microseconds since a begin: in seconds with all their digits, below a millisecond in microseconds. */
+/** A moment, in microseconds since a begin: seconds with three digits after the point if these are exact, else six. */
 export function momentText(micros) {
-  if (micros > 0n && micros < 1_000n) {
-    return `${micros} \u00b5s`;
-  }
-  return micros % 1_000n === 0n ? secondsText(micros) : `${decimalText(micros, 1_000_000n, 6)} s`;
+  const whole = micros / 1_000_000n;
+  return micros % 1_000n === 0n ? secondsText(micros) : `${whole}.${String(micros % 1_000_000n).padStart(6, "0")} s`;
 }
 
 /** How long something takes, in microseconds: in the greatest unit that it has one of. Only seconds are rounded. */
@@ -48,12 +46,12 @@ export function timeText(micros) {
     return "0 s";
   }
   if (micros < 1_000n) {
-    return `${micros} \u00b5s`;
+    return `${micros} us`;
   }
   return micros < 1_000_000n ? `${decimalText(micros, 1_000n, 3)} ms` : secondsText(micros);
 }
 
-/** The standard error of a time, in microseconds: as a time, with few digits. */
+/** The standard error of a time, in microseconds: as a time, with few digits, rounded down. */
 export function errorTimeText(micros) {
   const digits = micros < 10_000n ? 1 : 0;
   return micros < 1_000n || micros >= 1_000_000n ? timeText(micros) : `${decimalText(micros, 1_000n, digits)} ms`;
@@ -64,7 +62,7 @@ export function unbroken(text) {
   return text.replace(" ", "\u00a0");
 }
 
-/** A size, in the greatest unit that it has one of, with two digits after the point; bytes without. */
+/** A size, in the greatest unit that it has one of, with two digits after the point, rounded down; bytes without. */
 export function bytesText(bytes) {
   if (bytes === 1n) {
     return "1 byte";

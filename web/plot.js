@@ -67,7 +67,7 @@ function stepFor(span, most) {
 
 /** A time in microseconds as a label, if labels are `step` microseconds apart, up to `last`. */
 function timeLabel(micros, step, last) {
-  const [unit, name] = step >= 1e5 && last >= 1e6 ? [1e6, "s"] : step >= 100 ? [1e3, "ms"] : [1, "\u00b5s"];
+  const [unit, name] = step >= 1e5 && last >= 1e6 ? [1e6, "s"] : step >= 100 ? [1e3, "ms"] : [1, "us"];
   const digits = Math.max(0, Math.ceil(-Math.log10(step / unit) - 1e-9));
   return `${(micros / unit).toFixed(Math.min(digits, 6))} ${name}`;
 }

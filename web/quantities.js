@@ -125,7 +125,7 @@ export function quantityNear(amount, unit, units) {
 
 /** The name of a unit as it is shown. */
 export function unitName(unit, units) {
-  return `${unit === "us" ? "\u00b5s" : unit}${units === RATE_UNITS ? "/s" : ""}`;
+  return `${unit}${units === RATE_UNITS ? "/s" : ""}`;
 }
 
 /** A quantity in words. */

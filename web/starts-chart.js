@@ -21,7 +21,7 @@ const MOST_OF_UNIT = 1_000;
 
 /** The unit of times up to a greatest one, in microseconds: that in which the page's words say it. */
 function timeUnit(most) {
-  return most < 1e3 ? [1, "\u00b5s"] : most < 1e6 ? [1e3, "ms"] : [1e6, "s"];
+  return most < 1e3 ? [1, "us"] : most < 1e6 ? [1e3, "ms"] : [1e6, "s"];
 }
 
 /** The same of sizes. */

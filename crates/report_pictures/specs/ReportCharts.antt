@@ -1,5 +1,5 @@
 -- A report as a picture: the working set by window, and the rounds below it on an axis of their own. This project's own.
-use Rattle.std.specs.Prelude.{◌≡◌, ℕ, ◌+◌, ◌-◌, ◌*◌, max, min, List, [], ◌++◌, length, codes}
+use Rattle.std.specs.Prelude.{◌≡◌, ℕ, ◌+◌, ◌-◌, max, List, [], ◌++◌, length, codes}
 use Rattle.std.specs.Prelude.{Option, None, Some}
 use Rattle.std.specs.List.{flat_map, fold}
 use Rattle.predictions.specs.Units.Scales.{TraceScale}
@@ -7,10 +7,9 @@ use Rattle.migration_model.specs.Rates.{MigrationSettings, word_of}
 use Rattle.migration_model.specs.Rounds.{MigrationPlan, PlannedRound, total_of}
 use Rattle.migration_model.specs.Windows.{WindowRow, WorkingSets}
 use Rattle.sweep_report.specs.Lines.{field}
-use Rattle.report_pictures.specs.Columns.{most_of}
 use Rattle.report_pictures.specs.Labels.{AreLabels, capped, place_on}
 use Rattle.report_pictures.specs.MeasuredScreens.{named_moment, named_size, named_time}
-use Rattle.report_pictures.specs.Panels.{bar_height, bar_mark, bottom_of, frame_text, key_mark, level_of, parted_of}
+use Rattle.report_pictures.specs.Panels.{bar_height, bar_mark, frame_text, key_mark, level_of, parted_of}
 use Rattle.report_pictures.specs.Panels.{span_mark}
 use Rattle.report_pictures.specs.Spans.{axis_over, axis_with, panel_with}
 use Rattle.report_pictures.specs.Svg.{area_of, rect_text, text_end, text_head}

@@ -6,7 +6,7 @@ use Rattle.std.specs.List.{flat_map, fold}
 use Rattle.predictions.specs.Units.Scales.{TraceScale, micros_of}
 use Rattle.predictions.specs.declared.units.limits.Limits.{Limits}
 use Rattle.migration_model.specs.Rates.{MigrationSettings}
-use Rattle.migration_model.specs.Windows.{WindowRow, WorkingSets}
+use Rattle.migration_model.specs.Windows.{WorkingSets}
 use Rattle.predictions.specs.Starts.Costs.{CostAtStart}
 use Rattle.predictions.specs.Quantities.{bytes_text, moment_text, time_text}
 use Rattle.sweep_report.specs.Lines.{field}

@@ -143,16 +143,14 @@ fn push_cell(
 {
     let from = first_page(cells, count, cell);
     let to = first_page(cells, count, cell + 1);
-    push_words(text, shade_of(count_within(pages, from, to), to.saturating_sub(from)))
+    push_words(
+        text,
+        shade_of(count_within(pages, from, to), to.saturating_sub(from)),
+    )
 }
 
 /// Appends all cells of the strip.
-fn push_cells(
-    text: &mut Vec<u8>,
-    cells: u32,
-    count: u32,
-    pages: &[u32],
-) -> Result<(), AllocError>
+fn push_cells(text: &mut Vec<u8>, cells: u32, count: u32, pages: &[u32]) -> Result<(), AllocError>
     ensures { OnOk result (text.new.items
         ≡ text.old.items ++ flat_map (cell_text pages.now cells count) (range_with_len 0 cells)) }
 {
@@ -192,12 +190,7 @@ fn run_lines(alloc: Global, style: &Style, pages: &[u32]) -> Result<Vec<u8>, All
 }
 
 /// Returns where the hot pages of a guest of `count` pages lie: their runs, and a strip. Of no pages it is empty.
-fn spots_of(
-    alloc: Global,
-    style: &Style,
-    count: u32,
-    pages: &[u32],
-) -> Result<Vec<u8>, AllocError>
+fn spots_of(alloc: Global, style: &Style, count: u32, pages: &[u32]) -> Result<Vec<u8>, AllocError>
     ensures { IfOk result (λ spots. (lines : List ℕ)
         × (spots.items ≡ spots_text style.now.width count pages.now lines)) }
 {

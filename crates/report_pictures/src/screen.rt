@@ -309,14 +309,7 @@ pub fn report_screen(
     push_trace(&mut text, shape)?;
     end_line(&mut text)?;
     push_windows(alloc, &mut text, style, asked.window, &tables.windows)?;
-    push_hot(
-        alloc,
-        &mut text,
-        style,
-        asked.hot,
-        shape.pages,
-        &tables.hot,
-    )?;
+    push_hot(alloc, &mut text, style, asked.hot, shape.pages, &tables.hot)?;
     push_rounds(alloc, &mut text, style, &plan.rounds)?;
     push_stop(&mut text, plan)?;
     Ok(text)
@@ -347,14 +340,7 @@ pub fn measured_screen(
         asked.window,
         &tables.windows,
     )?;
-    push_hot(
-        alloc,
-        &mut text,
-        style,
-        asked.hot,
-        shape.pages,
-        &tables.hot,
-    )?;
+    push_hot(alloc, &mut text, style, asked.hot, shape.pages, &tables.hot)?;
     units_screen::push_rounds(alloc, &mut text, style, scale, settings, plan)?;
     units_screen::push_stop(&mut text, scale, plan)?;
     Ok(text)

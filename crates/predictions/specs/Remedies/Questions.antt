@@ -1,5 +1,5 @@
 -- What is enough for a question, in the numbers that C and a web page have. This project's own.
-use Rattle.std.specs.Prelude.{ℕ, ◌-◌, ◌*◌, ◌^◌, is_some, min, unwrap_or, if◌then◌else◌}
+use Rattle.std.specs.Prelude.{◌-◌, ◌*◌, ◌^◌, is_some, min, unwrap_or, if◌then◌else◌}
 use Rattle.predictions.specs.Remedies.Trials.{MigrationTrial}
 use Rattle.predictions.specs.declared.remedies.finding.Remedies.{Remedies}
 use Rattle.predictions.specs.declared.remedies.numbers.RemedyNumbers.{RemedyNumbers}

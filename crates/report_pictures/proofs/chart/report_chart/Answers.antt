@@ -1,11 +1,10 @@
-use Rattle.std.proofs.Common.{rules, ◌≡◌, ◌++◌, ℕ, List, ap, sym, subst, append_assoc, ◌∙◌}
+use Rattle.std.proofs.Common.{rules, ◌≡◌, ◌++◌, ℕ, List, ap, subst, append_assoc, ◌∙◌}
 use Rattle.migration_model.specs.Rates.{MigrationSettings}
 use Rattle.report_pictures.specs.Labels.{AreLabels}
 use Rattle.report_pictures.specs.Panels.{bottom_of}
 use Rattle.report_pictures.specs.ReportCharts.{pages_panel, rates_panel, rounds_axis, windows_panel}
 use Rattle.report_pictures.specs.Spans.{axis_over}
 use Rattle.report_pictures.specs.declared.axis.Axis.{Axis}
-use Rattle.report_pictures.specs.declared.panel.Panel.{Panel}
 use Rattle.report_pictures.proofs.chart.report_chart.Goals as goal
 
 pub returns : goal.returns
