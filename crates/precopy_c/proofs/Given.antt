@@ -1,14 +1,13 @@
 -- Refused settings, and cases tested one after the other.
-use Rattle.std.proofs.Common.{◌≡◌, ℕ, ◌+◌, ◌<◌, List, [], ◌∷◌, ◌++◌, length, get_or, take, drop, map, sym, ap, ◌∙◌}
+use Rattle.std.proofs.Common.{◌≡◌, ℕ, ◌+◌, ◌<◌, List, [], ◌∷◌, ◌++◌, length, get_or, take, drop, sym, ap, ◌∙◌}
 use Rattle.std.specs.List.{All}
-use Rattle.std.proofs.lemmas.List.{drop_more, map_more, take-append-drop, take_more}
+use Rattle.std.proofs.lemmas.List.{drop_more, take-append-drop, take_more}
 use Rattle.std.proofs.lemmas.List.Elements.{All-append, All-cons, All-nil}
-use Rattle.migration_model.specs.Rates.{MigrationSettings}
 use Rattle.precopy_c.specs.declared.answers.Refusal.{Refusal}
 use Rattle.precopy_c.specs.declared.answers.Refusal.TheVariants as refusals
 use Rattle.precopy_c.specs.declared.settings.SizedSettings.{SizedSettings}
 use Rattle.precopy_c.specs.Plans.{RefusesPlan}
-use Rattle.precopy_c.specs.Settings.{AreGiven, RefusesSettings, settings_in}
+use Rattle.precopy_c.specs.Settings.{AreGiven, RefusesSettings}
 use Rattle.precopy_c.specs.Sweeps.{RefusesCase, RefusesSweep}
 
 -- with refused settings there is no plan
@@ -52,16 +51,6 @@ RefusesCase-at cases i d refusal low given refused = record {
 }
 
 -- one more case
-pub made_more : (cases : List SizedSettings) (i : ℕ) (d : SizedSettings) (checked next : List MigrationSettings)
-    (settings : MigrationSettings) → i < length cases
-    → checked ≡ map settings_in (take i cases) → settings ≡ settings_in (get_or cases i d)
-    → next ≡ checked ++ settings ∷ []
-    → next ≡ map settings_in (take (i + 1) cases)
-made_more cases i d checked next settings low made is pushed =
-    pushed ∙ ap (λ (s : MigrationSettings). checked ++ s ∷ []) is
-    ∙ ap (λ (l : List MigrationSettings). l ++ settings_in (get_or cases i d) ∷ []) made
-    ∙ sym (map_more settings_in cases i d low)
-
 pub given_more : (cases : List SizedSettings) (i : ℕ) (d : SizedSettings) → i < length cases
     → All AreGiven (take i cases) → AreGiven (get_or cases i d) → All AreGiven (take (i + 1) cases)
 given_more cases i d low before given =

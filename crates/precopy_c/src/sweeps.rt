@@ -1,6 +1,6 @@
 //! Sweeps: the sums of many plans of one trace, and the best of them.
 
-ghost use Rattle.std.specs.Prelude.{◌≡◌, ◌≢◌, ◌<◌, ◌≤◌, ◌⊎◌, ℕ, List, IfErr, IfOk, OnOk, length, map};
+ghost use Rattle.std.specs.Prelude.{◌≡◌, ◌≢◌, ◌<◌, ◌≤◌, ◌⊎◌, ℕ, List, IfErr, IfOk, IsOk, OnOk, length, map};
 ghost use Rattle.std.specs.List.{All};
 ghost use Rattle.migration_model.specs.Sweeps.{SweepLine, best_of};
 ghost use Rattle.migration_model.specs.Trace.{GuestTrace, Spells};
@@ -22,6 +22,7 @@ use trace_readers::TouchLog;
 fn test_cases(cases: &[SizedSettings]) -> Result<(), Refusal>
     ensures given { OnOk result (All AreGiven cases.now) }
     ensures refused { IfErr result (RefusesCase cases.now) }
+    ensures only { All AreGiven cases.now → IsOk result }
 {
     for case in cases {
         if let Err(refusal) = case.checked() {
