@@ -1,5 +1,5 @@
 -- Streams that come in many pieces, one call after the other. This project's own.
-use Rattle.std.specs.Prelude.{◌≡◌, ◌≢◌, ℕ, ◌+◌, ◌*◌, List, [], ◌∷◌, ◌++◌, drop, replicate}
+use Rattle.std.specs.Prelude.{◌≡◌, ℕ, ◌+◌, ◌*◌, List, [], ◌∷◌, ◌++◌, drop, replicate}
 use Rattle.std.specs.List.{flat_map}
 use Rattle.page_message.specs.declared.error.FrameError.TheVariants.{Short}
 use Rattle.stream_check.specs.declared.faults.FrameCause.TheVariants.{Refused}
