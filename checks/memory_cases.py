@@ -16,7 +16,7 @@ import uuid
 import known_guest
 from amount_texts import size_text
 from recorder_runs import RECORD, SECONDS, TOP, expect, read_until_recording
-from sample_cases import Drawn
+from sample_runs import Drawn
 
 import guest_memory
 import mappings

@@ -8,7 +8,8 @@ import subprocess
 import sys
 
 from recorder_runs import SECONDS, TOP, expect
-from sample_cases import PAGE, PAGES, Pages, exact, mapped_anew
+from sample_cases import exact, mapped_anew
+from sample_runs import PAGE, PAGES, Pages
 
 sys.path.append(os.path.join(TOP, "packaging"))
 import contents  # noqa: E402

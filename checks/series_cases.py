@@ -13,7 +13,7 @@ import uuid
 
 from memory_cases import Known, virsh_in
 from recorder_runs import RECORD, SECONDS, TOP, Run, expect, read_until_recording
-from sample_cases import PAGE, PAGES, Pages
+from sample_runs import PAGE, PAGES, Pages
 
 import samples
 import series

@@ -1,7 +1,9 @@
 //! The same migration over a log, started at many ticks.
 
-ghost use Rattle.std.specs.Prelude.{◌≡◌, IfErr, IfOk};
+ghost use Rattle.std.specs.Prelude.{◌≡◌, IfErr, IfOk, OnOk};
 ghost use Rattle.migration_model.specs.Windows.{working_sets_of};
+ghost use Rattle.predictions.specs.Predictions.{last_tick_of};
+ghost use Rattle.predictions.specs.Starts.{AreAccepted};
 ghost use Rattle.report_pictures.specs.StartCharts.{IsStartsChart};
 ghost use Rattle.trace_views.specs.StartViews.{AreStartsOf, IsStartsText, IsStartsView, RefusesStartsView};
 ghost use Rattle.trace_views.specs.StartViews.{kept_from};
@@ -47,6 +49,7 @@ fn starts_found<R: Threads + Sync>(
     log: &TouchLog,
 ) -> Result<Found, ViewError>
     ensures made { IfOk result (λ found. AreStartsOf log.now asked.now found.costs.items found.best found.worst) }
+    ensures accepted { OnOk result (AreAccepted asked.now.settings asked.now.starts (last_tick_of log.now.touches)) }
     ensures refused { IfErr result (RefusesStartsView log.now asked.now) }
 {
     let last = last_tick(log);
