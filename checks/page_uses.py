@@ -11,6 +11,7 @@ import struct
 import xml.etree.ElementTree
 from fractions import Fraction
 
+import page_cases
 import page_shapes
 from limit_cases import RATES, TIMES
 from page_cases import example
@@ -108,7 +109,7 @@ def check_files(page, folder):
     page.browser.wait(f"opened === {before + 2} && isDrawn()")
     said = page.browser.value("textOf('trace-notes') + ' | ' + textOf('trace-state')")
     require("three.pcwt is still open." in said and "three.pcwt: 25 pages" in said, said)
-    require(page.shown()["rounds"][0][4] == 25, f"rounds of another trace: {page.shown()['rounds'][0]}")
+    require(page.shown()["rounds"][0][4] == "25", f"rounds of another trace: {page.shown()['rounds'][0]}")
     path = os.path.join(folder, "chosen.pcwt")
     with open(path, "wb") as file:
         file.write(good)
@@ -201,18 +202,23 @@ def check_unread(page):
 # ---- Units.
 
 
+def without_units(found):
+    """What the page shows but for rates and words in the unit of a control."""
+    return {**found, "rounds": [row[:3] + row[4:] for row in found["rounds"]], "predict": None, "notes": None}
+
+
 def check_units(page):
     """Another unit of a control is the same amount; a decimal is the amount that it says."""
     draw = random.Random(300)
     for name, units, some in (("link", RATES, "64MiB"), ("downtime", TIMES, "300ms"), ("reserve", TIMES, "1500us"),
                               ("link", RATES, "10Gbit"), ("tick", TIMES, "1ms")):
         page.ask(f"trace=sqlite&{name}={some}")
-        before = page.shown()
+        before = without_units(page.shown())
         for _ in range(5):
             unit = draw.choice(sorted(units))
-            found = page.after(f"const unit = document.querySelector('[data-control={name}] select');"
-                               f"unit.value = '{unit}'; unit.dispatchEvent(new Event('change'))")
-            differing = [key for key in found if found[key] != before[key] and key != "predict"]
+            found = without_units(page.after(f"const unit = document.querySelector('[data-control={name}] select');"
+                                             f"unit.value = '{unit}'; unit.dispatchEvent(new Event('change'))"))
+            differing = [key for key in found if found[key] != before[key]]
             require(not differing, f"{name} {some} in {unit}: other {differing}")
         settled(page)
         require(amount_in(word_of(page, name)) == amount_in(some), word_of(page, name))
@@ -267,7 +273,7 @@ def check_warm(page):
         found = page.after("document.getElementById('control-warm').click()")
         base, at = page.browser.value("['base', 'start'].map((name) => Number(document.getElementById("
                                       "`control-${name}`).value))")
-        require(base < at and found["rounds"][0][4] > 0, f"start {start}: copy {base}, start {at}")
+        require(base < at and found["rounds"][0][4] != "0", f"start {start}: copy {base}, start {at}")
     page.browser.value("document.getElementById('ask').click()")
     page.browser.wait("document.querySelector('#starts-choice p') !== null && !document.getElementById("
                       "'starts-answer').hidden && document.getElementById('starts-progress').hidden")
@@ -462,12 +468,25 @@ def saved_files(page, count):
 # The heads of the tables that are saved: each number has a unit.
 HEADS = {
     "prediction": "plan,downtime_us,time_us,sent_bytes,rounds,left_pages,stop_us,start_us,reason,kept,converges",
-    "rounds-this": "round,from_ticks,to_ticks,rate_pages_per_1000_ticks,pages,sent_pages,dirtied_pages",
+    "rounds-this": "round,from_us,to_us,rate_bytes_per_second,pages,sent_pages,dirtied_pages,from_tick,to_tick,"
+                   "rate_pages_per_1000_ticks",
     "working-set": "window,from_us,to_us,writes,pages,again_pages,fresh_pages",
     "starts": "tick,start_us,time_us,sent_bytes,downtime_us,kept",
 }
 LEGENDS = {"rounds-this": ["Rounds", "sent", "downtime"], "working-set": ["Working set", "never before", "stop"],
            "starts": ["When to move", "by start", "worst"]}
+
+
+def check_rounds(rows, shown):
+    """The file of rounds has the numbers of the table, whose ticks are milliseconds, and the same in ticks."""
+    start, page, weight = int(PLAIN["start"]), 4096, Fraction(129_819, 4_154)
+    texts = []
+    for number, begin, end, size, *pages, first, last, rate in rows:
+        require((begin, end) == ((first - start) * 1_000, (last - start) * 1_000), f"{begin}, {end}: {first}, {last}")
+        require(size == math.floor(rate * page * weight), f"{size} bytes a second for a rate of {rate}")
+        texts.append([f"{number:,}", page_cases.moment_text(begin), page_cases.moment_text(end),
+                      page_cases.few_digits(rate * page * weight / RATES["Gbit"]), *(f"{some:,}" for some in pages)])
+    require(texts == shown["rounds"], f"{texts} in place of {shown['rounds']}")
 
 
 def check_table(name, text, shown):
@@ -477,8 +496,7 @@ def check_table(name, text, shown):
     require({line.count(",") for line in lines} == {head.count(",")}, f"{name}: {lines[:3]}")
     rows = [line.split(",") for line in lines]
     if name == "rounds-this":
-        rows = [[int(cell) for cell in row] for row in rows]
-        require(rows == shown["rounds"], f"{rows} in place of {shown['rounds']}")
+        check_rounds([[int(cell) for cell in row] for row in rows], shown)
     elif name == "working-set":
         tick, length = 1_000, int(PLAIN["window"])
         times = [[int(row[0]) * length * tick, (int(row[0]) + 1) * length * tick] for row in rows]

@@ -54,7 +54,7 @@ function isSlow(state, sizes) {
  * `precopy-view`: what is asked has no commas.
  */
 const SENTENCES = {
-  tick: ({ tick }) => `${timeWords(tick)} is not 1 \u00b5s to 1 s.`,
+  tick: ({ tick }) => `A tick of ${timeWords(tick)} is not one of 1 \u00b5s to 1 s.`,
   sample: (state, { pages }) => {
     const { part, whole } = state.sample ?? { part: pages, whole: pages };
     if (part < pages) {
@@ -71,8 +71,8 @@ const SENTENCES = {
   reserve: ({ reserve, downtime }) => `${timeWords(reserve)} is more than the downtime limit of `
     + `${timeWords(downtime)}.`,
   downtime: ({ downtime }) => `In ${timeWords(downtime)} the link moves more than 65,535 pages of the trace.`,
-  rounds: ({ rounds: most }) => `${most} rounds are not 1 to ${MOST_ROUNDS}.`,
-  window: ({ window: length }) => `${length} ticks are not 1 to 2^40.`,
+  rounds: ({ rounds: most }) => `${most} rounds at most: there can be 1 to ${MOST_ROUNDS}.`,
+  window: ({ window: length }) => `A window of ${length} ticks is not one of 1 to 2^40.`,
   start: ({ start }) => `Tick ${start} is not below 2^40.`,
   base: ({ base, start }) => `Tick ${base} is after the start, tick ${start}.`,
 };

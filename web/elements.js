@@ -55,6 +55,27 @@ export function byId(id) {
   return document.getElementById(id);
 }
 
+/** Gives an element words, if it has others: what stays needs no layout. */
+export function tellIn(element, words) {
+  if (element.textContent !== words) {
+    element.textContent = words;
+  }
+}
+
+/** Gives an element an attribute, if it has another. */
+export function mark(element, name, value) {
+  if (element.getAttribute(name) !== value) {
+    element.setAttribute(name, value);
+  }
+}
+
+/** Gives an element a property that is a word, if it has another. */
+export function put(element, name, value) {
+  if (element[name] !== String(value)) {
+    element[name] = value;
+  }
+}
+
 /** Calls `act` in the next frame, once for all calls before it. */
 export function oncePerFrame(act) {
   let isPending = false;

@@ -4,16 +4,15 @@
 import { ControlRefusal } from "./asking.js";
 import { byId, html } from "./elements.js";
 import { bytesText, momentText, timeText } from "./numbers.js";
-import {
-  comparisonOf, comparisonRows, refusalPart, refusedWords, roundsFile, roundsTable, verdictOf, verdictParts,
-} from "./outcome.js";
 import { saveButtons } from "./exports.js";
 import { Inspector } from "./inspector.js";
+import { comparisonOf, comparisonRows, refusalPart, refusedWords, verdictOf, verdictParts } from "./outcome.js";
 import { WorkerEnded } from "./planner-client.js";
 import { watchWidths, widthOf } from "./plot.js";
 import { isUnknown, keptWords } from "./predictions.js";
 import { quantityWords } from "./quantities.js";
 import { reachOf, roundsLook, roundsPicture } from "./rounds-chart.js";
+import { roundsFile, roundsTable } from "./tables.js";
 import { amountOf, microsOf, RATE_UNITS, TIME_UNITS } from "./units.js";
 
 /** The predictions of kept plans that are not refused. */
@@ -71,8 +70,8 @@ class RoundsFigure {
     this.prediction = prediction;
     const { axis, picture } = roundsPicture(widthOf(this.plot), prediction, reach);
     this.plot.replaceChildren(picture);
-    this.inspector.hold(roundsLook(axis, prediction));
-    this.table.replaceChildren(roundsTable(prediction));
+    this.inspector.hold(roundsLook(axis, prediction, reach));
+    this.table.replaceChildren(roundsTable(prediction, reach.unit));
   }
 }
 
