@@ -193,6 +193,11 @@ def few_digits(share):
     return f"{whole}.{rest:0{digits}}".rstrip("0").rstrip(".") if digits else str(whole)
 
 
+def seconds_in(micros):
+    """A moment in a table, as the page writes it: in seconds, with all their digits, of which there are three."""
+    return f"{micros // 1_000_000:,}.{f'{micros % 1_000_000:06}'.rstrip('0').ljust(3, '0')}"
+
+
 def round_texts(asked, rounds):
     """The table of rounds, as the page writes it: rates are in a unit of the link's family that the link has one of."""
     def share(rate):
@@ -203,7 +208,7 @@ def round_texts(asked, rounds):
     unit = max(fitting, key=RATES.get, default=unit)
     rows = []
     for number, begin, end, rate, *pages in (some.values() for some in rounds):
-        row = [f"{number:,}", *(moment_text((tick - asked.start) * asked.tick) for tick in (begin, end)),
+        row = [f"{number:,}", *(seconds_in((tick - asked.start) * asked.tick) for tick in (begin, end)),
                few_digits(share(rate) / RATES[unit]), *(f"{count:,}" for count in pages)]
         rows.append(row + [f"{count:,}" for count in (begin, end, rate)] * asked.ticks)
     return rows
@@ -212,7 +217,7 @@ def round_texts(asked, rounds):
 def window_texts(asked, windows):
     """The table of windows, as the page writes it."""
     rows = [list(some.values()) for some in windows[:ROWS_SHOWN]]
-    return [[f"{number:,}", moment_text(number * asked.window * asked.tick), *(f"{count:,}" for count in counts)]
+    return [[f"{number:,}", seconds_in(number * asked.window * asked.tick), *(f"{count:,}" for count in counts)]
             for number, *counts in rows]
 
 

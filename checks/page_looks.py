@@ -7,6 +7,7 @@ import os
 import threading
 
 import page_shapes
+from browser import WIDER_THAN_PHONES
 from page_cases import example
 from view_texts import Failure
 
@@ -124,17 +125,27 @@ def open_example(page, more=""):
     page.wait_for_plan()
 
 
+# Whether the page takes its user for one with a finger, and what it then says of a pointer or of keys.
+TOUCHED = """[matchMedia("(pointer: coarse)").matches, [...document.querySelectorAll(".readout")]
+  .filter((readout) => readout.dataset.touch && readout.textContent === readout.dataset.hint).length > 0]"""
+
+
 def check_look(page, name):
     browser = page.browser
     width = browser.value("innerWidth")
+    is_phone = width < WIDER_THAN_PHONES
+    is_touched, is_pointed = browser.value(TOUCHED)
+    require(is_touched == is_phone and not (is_phone and is_pointed), f"{name}: touched {is_touched}, {is_pointed}")
     wide = browser.value("document.documentElement.scrollWidth")
     require(wide <= width, f"{wide} pixels in a width of {width}, {name}")
     poor = browser.value(CONTRAST.replace("BOUND", str(LEAST_CONTRAST)))
     require(not poor, f"contrast, {name}: {poor}")
     over = browser.value(OVERLAPS)
     require(not over, f"texts, {name}: {over}")
-    cut = browser.value("[...document.querySelectorAll('#comparison, #controls, pre')]"
-                        ".filter((part) => part.scrollWidth > part.clientWidth).map((part) => part.id)")
+    # A table in ticks, too, may be wider than a phone.
+    cut = browser.value("[...document.querySelectorAll('#comparison, #controls, pre, .scrolls')]"
+                        ".filter((part) => part.scrollWidth > part.clientWidth && (!part.matches('.scrolls')"
+                        " || !document.getElementById('control-ticks').checked)).map((part) => part.id)")
     require(not cut, f"wider than their places, {name}: {cut}")
 
 

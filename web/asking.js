@@ -1,6 +1,7 @@
 // What the controls ask of the module: a question, and the settings that it makes of that. What it refuses is told at
 // the control that says it, in the units of the control.
 
+import { countOf, timeText } from "./numbers.js";
 import { MOST_ROUNDS, Refusal } from "./planner.js";
 import { quantityWords } from "./quantities.js";
 import { amountOf, limitsOf, RATE_UNITS, scaleOf, shareOf, TIME_UNITS } from "./units.js";
@@ -38,9 +39,9 @@ const CONTROLS = {
 /** Between a number and its unit or noun, which stay on one line. */
 const BEFORE_UNIT = /(?<=\d) (?=[A-Za-z\u00b5%])/g;
 
-/** The rate of a page per 1,000 ticks in words: what a rate has at least. */
-function leastRate({ sample, tick }) {
-  return `1 ${sample ? "sample page" : "page"} per 1,000 ticks of ${timeWords(tick)}`;
+/** So many pages per 1,000 ticks in words. */
+function pagesInTicks(count, { sample, tick }) {
+  return `${countOf(count, sample ? "sample page" : "page")} in ${timeText(1_000n * amountOf(tick))} (1,000 ticks)`;
 }
 
 /** Whether a link moves less than a page of the trace in 1,000 ticks. */
@@ -64,10 +65,9 @@ const SENTENCES = {
       : `A guest of ${whole} pages has more than 2^32 pages.`;
   },
   link: (state, sizes) => (isSlow(state, sizes)
-    ? `${rateWords(state.link)} is less than ${leastRate(state)}. Longer ticks allow a slower link.`
-    : `${rateWords(state.link)} is more than 1,000,000 pages per 1,000 ticks of ${timeWords(state.tick)}. Shorter `
-      + "ticks allow a faster link."),
-  first: (state) => `${state.first} % of the link is less than ${leastRate(state)}.`,
+    ? `${rateWords(state.link)} is less than ${pagesInTicks(1, state)}. Longer ticks allow a slower link.`
+    : `${rateWords(state.link)} is more than ${pagesInTicks(1_000_000, state)}. Shorter ticks allow a faster link.`),
+  first: (state) => `${state.first} % of the link is less than ${pagesInTicks(1, state)}.`,
   reserve: ({ reserve, downtime }) => `${timeWords(reserve)} is more than the downtime limit of `
     + `${timeWords(downtime)}.`,
   downtime: ({ downtime }) => `In ${timeWords(downtime)} the link moves more than 65,535 pages of the trace.`,

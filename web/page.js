@@ -3,10 +3,11 @@
 import { ControlRefusal, takeRules } from "./asking.js";
 import { CommandsView } from "./commands-view.js";
 import { Controls } from "./controls.js";
+import { derivedWords } from "./derived.js";
 import { byId, oncePerFrame } from "./elements.js";
 import { fittedSettings } from "./fitting.js";
 import { nearestSettings } from "./nearest.js";
-import { bytesText, counted, countOf, momentText, rateText, timeText, unbroken } from "./numbers.js";
+import { momentText, unbroken } from "./numbers.js";
 import { WorkerEnded } from "./planner-client.js";
 import { LateAnswers } from "./late-answers.js";
 import { LimitsView } from "./limits-view.js";
@@ -15,12 +16,11 @@ import { serve } from "./planner-worker.js";
 import { fixWidths, watchWidths } from "./plot.js";
 import { hasWideMemory, Planner, Refusal } from "./planner.js";
 import { predictionOf } from "./predictions.js";
-import { isInBits, roundedWords } from "./quantities.js";
 import { StartsView } from "./starts-view.js";
 import { fragmentOf, MOST_KEPT, presetOf, stateIn, withoutPreset } from "./state.js";
 import { TraceDesk } from "./trace-desk.js";
 import { embeddedBytes } from "./trace-source.js";
-import { amountOf, limitsOf, microsOf, RATE_UNITS } from "./units.js";
+import { amountOf, microsOf } from "./units.js";
 import { WindowsView } from "./windows-view.js";
 
 /** How long the page waits for a change to be the last one until it announces it, in milliseconds. */
@@ -313,7 +313,7 @@ class Page {
     this.starts.follow(found.value, this.controls.begin);
     this.starts.draw(this.windows.axis);
     this.commands.draw(found.value, trace.sizes, this.controls.begin);
-    this.controls.derive(this.derived(settings, found.value, trace));
+    this.controls.derive(derivedWords(settings, found.value, trace.sizes));
     this.controls.refuse(found.refusal, nearest);
     this.found = found;
   }
@@ -361,34 +361,6 @@ class Page {
     return refusal === this.controls.unread ? settings : nearestSettings(settings, refusal, sizes);
   }
 
-  /** What the controls come to, by their names. */
-  derived(settings, prediction, { sizes }) {
-    const microsIn = (ticks) => microsOf({ tick: amountOf(settings.tick) }, ticks);
-    const at = (ticks) => momentText(microsIn(ticks));
-    const words = { start: at(settings.start), base: at(settings.base ?? 0) };
-    words.window = timeText(microsIn(settings.window));
-    if (settings.base !== null && settings.base < settings.start) {
-      words.base += `, ${timeText(microsIn(settings.start - settings.base))} before the start`;
-    }
-    if (prediction) {
-      const { min, max, increment, threshold } = prediction.settings;
-      const { scale } = prediction;
-      const limits = limitsOf(settings);
-      const noun = scale.isSample ? "sample page" : "page";
-      const rateWords = (pages) => `${countOf(pages, noun)} per 1,000 ticks`;
-      const { unit } = settings.link;
-      words.link = `${isInBits(unit) ? `${rateText(limits.link)}: ` : ""}${rateWords(max)}`;
-      words.first = `${roundedWords(limits.first, unit, RATE_UNITS)}: ${rateWords(min)}`;
-      words.increase = `+${rateWords(increment)} a round`;
-      words.reserve = `leaves ${timeText(limits.downtime - limits.reserve)} for pages`;
-      words.downtime = threshold === 1 ? `stops when no ${noun} is left`
-        : `stops at fewer than ${countOf(threshold, noun)}`;
-      words.sample = scale.isSample ? `${counted(scale.sampled)} of ${counted(scale.guest)} pages, `
-        + bytesText(scale.guest * scale.page) : `the trace has the whole guest, ${countOf(sizes.pages, "page")}`;
-    }
-    return words;
-  }
-
   /** What is said if the address is of another trace than the open one. */
   otherTrace() {
     const { print, example } = this.state;
@@ -424,7 +396,7 @@ async function open() {
   if (!hasWideMemory() || typeof DecompressionStream === "undefined") {
     byId("trace-state").textContent = "This browser cannot run the planner: it lacks WebAssembly memory of 64-bit "
       + "addresses. Chromium and Firefox have it from version 134 on.";
-    document.body.classList.add("unable");
+    document.querySelectorAll("#trace button, #trace input").forEach((control) => { control.disabled = true; });
     return;
   }
   const ready = embeddedBytes("planner-module").then((bytes) => Planner.withoutTrace(bytes)).then(takeRules);

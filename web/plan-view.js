@@ -43,8 +43,11 @@ const WORDS = {
 function differencesOf(settings, kept, place) {
   const differing = Object.keys(WORDS).filter((name) => JSON.stringify(settings[name]) !== JSON.stringify(kept[name]));
   return differing.length === 0 ? `Kept plan ${place + 1} has the same settings.`
-    : `Kept plan ${place + 1}: ${differing.map((name) => WORDS[name](kept[name], kept)).join(", ")}.`;
+    : `Kept plan ${place + 1} differs: ${differing.map((name) => WORDS[name](kept[name], kept)).join(", ")}.`;
 }
+
+/** What the sign before a standard error means. */
+const STANDARD_ERROR = "\u00b1 is one standard error: how far a number moves if other pages of the guest are sampled.";
 
 /** A figure with the rounds of a plan. */
 class RoundsFigure {
@@ -140,8 +143,10 @@ export class PlanView {
   /** Draws the numbers of the plans. Standard errors that are still to come make it busy. */
   drawComparison(settings, kept) {
     const words = kept.map((some, place) => this.keptWords(settings, some, place));
-    byId("comparison").replaceChildren(comparisonOf(this.last, kept), ...words);
-    const isAwaited = [this.last, ...keptPredictions(kept)].some(({ errors }) => errors === undefined);
+    const predictions = [this.last, ...keptPredictions(kept)];
+    const meaning = predictions.some(({ errors }) => errors) ? [html("p", { class: "derived" }, STANDARD_ERROR)] : [];
+    byId("comparison").replaceChildren(comparisonOf(this.last, kept), ...words, ...meaning);
+    const isAwaited = predictions.some(({ errors }) => errors === undefined);
     byId("comparison").setAttribute("aria-busy", String(isAwaited));
   }
 

@@ -2,7 +2,7 @@
 // are asked for, and in a file always.
 
 import { html } from "./elements.js";
-import { counted, momentText, timeText } from "./numbers.js";
+import { counted, decimalText, timeText } from "./numbers.js";
 import { fewDigitsText } from "./quantities.js";
 import { microsOf, rateIn } from "./units.js";
 
@@ -15,19 +15,28 @@ function tableOf(caption, columns, rows) {
     html("tbody", {}, ...cells));
 }
 
+/** How many digits of a second a moment has at least. */
+const LEAST_DIGITS = 3;
+
+/** A moment, given in microseconds, as a number of seconds with all their digits. */
+function inSeconds(micros) {
+  const [whole, rest = ""] = decimalText(micros, 1_000_000n, 6).split(".");
+  return `${counted(whole)}.${rest.padEnd(LEAST_DIGITS, "0")}`;
+}
+
 // ---- Rounds.
 
 /** The columns of a table of rounds: their names, and the text of a round. Rates are in a unit. */
 function roundColumns({ settings, scale, state }, unit) {
-  const since = (tick) => momentText(microsOf(scale, tick - settings.start));
+  const since = (tick) => inSeconds(microsOf(scale, tick - settings.start));
   const rateText = ({ rate }) => {
     const { bytes, seconds } = rateIn(scale, rate);
     return fewDigitsText(bytes, seconds * unit.size);
   };
   const columns = [
     ["round", (_, place) => counted(place)],
-    ["from", ({ from }) => since(from)],
-    ["to", ({ to }) => since(to)],
+    ["from, s", ({ from }) => since(from)],
+    ["to, s", ({ to }) => since(to)],
     [`rate, ${unit.name}`, rateText],
     ["to send", ({ pages }) => counted(pages)],
     ["sent", ({ sent }) => counted(sent)],
@@ -68,7 +77,7 @@ export function roundsFile({ plan, settings, scale }) {
 /** The most windows that a table has. */
 const MOST_ROWS = 1000;
 
-const WINDOW_COLUMNS = ["window", "from", "writes", "pages", "also in the window before", "never before"];
+const WINDOW_COLUMNS = ["window", "from, s", "writes", "pages", "again", "new"];
 const WINDOW_HEADS = ["window", "from_us", "to_us", "writes", "pages", "again_pages", "fresh_pages"];
 
 /** What of a window is counted, in the order of both. */
@@ -81,11 +90,12 @@ export function windowsTable(windows, length, scale) {
   const width = microsOf(scale, length);
   const rows = Array.from({ length: Math.min(windows.count, MOST_ROWS) }, (_, row) => {
     const number = windows.number[row];
-    return [counted(number), momentText(BigInt(number) * width), ...countsIn(windows, row).map(counted)];
+    return [counted(number), inSeconds(BigInt(number) * width), ...countsIn(windows, row).map(counted)];
   });
   const more = windows.count > MOST_ROWS ? `, the first ${counted(MOST_ROWS)} of ${counted(windows.count)}` : "";
   const pages = scale.isSample ? "; pages of the sample" : "";
-  return tableOf(`Windows of ${timeText(width)} with a write${more}${pages}`, WINDOW_COLUMNS, rows);
+  return tableOf(`Windows of ${timeText(width)} with a write${more}${pages}; again: also in the window before, `
+    + "new: never before", WINDOW_COLUMNS, rows);
 }
 
 /** The rows of a file of windows, one at a time: there may be a million. */
