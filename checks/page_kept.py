@@ -18,8 +18,10 @@ def check_comparison(page):
     require(min(marks) > 0, f"better and worse: {marks}")
     found = page.after("document.querySelector('[data-exchanges=\"1\"]').click()")
     require(found["comparison"] == first["comparison"], f"{found['comparison']} in place of {first['comparison']}")
-    page.after("document.querySelector('[data-drops=\"0\"]').click()")
-    page.after("document.querySelector('[data-drops=\"0\"]').click()")
+    page.after("const drop = document.querySelector('[data-drops=\"0\"]'); drop.focus(); drop.click()")
+    focused = page.browser.value("document.activeElement.getAttribute('aria-label')")
+    require(focused == "Kept plan 1: drop", f"after a drop the focus is on {focused!r}")
+    page.after("document.activeElement.click()")
     require(page.browser.value(heads) == ["This plan"], page.browser.value(heads))
 
 

@@ -10,7 +10,8 @@ const TOLD = 1_500;
 
 /** The parts of a text, whose words are not broken at their hyphens. */
 function wordsWhole(text) {
-  return text.split(/(\s+)/).map((part) => (/^\s/.test(part) ? part : html("span", { class: "word" }, part)));
+  return text.split(/(\S*-\S*)/).filter(Boolean).map((part) =>
+    (part.includes("-") ? html("span", { class: "word" }, part) : part));
 }
 
 function copyButtons() {

@@ -76,6 +76,36 @@ export function put(element, name, value) {
   }
 }
 
+/** Makes a node what a new one of the same kind is. */
+function become(old, made) {
+  if (old.nodeType === Node.TEXT_NODE) {
+    put(old, "data", made.data);
+    return;
+  }
+  [...old.attributes].filter(({ name }) => !made.hasAttribute(name)).forEach(({ name }) => old.removeAttribute(name));
+  [...made.attributes].forEach(({ name, value }) => mark(old, name, value));
+  renew(old, ...made.childNodes);
+}
+
+/**
+ * Puts new nodes in a place as `replaceChildren` does, but old ones of the same kind stay and become like them: so a
+ * button keeps its focus, and words that the user has selected stay so. Nothing in the place may listen by itself.
+ */
+export function renew(place, ...nodes) {
+  const olds = [...place.childNodes];
+  nodes.forEach((made, at) => {
+    const old = olds[at];
+    if (!old) {
+      place.append(made);
+    } else if (old.nodeName === made.nodeName) {
+      become(old, made);
+    } else {
+      old.replaceWith(made);
+    }
+  });
+  olds.slice(nodes.length).forEach((old) => old.remove());
+}
+
 /** Calls `act` in the next frame, once for all calls before it. */
 export function oncePerFrame(act) {
   let isPending = false;

@@ -2,7 +2,7 @@
 // settings make no plan, the last one stays, grey.
 
 import { ControlRefusal } from "./asking.js";
-import { byId, html } from "./elements.js";
+import { byId, html, renew } from "./elements.js";
 import { bytesText, momentText, timeText } from "./numbers.js";
 import { saveButtons } from "./exports.js";
 import { Inspector } from "./inspector.js";
@@ -145,7 +145,7 @@ export class PlanView {
     const words = kept.map((some, place) => this.keptWords(settings, some, place));
     const predictions = [this.last, ...keptPredictions(kept)];
     const meaning = predictions.some(({ errors }) => errors) ? [html("p", { class: "derived" }, STANDARD_ERROR)] : [];
-    byId("comparison").replaceChildren(comparisonOf(this.last, kept), ...words, ...meaning);
+    renew(byId("comparison"), comparisonOf(this.last, kept), ...words, ...meaning);
     const isAwaited = predictions.some(({ errors }) => errors === undefined);
     byId("comparison").setAttribute("aria-busy", String(isAwaited));
   }
