@@ -208,9 +208,10 @@ def round_texts(asked, rounds):
     unit = max(fitting, key=RATES.get, default=unit)
     rows = []
     for number, begin, end, rate, *pages in (some.values() for some in rounds):
-        row = [f"{number:,}", *(seconds_in((tick - asked.start) * asked.tick) for tick in (begin, end)),
-               few_digits(share(rate) / RATES[unit]), *(f"{count:,}" for count in pages)]
-        rows.append(row + [f"{count:,}" for count in (begin, end, rate)] * asked.ticks)
+        texts = [*(seconds_in((tick - asked.start) * asked.tick) for tick in (begin, end)),
+                 few_digits(share(rate) / RATES[unit])]
+        beside = [f" {count:,}" * asked.ticks for count in (begin, end, rate)]
+        rows.append([f"{number:,}", *map("".join, zip(texts, beside)), *(f"{count:,}" for count in pages)])
     return rows
 
 

@@ -130,7 +130,8 @@ TOUCHED = """[matchMedia("(pointer: coarse)").matches, [...document.querySelecto
   .filter((readout) => readout.dataset.touch && readout.textContent === readout.dataset.hint).length > 0]"""
 
 
-def check_look(page, name):
+def check_look(page, name, is_long=False):
+    """A look at a page. Where times are very long a table may be wider than a phone: it is drawn aside."""
     browser = page.browser
     width = browser.value("innerWidth")
     is_phone = width < WIDER_THAN_PHONES
@@ -142,10 +143,9 @@ def check_look(page, name):
     require(not poor, f"contrast, {name}: {poor}")
     over = browser.value(OVERLAPS)
     require(not over, f"texts, {name}: {over}")
-    # A table in ticks, too, may be wider than a phone.
-    cut = browser.value("[...document.querySelectorAll('#comparison, #controls, pre, .scrolls')]"
-                        ".filter((part) => part.scrollWidth > part.clientWidth && (!part.matches('.scrolls')"
-                        " || !document.getElementById('control-ticks').checked)).map((part) => part.id)")
+    parts = "#comparison, #controls, pre" + ", .scrolls" * (not is_long)
+    cut = browser.value(f"[...document.querySelectorAll('{parts}')]"
+                        ".filter((part) => part.scrollWidth > part.clientWidth).map((part) => part.id)")
     require(not cut, f"wider than their places, {name}: {cut}")
 
 
@@ -165,7 +165,7 @@ def check_shapes(page, folder):
             page.after("document.getElementById('control-rounds').value = '99';"
                        "document.getElementById('control-rounds').dispatchEvent(new Event('input'))")
         page.rest()
-        check_look(page, f"shape {number} at {width}")
+        check_look(page, f"shape {number} at {width}", is_long=True)
         if folder:
             os.makedirs(folder, exist_ok=True)
             browser.picture(os.path.join(folder, f"shape-{number}-{width}.png"))

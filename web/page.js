@@ -365,7 +365,8 @@ class Page {
   otherTrace() {
     const { print, example } = this.state;
     return print && !example && print !== this.desk.trace.print
-      ? `This address has the settings of another trace (${print}); the open one is ${this.desk.trace.print}.` : "";
+      ? `This address has the settings of another trace, whose SHA-256 begins with ${print}. That of the open one `
+        + `begins with ${this.desk.trace.print}.` : "";
   }
 
   /** Tells the last of several changes: as an address to go back to, and to a screen reader. */

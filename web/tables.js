@@ -1,15 +1,15 @@
-// The tables of rounds and of windows, on the page and as files. Times come first; ticks stand in a table only where they
-// are asked for, and in a file always.
+// The tables of rounds and of windows, on the page and as files. Times come first; in a table ticks stand beside them
+// only where they are asked for, and in a file always.
 
 import { html } from "./elements.js";
 import { counted, decimalText, timeText } from "./numbers.js";
 import { fewDigitsText } from "./quantities.js";
 import { microsOf, rateIn } from "./units.js";
 
-/** A table of texts, row by row; the first of a row heads it. */
+/** A table row by row; the first text of a row heads it, and each other one may be a list of parts. */
 function tableOf(caption, columns, rows) {
   const cells = Array.from(rows, ([first, ...others]) => html("tr", {},
-    html("th", { scope: "row" }, first), ...others.map((text) => html("td", {}, text))));
+    html("th", { scope: "row" }, first), ...others.map((parts) => html("td", {}, ...[parts].flat()))));
   return html("table", { class: "numbers" }, html("caption", {}, caption),
     html("thead", {}, html("tr", {}, ...columns.map((name) => html("th", { scope: "col" }, name)))),
     html("tbody", {}, ...cells));
@@ -26,35 +26,30 @@ function inSeconds(micros) {
 
 // ---- Rounds.
 
-/** The columns of a table of rounds: their names, and the text of a round. Rates are in a unit. */
+/** The columns of a table of rounds: their names, and the texts of a round. Rates are in a unit. */
 function roundColumns({ settings, scale, state }, unit) {
-  const since = (tick) => inSeconds(microsOf(scale, tick - settings.start));
+  const beside = (text, number) => (state.ticks ? [text, " ", html("small", {}, counted(number))] : text);
+  const since = (tick) => beside(inSeconds(microsOf(scale, tick - settings.start)), tick);
   const rateText = ({ rate }) => {
     const { bytes, seconds } = rateIn(scale, rate);
-    return fewDigitsText(bytes, seconds * unit.size);
+    return beside(fewDigitsText(bytes, seconds * unit.size), rate);
   };
-  const columns = [
+  return [
     ["round", (_, place) => counted(place)],
-    ["from, s", ({ from }) => since(from)],
-    ["to, s", ({ to }) => since(to)],
+    ["from,\u00a0s", ({ from }) => since(from)],
+    ["to,\u00a0s", ({ to }) => since(to)],
     [`rate, ${unit.name}`, rateText],
     ["to send", ({ pages }) => counted(pages)],
     ["sent", ({ sent }) => counted(sent)],
     ["dirtied", ({ dirtied }) => counted(dirtied)],
   ];
-  const inTicks = [
-    ["from tick", ({ from }) => counted(from)],
-    ["to tick", ({ to }) => counted(to)],
-    ["rate, pages per 1,000 ticks", ({ rate }) => counted(rate)],
-  ];
-  return state.ticks ? [...columns, ...inTicks] : columns;
 }
 
 /** The rounds of a plan as a table. */
 export function roundsTable(prediction, unit) {
   const columns = roundColumns(prediction, unit);
   const pages = prediction.scale.isSample ? "pages of the sample" : "pages";
-  const ticks = prediction.state.ticks ? "; ticks in the trace" : "";
+  const ticks = prediction.state.ticks ? "; in small print ticks of the trace, and pages per 1,000 of them" : "";
   return tableOf(`Times since the start, and ${pages}${ticks}`, columns.map(([name]) => name),
     prediction.plan.rounds.map((round, place) => columns.map(([, text]) => text(round, place))));
 }
@@ -77,7 +72,7 @@ export function roundsFile({ plan, settings, scale }) {
 /** The most windows that a table has: more would keep the page busy for long. A file has all. */
 const MOST_ROWS = 200;
 
-const WINDOW_COLUMNS = ["window", "from, s", "writes", "pages", "again", "new"];
+const WINDOW_COLUMNS = ["window", "from,\u00a0s", "writes", "pages", "again", "new"];
 const WINDOW_HEADS = ["window", "from_us", "to_us", "writes", "pages", "again_pages", "fresh_pages"];
 
 /** What of a window is counted, in the order of both. */
