@@ -242,7 +242,7 @@ def check_notes(asked, notes):
     link, _, downtime, reserve = asked.limits()
     is_cut = (downtime - reserve) % 1_000 > 0 or downtime - reserve < 1_000 or (
         downtime - reserve) // 1_000 > MOST_DOWNTIME_MILLIS
-    wanted = {"qemu": is_cut, "libvirt": is_cut or link % (1 << 20) > 0}
+    wanted = {"qemu": is_cut, "libvirt": is_cut or link % (1 << 20) * 100 >= link}
     if {name: bool(note) for name, note in notes.items()} != wanted:
         raise Failure(f"notes on hypervisors: {notes}")
 

@@ -58,15 +58,18 @@ def check_axes(page):
 # Settings, what libvirt and QEMU are told of them, and words of what they are not told.
 HOSTS = [
     ("link=600KB&downtime=4ms", {"libvirt": "virsh migrate-setmaxdowntime DOMAIN 4"}, {"libvirt": "600 KB/s"}),
-    ("link=1.5MiB&downtime=2500us", {"libvirt": "virsh migrate-setspeed DOMAIN 1\n"
-                                     "virsh migrate-setmaxdowntime DOMAIN 2"}, {"libvirt": "1.5 MiB/s", "qemu": "2.5 ms"}),
+    ("link=1.5MiB&downtime=2500us",
+     {"libvirt": "virsh migrate-setspeed DOMAIN 1\nvirsh migrate-setmaxdowntime DOMAIN 2"},
+     {"libvirt": "1.5 MiB/s", "qemu": "2.5 ms"}),
     ("link=8MiB&downtime=2ms&reserve=1.5ms", {"libvirt": "virsh migrate-setspeed DOMAIN 8"},
      {"libvirt": "at least 1 ms", "qemu": time_text(500)}),
     ("link=600KB&downtime=2500us&reserve=2ms", {"libvirt": ""}, {"libvirt": "600 KB/s", "qemu": time_text(500)}),
     ("link=8MiB&downtime=4ms", {"libvirt": "virsh migrate-setspeed DOMAIN 8\n"
                                 "virsh migrate-setmaxdowntime DOMAIN 4"}, {}),
     ("link=8KB&downtime=2001s", {"libvirt": "", "qemu": "migrate_set_parameter max-bandwidth 8000B"},
-     {"libvirt": "2,000,000 ms", "qemu": "2,000,000 ms"}),
+     {"libvirt": "2,000 s", "qemu": "2,000 s"}),
+    ("link=10Gbit&downtime=4us&tick=1us", {"libvirt": "virsh migrate-setspeed DOMAIN 1192"},
+     {"libvirt": "at least 1 ms", "qemu": time_text(4)}),
 ]
 
 

@@ -1,5 +1,4 @@
-"""What the planner's page saves: pictures with their names and legends, and tables whose numbers are those that it shows.
-"""
+"""What the planner's page saves: pictures with their names and legends, and tables with the numbers that it shows."""
 
 import base64
 import math

@@ -1,5 +1,5 @@
-// What the controls come to, in words below them: ticks in times, and rates in pages a second; in pages of the trace per
-// 1,000 ticks only where ticks are asked for.
+// What the controls come to, in words below them: ticks in times, and rates in pages a second. Only where ticks are
+// asked for rates are in pages of the trace per 1,000 ticks.
 
 import { bytesText, counted, countOf, momentText, rateText, timeText } from "./numbers.js";
 import { fewDigitsText, isInBits, roundedWords } from "./quantities.js";

@@ -8,6 +8,9 @@ import { RATE_UNITS } from "./units.js";
 /** The unit in which libvirt takes a rate; none of it would mean no limit. */
 const LIBVIRT_UNIT = RATE_UNITS.MiB;
 
+/** From this part of a link on it is told that libvirt leaves it out. */
+const NOTICED = 100n;
+
 /** The longest downtime that QEMU takes, and with it libvirt, in milliseconds. */
 const MOST_MILLIS = 2_000_000n;
 
@@ -22,22 +25,23 @@ function downtimeNote(limits, isLibvirt) {
   const left = limits.downtime - limits.reserve;
   const said = `${timeText(left)} for pages`;
   if (millis > MOST_MILLIS) {
-    return `QEMU takes a downtime of at most ${counted(MOST_MILLIS)} ms, and here it is ${said}.`;
+    return `QEMU takes a downtime of at most ${counted(MOST_MILLIS / 1_000n)} s, and here it is ${said}.`;
   }
   if (millis === 0n) {
     return isLibvirt ? `libvirt takes a downtime of at least 1 ms, and here it is ${said}.`
-      : `QEMU takes whole milliseconds of downtime, and here it is ${said}: with 0 it stops the guest only once no page `
-        + "is left.";
+      : `QEMU takes whole milliseconds of downtime, and here it is ${said}. With 0 it stops the guest only once no `
+        + "page is left.";
   }
   return left === millis * 1_000n ? "" : `A downtime is in whole milliseconds: ${millis} ms of the ${said}.`;
 }
 
-/** Why the link is no command of libvirt, or is not all of it; nothing if it is. */
+/** Why the link is no command of libvirt, or is noticeably more than that; nothing if it is neither. */
 function linkNote({ link }, words) {
   if (link < LIBVIRT_UNIT) {
-    return `libvirt takes whole MiB/s, and the least of them is more than the link of ${words}. QEMU's monitor takes it.`;
+    return `libvirt takes whole MiB/s, and the least of them is more than the link of ${words}. QEMU's monitor takes `
+      + "it.";
   }
-  return link % LIBVIRT_UNIT === 0n ? ""
+  return (link % LIBVIRT_UNIT) * NOTICED < link ? ""
     : `libvirt takes whole MiB/s: ${link / LIBVIRT_UNIT} MiB/s is less than the link of ${words}, and takes longer.`;
 }
 

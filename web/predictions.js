@@ -108,7 +108,7 @@ function limitWords(state, sizes, { limits, settings, scale }) {
   return words.join(" ");
 }
 
-/** The words that ask for this migration, and that give hypervisors the same limits; each with a note if it needs one. */
+/** The words that ask for this migration, and that give hypervisors the same limits; with notes where needed. */
 export function commandsOf(state, sizes, prediction, firstStart) {
   const { limits, settings } = prediction;
   const rates = `--min ${settings.min} --max ${settings.max} --inc ${settings.increment}`;
