@@ -48,6 +48,8 @@ def check_shape(page, number, text):
     found = page.shown()
     require(f"shape-{number}.pcwt: " in said, said)
     require(found["refused"] is None and not found["stale"] and found["rounds"], f"{said}: {found['refused']}")
+    read_out = page.browser.value("textOf('windows-readout')")
+    require((" 0 writes " in said) == read_out.startswith("The trace writes no page"), f"{said}: {read_out!r}")
 
 
 def check_records(page, _):

@@ -102,6 +102,7 @@ export class WindowsView {
       span: (at) => [drawn[at].left, drawn[at].right],
       choose: (at, place) => this.isBrushed || this.choose(place === undefined ? tickOf(at) : axis.tickAt(place)),
       offer: (at) => `Start at ${momentText(microsOf(scale, tickOf(at)))}`,
+      none: "The trace writes no page in this stretch of time.",
     };
   }
 
