@@ -1,5 +1,5 @@
-// The same limits in the words of QEMU's monitor and of libvirt, as `crates/predictions/src/hosts.rt` has them. What a
-// hypervisor cannot be told is no command: a sentence says why.
+// The same limits in the words of QEMU's monitor and of libvirt: those of `precopy-view predict`, but for what a
+// hypervisor cannot be told. That is no command, and a sentence says why.
 
 import { counted, timeText } from "./numbers.js";
 import { quantityWords } from "./quantities.js";
