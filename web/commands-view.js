@@ -8,10 +8,11 @@ import { firstStartOf } from "./starts.js";
 /** For how long a button says that something was copied, in milliseconds. */
 const TOLD = 1_500;
 
-/** The parts of a text, whose words are not broken at their hyphens. */
+/** The parts of a text. Words are not broken at their hyphens, nor what is read after its sign. */
 function wordsWhole(text) {
-  return text.split(/(\S*-\S*)/).filter(Boolean).map((part) =>
-    (part.includes("-") ? html("span", { class: "word" }, part) : part));
+  const isWhole = (part) => part.includes("-") || part.startsWith("<");
+  return text.split(/(< \S+|\S*-\S*)/).filter(Boolean).map((part) =>
+    (isWhole(part) ? html("span", { class: "word" }, part) : part));
 }
 
 function copyButtons() {
