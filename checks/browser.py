@@ -149,9 +149,10 @@ class Browser(Driven):
 
     def dress(self, width, height, is_dark=False, is_still=False):
         """Sets the size of the page, and what the user prefers. A narrow page is on a phone: it is touched."""
+        # Touch comes first: a page that is laid out for a size asks whether it is touched.
+        self.call("Emulation.setTouchEmulationEnabled", enabled=width < WIDER_THAN_PHONES, maxTouchPoints=1)
         sizes = {"width": width, "height": height, "deviceScaleFactor": 1, "mobile": False}
         self.call("Emulation.setDeviceMetricsOverride", **sizes)
-        self.call("Emulation.setTouchEmulationEnabled", enabled=width < WIDER_THAN_PHONES, maxTouchPoints=1)
         features = [{"name": "prefers-color-scheme", "value": "dark" if is_dark else "light"},
                     {"name": "prefers-reduced-motion", "value": "reduce" if is_still else "no-preference"}]
         self.call("Emulation.setEmulatedMedia", features=features)

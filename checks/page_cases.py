@@ -16,12 +16,14 @@ from remedies import Limits, Others, Remedies, Trial, remedies
 from view_texts import TOP, Failure, document_of, ran, report_facts, sweep_facts, told
 
 TRACES = ["a.pcwt", "gzip.pcwt", "released.pcwt", "guests/mid.light.pcwt", "guests/sqlite.light.pcwt"]
-ROWS_SHOWN = 1000
+ROWS_SHOWN = 200
 SHAPES, SETTINGS = 15, 20
 # Of how many pages the standard errors, and what is enough for the limit, are worked out here too.
 SMALL = 2_000
 # The page takes smaller amounts than this.
 MOST_OF_PAGE = 1 << 53
+# The longest downtime that QEMU takes.
+MOST_DOWNTIME_MILLIS = 2_000_000
 
 
 def example(name):
@@ -74,6 +76,7 @@ class Asked:
         self.base = draw.choice([None, None, draw.randrange(self.start + 1), self.start + draw.choice([0, 0, 1])])
         self.rounds, self.skip = draw.choice([30, draw.randrange(66)]), draw.randrange(2)
         self.window = draw.choice([max(1, known.last // draw.randrange(1, 500)), draw.randrange(3_000), 1 << 40])
+        self.ticks = draw.randrange(2)
 
     def _link(self, draw):
         """A link that is some rate of the trace, nearly, in bytes a second; and its word."""
@@ -100,7 +103,7 @@ class Asked:
             f"link={self.link[1]}", f"first={self.first}", f"increase={self.increase}", f"downtime={self.downtime}us",
             f"reserve={self.reserve}us", f"start={self.start}", f"rounds={self.rounds}", f"skip={self.skip}",
             f"base={'none' if self.base is None else self.base}", f"tick={self.tick}us", f"sample={sample}",
-            f"window={self.window}"])
+            f"window={self.window}", f"ticks={self.ticks}"])
 
     def limits(self):
         """The link and the first round in bytes a second, the downtime and the reserve in microseconds."""
@@ -150,17 +153,66 @@ def plural(count, noun):
     return f"{count:,} {noun}{'' if count == 1 else 's'}"
 
 
+def few_digits(share):
+    """A number as the page writes it with about three digits; of a great one no digit before its point is left out."""
+    digits = next((digits for digits in range(9) if share * 10**digits >= 100), 9)
+    rounded = math.floor(share * 10**digits + Fraction(1, 2))
+    whole, rest = divmod(rounded, 10**digits)
+    return f"{whole}.{rest:0{digits}}".rstrip("0").rstrip(".") if digits else str(whole)
+
+
+def seconds_in(micros):
+    """A moment in a table, as the page writes it: in seconds, with all their digits, of which there are three."""
+    return f"{micros // 1_000_000:,}.{f'{micros % 1_000_000:06}'.rstrip('0').ljust(3, '0')}"
+
+
+def round_texts(asked, rounds):
+    """The table of rounds, as the page writes it: rates are in a unit of the link's family that the link has one of."""
+    def share(rate):
+        return Fraction(rate * asked.page * asked.guest * 1_000, asked.sampled * asked.tick)
+
+    unit = re.sub(r"[\d.]", "", asked.link[1])
+    fitting = [name for name in RATES if name[1:] == unit[1:] and asked.link[0] >= RATES[name]]
+    unit = max(fitting, key=RATES.get, default=unit)
+    rows = []
+    for number, begin, end, rate, *pages in (some.values() for some in rounds):
+        texts = [*(seconds_in((tick - asked.start) * asked.tick) for tick in (begin, end)),
+                 few_digits(share(rate) / RATES[unit])]
+        beside = [f" {count:,}" * asked.ticks for count in (begin, end, rate)]
+        rows.append([f"{number:,}", *map("".join, zip(texts, beside)), *(f"{count:,}" for count in pages)])
+    return rows
+
+
+def window_texts(asked, windows):
+    """The table of windows, as the page writes it."""
+    rows = [list(some.values()) for some in windows[:ROWS_SHOWN]]
+    return [[f"{number:,}", seconds_in(number * asked.window * asked.tick), *(f"{count:,}" for count in counts)]
+            for number, *counts in rows]
+
+
 def commands(asked):
-    """The words that the page gives for `precopy live`, QEMU and libvirt."""
+    """The words that the page gives for `precopy live`, QEMU and libvirt. What these cannot be told is left out."""
     link, _, downtime, reserve = asked.limits()
     least, most, increment, threshold = asked.settings()
     live = f"precopy live --min {least} --max {most} --inc {increment} --threshold {threshold} --rounds {asked.rounds} "
     live += " ".join([*(word.replace("=", " ") for word in asked.place()), *["--skip"] * asked.skip]) + " < TRACE"
     millis = (downtime - reserve) // 1_000
-    qemu = f"migrate_set_parameter max-bandwidth {link}B\nmigrate_set_parameter downtime-limit {millis}"
-    mib = max(1, link >> 20)
-    libvirt = f"virsh migrate-setspeed DOMAIN {mib}\nvirsh migrate-setmaxdowntime DOMAIN {millis}"
-    return {"live": live, "qemu": qemu, "libvirt": libvirt}
+    is_short = millis <= MOST_DOWNTIME_MILLIS
+    qemu = [f"migrate_set_parameter max-bandwidth {link}B"]
+    qemu += [f"migrate_set_parameter downtime-limit {millis}"] * is_short
+    libvirt = [f"virsh migrate-setspeed DOMAIN {link >> 20}"] * (link >= 1 << 20)
+    libvirt += [f"virsh migrate-setmaxdowntime DOMAIN {millis}"] * (is_short and millis > 0)
+    return {"live": live, "qemu": "\n".join(qemu), "libvirt": "\n".join(libvirt)}
+
+
+def check_notes(asked, notes):
+    """A note says of each hypervisor what its commands do not: a part of the link or of the downtime."""
+    link, _, downtime, reserve = asked.limits()
+    is_cut = (downtime - reserve) % 1_000 > 0 or downtime - reserve < 1_000 or (
+        downtime - reserve) // 1_000 > MOST_DOWNTIME_MILLIS
+    wanted = {"qemu": is_cut, "libvirt": is_cut or link % (1 << 20) * 100 >= link}
+    if {name: bool(note) for name, note in notes.items()} != wanted:
+        raise Failure(f"notes on hypervisors: {notes}")
 
 
 def figures(asked, report):
@@ -230,7 +282,7 @@ def amount_in(lines, words, units):
 
 def enough_in(lines):
     """What lines of the page say of what is enough for the limit."""
-    slowed = [re.fullmatch(r"the guest slowed to (\d+) per cent of its speed", line) for line in lines]
+    slowed = [re.fullmatch(r"the guest slowed to (\d+) % of its speed, by a throttle of \d+ %", line) for line in lines]
     speeds = [int(found[1]) for found in slowed if found]
     is_kept = lines[0].startswith("Enough for the limit: these settings.")
     return Remedies(is_kept, amount_in(lines, "link rate ", RATES), amount_in(lines, "downtime limit ", TIMES),
@@ -280,6 +332,9 @@ def comparison(asked, report, document):
     def more(error, *words):
         return "; ".join([*([f"\u00b1 {error}"] if drawn else []), *words])
 
+    def ticks(words):
+        return [words] * asked.ticks
+
     of_sample = " of the sample" * (asked.guest > asked.sampled)
     threshold = asked.settings()[3]
     few = "none left ends pre-copy" if threshold == 1 else f"fewer than {threshold:,} end pre-copy"
@@ -287,12 +342,14 @@ def comparison(asked, report, document):
     pages = f"{plural(stop['total'], 'page')}{of_sample}"
     return {
         "downtime": [time_text(found["down"]),
-                     more(error_text(down), "kept" if found["kept"] == "yes" else "not kept")],
-        "time": [time_text(found["time"]), more(error_text(time))],
+                     more(error_text(down), "kept" if found["kept"] == "yes" else "not kept",
+                          *ticks(f"{plural(stop['down'], 'tick')} for pages"))],
+        "time": [time_text(found["time"]),
+                 more(error_text(time), *ticks(f"{plural(stop['at'] - asked.start, 'tick')} of pre-copy"))],
         "sent": [size_text(found["sent"]), more(size_text(sent), *guest, pages)],
         "rounds": [f"{len(report['rounds']):,}", reason(asked, report)],
         "left": [plural(stop["pages"], "page") + of_sample, few],
-        "stop": [moment_text(stop["at"] * asked.tick), ""],
+        "stop": [moment_text(stop["at"] * asked.tick), "".join(ticks(f"tick {stop['at']:,}"))],
     }
 
 
@@ -326,9 +383,9 @@ def check_facts(precopy, asked, found, document):
     if (line["rounds"], line["stop"], line["at"], line["down"], line["total"]) != (
             len(report["rounds"]), stop["why"], stop["at"], stop["down"], stop["total"]):
         raise Failure(f"report and sweep differ: {line}, {stop}")
+    check_notes(asked, found["notes"])
     wanted = {
-        "rounds": [list(some.values()) for some in report["rounds"]],
-        "windows": [list(some.values()) for some in report["windows"][:ROWS_SHOWN]],
+        "rounds": round_texts(asked, report["rounds"]), "windows": window_texts(asked, report["windows"]),
         "comparison": comparison(asked, report, document), "warnings": warnings(asked, report),
         "commands": commands(asked),
     }

@@ -248,6 +248,11 @@ def check_many_windows(page, folder):
     })()""")
     if not 0.9 * room < bars <= room + 1:
         raise Failure(f"{bars} bars in {room} pixels for 2^20 windows")
+    require_free(page, "their table", lambda: page.browser.value(
+        "document.getElementById('windows-details').open = true; new Promise((resume) => setTimeout(resume, 300))"))
+    require_free(page, "2^20 windows and their table", lambda: (change(page, "window", "2"),
+                                                                change(page, "window", "1")))
+    page.browser.value("document.getElementById('windows-details').open = false")
     require_free(page, "2^20 windows, taken nearer", lambda: page.browser.value(
         "document.getElementById('zoom-plan').click()"))
     require_free(page, "2^20 windows as CSV", lambda: page.browser.value("""(async () => {

@@ -7,6 +7,7 @@ import os
 import threading
 
 import page_shapes
+from browser import WIDER_THAN_PHONES
 from page_cases import example
 from view_texts import Failure
 
@@ -124,16 +125,26 @@ def open_example(page, more=""):
     page.wait_for_plan()
 
 
-def check_look(page, name):
+# Whether the page takes its user for one with a finger, and what it then says of a pointer or of keys.
+TOUCHED = """[matchMedia("(pointer: coarse)").matches, [...document.querySelectorAll(".readout")]
+  .filter((readout) => readout.dataset.touch && readout.textContent === readout.dataset.hint).length > 0]"""
+
+
+def check_look(page, name, is_long=False):
+    """A look at a page. Where times are very long a table may be wider than a phone: it is drawn aside."""
     browser = page.browser
     width = browser.value("innerWidth")
+    is_phone = width < WIDER_THAN_PHONES
+    is_touched, is_pointed = browser.value(TOUCHED)
+    require(is_touched == is_phone and not (is_phone and is_pointed), f"{name}: touched {is_touched}, {is_pointed}")
     wide = browser.value("document.documentElement.scrollWidth")
     require(wide <= width, f"{wide} pixels in a width of {width}, {name}")
     poor = browser.value(CONTRAST.replace("BOUND", str(LEAST_CONTRAST)))
     require(not poor, f"contrast, {name}: {poor}")
     over = browser.value(OVERLAPS)
     require(not over, f"texts, {name}: {over}")
-    cut = browser.value("[...document.querySelectorAll('#comparison, #controls, pre')]"
+    parts = "#comparison, #controls, pre" + ", .scrolls" * (not is_long)
+    cut = browser.value(f"[...document.querySelectorAll('{parts}')]"
                         ".filter((part) => part.scrollWidth > part.clientWidth).map((part) => part.id)")
     require(not cut, f"wider than their places, {name}: {cut}")
 
@@ -154,7 +165,7 @@ def check_shapes(page, folder):
             page.after("document.getElementById('control-rounds').value = '99';"
                        "document.getElementById('control-rounds').dispatchEvent(new Event('input'))")
         page.rest()
-        check_look(page, f"shape {number} at {width}")
+        check_look(page, f"shape {number} at {width}", is_long=True)
         if folder:
             os.makedirs(folder, exist_ok=True)
             browser.picture(os.path.join(folder, f"shape-{number}-{width}.png"))

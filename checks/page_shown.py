@@ -38,8 +38,10 @@ if (typeof Worker === "function") {
     }
   };
 }
-window.numberIn = (cell) => Number(cell.textContent.replaceAll(",", ""));
-window.rowsOf = (id) => [...document.querySelectorAll(`#${id} tbody tr`)].map((row) => [...row.children].map(numberIn));
+window.rowsOf = (id) => [...document.querySelectorAll(`#${id} tbody tr`)].map((row) =>
+  [...row.children].map((cell) => cell.textContent));
+window.notesOf = () => [...document.querySelectorAll("[data-note]")].map((note) => [note.dataset.note,
+  note.hidden ? "" : note.textContent]);
 window.textOf = (id) => document.getElementById(id).textContent.trim();
 window.shown = () => {
   const refused = document.querySelector("#verdict .refusal")?.dataset.control ?? null;
@@ -56,6 +58,7 @@ window.shown = () => {
       return [cell.dataset.name, [cell.querySelector("b").textContent, cell.querySelector("small").textContent]];
     })),
     commands: Object.fromEntries(["live", "qemu", "libvirt"].map((name) => [name, textOf(`command-${name}`)])),
+    notes: Object.fromEntries(notesOf()),
     predict: textOf("command-predict"),
   };
 };

@@ -10,7 +10,8 @@ import re
 import page_shapes
 from page_cases import example
 from page_looks import ALL_MARKS, HEIGHT, MARKS, STARTS_MARKS, check_look, check_names, read_nodes, require
-from page_uses import end_worker, read, saved_files
+from page_saves import saved_files
+from page_uses import end_worker, read
 
 WIDTHS = [390, 900, 1400]
 FULL_WIDTHS = [360, *WIDTHS, 600, 800, 1024, 1920]

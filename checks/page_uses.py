@@ -7,35 +7,24 @@ import math
 import os
 import random
 import re
-import struct
-import xml.etree.ElementTree
 from fractions import Fraction
 
+import page_kept
+import page_saves
 import page_shapes
 from limit_cases import RATES, TIMES
+from page_acts import asked, require, typed
 from page_cases import example
 from page_shown import tried
-from view_texts import Failure
 
 DROPPED = 50
 # A restart comes after a silence of 30 seconds.
 SECONDS_OF_SILENCE = 120
 
 
-def require(holds, words):
-    if not holds:
-        raise Failure(words)
-
-
 def read(path):
     with open(path, "rb") as file:
         return file.read()
-
-
-def typed(page, name, text):
-    """Types into a field, and returns what the page shows then."""
-    return page.after(f"const field = document.getElementById('control-{name}'); field.value = {json.dumps(text)};"
-                      "field.dispatchEvent(new Event('input'));")
 
 
 def word_of(page, name):
@@ -59,6 +48,8 @@ def check_shape(page, number, text):
     found = page.shown()
     require(f"shape-{number}.pcwt: " in said, said)
     require(found["refused"] is None and not found["stale"] and found["rounds"], f"{said}: {found['refused']}")
+    read_out = page.browser.value("textOf('windows-readout')")
+    require((" 0 writes " in said) == read_out.startswith("The trace writes no page"), f"{said}: {read_out!r}")
 
 
 def check_records(page, _):
@@ -108,7 +99,7 @@ def check_files(page, folder):
     page.browser.wait(f"opened === {before + 2} && isDrawn()")
     said = page.browser.value("textOf('trace-notes') + ' | ' + textOf('trace-state')")
     require("three.pcwt is still open." in said and "three.pcwt: 25 pages" in said, said)
-    require(page.shown()["rounds"][0][4] == 25, f"rounds of another trace: {page.shown()['rounds'][0]}")
+    require(page.shown()["rounds"][0][4] == "25", f"rounds of another trace: {page.shown()['rounds'][0]}")
     path = os.path.join(folder, "chosen.pcwt")
     with open(path, "wb") as file:
         file.write(good)
@@ -139,15 +130,6 @@ def spelled(amount, unit):
     return f"{amount // 1_000}.{amount % 1_000:03}KB" if unit in RATES else f"{amount}us"
 
 
-PLAIN = {"trace": "sqlite", "link": "1Gbit", "downtime": "300ms", "first": "10", "reserve": "0ms", "start": "1000",
-         "rounds": "30", "tick": "1ms", "base": "none", "window": "500"}
-
-
-def asked(page, **more):
-    """Asks for plain settings with some others."""
-    return page.ask("&".join(f"{name}={word}" for name, word in {**PLAIN, **more}.items()))
-
-
 def check_said(text, unit, fault):
     """A refusal says what was typed, in the unit of its control. Rates are whole bytes a second."""
     if unit:
@@ -158,14 +140,25 @@ def check_said(text, unit, fault):
         require(re.search(rf"(?<![\d.]){text}(?![\d.])", fault), f"{text}: {fault!r}")
 
 
+# Where the fault of a control is seen, and the top and the bottom of what of it could be seen.
+FAULT_BOX = """(() => {
+  const { top, bottom } = document.getElementById("control-NAME-fault").getBoundingClientRect();
+  const panel = document.getElementById("controls").getBoundingClientRect();
+  return { top, bottom, least: Math.max(0, panel.top), most: Math.min(innerHeight, panel.bottom) };
+})()"""
+
+
 def check_refused(page, name, text, unit, grain):
     asked(page, **({"base": "500"} if name == "base" else {}))
     before = page.shown()
     if unit:
         page.after(f"const unit = document.querySelector('[data-control={name}] select'); unit.value = '{unit}';"
                    "unit.dispatchEvent(new Event('change'))")
+    page.browser.value(f"document.getElementById('control-{name}').focus()")
     found = typed(page, name, text)
     require(found["refused"] == name and found["stale"], f"{name} {text} {unit}: {found['refused']}, {found['fault']}")
+    box = page.browser.value(FAULT_BOX.replace("NAME", name))
+    require(box["least"] <= box["top"] and box["bottom"] <= box["most"], f"{name}: the fault is cut: {box}")
     require(found["rounds"] == before["rounds"], "the last plan does not stay")
     enabled = page.browser.value("['#keep', '#ask', '[data-copies=command-predict]', '#zoom-plan',"
                                  "'#outcome .saves button', '#plan-this .saves button']"
@@ -201,18 +194,23 @@ def check_unread(page):
 # ---- Units.
 
 
+def without_units(found):
+    """What the page shows but for rates and words in the unit of a control."""
+    return {**found, "rounds": [row[:3] + row[4:] for row in found["rounds"]], "predict": None, "notes": None}
+
+
 def check_units(page):
     """Another unit of a control is the same amount; a decimal is the amount that it says."""
     draw = random.Random(300)
     for name, units, some in (("link", RATES, "64MiB"), ("downtime", TIMES, "300ms"), ("reserve", TIMES, "1500us"),
                               ("link", RATES, "10Gbit"), ("tick", TIMES, "1ms")):
         page.ask(f"trace=sqlite&{name}={some}")
-        before = page.shown()
+        before = without_units(page.shown())
         for _ in range(5):
             unit = draw.choice(sorted(units))
-            found = page.after(f"const unit = document.querySelector('[data-control={name}] select');"
-                               f"unit.value = '{unit}'; unit.dispatchEvent(new Event('change'))")
-            differing = [key for key in found if found[key] != before[key] and key != "predict"]
+            found = without_units(page.after(f"const unit = document.querySelector('[data-control={name}] select');"
+                                             f"unit.value = '{unit}'; unit.dispatchEvent(new Event('change'))"))
+            differing = [key for key in found if found[key] != before[key]]
             require(not differing, f"{name} {some} in {unit}: other {differing}")
         settled(page)
         require(amount_in(word_of(page, name)) == amount_in(some), word_of(page, name))
@@ -267,7 +265,7 @@ def check_warm(page):
         found = page.after("document.getElementById('control-warm').click()")
         base, at = page.browser.value("['base', 'start'].map((name) => Number(document.getElementById("
                                       "`control-${name}`).value))")
-        require(base < at and found["rounds"][0][4] > 0, f"start {start}: copy {base}, start {at}")
+        require(base < at and found["rounds"][0][4] != "0", f"start {start}: copy {base}, start {at}")
     page.browser.value("document.getElementById('ask').click()")
     page.browser.wait("document.querySelector('#starts-choice p') !== null && !document.getElementById("
                       "'starts-answer').hidden && document.getElementById('starts-progress').hidden")
@@ -416,101 +414,6 @@ def check_saving(page):
     page.becomes("textOf('saving')", "This plan starts there.", "at the best start")
 
 
-def check_comparison(page):
-    """Of two kept plans each is compared; better and worse are marked, and one can be exchanged and dropped."""
-    asked(page, link="5Gbit", downtime="20ms")
-    page.after("document.getElementById('keep').click()")
-    first = asked_rounds(page, "2")
-    page.after("document.getElementById('keep').click()")
-    asked_rounds(page, "1")
-    heads = "[...document.querySelectorAll('#comparison thead th')].map((cell) => cell.firstChild.textContent.trim())"
-    require(page.browser.value(heads) == ["This plan", "Kept plan 1", "Kept plan 2"], page.browser.value(heads))
-    marks = page.browser.value("['better', 'worse'].map((name) => "
-                               "document.querySelectorAll(`#comparison .${name}`).length)")
-    require(min(marks) > 0, f"better and worse: {marks}")
-    found = page.after("document.querySelector('[data-exchanges=\"1\"]').click()")
-    require(found["comparison"] == first["comparison"], f"{found['comparison']} in place of {first['comparison']}")
-    page.after("document.querySelector('[data-drops=\"0\"]').click()")
-    page.after("document.querySelector('[data-drops=\"0\"]').click()")
-    require(page.browser.value(heads) == ["This plan"], page.browser.value(heads))
-
-
-def asked_rounds(page, rounds):
-    return typed(page, "rounds", rounds)
-
-
-def saved_files(page, count):
-    """Presses all buttons that save something, and returns the files by their names: so many."""
-    page.browser.value("""(() => {
-      window.saved = [];
-      const made = URL.createObjectURL;
-      URL.createObjectURL = (blob) => { window.savedLast = blob; return made.call(URL, blob); };
-      HTMLAnchorElement.prototype.click = function click() { saved.push([this.download, savedLast]); };
-      for (const button of document.querySelectorAll(".saves button")) {
-        if (button.offsetParent) { button.click(); }
-      }
-    })()""")
-    page.browser.wait(f"saved.length === {count}", 20)
-    files = page.browser.value("""Promise.all(saved.map(([name, blob]) => new Promise((resume) => {
-      const reader = new FileReader();
-      reader.onload = () => resume([name, reader.result.split(",")[1]]);
-      reader.readAsDataURL(blob);
-    })))""")
-    return {name: base64.b64decode(text) for name, text in files}
-
-
-# The heads of the tables that are saved: each number has a unit.
-HEADS = {
-    "prediction": "plan,downtime_us,time_us,sent_bytes,rounds,left_pages,stop_us,start_us,reason,kept,converges",
-    "rounds-this": "round,from_ticks,to_ticks,rate_pages_per_1000_ticks,pages,sent_pages,dirtied_pages",
-    "working-set": "window,from_us,to_us,writes,pages,again_pages,fresh_pages",
-    "starts": "tick,start_us,time_us,sent_bytes,downtime_us,kept",
-}
-LEGENDS = {"rounds-this": ["Rounds", "sent", "downtime"], "working-set": ["Working set", "never before", "stop"],
-           "starts": ["When to move", "by start", "worst"]}
-
-
-def check_table(name, text, shown):
-    """A table has the heads and the rows that it should."""
-    head, *lines = text.splitlines()
-    require(head == HEADS[name], f"{name}: {head}")
-    require({line.count(",") for line in lines} == {head.count(",")}, f"{name}: {lines[:3]}")
-    rows = [line.split(",") for line in lines]
-    if name == "rounds-this":
-        rows = [[int(cell) for cell in row] for row in rows]
-        require(rows == shown["rounds"], f"{rows} in place of {shown['rounds']}")
-    elif name == "working-set":
-        tick, length = 1_000, int(PLAIN["window"])
-        times = [[int(row[0]) * length * tick, (int(row[0]) + 1) * length * tick] for row in rows]
-        require([list(map(int, row[1:3])) for row in rows] == times, f"{name}: {rows[:3]}")
-    elif name == "prediction":
-        require([row[0] for row in rows] == ["This plan"], f"{name}: {rows}")
-
-
-def check_files_saved(page):
-    """Each picture is saved as PNG and SVG, with its name and its legend, and each table as CSV."""
-    asked(page)
-    page.browser.value("document.getElementById('ask').click()")
-    page.browser.wait("document.querySelector('#starts-plot svg') !== null")
-    wanted = 3 * 3 + 1
-    files = saved_files(page, wanted)
-    require(len(files) == wanted, f"files: {sorted(files)}")
-    shown = page.shown()
-    for file, data in files.items():
-        name, _, kind = file.rpartition(".")
-        if kind == "svg":
-            root = xml.etree.ElementTree.fromstring(data)
-            parts = list(root.iter())
-            texts = [part.text for part in parts if part.tag.endswith("text")]
-            require(root.tag.endswith("svg") and len(parts) > 20, f"{file} has {len(parts)} parts")
-            require(texts[0] == LEGENDS[name][0] and set(LEGENDS[name]) <= set(texts), f"{file} says {texts}")
-        elif kind == "png":
-            pixels = struct.unpack(">II", data[16:24])
-            require(data.startswith(b"\x89PNG") and min(pixels) > 300, f"{file}: {pixels} pixels")
-        else:
-            check_table(name, data.decode(), shown)
-
-
 def check_uses(tally, page, folder):
     for number, text in enumerate(page_shapes.shapes(DROPPED, 50)):
         tried(tally, f"a trace of shape {number} on a fresh page", check_shape, page, number, text)
@@ -522,6 +425,7 @@ def check_uses(tally, page, folder):
         tried(tally, f"refused: {case}", check_refused, page, *case)
     for words, check in (("what is no number", check_unread), ("units", check_units), ("warm starts", check_warm),
                          ("back", check_back), ("limits", check_limits), ("the best start", check_saving),
-                         ("kept plans", check_comparison), ("saved files", check_files_saved),
+                         ("kept plans", page_kept.check_comparison), ("shared axes", page_kept.check_axes),
+                         ("hypervisors", page_kept.check_hosts), ("saved files", page_saves.check_files_saved),
                          ("looking", check_looking), ("the worker", check_worker)):
         tried(tally, words, check, page)

@@ -1,6 +1,7 @@
 // What the controls ask of the module: a question, and the settings that it makes of that. What it refuses is told at
 // the control that says it, in the units of the control.
 
+import { countOf, timeText } from "./numbers.js";
 import { MOST_ROUNDS, Refusal } from "./planner.js";
 import { quantityWords } from "./quantities.js";
 import { amountOf, limitsOf, RATE_UNITS, scaleOf, shareOf, TIME_UNITS } from "./units.js";
@@ -38,9 +39,9 @@ const CONTROLS = {
 /** Between a number and its unit or noun, which stay on one line. */
 const BEFORE_UNIT = /(?<=\d) (?=[A-Za-z%])/g;
 
-/** The rate of a page per 1,000 ticks in words: what a rate has at least. */
-function leastRate({ sample, tick }) {
-  return `1 ${sample ? "sample page" : "page"} per 1,000 ticks of ${timeWords(tick)}`;
+/** So many pages per 1,000 ticks in words. */
+function pagesInTicks(count, { sample, tick }) {
+  return `${countOf(count, sample ? "sample page" : "page")} in ${timeText(1_000n * amountOf(tick))} (1,000 ticks)`;
 }
 
 /** Whether a link moves less than a page of the trace in 1,000 ticks. */
@@ -54,7 +55,7 @@ function isSlow(state, sizes) {
  * `precopy-view`: what is asked has no commas.
  */
 const SENTENCES = {
-  tick: ({ tick }) => `${timeWords(tick)} is not 1 us to 1 s.`,
+  tick: ({ tick }) => `A tick of ${timeWords(tick)} is not one of 1 us to 1 s.`,
   sample: (state, { pages }) => {
     const { part, whole } = state.sample ?? { part: pages, whole: pages };
     if (part < pages) {
@@ -64,15 +65,14 @@ const SENTENCES = {
       : `A guest of ${whole} pages has more than 2^32 pages.`;
   },
   link: (state, sizes) => (isSlow(state, sizes)
-    ? `${rateWords(state.link)} is less than ${leastRate(state)}. Longer ticks allow a slower link.`
-    : `${rateWords(state.link)} is more than 1,000,000 pages per 1,000 ticks of ${timeWords(state.tick)}. Shorter `
-      + "ticks allow a faster link."),
-  first: (state) => `${state.first} % of the link is less than ${leastRate(state)}.`,
+    ? `${rateWords(state.link)} is less than ${pagesInTicks(1, state)}. Longer ticks allow a slower link.`
+    : `${rateWords(state.link)} is more than ${pagesInTicks(1_000_000, state)}. Shorter ticks allow a faster link.`),
+  first: (state) => `${state.first} % of the link is less than ${pagesInTicks(1, state)}.`,
   reserve: ({ reserve, downtime }) => `${timeWords(reserve)} is more than the downtime limit of `
     + `${timeWords(downtime)}.`,
   downtime: ({ downtime }) => `In ${timeWords(downtime)} the link moves more than 65,535 pages of the trace.`,
-  rounds: ({ rounds: most }) => `${most} rounds are not 1 to ${MOST_ROUNDS}.`,
-  window: ({ window: length }) => `${length} ticks are not 1 to 2^40.`,
+  rounds: ({ rounds: most }) => `${most} rounds at most: there can be 1 to ${MOST_ROUNDS}.`,
+  window: ({ window: length }) => `A window of ${length} ticks is not one of 1 to 2^40.`,
   start: ({ start }) => `Tick ${start} is not below 2^40.`,
   base: ({ base, start }) => `Tick ${base} is after the start, tick ${start}.`,
 };

@@ -27,7 +27,7 @@ export const GROUPS = [
     controls: [
       { name: "start", label: "Start at tick", low: 0, high: 0, isTick: true },
       { name: "rounds", label: "Most rounds", unit: "rounds", low: 1, high: 64, isPlain: true },
-      { name: "skip", label: "Skip pages that are written again before they are sent", isSwitch: true },
+      { name: "skip", label: "Skip pages rewritten before being sent", isSwitch: true },
       { name: "warm", label: "Warm start: the destination has a copy", isSwitch: true },
       { name: "base", label: "Copy taken before tick", low: 0, high: 0, isTick: true },
     ],

@@ -3,7 +3,7 @@
 
 import { ControlRefusal } from "./asking.js";
 import { GROUPS } from "./control-list.js";
-import { byId, html } from "./elements.js";
+import { byId, html, mark, put, tellIn } from "./elements.js";
 import {
   amountAt, countAt, placeOf, PLACES, quantityNear, quantityOf, quantityWords, shownCount, unitName,
 } from "./quantities.js";
@@ -202,53 +202,56 @@ export class Controls {
     const { units, low, high, isLog, isSample } = part.control;
     const number = isSample ? weightOf(value || null) : value;
     if (part.field !== source) {
-      part.field.value = units ? shownCount(value, units) : String(number);
+      put(part.field, "value", units ? shownCount(value, units) : number);
     }
     if (units) {
-      part.unit.value = value.unit;
+      put(part.unit, "value", value.unit);
     }
     const amount = units ? value.amount : number;
-    part.slider.max = units || isLog ? PLACES : high;
-    part.slider.min = units || isLog ? 0 : low;
+    put(part.slider, "max", units || isLog ? PLACES : high);
+    put(part.slider, "min", units || isLog ? 0 : low);
     if (part.slider !== source) {
-      part.slider.value = units || isLog ? placeOf(amount, low, high) : amount;
+      put(part.slider, "value", units || isLog ? placeOf(amount, low, high) : amount);
     }
-    part.slider.setAttribute("aria-valuetext", this.wordsOf(part, value));
+    mark(part.slider, "aria-valuetext", this.wordsOf(part, value));
   }
 
   /** Says below controls what they come to. */
   derive(words) {
     for (const [name, part] of Object.entries(this.parts)) {
       if (part.derived) {
-        part.derived.textContent = words[name] ?? "";
+        tellIn(part.derived, words[name] ?? "");
       }
     }
   }
 
   /** Says at a control why it is refused, with a button that takes other settings; without a refusal says nothing. */
   refuse(refusal, nearest) {
-    for (const [name, part] of Object.entries(this.parts)) {
-      const isRefused = refusal?.control === name;
-      if (part.fault) {
-        part.field.setAttribute("aria-invalid", String(isRefused));
-        part.fault.replaceChildren(...(isRefused ? this.faultParts(part, refusal, nearest) : []));
+    const refused = this.parts[refusal?.control];
+    for (const part of Object.values(this.parts).filter(({ fault }) => fault)) {
+      mark(part.field, "aria-invalid", String(part === refused));
+      if (part === refused || part.fault.childElementCount > 0) {
+        part.fault.replaceChildren(...(part === refused ? [this.faultPart(part, refusal, nearest)] : []));
       }
+    }
+    if (refused?.whole.contains(document.activeElement)) {
+      refused.fault.scrollIntoView({ block: "nearest" });
     }
   }
 
-  faultParts(part, refusal, nearest) {
-    const said = html("p", {}, refusal.message);
+  faultPart(part, refusal, nearest) {
     if (!nearest) {
-      return [said];
+      return html("p", {}, refusal.message);
     }
     const { name, label } = part.control;
     const words = this.wordsOf(part, nearest[name]);
-    const button = html("button", { type: "button", "aria-label": `${label}: take ${words}` }, `Take ${words}`);
+    const button = html("button", { type: "button", class: "small", "aria-label": `${label}: take ${words}` },
+      `Take ${words}`);
     button.addEventListener("click", () => {
       this.take(nearest, [name]);
       part.field.focus();
     });
-    return [said, button];
+    return html("p", {}, refusal.message, " ", button);
   }
 
   /** A value of a control in words. */
@@ -258,7 +261,8 @@ export class Controls {
       return quantityWords(value, units);
     }
     const number = isSample ? weightOf(value || null) : value;
-    return isTick ? `tick ${number}` : unit ? `${number} ${unit}` : String(number);
+    const noun = number === 1 ? unit?.replace(/s$/, "") : unit;
+    return isTick ? `tick ${number}` : noun ? `${number} ${noun}` : String(number);
   }
 
   /** Leads to the control that is refused. */

@@ -55,6 +55,57 @@ export function byId(id) {
   return document.getElementById(id);
 }
 
+/** Gives an element words, if it has others: what stays needs no layout. */
+export function tellIn(element, words) {
+  if (element.textContent !== words) {
+    element.textContent = words;
+  }
+}
+
+/** Gives an element an attribute, if it has another. */
+export function mark(element, name, value) {
+  if (element.getAttribute(name) !== value) {
+    element.setAttribute(name, value);
+  }
+}
+
+/** Gives an element a property that is a word, if it has another. */
+export function put(element, name, value) {
+  if (element[name] !== String(value)) {
+    element[name] = value;
+  }
+}
+
+/** Makes a node what a new one of the same kind is. */
+function become(old, made) {
+  if (old.nodeType === Node.TEXT_NODE) {
+    put(old, "data", made.data);
+    return;
+  }
+  [...old.attributes].filter(({ name }) => !made.hasAttribute(name)).forEach(({ name }) => old.removeAttribute(name));
+  [...made.attributes].forEach(({ name, value }) => mark(old, name, value));
+  renew(old, ...made.childNodes);
+}
+
+/**
+ * Puts new nodes in a place as `replaceChildren` does, but old ones of the same kind stay and become like them: so a
+ * button keeps its focus, and words that the user has selected stay so. Nothing in the place may listen by itself.
+ */
+export function renew(place, ...nodes) {
+  const olds = [...place.childNodes];
+  nodes.forEach((made, at) => {
+    const old = olds[at];
+    if (!old) {
+      place.append(made);
+    } else if (old.nodeName === made.nodeName) {
+      become(old, made);
+    } else {
+      old.replaceWith(made);
+    }
+  });
+  olds.slice(nodes.length).forEach((old) => old.remove());
+}
+
 /** Calls `act` in the next frame, once for all calls before it. */
 export function oncePerFrame(act) {
   let isPending = false;

@@ -7,8 +7,8 @@ const TIP_GAP = 14;
 
 /**
  * Lets the user look at the items of a picture. `look` has `count` items, `find`s an item by its place in pixels, has
- * `words` of an item and its `span` in pixels, and may have `choose`, which Enter, Space and a click call; a click
- * gives its place too. A finger only looks: then the `offer` button takes what was looked at.
+ * `words` of an item and its `span` in pixels, and says if there is `none`. It may have `choose`, which Enter, Space and
+ * a click call; a click gives its place too. A finger only looks: then the `offer` button takes what was looked at.
  */
 export class Inspector {
   constructor(plot, readout, name, offer = null) {
@@ -31,8 +31,11 @@ export class Inspector {
     this.readout.textContent = this.hint();
   }
 
-  /** How items are looked at: with a finger, or with a pointer and keys. */
+  /** How items are looked at, with a finger or with a pointer and keys; or that there is none. */
   hint() {
+    if (this.look?.count === 0 && this.look.none) {
+      return this.look.none;
+    }
     const { hint, touch } = this.readout.dataset;
     return touch && this.finger.matches ? touch : hint;
   }

@@ -19,7 +19,7 @@ function mayHaveErrors(prediction) {
 }
 
 export class LateAnswers {
-  /** `told` is called after each answer. */
+  /** `told` is called after each answer, with its kind. */
   constructor(told) {
     this.told = told;
     this.client = new PlannerClient("aside", () => {});
@@ -57,7 +57,7 @@ export class LateAnswers {
     try {
       for (let next = this.next(); next; next = this.next()) {
         this.keep(next.key, await this.answerTo(next));
-        this.told();
+        this.told(next.kind);
       }
     } finally {
       this.isAsking = false;

@@ -71,7 +71,8 @@ export class LimitsView {
     const lines = AMOUNTS.filter(({ name }) => remedies[name] !== null)
       .map((some) => this.amountLine(some, trace, prediction, remedies[some.name]));
     if (remedies.speed !== null) {
-      lines.push(html("li", {}, "the guest slowed to ", html("b", {}, `${remedies.speed} per cent`), " of its speed"));
+      lines.push(html("li", {}, "the guest slowed to ", html("b", {}, `${remedies.speed} %`),
+        ` of its speed, by a throttle of ${100 - remedies.speed} %`));
     }
     return [this.sentence(headOf(remedies)), ...(lines.length > 0 ? [html("ul", {}, ...lines)] : [])];
   }

@@ -1,11 +1,13 @@
 // The page: it holds the state, has each change planned by the worker, and has the sections drawn.
 
 import { ControlRefusal, takeRules } from "./asking.js";
+import { CommandsView } from "./commands-view.js";
 import { Controls } from "./controls.js";
-import { byId, html, oncePerFrame } from "./elements.js";
+import { derivedWords } from "./derived.js";
+import { byId, oncePerFrame } from "./elements.js";
 import { fittedSettings } from "./fitting.js";
 import { nearestSettings } from "./nearest.js";
-import { bytesText, counted, countOf, momentText, rateText, timeText, unbroken } from "./numbers.js";
+import { momentText, unbroken } from "./numbers.js";
 import { WorkerEnded } from "./planner-client.js";
 import { LateAnswers } from "./late-answers.js";
 import { LimitsView } from "./limits-view.js";
@@ -13,14 +15,12 @@ import { keptPredictions, PlanView } from "./plan-view.js";
 import { serve } from "./planner-worker.js";
 import { fixWidths, watchWidths } from "./plot.js";
 import { hasWideMemory, Planner, Refusal } from "./planner.js";
-import { commandsOf, predictionOf } from "./predictions.js";
-import { isInBits, roundedWords } from "./quantities.js";
-import { firstStartOf } from "./starts.js";
+import { predictionOf } from "./predictions.js";
 import { StartsView } from "./starts-view.js";
 import { fragmentOf, MOST_KEPT, presetOf, stateIn, withoutPreset } from "./state.js";
 import { TraceDesk } from "./trace-desk.js";
 import { embeddedBytes } from "./trace-source.js";
-import { amountOf, limitsOf, microsOf, RATE_UNITS } from "./units.js";
+import { amountOf, microsOf } from "./units.js";
 import { WindowsView } from "./windows-view.js";
 
 /** How long the page waits for a change to be the last one until it announces it, in milliseconds. */
@@ -31,11 +31,6 @@ const WIDTH_ON_PAPER = 560;
 
 /** The example that is shown if the address asks for nothing. */
 const FIRST_EXAMPLE = "sqlite";
-
-/** The parts of a text, whose words are not broken at their hyphens. */
-function wordsWhole(text) {
-  return text.split(/(\s+)/).map((part) => (/^\s/.test(part) ? part : html("span", { class: "word" }, part)));
-}
 
 /** Runs something, and has its value, or the refusal that it throws. */
 async function foundBy(act) {
@@ -66,7 +61,8 @@ class Page {
     this.plans = new PlanView((name) => this.controls.focus(name), () => this.fitAnew(), this.planSoon);
     this.starts = new StartsView((tick) => this.startAt(tick), () => this.draw());
     this.limits = new LimitsView((settings, name) => this.controls.take(settings, [name]));
-    this.late = new LateAnswers(() => this.drawLate());
+    this.commands = new CommandsView();
+    this.late = new LateAnswers((kind) => this.drawLate(kind));
     this.controls.show(this.state.settings);
   }
 
@@ -78,9 +74,6 @@ class Page {
     });
     for (const button of document.querySelectorAll("[data-example]")) {
       button.addEventListener("click", () => this.takeExample(button.dataset.example));
-    }
-    for (const button of document.querySelectorAll("[data-copies]")) {
-      button.addEventListener("click", () => this.copy(button));
     }
     byId("keep").addEventListener("click", () => this.keep());
     byId("undo-start").addEventListener("click", () => this.undoStart());
@@ -319,8 +312,8 @@ class Page {
     this.drawLimits();
     this.starts.follow(found.value, this.controls.begin);
     this.starts.draw(this.windows.axis);
-    this.drawCommands(found.value, trace);
-    this.controls.derive(this.derived(settings, found.value, trace));
+    this.commands.draw(found.value, trace.sizes, this.controls.begin);
+    this.controls.derive(derivedWords(settings, found.value, trace.sizes));
     this.controls.refuse(found.refusal, nearest);
     this.found = found;
   }
@@ -344,17 +337,18 @@ class Page {
     predictions.forEach((some) => { some.errors = this.late.errorsOf(trace, some); });
   }
 
-  /** Draws an answer that has come. If another trace is open meanwhile, its plan will draw it. */
-  drawLate() {
+  /** Draws an answer of some kind that has come. If another trace is open meanwhile, its plan will draw it. */
+  drawLate(kind) {
     if (this.shown?.trace !== this.desk.trace) {
       return;
     }
     const { settings, kept } = this.shown;
     this.askLate();
-    if (this.plans.last) {
+    if (kind === "remedies") {
+      this.drawLimits();
+    } else if (this.plans.last) {
       this.plans.drawComparison(settings, kept);
     }
-    this.drawLimits();
   }
 
   drawLimits() {
@@ -367,55 +361,12 @@ class Page {
     return refusal === this.controls.unread ? settings : nearestSettings(settings, refusal, sizes);
   }
 
-  drawCommands(prediction, { sizes }) {
-    byId("commands").classList.toggle("stale", !prediction);
-    document.querySelectorAll("[data-copies]:not([data-copies=address])").forEach((button) => {
-      button.disabled = !prediction;
-    });
-    if (!prediction) {
-      return;
-    }
-    const first = firstStartOf(sizes, prediction.settings.base, this.controls.begin);
-    const commands = commandsOf(prediction.state, sizes, prediction, first);
-    for (const [name, words] of Object.entries(commands)) {
-      byId(`command-${name}`).replaceChildren(...wordsWhole(words));
-    }
-    byId("warm-note").hidden = prediction.settings.base === null;
-  }
-
-  /** What the controls come to, by their names. */
-  derived(settings, prediction, { sizes }) {
-    const microsIn = (ticks) => microsOf({ tick: amountOf(settings.tick) }, ticks);
-    const at = (ticks) => momentText(microsIn(ticks));
-    const words = { start: at(settings.start), base: at(settings.base ?? 0) };
-    words.window = timeText(microsIn(settings.window));
-    if (settings.base !== null && settings.base < settings.start) {
-      words.base += `, ${timeText(microsIn(settings.start - settings.base))} before the start`;
-    }
-    if (prediction) {
-      const { min, max, increment, threshold } = prediction.settings;
-      const { scale } = prediction;
-      const limits = limitsOf(settings);
-      const noun = scale.isSample ? "sample page" : "page";
-      const rateWords = (pages) => `${countOf(pages, noun)} per 1,000 ticks`;
-      const { unit } = settings.link;
-      words.link = `${isInBits(unit) ? `${rateText(limits.link)}: ` : ""}${rateWords(max)}`;
-      words.first = `${roundedWords(limits.first, unit, RATE_UNITS)}: ${rateWords(min)}`;
-      words.increase = `+${rateWords(increment)} a round`;
-      words.reserve = `leaves ${timeText(limits.downtime - limits.reserve)} for pages`;
-      words.downtime = threshold === 1 ? `stops when no ${noun} is left`
-        : `stops at fewer than ${countOf(threshold, noun)}`;
-      words.sample = scale.isSample ? `${counted(scale.sampled)} of ${counted(scale.guest)} pages, `
-        + bytesText(scale.guest * scale.page) : `the trace has the whole guest, ${countOf(sizes.pages, "page")}`;
-    }
-    return words;
-  }
-
   /** What is said if the address is of another trace than the open one. */
   otherTrace() {
     const { print, example } = this.state;
     return print && !example && print !== this.desk.trace.print
-      ? `This address has the settings of another trace (${print}); the open one is ${this.desk.trace.print}.` : "";
+      ? `This address has the settings of another trace, whose SHA-256 begins with ${print}. That of the open one `
+        + `begins with ${this.desk.trace.print}.` : "";
   }
 
   /** Tells the last of several changes: as an address to go back to, and to a screen reader. */
@@ -437,21 +388,7 @@ class Page {
   }
 
   tellAddress() {
-    byId("address").textContent = `#${fragmentOf(this.state)}`;
-  }
-
-  async copy(button) {
-    const { copies } = button.dataset;
-    const words = copies === "address" ? location.href : byId(copies).textContent;
-    const before = button.textContent;
-    try {
-      await navigator.clipboard.writeText(words);
-      button.textContent = "Copied";
-    } catch {
-      getSelection().selectAllChildren(byId(copies));
-      button.textContent = "Selected";
-    }
-    setTimeout(() => { button.textContent = before; }, 1500);
+    this.commands.tellAddress(`#${fragmentOf(this.state)}`);
   }
 }
 
@@ -460,7 +397,7 @@ async function open() {
   if (!hasWideMemory() || typeof DecompressionStream === "undefined") {
     byId("trace-state").textContent = "This browser cannot run the planner: it lacks WebAssembly memory of 64-bit "
       + "addresses. Chromium and Firefox have it from version 134 on.";
-    document.body.classList.add("unable");
+    document.querySelectorAll("#trace button, #trace input").forEach((control) => { control.disabled = true; });
     return;
   }
   const ready = embeddedBytes("planner-module").then((bytes) => Planner.withoutTrace(bytes)).then(takeRules);

@@ -2,18 +2,17 @@
 // settings make no plan, the last one stays, grey.
 
 import { ControlRefusal } from "./asking.js";
-import { byId, html } from "./elements.js";
+import { byId, html, renew } from "./elements.js";
 import { bytesText, momentText, timeText } from "./numbers.js";
-import {
-  comparisonOf, comparisonRows, refusalPart, refusedWords, roundsFile, roundsTable, verdictOf, verdictParts,
-} from "./outcome.js";
 import { saveButtons } from "./exports.js";
 import { Inspector } from "./inspector.js";
+import { comparisonOf, comparisonRows, refusalPart, refusedWords, verdictOf, verdictParts } from "./outcome.js";
 import { WorkerEnded } from "./planner-client.js";
 import { watchWidths, widthOf } from "./plot.js";
 import { isUnknown, keptWords } from "./predictions.js";
 import { quantityWords } from "./quantities.js";
 import { reachOf, roundsLook, roundsPicture } from "./rounds-chart.js";
+import { roundsFile, roundsTable } from "./tables.js";
 import { amountOf, microsOf, RATE_UNITS, TIME_UNITS } from "./units.js";
 
 /** The predictions of kept plans that are not refused. */
@@ -44,8 +43,11 @@ const WORDS = {
 function differencesOf(settings, kept, place) {
   const differing = Object.keys(WORDS).filter((name) => JSON.stringify(settings[name]) !== JSON.stringify(kept[name]));
   return differing.length === 0 ? `Kept plan ${place + 1} has the same settings.`
-    : `Kept plan ${place + 1}: ${differing.map((name) => WORDS[name](kept[name], kept)).join(", ")}.`;
+    : `Kept plan ${place + 1} differs: ${differing.map((name) => WORDS[name](kept[name], kept)).join(", ")}.`;
 }
+
+/** What the sign before a standard error means. */
+const STANDARD_ERROR = "\u00b1 is one standard error: how far a number moves if other pages of the guest are sampled.";
 
 /** A figure with the rounds of a plan. */
 class RoundsFigure {
@@ -71,8 +73,8 @@ class RoundsFigure {
     this.prediction = prediction;
     const { axis, picture } = roundsPicture(widthOf(this.plot), prediction, reach);
     this.plot.replaceChildren(picture);
-    this.inspector.hold(roundsLook(axis, prediction));
-    this.table.replaceChildren(roundsTable(prediction));
+    this.inspector.hold(roundsLook(axis, prediction, reach));
+    this.table.replaceChildren(roundsTable(prediction, reach.unit));
   }
 }
 
@@ -141,8 +143,10 @@ export class PlanView {
   /** Draws the numbers of the plans. Standard errors that are still to come make it busy. */
   drawComparison(settings, kept) {
     const words = kept.map((some, place) => this.keptWords(settings, some, place));
-    byId("comparison").replaceChildren(comparisonOf(this.last, kept), ...words);
-    const isAwaited = [this.last, ...keptPredictions(kept)].some(({ errors }) => errors === undefined);
+    const predictions = [this.last, ...keptPredictions(kept)];
+    const meaning = predictions.some(({ errors }) => errors) ? [html("p", { class: "derived" }, STANDARD_ERROR)] : [];
+    renew(byId("comparison"), comparisonOf(this.last, kept), ...words, ...meaning);
+    const isAwaited = predictions.some(({ errors }) => errors === undefined);
     byId("comparison").setAttribute("aria-busy", String(isAwaited));
   }
 

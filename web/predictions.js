@@ -2,15 +2,13 @@
 // a migration comes to is the module's answer, as that of `precopy-view predict`.
 
 import { askedOf, OWN_INCREMENT } from "./asking.js";
-import { limitsOf, RATE_UNITS, scaleOf, TIME_UNITS } from "./units.js";
-import { countOf } from "./numbers.js";
+import { hostCommands } from "./hosts.js";
+import { counted, countOf } from "./numbers.js";
 import { commandWord } from "./quantities.js";
+import { limitsOf, RATE_UNITS, scaleOf, TIME_UNITS } from "./units.js";
 
 /** If fewer pages than these are left, chance moves the downtime by more than a tenth. */
 const MANY_PAGES = 100;
-
-/** The unit in which libvirt takes a rate. */
-const LIBVIRT_UNIT = RATE_UNITS.MiB;
 
 /** What a migration costs by an answer, in microseconds and bytes, and the verdicts: `yes`, `no` or `unknown`. */
 export function costIn({ time, bytes, downtime, recorded, converges, kept }) {
@@ -48,8 +46,8 @@ export function keptWords({ kept }) {
 export function reasonWords({ plan, settings, scale }) {
   const pages = scale.isSample ? "pages of the sample" : "pages";
   return {
-    few: settings.threshold === 1 ? "no page was left" : `fewer than ${settings.threshold.toLocaleString("en-US")} `
-      + `${pages} were left`,
+    few: settings.threshold === 1 ? "no page was left"
+      : `fewer than ${counted(settings.threshold)} ${pages} were left`,
     fast: "the guest writes faster than the link sends",
     rounds: `all ${countOf(settings.rounds, "round")} that are allowed are done`,
   }[plan.reason];
@@ -110,20 +108,17 @@ function limitWords(state, sizes, { limits, settings, scale }) {
   return words.join(" ");
 }
 
-/** The words that ask for this migration, and that give QEMU and libvirt the same limits. */
+/** The words that ask for this migration, and that give hypervisors the same limits; with notes where needed. */
 export function commandsOf(state, sizes, prediction, firstStart) {
   const { limits, settings } = prediction;
-  const millis = (limits.downtime - limits.reserve) / 1_000n;
-  const mib = limits.link / LIBVIRT_UNIT > 1n ? limits.link / LIBVIRT_UNIT : 1n;
   const rates = `--min ${settings.min} --max ${settings.max} --inc ${settings.increment}`;
   const said = limitWords(state, sizes, prediction);
   const skip = settings.skip ? " --skip" : "";
   const more = `--rounds ${settings.rounds} --from ${firstStart}${baseWords(settings)}${skip}`;
   return {
-    predict: `precopy-view predict ${said} ${optionsOf(settings)} < TRACE`,
-    when: `precopy-view when ${said} ${more} < TRACE`,
-    live: `precopy live ${rates} --threshold ${settings.threshold} ${optionsOf(settings)} < TRACE`,
-    qemu: `migrate_set_parameter max-bandwidth ${limits.link}B\nmigrate_set_parameter downtime-limit ${millis}`,
-    libvirt: `virsh migrate-setspeed DOMAIN ${mib}\nvirsh migrate-setmaxdowntime DOMAIN ${millis}`,
+    predict: { words: `precopy-view predict ${said} ${optionsOf(settings)} < TRACE` },
+    when: { words: `precopy-view when ${said} ${more} < TRACE` },
+    live: { words: `precopy live ${rates} --threshold ${settings.threshold} ${optionsOf(settings)} < TRACE` },
+    ...hostCommands(limits, state.link),
   };
 }

@@ -138,6 +138,19 @@ export function isInBits(unit) {
   return unit.endsWith("bit");
 }
 
+/** The most digits behind a point of a number with few digits. */
+const MOST_DIGITS = 9;
+
+/** A quotient of whole numbers with about three digits: of a greater one no digit is left out before its point. */
+export function fewDigitsText(number, divisor) {
+  let digits = 0;
+  while (digits < MOST_DIGITS && (number * 10n ** BigInt(digits)) / divisor < 100n) {
+    digits += 1;
+  }
+  const power = 10n ** BigInt(digits);
+  return decimalText((2n * number * power + divisor) / (2n * divisor), power, digits);
+}
+
 /** A number with about three digits. */
 export function fewDigits(number) {
   return number < 100 ? Number(number.toPrecision(3)) : Math.round(number);

@@ -4,31 +4,34 @@ import { area } from "./elements.js";
 import { counted, momentText, pagesText, timeText } from "./numbers.js";
 import { AXIS_HEIGHT, axisOf, axisLabels, barOf, frameOf, panelOf, pictureOf } from "./plot.js";
 import { reasonWords } from "./predictions.js";
-import { fewDigits, inFittingUnit, unitName } from "./quantities.js";
-import { microsOf, RATE_UNITS } from "./units.js";
+import { fewDigits, fewDigitsText, inFittingUnit, unitName } from "./quantities.js";
+import { microsOf, rateIn, RATE_UNITS } from "./units.js";
 
 const PAGES_TOP = 26;
 const PAGES_HEIGHT = 130;
 const RATES_TOP = 196;
 const RATES_HEIGHT = 64;
 
-/** What a picture of plans must reach: their ticks, pages and rates. Two plans side by side share one. */
-export function reachOf(predictions) {
-  const reach = { ticks: 1, pages: 1, rate: 1 };
-  for (const { plan, settings } of predictions) {
-    reach.ticks = Math.max(reach.ticks, plan.stop + plan.down - settings.start);
-    reach.pages = Math.max(reach.pages, ...plan.rounds.map((round) => Math.max(round.pages, round.dirtied)));
-    reach.rate = Math.max(reach.rate, settings.max);
-  }
-  return reach;
+/** A rate in pages per 1,000 ticks as a number of bytes a second. */
+function bytesASecond(scale, rate) {
+  const { bytes, seconds } = rateIn(scale, rate);
+  return Number(bytes) / Number(seconds);
 }
 
-/** The rates of a plan in a unit of the link's family: its name, and what a rate in pages per 1,000 ticks is in it. */
-function rateUnit({ state, scale }) {
-  const { unit } = inFittingUnit(state.link.amount, state.link.unit, RATE_UNITS);
-  const { page, guest, sampled, tick } = scale;
-  const size = Number(page * guest * 1_000n) / (Number(sampled * tick) * Number(RATE_UNITS[unit]));
-  return { name: unitName(unit, RATE_UNITS), text: (rate) => String(fewDigits(rate * size)) };
+/**
+ * What a picture of plans must reach: microseconds, pages, and bytes a second; and the unit of rates, in which the
+ * fastest link is said, of the family of the first plan's. Plans beside each other share one, whatever their ticks.
+ */
+export function reachOf(predictions) {
+  const reach = { micros: 1, pages: 1, rate: 1 };
+  for (const { plan, settings, scale } of predictions) {
+    reach.micros = Math.max(reach.micros, (plan.stop + plan.down - settings.start) * Number(scale.tick));
+    reach.pages = Math.max(reach.pages, ...plan.rounds.map((round) => Math.max(round.pages, round.dirtied)));
+    reach.rate = Math.max(reach.rate, bytesASecond(scale, settings.max));
+  }
+  const link = Math.max(...predictions.map(({ state }) => state.link.amount));
+  const { unit } = inFittingUnit(link, predictions[0].state.link.unit, RATE_UNITS);
+  return { ...reach, unit: { name: unitName(unit, RATE_UNITS), size: RATE_UNITS[unit] } };
 }
 
 /** The pages that are dirtied, as a mark over the bar of the round, with a halo that parts it from what it lies on. */
@@ -37,47 +40,51 @@ function dirtiedParts(pages, round, left, width) {
   return [area("halo", left, y - 3, Math.max(2, width), 6), area("dirtied", left, y - 1.5, Math.max(2, width), 3)];
 }
 
-function roundParts(axis, pages, rates, round, start) {
-  const [left, right] = barOf(axis, round.from - start, round.to - start);
+/** When something is on the axis of a plan, in microseconds since its start. */
+function sinceStart({ settings, scale }, tick) {
+  return (tick - settings.start) * Number(scale.tick);
+}
+
+function roundParts(axis, pages, rates, round, prediction) {
+  const [left, right] = barOf(axis, sinceStart(prediction, round.from), sinceStart(prediction, round.to));
   const width = right - left;
   const skipped = round.pages - round.sent;
+  const rate = bytesASecond(prediction.scale, round.rate);
   return [
     area("sent", left, pages.level(round.sent), width, pages.rise(round.sent)),
     area("skipped", left, pages.level(round.pages), width, Math.max(0, pages.rise(skipped) - 1)),
     ...dirtiedParts(pages, round, left, width),
-    area("rate", left, rates.level(round.rate), width, rates.rise(round.rate)),
+    area("rate", left, rates.level(rate), width, rates.rise(rate)),
   ];
 }
 
-function stopParts(axis, panel, stop, down) {
-  const at = axis.place(stop);
-  return [
-    area("down", at, panel.top, axis.place(stop + down) - at, panel.height),
-    area("stop", at - 1, panel.top, 2, panel.height),
-  ];
+function stopParts(axis, panel, prediction) {
+  const { stop, down } = prediction.plan;
+  const [at, end] = [stop, stop + down].map((tick) => axis.place(sinceStart(prediction, tick)));
+  return [area("down", at, panel.top, end - at, panel.height), area("stop", at - 1, panel.top, 2, panel.height)];
 }
 
 /** The picture of a plan within a reach. */
 export function roundsPicture(width, prediction, reach) {
   const { plan, settings, scale } = prediction;
-  const unit = rateUnit(prediction);
-  const axis = axisOf(width, 0, reach.ticks);
+  const { unit } = reach;
+  const axis = axisOf(width, 0, reach.micros);
   const pages = panelOf(PAGES_TOP, PAGES_HEIGHT, reach.pages);
   const rates = panelOf(RATES_TOP, RATES_HEIGHT, reach.rate);
-  const stop = plan.stop - settings.start;
+  const rateText = (rate) => String(fewDigits(rate / Number(unit.size)));
   const parts = [
     ...frameOf(axis, pages, scale.isSample ? "Sample pages of a round" : "Pages of a round"),
-    ...frameOf(axis, rates, `Rate of a round, in ${unit.name}`, unit.text),
-    ...plan.rounds.flatMap((round) => roundParts(axis, pages, rates, round, settings.start)),
-    area("link", axis.place(0), rates.level(settings.max) - 0.5, axis.room, 1),
-    ...stopParts(axis, pages, stop, plan.down), ...stopParts(axis, rates, stop, plan.down),
-    ...axisLabels(axis, Number(scale.tick), rates.bottom, "time since the start"),
+    ...frameOf(axis, rates, `Rate of a round, in ${unit.name}`, rateText),
+    ...plan.rounds.flatMap((round) => roundParts(axis, pages, rates, round, prediction)),
+    area("link", axis.place(0), rates.level(bytesASecond(scale, settings.max)) - 0.5, axis.room, 1),
+    ...stopParts(axis, pages, prediction), ...stopParts(axis, rates, prediction),
+    ...axisLabels(axis, 1, rates.bottom, "time since the start"),
   ];
   return { axis, picture: pictureOf(width, RATES_TOP + RATES_HEIGHT + AXIS_HEIGHT, parts) };
 }
 
 /** What a round has, in words; the item after the last round is the stop. */
-function wordsOf(prediction, at) {
+function wordsOf(prediction, unit, at) {
   const { plan, settings, scale } = prediction;
   const since = (tick) => momentText(microsOf(scale, tick - settings.start));
   if (at === plan.rounds.length) {
@@ -85,23 +92,25 @@ function wordsOf(prediction, at) {
       + `sent in ${timeText(microsOf(scale, plan.down))}`;
   }
   const round = plan.rounds[at];
-  const unit = rateUnit(prediction);
-  return `Round ${at}, ${since(round.from)} to ${since(round.to)}, at ${unit.text(round.rate)} ${unit.name}: `
+  const { bytes, seconds } = rateIn(scale, round.rate);
+  const rate = fewDigitsText(bytes, seconds * unit.size);
+  return `Round ${at}, ${since(round.from)} to ${since(round.to)}, at ${rate} ${unit.name}: `
     + `${pagesText(scale, round.pages)}, ${counted(round.sent)} sent, ${counted(round.dirtied)} dirtied meanwhile`;
 }
 
 /** How the rounds of a picture are looked at. */
-export function roundsLook(axis, prediction) {
-  const { plan, settings } = prediction;
-  const ends = [...plan.rounds.map((round) => round.to - settings.start), plan.stop + plan.down - settings.start];
-  const begins = [...plan.rounds.map((round) => round.from - settings.start), plan.stop - settings.start];
+export function roundsLook(axis, prediction, { unit }) {
+  const { rounds, stop, down } = prediction.plan;
+  const since = (tick) => sinceStart(prediction, tick);
+  const ends = [...rounds.map((round) => round.to), stop + down].map(since);
+  const begins = [...rounds.map((round) => round.from), stop].map(since);
   return {
     count: ends.length,
     find: (place) => {
       const found = ends.findIndex((end) => place <= axis.place(end));
       return found === -1 ? ends.length - 1 : found;
     },
-    words: (at) => wordsOf(prediction, at),
+    words: (at) => wordsOf(prediction, unit, at),
     span: (at) => [axis.place(begins[at]), axis.place(ends[at])],
   };
 }

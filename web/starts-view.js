@@ -10,6 +10,10 @@ import { refusalPart } from "./outcome.js";
 import { WorkerEnded } from "./planner-client.js";
 import { Refusal } from "./planner.js";
 
+/** Which of two starts is the better one. */
+const BETTER = "A start that keeps the limit is better than one that misses it. Of two that keep it, that which sends "
+  + "less is better; of two that miss it, that with the shorter downtime.";
+
 /** What a question about starts is about, as a word. */
 function keyOf({ settings, limits, scale }, ticks) {
   const { start, window, ...more } = settings;
@@ -137,8 +141,9 @@ export class StartsView {
     if (best.start === worst.start) {
       return [line("Each start whose migration ends within the trace", costWords(best.cost))];
     }
-    return [["Best start", best], ["Worst start", worst]].map(([name, at]) =>
+    const lines = [["Best start", best], ["Worst start", worst]].map(([name, at]) =>
       line(name, startWords(this.asked, at, hasTicks)));
+    return [...lines, html("p", { class: "hint" }, BETTER)];
   }
 
   /** The start of now against the best. Nothing is said of the best one if all cost the same. */

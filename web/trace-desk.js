@@ -202,8 +202,9 @@ export class TraceDesk {
       + `(${unbroken(bytesText(scale.guest * scale.page))})`
       : ` (${unbroken(bytesText(BigInt(pages) * BigInt(pageBytes)))})`;
     const whence = this.trace.record ? `, as ${source.record.name} says` : "";
+    const kind = source.example ? ". This is an example." : "";
     const words = `${source.name}: ${countOf(pages, "page")} of ${unbroken(`${pageBytes} bytes`)}${sample}; `
-      + `${countOf(writes, "write")} in ${unbroken(timeText(microsOf(scale, last)))}${whence}`;
+      + `${countOf(writes, "write")} in ${unbroken(timeText(microsOf(scale, last)))}${whence}${kind}`;
     if (byId("trace-state").textContent !== words) {
       byId("trace-state").textContent = words;
     }

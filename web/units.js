@@ -54,6 +54,11 @@ export function scaleOf(state, sizes) {
   };
 }
 
+/** A rate in pages of the trace per 1,000 ticks as bytes of the guest in some seconds, both whole. */
+export function rateIn({ tick, page, sampled, guest }, rate) {
+  return { bytes: BigInt(rate) * page * guest * 1_000n, seconds: sampled * tick };
+}
+
 /** How long some ticks are, in microseconds. */
 export function microsOf(scale, ticks) {
   return BigInt(ticks) * scale.tick;

@@ -4,8 +4,8 @@ import { area, byId, svg } from "./elements.js";
 import { saveButtons } from "./exports.js";
 import { Inspector } from "./inspector.js";
 import { momentText } from "./numbers.js";
-import { windowsFile, windowsTable } from "./outcome.js";
 import { widthOf } from "./plot.js";
+import { windowsFile, windowsTable } from "./tables.js";
 import { amountOf, microsOf } from "./units.js";
 import { drawnAt, planMarks, traceAxis, windowParts, windowsPicture, windowWords } from "./windows-chart.js";
 
@@ -29,6 +29,7 @@ export class WindowsView {
     this.changed = changed;
     this.counted = {};
     this.held = {};
+    this.filled = {};
     this.range = null;
     this.axis = null;
     this.isBrushed = false;
@@ -54,7 +55,6 @@ export class WindowsView {
     if (counted.trace !== trace || counted.length !== length) {
       const windows = await trace.windows({ ...PLAIN, window: length });
       this.counted = { trace, length, windows };
-      this.fill();
     }
     this.isSample = sample !== null && sample.whole > sample.part;
   }
@@ -88,6 +88,7 @@ export class WindowsView {
     byId("zoom-plan").disabled = !prediction;
     byId("base-key").hidden = settings.base === null;
     this.axis = axis;
+    this.fill();
   }
 
   lookAt(axis, windows, drawn, settings) {
@@ -101,6 +102,7 @@ export class WindowsView {
       span: (at) => [drawn[at].left, drawn[at].right],
       choose: (at, place) => this.isBrushed || this.choose(place === undefined ? tickOf(at) : axis.tickAt(place)),
       offer: (at) => `Start at ${momentText(microsOf(scale, tickOf(at)))}`,
+      none: "The trace writes no page in this stretch of time.",
     };
   }
 
@@ -173,9 +175,17 @@ export class WindowsView {
     return windowsFile(windows, length, { tick: BigInt(this.held.tick) });
   }
 
-  /** Fills the table, if it is open. */
+  /** Fills the table, if it is open and has to say something else. */
   fill() {
-    const isShown = this.details.open && this.counted.windows;
-    byId("windows-table").replaceChildren(...(isShown ? [windowsTable(this.counted.windows)] : []));
+    const { windows, length } = this.counted;
+    if (!this.details.open || !windows) {
+      return;
+    }
+    const { tick } = this.held;
+    const { filled, isSample } = this;
+    if (filled.windows !== windows || filled.tick !== tick || filled.isSample !== isSample) {
+      this.filled = { windows, tick, isSample };
+      byId("windows-table").replaceChildren(windowsTable(windows, length, { tick: BigInt(tick), isSample }));
+    }
   }
 }
