@@ -7,6 +7,7 @@ import sys
 
 import remedy_model
 from amount_texts import error_text, moment_text, size_text, time_text
+from host_words import host_lines, hosts_member
 from view_texts import TOP, Failure, document_of, ran, report_facts, sweep_facts, told
 
 sys.path.insert(0, os.path.join(TOP, "bench"))
@@ -193,8 +194,7 @@ def predicted_document(limits, report, asked, last, errors, ranges, enough):
         "converges": answer(stop["why"] == "few"), "kept": answer(down <= limits.downtime),
         "recorded_seconds": max(0, last - start) * limits.tick / 1e6, **({"migration": migration} if is_known else {}),
         **ranges.member(), "enough": remedy_model.enough_member(enough, lambda micros: micros / 1e6),
-        "hosts": {"bandwidth_bytes": limits.link[1], "bandwidth_mib": max(1, limits.link[1] >> 20),
-                  "down_milliseconds": (limits.downtime - limits.reserve) // 1_000},
+        "hosts": hosts_member(limits.link[1], (limits.downtime - limits.reserve) // 1_000),
     }
 
 
@@ -230,11 +230,7 @@ def check_prediction(view, precopy, limits, asked, known):
     if status != wanted or found[: len(lines)] != lines or len(told_warnings) != warnings:
         raise Failure(f"{words}: status {status}, {found} in place of {lines} and {warnings} warnings")
     live = " ".join(["precopy live", *settings[:4], "--rounds 30", *pace]).replace("=", " ")
-    millis = (limits.downtime - limits.reserve) // 1_000
-    hosts = [f"QEMU: migrate_set_parameter max-bandwidth {limits.link[1]}B",
-             f"QEMU: migrate_set_parameter downtime-limit {millis}",
-             f"libvirt: virsh migrate-setspeed DOMAIN {max(1, limits.link[1] >> 20)}",
-             f"libvirt: virsh migrate-setmaxdowntime DOMAIN {millis}"]
+    hosts = host_lines(limits.link[1], (limits.downtime - limits.reserve) // 1_000)
     rest = [*ranges.lines(), *remedy_model.enough_lines(enough), live, *hosts]
     if found[len(lines) + warnings:] != rest:
         raise Failure(f"{words}: {found[len(lines) + warnings:]} in place of {rest}")

@@ -11,7 +11,8 @@ import subprocess
 from fractions import Fraction
 from typing import NamedTuple, Optional
 
-from prediction_model import TOP, Answer, document_of, host_lines, lines_of
+from host_words import host_lines
+from prediction_model import TOP, Answer, document_of, lines_of
 from prediction_questions import Asked
 from remedy_model import Remedies, enough_lines, found_of
 from view_texts import Failure, ran
@@ -75,7 +76,7 @@ class Lines(Door):
 
     def wanted(self, asked: Asked, answer: Answer) -> object:
         return [STATUSES[answer.kept], *lines_of(asked.question, answer), *enough_lines(answer.enough),
-                *host_lines(asked.question)]
+                *host_lines(asked.question.link, asked.question.millis_for_pages())]
 
 
 class Document(Door):
@@ -115,9 +116,11 @@ class Tool(Door):
 
     def wanted(self, asked: Asked, answer: Answer) -> object:
         """If the downtime is cut to what a plan takes, there is no word for a hypervisor."""
-        is_whole = f"--downtime={asked.question.downtime}us" in asked.words
+        question = asked.question
+        is_whole = f"--downtime={question.downtime}us" in asked.words
+        hosts = host_lines(question.link, question.millis_for_pages()) if is_whole else []
         lines = lines_of(asked.question, answer) + enough_lines(answer.enough)
-        return [STATUSES[answer.kept], *lines, *(host_lines(asked.question) if is_whole else [])]
+        return [STATUSES[answer.kept], *lines, *hosts]
 
 
 class Page(Door):

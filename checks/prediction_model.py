@@ -15,6 +15,7 @@ import redrawn  # noqa: E402
 import remedies  # noqa: E402
 import remedy_model  # noqa: E402
 from amount_texts import error_text, size_text, time_text  # noqa: E402
+from host_words import hosts_member  # noqa: E402
 
 REASONS = {
     "few": ("yes, rounds: ", ""),
@@ -64,6 +65,9 @@ class Question:
     start: int
     base: Optional[int]
     skip: bool
+
+    def millis_for_pages(self) -> int:
+        return (self.downtime - self.reserve) // 1_000
 
     def words(self) -> list[str]:
         """The same as options of precopy-view."""
@@ -161,25 +165,12 @@ def lines_of(asked: Question, told: Answer) -> list[str]:
     return lines + [f"warning: {warning}"] * (told.why != "few")
 
 
-def hosts_of(asked: Question) -> tuple[int, int, int]:
-    """What hypervisors are given: bytes and MiB a second, and milliseconds."""
-    return asked.link, max(1, asked.link >> 20), (asked.downtime - asked.reserve) // 1000
-
-
-def host_lines(asked: Question) -> list[str]:
-    bandwidth, mib, millis = hosts_of(asked)
-    return [f"QEMU: migrate_set_parameter max-bandwidth {bandwidth}B",
-            f"QEMU: migrate_set_parameter downtime-limit {millis}",
-            f"libvirt: virsh migrate-setspeed DOMAIN {mib}",
-            f"libvirt: virsh migrate-setmaxdowntime DOMAIN {millis}"]
-
-
 def document_of(asked: Question, told: Answer) -> dict:
     """The members of `precopy-view json predict`, with times as fractions of a second."""
     def time(micros: int) -> Fraction:
         return Fraction(micros, 1_000_000)
 
-    settings, (bandwidth, mib, millis) = asked.settings(), hosts_of(asked)
+    settings = asked.settings()
     first = {} if asked.first is None else {"first_bytes": asked.first}
     base = {} if asked.base is None else {"base": asked.base}
     document = {
@@ -192,7 +183,7 @@ def document_of(asked: Question, told: Answer) -> dict:
                      "start": settings.start, **base},
         "converges": told.converges, "kept": told.kept, "recorded_seconds": time(told.recorded),
         "enough": remedy_model.enough_member(told.enough, time),
-        "hosts": {"bandwidth_bytes": bandwidth, "bandwidth_mib": mib, "down_milliseconds": millis},
+        "hosts": hosts_member(asked.link, asked.millis_for_pages()),
     }
     if told.kept == "unknown":
         return document

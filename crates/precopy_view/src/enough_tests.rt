@@ -12,13 +12,13 @@ enough: the guest slowed to 55 per cent of its speed
 precopy live --min 8 --max 16 --inc 20 --threshold 2 --rounds 30 --start 0
 QEMU: migrate_set_parameter max-bandwidth 1024B
 QEMU: migrate_set_parameter downtime-limit 90
-libvirt: virsh migrate-setspeed DOMAIN 1
+libvirt: takes whole MiB a second, and the link has less than one
 libvirt: virsh migrate-setmaxdowntime DOMAIN 90
 ";
 
 static OTHER_DOCUMENT: &str = "\"enough\":{\"answer\":\"other\",\"link_bytes\":1500,\
 \"down_seconds\":0.135156,\"guest_percent\":55},\
-\"hosts\":{\"bandwidth_bytes\":1024,\"bandwidth_mib\":1,\"down_milliseconds\":90}}\n";
+\"hosts\":{\"bandwidth_bytes\":1024,\"down_milliseconds\":90}}\n";
 
 /// The only round leaves 2 pages, also if the guest is slowed. In 64 ms the link does not send them, and over one that
 /// is 64 times as fast they take 2 ms.
@@ -26,12 +26,12 @@ static NOTHING: &str = "enough: nothing that was tried
 precopy live --min 2 --max 16 --inc 1 --threshold 1 --rounds 1 --start 0
 QEMU: migrate_set_parameter max-bandwidth 1024B
 QEMU: migrate_set_parameter downtime-limit 1
-libvirt: virsh migrate-setspeed DOMAIN 1
+libvirt: takes whole MiB a second, and the link has less than one
 libvirt: virsh migrate-setmaxdowntime DOMAIN 1
 ";
 
 static NOTHING_DOCUMENT: &str = "\"enough\":{\"answer\":\"nothing\"},\
-\"hosts\":{\"bandwidth_bytes\":1024,\"bandwidth_mib\":1,\"down_milliseconds\":1}}\n";
+\"hosts\":{\"bandwidth_bytes\":1024,\"down_milliseconds\":1}}\n";
 
 #[test]
 fn a_missed_limit_is_told_what_is_enough(rt: HostRuntime) -> Result<(), Fail> {

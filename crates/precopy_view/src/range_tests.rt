@@ -20,7 +20,7 @@ enough: --downtime 10009us
 precopy live --min 16 --max 16 --inc 0 --threshold 4 --rounds 30 --start 1250 --base 1200
 QEMU: migrate_set_parameter max-bandwidth 1024B
 QEMU: migrate_set_parameter downtime-limit 190
-libvirt: virsh migrate-setspeed DOMAIN 1
+libvirt: takes whole MiB a second, and the link has less than one
 libvirt: virsh migrate-setmaxdowntime DOMAIN 190
 ";
 
@@ -49,7 +49,7 @@ enough: unknown, since the trace ends before the migration does
 precopy live --min 1 --max 1 --inc 0 --threshold 1 --rounds 30 --start 0
 QEMU: migrate_set_parameter max-bandwidth 125B
 QEMU: migrate_set_parameter downtime-limit 190
-libvirt: virsh migrate-setspeed DOMAIN 1
+libvirt: takes whole MiB a second, and the link has less than one
 libvirt: virsh migrate-setmaxdowntime DOMAIN 190
 ";
 
@@ -85,7 +85,7 @@ enough: --downtime 275000us
 precopy live --min 16 --max 16 --inc 0 --threshold 1 --rounds 1 --start 0
 QEMU: migrate_set_parameter max-bandwidth 1024B
 QEMU: migrate_set_parameter downtime-limit 50
-libvirt: virsh migrate-setspeed DOMAIN 1
+libvirt: takes whole MiB a second, and the link has less than one
 libvirt: virsh migrate-setmaxdowntime DOMAIN 50
 ";
 

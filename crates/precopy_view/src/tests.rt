@@ -229,7 +229,7 @@ enough: --downtime 10009us
 precopy live --min 16 --max 16 --inc 0 --threshold 4 --rounds 30 --start 0
 QEMU: migrate_set_parameter max-bandwidth 1024B
 QEMU: migrate_set_parameter downtime-limit 190
-libvirt: virsh migrate-setspeed DOMAIN 1
+libvirt: takes whole MiB a second, and the link has less than one
 libvirt: virsh migrate-setmaxdowntime DOMAIN 190
 ";
 
@@ -257,7 +257,7 @@ enough: unknown, since the trace ends before the migration does
 precopy live --min 16 --max 16 --inc 0 --threshold 4 --rounds 30 --start 2400
 QEMU: migrate_set_parameter max-bandwidth 1024B
 QEMU: migrate_set_parameter downtime-limit 190
-libvirt: virsh migrate-setspeed DOMAIN 1
+libvirt: takes whole MiB a second, and the link has less than one
 libvirt: virsh migrate-setmaxdowntime DOMAIN 190
 ";
 

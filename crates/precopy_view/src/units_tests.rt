@@ -162,7 +162,7 @@ static PREDICTED: &str =
 \"least\":{\"time_seconds\":0.260000,\"sent_bytes\":256,\"down_seconds\":0.010000},\
 \"greatest\":{\"time_seconds\":0.385000,\"sent_bytes\":384,\"down_seconds\":0.135000}},\
 \"enough\":{\"answer\":\"asked\",\"link_bytes\":250,\"down_seconds\":0.010009},\
-\"hosts\":{\"bandwidth_bytes\":1024,\"bandwidth_mib\":1,\"down_milliseconds\":190}}\n";
+\"hosts\":{\"bandwidth_bytes\":1024,\"down_milliseconds\":190}}\n";
 
 /// The same from a tick from which the trace ends before the migration does.
 static UNKNOWN: &str =
@@ -174,7 +174,7 @@ static UNKNOWN: &str =
 \"least\":{\"time_seconds\":0.260000,\"sent_bytes\":256,\"down_seconds\":0.010000},\
 \"greatest\":{\"time_seconds\":0.385000,\"sent_bytes\":384,\"down_seconds\":0.135000}},\
 \"enough\":{\"answer\":\"unknown\"},\
-\"hosts\":{\"bandwidth_bytes\":1024,\"bandwidth_mib\":1,\"down_milliseconds\":190}}\n";
+\"hosts\":{\"bandwidth_bytes\":1024,\"down_milliseconds\":190}}\n";
 
 #[test]
 fn predicts_as_a_document(rt: HostRuntime) -> Result<(), Fail> {

@@ -1,5 +1,5 @@
 -- A prediction as a JSON document: its tokens.
-use Rattle.std.specs.Prelude.{ℕ, if◌then◌else◌, List, [], ◌∷◌, ◌++◌, Option, None, Some, codes}
+use Rattle.std.specs.Prelude.{ℕ, ◌==◌, if◌then◌else◌, List, [], ◌∷◌, ◌++◌, Option, None, Some, codes}
 use Rattle.predictions.specs.Units.Scales.{TraceScale}
 use Rattle.predictions.specs.declared.units.limits.Limits.{Limits}
 use Rattle.json.specs.Token.{Token}
@@ -34,11 +34,14 @@ abbrev pub settings_object : MigrationSettings → List Token
 settings_object s =
     object_of (settings_members s ++ number_member (codes "start") s.start ∷ base_member s.base ∷ [])
 
+-- a link of some whole MiB a second
+unfoldable pub mib_member : ℕ → List Token
+mib_member mib = if mib == 0 then [] else number_member (codes "bandwidth_mib") mib
+
 -- the same limits for QEMU and for libvirt
 abbrev pub hosts_object : Limits → List Token
 hosts_object limits =
-    object_of (number_member (codes "bandwidth_bytes") limits.link ∷ number_member (codes "bandwidth_mib")
-    (link_in_mib limits)
+    object_of (number_member (codes "bandwidth_bytes") limits.link ∷ mib_member (link_in_mib limits)
     ∷ number_member (codes "down_milliseconds") (millis_for_pages limits) ∷ [])
 
 -- one standard error of what is sent, of the time, and of the downtime

@@ -5,7 +5,7 @@ ghost use Rattle.std.specs.List.{flat_map};
 ghost use Rattle.trace_views.specs.Json.{line_of, member_of};
 ghost use Rattle.trace_views.specs.PredictionJson.{answer_members, asked_members, base_member, errors_member};
 ghost use Rattle.trace_views.specs.PredictionJson.{errors_object, first_member, hosts_object, limits_object};
-ghost use Rattle.trace_views.specs.PredictionJson.{migration_member};
+ghost use Rattle.trace_views.specs.PredictionJson.{mib_member, migration_member};
 ghost use Rattle.trace_views.specs.PredictionJson.{migration_object, outlook_members, prediction_object};
 ghost use Rattle.trace_views.specs.PredictionJson.{settings_object};
 
@@ -67,13 +67,24 @@ fn write_plan_settings(out: &mut Document, settings: &Settings) -> Result<(), Al
     Ok(())
 }
 
+/// Writes a link in whole MiB a second as a member, if it has one of them.
+#[tactic(auto, unfolding(crate::specs::PredictionJson::mib_member))]
+fn write_mib(out: &mut Document, mib: u64) -> Result<(), AllocError>
+    ensures { OnOk result (out.new ≡ out.old ++ mib_member mib) }
+{
+    if mib == 0 {
+        return Ok(());
+    }
+    out.number_member("bandwidth_mib", mib)
+}
+
 /// Writes the same limits for QEMU and libvirt.
 fn write_hosts(out: &mut Document, limits: &Limits) -> Result<(), AllocError>
     ensures { OnOk result (out.new ≡ out.old ++ hosts_object limits.now) }
 {
     out.begin_object()?;
     out.number_member("bandwidth_bytes", limits.link)?;
-    out.number_member("bandwidth_mib", link_in_mib(limits))?;
+    write_mib(out, link_in_mib(limits))?;
     out.number_member("down_milliseconds", millis_for_pages(limits))?;
     out.end_object()?;
     Ok(())

@@ -5,9 +5,9 @@ pub returns : goal.returns
 returns c =
     rw (
       c.in_ok-end_object.ensures,
-      c.in_ok-number_member-3.ensures,
-      c.millis_for_pages.ensures,
       c.in_ok-number_member-2.ensures,
+      c.millis_for_pages.ensures,
+      c.in_ok-write_mib.ensures,
       c.link_in_mib.ensures,
       c.in_ok-number_member.ensures,
       c.in_ok-begin_object.ensures,
