@@ -11,7 +11,6 @@ import memory
 import qmp
 import traces
 import version
-from quantities import micros_of, time_text
 from ticks import FIRST
 
 
@@ -39,7 +38,7 @@ def show(recorder, begun):
     if sys.stderr.isatty():
         writer = recorder.writer
         part = max(writer.writes / writer.limits.writes, writer.size / writer.limits.bytes)
-        told = f"{time_text(micros_of(time.monotonic() - begun))}, {recorder.samples} samples, {writer.writes:,} writes"
+        told = f"{time.monotonic() - begun:.1f} s, {recorder.samples} samples, {writer.writes:,} writes"
         print(f"\r\033[Krecord: {told}, {part:.0%} of a trace", end="", file=sys.stderr, flush=True)
 
 
