@@ -20,7 +20,9 @@ import series
 import traces
 
 NAME = "guest.light.pcwt"
-SEGMENT = re.compile(r"^segment (guest\.\d{8}T\d{6}Z\.light\.pcwt): [\d,]+ writes in [\d.]+ (?:us|ms|s), \d+ looks, \d+ late")
+SEGMENT = re.compile(
+    r"^segment (guest\.\d{8}T\d{6}Z\.light\.pcwt): [\d,]+ writes in [\d.]+ (?:us|ms|s), \d+ looks, \d+ late"
+)
 STEPS, STEP = 14, 40
 PAUSES = 0.06, 0.5
 OTHERS = ("guest.light.json", "guest.20260101T000000Z.light.pcwt.old", "guest2.20260101T000000Z.light.pcwt",
