@@ -62,7 +62,8 @@ def choice_of(plans, down, total):
 def live_line(case, start, base):
     names = [("min", "min"), ("max", "max"), ("inc", "inc"), ("threshold", "threshold"), ("rounds", "limit")]
     live = [f"--{name} {case[key]}" for name, key in names] + [f"--start {start}"]
-    return " ".join(["precopy live", *live, *([f"--base {base}"] if base is not None else []), *["--skip"] * case["skip"]])
+    warm = [] if base is None else [f"--base {base}"]
+    return " ".join(["precopy live", *live, *warm, *["--skip"] * case["skip"]])
 
 
 def advised_lines(precopy, trace, asked, budget, words, limits=None):

@@ -1,4 +1,4 @@
-"""Times and sizes as precopy-view, the tools and the page write them (docs/COMMANDS.md), of whole microseconds and bytes.
+"""Times and sizes as precopy-view, the tools and the page write them (docs/COMMANDS.md), in microseconds and bytes.
 It shares no code with any of them."""
 
 
