@@ -212,7 +212,10 @@ def check_state(page, name, folder):
             browser.value(ACTS.get(name, "0"))
             look = f"{name}-{width}-{'dark' if is_dark else 'light'}"
             check_look(page, look)
+            faults = browser.value("faults")
+            require(not faults, f"{look}: the page's code fails: {faults}")
             if folder:
+                browser.value("scrollTo(0, 0)")
                 browser.picture(os.path.join(folder, f"{look}.png"))
         asked = MARKS.replace("PAIRS", json.dumps(MARKED.get(name, []))).replace("BOUND", str(LEAST_MARK_CONTRAST))
         marks = browser.value(asked) if name in MARKED else []
