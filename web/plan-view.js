@@ -182,7 +182,7 @@ export class PlanView {
       return "Unknown: the trace ends before the migration does";
     }
     const downtime = `Downtime ${timeText(cost.downtime)}, ${keptWords(cost)}`;
-    const parts = [downtime, timeText(cost.time), bytesText(cost.bytes)];
+    const parts = [downtime, `time ${timeText(cost.time)}`, `sent ${bytesText(cost.bytes)}`];
     return parts.map((part) => part.replaceAll(" ", "\u00a0")).join(" \u00b7 ");
   }
 
