@@ -109,7 +109,7 @@ class Asked:
         """The link and the first round in bytes a second, the downtime and the reserve in microseconds."""
         link = self.link[0]
         share = link * round(self.first * 1_000) // 100_000
-        first = link if self.first == 100 else max(share - share % 125, share - share % 1024)
+        first = link if self.first == 100 else share - share % 125
         return link, first, self.downtime, self.reserve
 
     def refusal(self):

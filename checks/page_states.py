@@ -47,7 +47,10 @@ def no_trace(page):
 
 
 def first_look(page):
+    """The page with nothing said to it. What is enough for the limit can be taken."""
     open_with(page, "")
+    found = page.enough(), page.browser.value("document.querySelectorAll('[data-takes]').length")
+    require(found[1] == 2, f"{found[0]} with {found[1]} to take")
 
 
 def with_starts(page):

@@ -217,7 +217,7 @@ def check_units(page):
     page.ask("trace=sqlite&link=1Gbit&downtime=300ms")
     require("--link 1.5Gbit" in typed(page, "link", "1.5")["predict"], "1.5 Gbit/s")
     require("--downtime 0.5ms" in typed(page, "downtime", "0.5")["predict"], "0.5 ms")
-    require("--first 0.1875Gbit" in typed(page, "first", "12.5")["predict"], "12.5 %")
+    require("--first 187500Kbit" in typed(page, "first", "12.5")["predict"], "12.5 %")
 
 
 # ---- Back, and away from a start.

@@ -92,7 +92,7 @@ function optionsOf(settings) {
 function limitWords(state, sizes, { limits, settings, scale }) {
   const words = [`--link ${commandWord(state.link, RATE_UNITS)}`];
   if (state.first !== 100) {
-    words.push(`--first ${commandWord({ amount: limits.first, unit: state.link.unit }, RATE_UNITS)}`);
+    words.push(`--first ${limits.first / RATE_UNITS.Kbit}Kbit`);
   }
   if (state.increase !== OWN_INCREMENT) {
     words.push(`--inc ${settings.increment}`);

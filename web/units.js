@@ -11,9 +11,8 @@ export const RATE_UNITS = {
   KiB: 1n << 10n, MiB: 1n << 20n, GiB: 1n << 30n,
 };
 
-/** The units of which the first round's rate is a whole number, in bytes a second: one of the two, so that it is a
- * short word, in bits or in bytes. */
-const RATE_GRAINS = [RATE_UNITS.Kbit, RATE_UNITS.KiB];
+/** The least unit in which the first round's rate is shown: `Kbit`, in bytes a second. */
+const RATE_GRAIN = 125n;
 
 /** Into how many parts a per cent is cut: so finely that any rate of a first round is some share of its link. */
 const PARTS_OF_PERCENT = 1_000_000;
@@ -34,18 +33,13 @@ export function percentOf(part, amount) {
   return Number((part * PARTS_OF_WHOLE + amount - 1n) / amount) / PARTS_OF_PERCENT;
 }
 
-/** The greatest rate up to this one that is a whole number of some grain. */
-function wholeRate(rate) {
-  const rates = RATE_GRAINS.map((grain) => rate - (rate % grain));
-  return rates.reduce((one, other) => (one > other ? one : other));
-}
-
 /** What a migration may take, in bytes a second and microseconds, from the state of the controls. */
 export function limitsOf(state) {
   const link = amountOf(state.link);
+  const share = shareOf(link, state.first);
   return {
     link,
-    first: state.first === 100 ? link : wholeRate(shareOf(link, state.first)),
+    first: state.first === 100 ? link : share - (share % RATE_GRAIN),
     downtime: amountOf(state.downtime),
     reserve: amountOf(state.reserve),
   };
