@@ -219,6 +219,7 @@ def check_state(page, name, folder):
             require(not faults, f"{look}: the page's code fails: {faults}")
             if folder:
                 browser.value("scrollTo(0, 0)")
+                page.rest()
                 browser.picture(os.path.join(folder, f"{look}.png"))
         asked = MARKS.replace("PAIRS", json.dumps(MARKED.get(name, []))).replace("BOUND", str(LEAST_MARK_CONTRAST))
         marks = browser.value(asked) if name in MARKED else []
