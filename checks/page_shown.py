@@ -24,6 +24,10 @@ new PerformanceObserver((list) => {
     if (name === "opened") { window.opened += 1; window.openedAt = startTime + duration; }
   }
 }).observe({ type: "measure" });
+// What the page's own code did not expect.
+window.faults = [];
+addEventListener("error", ({ message }) => faults.push(message));
+addEventListener("unhandledrejection", ({ reason }) => faults.push(String(reason)));
 // Whether nothing that is shown is still to come: standard errors, and what is enough for the limit.
 window.isTold = (...ids) => ids.every((id) => document.getElementById(id).getAttribute("aria-busy") !== "true");
 window.isDrawn = () => begun >= openedAt && isTold("comparison");

@@ -47,7 +47,10 @@ def no_trace(page):
 
 
 def first_look(page):
+    """The page with nothing said to it. What is enough for the limit can be taken."""
     open_with(page, "")
+    found = page.enough(), page.browser.value("document.querySelectorAll('[data-takes]').length")
+    require(found[1] == 2, f"{found[0]} with {found[1]} to take")
 
 
 def with_starts(page):
@@ -212,7 +215,11 @@ def check_state(page, name, folder):
             browser.value(ACTS.get(name, "0"))
             look = f"{name}-{width}-{'dark' if is_dark else 'light'}"
             check_look(page, look)
+            faults = browser.value("faults")
+            require(not faults, f"{look}: the page's code fails: {faults}")
             if folder:
+                browser.value("scrollTo(0, 0)")
+                page.rest()
                 browser.picture(os.path.join(folder, f"{look}.png"))
         asked = MARKS.replace("PAIRS", json.dumps(MARKED.get(name, []))).replace("BOUND", str(LEAST_MARK_CONTRAST))
         marks = browser.value(asked) if name in MARKED else []

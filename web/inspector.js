@@ -7,8 +7,9 @@ const TIP_GAP = 14;
 
 /**
  * Lets the user look at the items of a picture. `look` has `count` items, `find`s an item by its place in pixels, has
- * `words` of an item and its `span` in pixels, and says if there is `none`. It may have `choose`, which Enter, Space and
- * a click call; a click gives its place too. A finger only looks: then the `offer` button takes what was looked at.
+ * `words` of an item and its `span` in pixels, the `panels` in which it is marked, and says if there is `none`. It may
+ * have `choose`, which Enter, Space and a click call; a click gives its place too. A finger only looks: then the `offer`
+ * button takes what was looked at.
  */
 export class Inspector {
   constructor(plot, readout, name, offer = null) {
@@ -108,14 +109,15 @@ export class Inspector {
   /** Marks an item, and announces it. */
   show(at, event = null) {
     this.at = at;
-    this.plot.querySelector(".looked")?.remove();
+    this.plot.querySelectorAll(".looked").forEach((old) => old.remove());
     const words = at === null ? "" : this.look.words(at);
     this.readout.textContent = words || this.hint();
     this.tip.remove();
     if (at !== null) {
       const [left, right] = this.look.span(at);
       const picture = this.plot.querySelector("svg");
-      picture.prepend(area("looked", left, 0, Math.max(2, right - left), Number(picture.getAttribute("height"))));
+      picture.prepend(...this.look.panels.map(({ top, height }) =>
+        area("looked", left, top, Math.max(2, right - left), height)));
       this.plot.setAttribute("aria-valuenow", String(at));
       this.plot.setAttribute("aria-valuetext", words);
       if (event?.pointerType === "mouse") {

@@ -72,7 +72,7 @@ export class LimitsView {
       .map((some) => this.amountLine(some, trace, prediction, remedies[some.name]));
     if (remedies.speed !== null) {
       lines.push(html("li", {}, "the guest slowed to ", html("b", {}, `${remedies.speed} %`),
-        ` of its speed, by a throttle of ${100 - remedies.speed} %`));
+        ` of its speed, by a throttle of ${100n - remedies.speed} %`));
     }
     return [this.sentence(headOf(remedies)), ...(lines.length > 0 ? [html("ul", {}, ...lines)] : [])];
   }

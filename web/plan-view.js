@@ -57,8 +57,8 @@ class RoundsFigure {
     this.readout = html("p", { class: "readout", "data-hint": "Point at a round, or step with the arrow keys.",
       "data-touch": "Tap a round to read it." });
     this.table = html("div", { class: "scrolls", id: `rounds-table-${name}` });
-    this.details = html("details", { open: true }, html("summary", {}, `Table of rounds${title && `, ${title}`}`),
-      this.table);
+    const whose = title && ` of ${title.toLowerCase()}`;
+    this.details = html("details", { open: true }, html("summary", {}, `Table of rounds${whose}`), this.table);
     const saves = saveButtons(`rounds-${name}`, `the rounds${title && `, ${title}`}`, {
       picture: () => this.plot.querySelector("svg"),
       table: () => this.prediction && roundsFile(this.prediction),
@@ -71,9 +71,9 @@ class RoundsFigure {
 
   draw(prediction, reach) {
     this.prediction = prediction;
-    const { axis, picture } = roundsPicture(widthOf(this.plot), prediction, reach);
-    this.plot.replaceChildren(picture);
-    this.inspector.hold(roundsLook(axis, prediction, reach));
+    const drawn = roundsPicture(widthOf(this.plot), prediction, reach);
+    this.plot.replaceChildren(drawn.picture);
+    this.inspector.hold(roundsLook(drawn, prediction, reach));
     this.table.replaceChildren(roundsTable(prediction, reach.unit));
   }
 }
@@ -125,7 +125,8 @@ export class PlanView {
     const plans = [["the start", this.last],
       ...kept.map(({ found }, place) => [`the start of kept plan ${place + 1}`, found.value])];
     const beyond = plans.filter(([, some]) => some && isUnknown(some));
-    const ends = beyond.map(([start, { cost }]) => `${timeText(cost.recorded)} after ${start}`);
+    const ends = beyond.map(([start, { cost }]) =>
+      (cost.recorded > 0n ? `${timeText(cost.recorded)} after ${start}` : `at ${start}`));
     byId("rounds-note").hidden = ends.length === 0;
     if (ends.length > 0) {
       byId("rounds-note").textContent = `The trace ends ${ends.join(", ")}. What is drawn later is of a guest that `
@@ -181,7 +182,7 @@ export class PlanView {
       return "Unknown: the trace ends before the migration does";
     }
     const downtime = `Downtime ${timeText(cost.downtime)}, ${keptWords(cost)}`;
-    const parts = [downtime, timeText(cost.time), bytesText(cost.bytes)];
+    const parts = [downtime, `time ${timeText(cost.time)}`, `sent ${bytesText(cost.bytes)}`];
     return parts.map((part) => part.replaceAll(" ", "\u00a0")).join(" \u00b7 ");
   }
 

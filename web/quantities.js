@@ -158,7 +158,7 @@ export function fewDigits(number) {
 
 /** About how much an amount is, in words of the family of a unit. */
 export function roundedWords(amount, unit, units) {
-  const fitting = inFittingUnit(Number(amount), familyOf(unit)[0], units);
+  const fitting = amount === 0n ? { amount: 0, unit } : inFittingUnit(Number(amount), familyOf(unit)[0], units);
   return `${fewDigits(fitting.amount / Number(units[fitting.unit]))} ${unitName(fitting.unit, units)}`;
 }
 

@@ -80,7 +80,7 @@ export function roundsPicture(width, prediction, reach) {
     ...stopParts(axis, pages, prediction), ...stopParts(axis, rates, prediction),
     ...axisLabels(axis, 1, rates.bottom, "time since the start"),
   ];
-  return { axis, picture: pictureOf(width, RATES_TOP + RATES_HEIGHT + AXIS_HEIGHT, parts) };
+  return { axis, panels: [pages, rates], picture: pictureOf(width, RATES_TOP + RATES_HEIGHT + AXIS_HEIGHT, parts) };
 }
 
 /** What a round has, in words; the item after the last round is the stop. */
@@ -99,13 +99,13 @@ function wordsOf(prediction, unit, at) {
 }
 
 /** How the rounds of a picture are looked at. */
-export function roundsLook(axis, prediction, { unit }) {
+export function roundsLook({ axis, panels }, prediction, { unit }) {
   const { rounds, stop, down } = prediction.plan;
   const since = (tick) => sinceStart(prediction, tick);
   const ends = [...rounds.map((round) => round.to), stop + down].map(since);
   const begins = [...rounds.map((round) => round.from), stop].map(since);
   return {
-    count: ends.length,
+    count: ends.length, panels,
     find: (place) => {
       const found = ends.findIndex((end) => place <= axis.place(end));
       return found === -1 ? ends.length - 1 : found;

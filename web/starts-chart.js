@@ -106,11 +106,16 @@ function cutStart(axis, panel, known, number, text) {
   });
 }
 
+/** Where the panel of a curve begins. */
+function curveTop(place) {
+  return CURVE_TOP + place * CURVE_STEP;
+}
+
 function curveParts(axis, { name, number, unit, hasLimit }, place, asked) {
   const limit = hasLimit ? Number(asked.limits.downtime) : 0;
   const known = stretchesOf(axis, asked.costs);
   const level = levelFor(known.flat().map(number), limit);
-  const panel = panelOf(CURVE_TOP + place * CURVE_STEP, CURVE_HEIGHT, level);
+  const panel = panelOf(curveTop(place), CURVE_HEIGHT, level);
   const [size, unitName] = unit(limit ? Math.max(limit, level / MOST_OF_UNIT) : level);
   const text = (amount) => (level > 0 || amount === 0 ? shortNumber(amount / size) : "");
   return [
@@ -125,7 +130,7 @@ function curveParts(axis, { name, number, unit, hasLimit }, place, asked) {
 
 /** The picture for the answer to a question about starts. */
 export function startsPicture(axis, asked) {
-  const bottom = CURVE_TOP + (CURVES.length - 1) * CURVE_STEP + CURVE_HEIGHT;
+  const bottom = curveTop(CURVES.length - 1) + CURVE_HEIGHT;
   const parts = CURVES.flatMap((curve, place) => curveParts(axis, curve, place, asked));
   parts.push(...axisLabels(axis, Number(asked.scale.tick), bottom, "start of the migration"));
   return pictureOf(axis.width, bottom + AXIS_HEIGHT, parts);
@@ -153,6 +158,7 @@ export function startsLook(axis, asked, choose) {
   const nearest = (place) => Math.round((axis.tickAt(place) - costs[0].start) / every);
   return {
     count: costs.length,
+    panels: CURVES.map((_, place) => ({ top: curveTop(place), height: CURVE_HEIGHT })),
     find: (place) => Math.min(Math.max(nearest(place), 0), costs.length - 1),
     words: (at) => `Start at ${startWords(asked, costs[at], asked.hasTicks)}`,
     span: (at) => [axis.place(costs[at].start) - 1, axis.place(costs[at].start) + 1],

@@ -71,7 +71,7 @@ export class WindowsView {
       const marks = svg("g");
       this.held = { windows, key, axis, panel, marks, tick };
       this.plot.replaceChildren(windowsPicture(width, [...parts, marks, ...above]));
-      this.inspector.hold(this.lookAt(axis, windows, drawn, settings));
+      this.inspector.hold(this.lookAt({ axis, panel, drawn }, windows, settings));
     }
     return this.held;
   }
@@ -91,12 +91,12 @@ export class WindowsView {
     this.fill();
   }
 
-  lookAt(axis, windows, drawn, settings) {
+  lookAt({ axis, panel, drawn }, windows, settings) {
     const { length } = this.counted;
     const scale = { tick: amountOf(settings.tick), isSample: this.isSample };
     const tickOf = (at) => Math.max(axis.first, windows.number[drawn[at].row] * length);
     return {
-      count: drawn.length,
+      count: drawn.length, panels: [panel],
       find: (place) => drawnAt(drawn, place),
       words: (at) => windowWords(windows, drawn[at].row, length, scale),
       span: (at) => [drawn[at].left, drawn[at].right],
