@@ -306,7 +306,7 @@ def row_of(limits, cost):
     mark = "unknown" if not cost["known"] else "kept" if cost["kept"] else "not kept"
     cells = [str(cost["start"]), moment_text(cost["start"] * limits.tick), time_text(cost["time"]),
              size_text(cost["sent"]), time_text(cost["down"])]
-    return "".join(cell.rjust(14) for cell in cells) + f"  {mark}"
+    return "".join(f" {cell:>13}" for cell in cells) + f"  {mark}"
 
 
 def choice_of(limits, name, cost):
