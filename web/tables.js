@@ -70,7 +70,7 @@ export function roundsFile({ plan, settings, scale }) {
 // ---- Windows.
 
 /** The most windows that a table has: more would keep the page busy for long. A file has all. */
-const MOST_ROWS = 200;
+const MOST_ROWS = 100;
 
 const WINDOW_COLUMNS = ["window", "from,\u00a0s", "writes", "pages", "again", "new"];
 const WINDOW_HEADS = ["window", "from_us", "to_us", "writes", "pages", "again_pages", "fresh_pages"];
