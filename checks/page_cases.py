@@ -16,7 +16,7 @@ from remedies import Limits, Others, Remedies, Trial, remedies
 from view_texts import TOP, Failure, document_of, ran, report_facts, sweep_facts, told
 
 TRACES = ["a.pcwt", "gzip.pcwt", "released.pcwt", "guests/mid.light.pcwt", "guests/sqlite.light.pcwt"]
-ROWS_SHOWN = 200
+ROWS_SHOWN = 100
 SHAPES, SETTINGS = 15, 20
 # Of how many pages the standard errors, and what is enough for the limit, are worked out here too.
 SMALL = 2_000
