@@ -17,7 +17,18 @@ from known_writes import PAGE, PAGES  # noqa: E402
 SECONDS = 15
 
 
-class Writing:
+class Watched:
+    """A process of its own that ends with the block that watches it."""
+
+    def __enter__(self):
+        return self
+
+    def __exit__(self, *_):
+        self.process.kill()
+        self.process.communicate()
+
+
+class Writing(Watched):
     """The process that writes, in a folder of its own."""
 
     def __init__(self, folder, private):
@@ -36,13 +47,6 @@ class Writing:
 
     def wait(self):
         self.later, self.times = json.loads(self.process.stdout.readline())
-
-    def __enter__(self):
-        return self
-
-    def __exit__(self, *_):
-        self.process.kill()
-        self.process.communicate()
 
 
 def read_until_recording(lines):

@@ -5,7 +5,7 @@ import subprocess
 import sys
 import time
 
-from recorder_runs import RECORD, SECONDS, TOP, Run, expect
+from recorder_runs import RECORD, SECONDS, TOP, Run, Watched, expect
 
 import samples
 import traces
@@ -14,7 +14,7 @@ PAGE = 4096
 PAGES = 2048
 
 
-class Pages:
+class Pages(Watched):
     """The process of checks/known_pages.py, and what of it must be the same after a recording as before."""
 
     def __init__(self, kind, pages=PAGES, *more):
@@ -58,13 +58,6 @@ class Pages:
     def huge_bytes(self):
         with open(f"/proc/{self.process.pid}/smaps_rollup", encoding="utf-8") as lines:
             return sum(int(line.split()[1]) << 10 for line in lines if line.startswith("AnonHugePages"))
-
-    def __enter__(self):
-        return self
-
-    def __exit__(self, *_):
-        self.process.kill()
-        self.process.communicate()
 
 
 class Drawn(Run):
