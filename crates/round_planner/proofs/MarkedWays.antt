@@ -11,13 +11,13 @@ use Rattle.page_bitmap.specs.Listing.{word_count}
 use Rattle.round_planner.specs.Indexing.{IsFirst, StandsAt, RanTo, IsMarkedAt, IsTurned}
 use Rattle.round_planner.specs.Rows.{IsPlanned, row_of, rows_over}
 use Rattle.round_planner.specs.Scanning.{IsScan}
-use Rattle.round_planner.specs.Steps.{IsAfter}
+use Rattle.round_planner.specs.Steps.{IsAfter, numbers_after}
 use Rattle.round_planner.specs.declared.step.After.TheVariants.{Go}
 use Rattle.round_planner.specs.declared.step.Step.{Step}
 use Rattle.round_planner.specs.declared.numbers.RoundSums.{RoundSums}
 use Rattle.round_planner.specs.declared.numbers.RoundNumbers.{RoundNumbers}
 use Rattle.round_planner.specs.declared.parts.RoundRow.{RoundRow}
-use Rattle.round_planner.proofs.Outcomes.{AreDone, starts, goes_further, comes_to, numbers_after}
+use Rattle.round_planner.proofs.Outcomes.{AreDone, starts, goes_further, comes_to}
 use Rattle.round_planner.proofs.Scans.{begun}
 
 row_more : (rounds : List PlannedRound) (round : PlannedRound) (done : ℕ) (row : RoundRow) (old : List RoundRow)

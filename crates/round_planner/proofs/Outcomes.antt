@@ -11,7 +11,7 @@ use Rattle.migration_model.specs.Rounds.{first_round, round_after, total_of}
 use Rattle.migration_model.specs.Sweeps.{IsOutcome, PlanOutcome, outcome_of, outcome_with}
 use Rattle.migration_model.specs.Touches.{GuestTouch}
 use Rattle.round_planner.specs.Indexing.{IsFirst, IsPoint, StandsAt, RanTo}
-use Rattle.round_planner.specs.Steps.{IsAfter, first_step}
+use Rattle.round_planner.specs.Steps.{IsAfter, first_step, numbers_after}
 use Rattle.round_planner.specs.declared.step.After.TheVariants.{Go}
 use Rattle.round_planner.specs.declared.step.Step.{Step}
 use Rattle.round_planner.specs.declared.numbers.RoundSums.{RoundSums}
@@ -90,10 +90,6 @@ same_after pages touches s now coming ran at r =
     let dirtied : ran.dirtied ≡ r.round.dirtied = r.dirtied_is ∙ ap length r.run.dirtied_are ∙ sym round.dirtied_is in
     let from : now.step.from ≡ r.round.from = at.from_is ∙ sym round.from_is in
     λ i. after_round s (dirtied i) (r.to_is i - from i) (at.done_is i + 1)
-
--- the numbers of the round that comes after one
-abbrev pub numbers_after : RoundNumbers → RoundSums → Step → RoundNumbers
-numbers_after now ran step = record { step = step; listed = ran.dirtied; next = ran.next; total = now.total + ran.sent }
 
 pub goes_further : (pages : ℕ) (touches : List GuestTouch) (s : MigrationSettings) (now : RoundNumbers)
     (coming : NextRound) (rounds : List PlannedRound) (ran : RoundSums) (step : Step) → AreSettings s

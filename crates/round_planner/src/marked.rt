@@ -9,11 +9,10 @@ ghost use Rattle.round_planner.specs.Indexing.{RanTo};
 ghost use Rattle.round_planner.specs.Rows.{IsPlanned};
 ghost use Rattle.round_planner.specs.Scanning.{IsScan};
 
-use crate::numbers::{RoundNumbers, RoundSums, ended};
+use crate::numbers::{Following, RoundNumbers, RoundSums};
 use crate::parts::{Outcome, RoundRow};
 use crate::planning::may_skip;
 use crate::scan::{count_sent, mark_until};
-use crate::step::After;
 use guest_log::Timeline;
 use page_bitmap::list_pages;
 use rate_limit::{Settings, duration};
@@ -111,18 +110,9 @@ pub(crate) fn marked_rounds<T: Timeline>(
     loop {
         let ran = marked_round(timeline, settings, &now, marks, room);
         rows[now.step.done as usize] = now.row(&ran);
-        let rounds = now.step.done + 1;
-        let total = now.total + ran.sent as u64;
-        match now.step.after(settings, ran.to, ran.dirtied) {
-            After::Stop(reason) => return ended(settings, rounds, total, reason, &ran),
-            After::Go(step) => {
-                now = RoundNumbers {
-                    step,
-                    listed: ran.dirtied,
-                    next: ran.next,
-                    total,
-                };
-            }
+        match now.after(settings, &ran) {
+            Following::Round(next) => now = next,
+            Following::Stop(outcome) => return outcome,
         }
     }
 }

@@ -1,34 +1,45 @@
 //! Rounds by their numbers: what is kept of them if there is no list of pages.
 
-ghost use Rattle.std.specs.Prelude.{◌≡◌, ◌<◌, ◌+◌, ◌^◌};
-ghost use Rattle.migration_model.specs.Rates.{duration_of};
-ghost use Rattle.migration_model.specs.Sweeps.{outcome_with};
-ghost use Rattle.rate_limit.specs.Pacing.{reason_of};
+ghost use Rattle.std.specs.Prelude.{◌≡◌, ◌⊎◌, ◌<◌, ◌≤◌, ◌-◌, ◌^◌};
+ghost use Rattle.round_planner.specs.Steps.{IsFollowing};
 
 use crate::parts::{Outcome, RoundRow};
-use crate::step::Step;
-use rate_limit::{Reason, Settings, duration};
+use crate::step::{After, Step};
+use rate_limit::{Settings, duration};
 
 /// The round that comes next, by its numbers.
 #[derive(Drop)]
-pub(crate) struct RoundNumbers {
-    pub(crate) step: Step,
+pub struct RoundNumbers {
+    /// Where the plan stands.
+    pub step: Step,
     /// How many pages it has.
-    pub(crate) listed: u32,
+    pub listed: u32,
     /// How many touches there are before its first tick.
-    pub(crate) next: usize,
+    pub next: usize,
     /// How many pages the previous rounds sent.
-    pub(crate) total: u64,
+    pub total: u64,
 }
 
 /// What a round did, by its numbers.
 #[derive(Drop)]
-pub(crate) struct RoundSums {
-    pub(crate) sent: u32,
-    pub(crate) to: u64,
+pub struct RoundSums {
+    /// How many pages it sent.
+    pub sent: u32,
+    /// The tick at which it ended.
+    pub to: u64,
     /// How many touches there are before its end.
-    pub(crate) next: usize,
-    pub(crate) dirtied: u32,
+    pub next: usize,
+    /// How many pages were written meanwhile.
+    pub dirtied: u32,
+}
+
+/// What follows a round.
+#[derive(Drop)]
+pub enum Following {
+    /// One more round, of these numbers.
+    Round(RoundNumbers),
+    /// The stop. The plan has these sums.
+    Stop(Outcome),
 }
 
 impl RoundNumbers {
@@ -36,7 +47,7 @@ impl RoundNumbers {
     ghost use Rattle.round_planner.specs.Steps.{first_step};
 
     /// Returns the numbers of the first round, which has `listed` pages and `next` touches before its first tick.
-    pub(crate) fn first(settings: &Settings, next: usize, listed: u32) -> RoundNumbers
+    pub fn first(settings: &Settings, next: usize, listed: u32) -> RoundNumbers
         ensures step { result.step ≡ first_step settings.now }
         ensures listed { result.listed ≡ listed }
         ensures next { result.next ≡ next }
@@ -68,25 +79,30 @@ impl RoundNumbers {
             dirtied: ran.dirtied as u64,
         }
     }
-}
 
-/// Returns the sums of a plan that ends with a round, after `rounds` rounds that sent `sent` pages.
-pub(crate) fn ended(
-    settings: &Settings,
-    rounds: u64,
-    sent: u64,
-    reason: Reason,
-    last: &RoundSums,
-) -> Outcome
-    requires { sent < 2 ^ 32 }
-    ensures { result ≡ outcome_with rounds (reason_of reason) last.now.to
-        (duration_of last.now.dirtied settings.now.max) (sent + last.now.dirtied) }
-{
-    Outcome {
-        rounds,
-        reason,
-        stop: last.to,
-        down: duration(last.dirtied, settings.asked().max),
-        total: sent + last.dirtied as u64,
+    /// Returns what follows this round, which ran so.
+    pub fn after(&self, settings: &Settings, ran: &RoundSums) -> Following
+        requires done { self.now.step.done < 64 }
+        requires order { self.now.step.from ≤ ran.now.to }
+        requires timed { (1 ≤ ran.now.to - self.now.step.from) ⊎ (ran.now.dirtied ≡ 0) }
+        requires total { self.now.total < 2 ^ 31 }
+        ensures { IsFollowing settings.now self.now ran.now result }
+    {
+        let total = self.total + ran.sent as u64;
+        match self.step.after(settings, ran.to, ran.dirtied) {
+            After::Go(step) => Following::Round(RoundNumbers {
+                step,
+                listed: ran.dirtied,
+                next: ran.next,
+                total,
+            }),
+            After::Stop(reason) => Following::Stop(Outcome {
+                rounds: self.step.done + 1,
+                reason,
+                stop: ran.to,
+                down: duration(ran.dirtied, settings.asked().max),
+                total: total + ran.dirtied as u64,
+            }),
+        }
     }
 }

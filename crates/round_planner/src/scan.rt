@@ -52,12 +52,7 @@ fn page_before<T: Timeline>(timeline: &T, next: usize, tick: u64) -> Option<u32>
 
 /// Marks the pages of the touches from index `next` on and before a tick. Returns the index of the next touch. It takes
 /// the walk's fields as arguments, so that they can be kept in registers.
-pub(crate) fn mark_until<T: Timeline>(
-    timeline: &T,
-    marks: &mut [u64],
-    next: usize,
-    tick: u64,
-) -> usize
+pub fn mark_until<T: Timeline>(timeline: &T, marks: &mut [u64], next: usize, tick: u64) -> usize
     requires { HasRoom (T.pages timeline.now) (T.touches timeline.now) next marks.old }
     ensures room { HasRoom (T.pages timeline.now) (T.touches timeline.now) result marks.new }
     ensures walked { (from upto : ℕ) → upto ≤ tick → IsScan (T.pages timeline.now) (T.touches timeline.now) from

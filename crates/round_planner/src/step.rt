@@ -5,13 +5,15 @@ ghost use Rattle.round_planner.specs.Steps.{IsAfter, first_step};
 
 use rate_limit::{Next, Reason, Settings, next};
 
-/// The state of a plan before a round: how many rounds are done, and the first tick and the rate of the next one.
+/// The state of a plan before a round.
 #[derive(Clone, Copy)]
-pub(crate) struct Step {
-    pub(crate) done: u64,
-    pub(crate) from: u64,
-    /// In pages per 1,000 ticks.
-    pub(crate) rate: u64,
+pub struct Step {
+    /// How many rounds are done.
+    pub done: u64,
+    /// The first tick of the next one.
+    pub from: u64,
+    /// The rate of the next one, in pages per 1,000 ticks.
+    pub rate: u64,
 }
 
 /// What comes after a round.

@@ -6,9 +6,8 @@ ghost use Rattle.migration_model.specs.Sweeps.{IsOutcome};
 ghost use Rattle.round_planner.specs.Indexing.{IsFirst, IsPoint, IsRoundIndexOf, IsStanding, RanTo, StandsAt};
 
 use crate::index::RoundIndex;
-use crate::numbers::{RoundNumbers, RoundSums, ended};
+use crate::numbers::{Following, RoundNumbers, RoundSums};
 use crate::parts::Outcome;
-use crate::step::After;
 use guest_log::Timeline;
 use rate_limit::{Settings, duration};
 
@@ -88,18 +87,9 @@ pub(crate) fn counted_rounds<T: Timeline>(
     let mut now = first;
     loop {
         let ran = counted_round(timeline, index, settings, &now);
-        let rounds = now.step.done + 1;
-        let total = now.total + ran.sent as u64;
-        match now.step.after(settings, ran.to, ran.dirtied) {
-            After::Stop(reason) => return ended(settings, rounds, total, reason, &ran),
-            After::Go(step) => {
-                now = RoundNumbers {
-                    step,
-                    listed: ran.dirtied,
-                    next: ran.next,
-                    total,
-                };
-            }
+        match now.after(settings, &ran) {
+            Following::Round(next) => now = next,
+            Following::Stop(outcome) => return outcome,
         }
     }
 }

@@ -19,13 +19,13 @@ use Rattle.migration_model.proofs.Order.{in_order-front, last_by-le, last_by-pus
 use Rattle.migration_model.proofs.Lists.{over_more}
 use Rattle.working_sets.specs.Counting.{CanAdd, Counting, HasRoom, PageMark, blank, counted, finished, marked, mark_of}
 use Rattle.working_sets.specs.Counting.{one_if, started, turned, unmarked, with_row, written}
-use Rattle.working_sets.specs.Lending.{HasRows, count_after, mark_in, numbers_of, rows_after, rows_over, rows_turned}
-use Rattle.working_sets.specs.Lending.{turned_open, unseen}
+use Rattle.working_sets.specs.Lending.{CanCount, HasRows, count_after, mark_in, numbers_of, rows_after, rows_over}
+use Rattle.working_sets.specs.Lending.{rows_turned, turned_open, unseen}
 use Rattle.working_sets.specs.declared.lending.OpenWindow.{OpenWindow}
 use Rattle.working_sets.specs.declared.lending.PageSeen.{PageSeen}
 use Rattle.working_sets.specs.declared.lending.WindowNumbers.{WindowNumbers}
 use Rattle.working_sets.proofs.Shown.{has_write, quotient_low}
-use Rattle.working_sets.proofs.Whole.{PassesTo, start_of_pass, one_more_added, end_of_pass}
+use Rattle.working_sets.proofs.Whole.{PassesTo, start_of_pass, ready_to_add, one_more_added, end_of_pass}
 
 -- ---- the buffer of rows
 
@@ -241,12 +241,6 @@ lent_turn pages touches s index w tick at new marks old rows after p low is afte
       few = t.3;
     }
 
--- what a write needs of the open window and of its page's mark
-pub record CanCount (w : ℕ) (at : OpenWindow) (marks : List PageSeen) (page : ℕ) : Type 0 where
-  pub page_low : page < length marks
-  pub row : HasRoom at.row
-  pub mark : (get_or marks page unseen).windows + 1 < 2 ^ 64
-
 room_either : (b : Bool) (row : WindowRow) (number : ℕ) → HasRoom row → number + 1 < 2 ^ 64
     → HasRoom (cond b row (blank number))
 room_either true row number room low = room
@@ -285,9 +279,9 @@ turned_either false s tick room low = (
   refl,
 )
 
-pub can_count : (s : Counting) (w tick page : ℕ) (new : OpenWindow) (closed : List WindowRow) (marks : List PageSeen)
+can_count : (s : Counting) (w tick page : ℕ) (new : OpenWindow) (closed : List WindowRow) (marks : List PageSeen)
     → CanAdd s tick page → state_of w new closed marks ≡ turned s tick
-    → CanCount w new marks page
+    → CanCount new.row marks page
 can_count s w tick page new closed marks can is =
     let quotient = quotient_low tick s.window in
     let number : tick / s.window * 1 ≤ tick / s.window * s.window = mul-le-mul_left (tick / s.window) can.window_some in
@@ -303,9 +297,31 @@ can_count s w tick page new closed marks can is =
     sym (get_or-map mark_in marks page unseen unmarked low) ∙ ap (λ (l : List PageMark). get_or l page unmarked) same in
     record {
       page_low = low;
-      row = rw (ap (λ (x : Counting). x.row) is) both.0;
+      room = rw (ap (λ (x : Counting). x.row) is) both.0;
       mark = omega (arith, can.mark, ap (λ (m : PageMark). m.windows) here);
     }
+
+-- the turn of a pass to a touch, which may be counted then
+pub record LentCounts (pages : ℕ) (touches : List GuestTouch) (s : MigrationSettings) (index w tick page : ℕ)
+    (at new : OpenWindow) (marks : List PageSeen) (old rows : List WindowNumbers) : Type 0 where
+  pub turn : LentTurns pages touches s index w tick at new marks old rows
+  pub can : CanCount new.row marks page
+
+pub lent_counts : (pages : ℕ) (touches : List GuestTouch) (s : MigrationSettings) (index w tick page : ℕ)
+    (touch d : GuestTouch) (at new : OpenWindow) (marks : List PageSeen) (old rows after : List WindowNumbers)
+    → AreTouches pages touches → pages ≤ 65_536 → AreSettings s → w ≡ s.window
+    → LentPasses pages touches s index w at marks old rows → index < length touches
+    → HasRows touches s.window (length old)
+    → touch ≡ get_or touches index d → tick ≡ touch.tick → page ≡ touch.page
+    → new ≡ turned_open w tick at → after ≡ rows_turned tick at rows
+    → LentCounts pages touches s index w tick page at new marks old after
+lent_counts pages touches s index w tick page touch d at new marks old rows after fits few are w_is p low has is tick_is
+    page_is new_is after_is =
+    let slot = slot_low pages touches s index w at marks old rows fits are w_is p (omega (arith, low)) has in
+    let turn = lent_turn pages touches s index w tick at new marks old rows after p slot new_is after_is in
+    let can = ready_to_add pages touches s index touch d turn.before tick page fits few are turn.passes low is tick_is
+    page_is in
+    record { turn = turn; can = can_count turn.before w tick page new turn.closed marks can turn.is_turned }
 
 one_if_few : (b : Bool) → one_if b ≤ 1
 one_if_few true = omega arith
@@ -316,14 +332,15 @@ pub lent_step : (pages : ℕ) (touches : List GuestTouch) (s : MigrationSettings
     (touch d : GuestTouch) (at new : OpenWindow) (row : WindowRow) (seen : PageSeen)
     (marks after : List PageSeen) (old rows : List WindowNumbers) → AreTouches pages touches → index < length touches
     → touch ≡ get_or touches index d → tick ≡ touch.tick → page ≡ touch.page
-    → LentTurns pages touches s index w tick at new marks old rows → page < length marks
+    → LentCounts pages touches s index w tick page at new marks old rows
     → row ≡ counted new.row (get_or marks page unseen).last
     → after ≡ set marks page seen → mark_in seen ≡ marked (mark_in (get_or marks page unseen)) new.row.number
     → LentPasses pages touches s (index + 1) w (record new { row = row }) after old rows
-lent_step pages touches s index w tick page touch d at new row seen marks after old rows fits low is tick_is page_is t
-    inside row_is after_is seen_is =
+lent_step pages touches s index w tick page touch d at new row seen marks after old rows fits low is tick_is page_is
+    counts row_is after_is seen_is =
+    let t = counts.turn in
     let here : mark_of (state_of w new t.closed marks) page ≡ mark_in (get_or marks page unseen) =
-    get_or-map mark_in marks page unseen unmarked inside in
+    get_or-map mark_in marks page unseen unmarked counts.can.page_low in
     let row_same : row ≡ counted new.row (mark_of (state_of w new t.closed marks) page).last = row_is
     ∙ ap (λ (m : PageMark). counted new.row m.last) (sym here) in
     let marks_same : map mark_in after ≡ set (map mark_in marks) page
@@ -345,17 +362,19 @@ lent_step pages touches s index w tick page touch d at new row seen marks after 
 -- ---- the end
 
 pub lent_end : (pages : ℕ) (touches : List GuestTouch) (s : MigrationSettings) (index w count : ℕ) (at : OpenWindow)
-    (marks : List PageSeen) (old rows after : List WindowNumbers) → length touches ≤ index
-    → LentPasses pages touches s index w at marks old rows → (1 ≤ at.row.writes → at.count < length rows)
+    (marks : List PageSeen) (old rows after : List WindowNumbers) → AreTouches pages touches → AreSettings s
+    → w ≡ s.window → LentPasses pages touches s index w at marks old rows → index ≤ length touches
+    → length touches ≤ index → HasRows touches s.window (length old)
     → after ≡ rows_after rows at.count at.row → count ≡ count_after at.count at.row
     → (after ≡ rows_over (rows_of touches pages s.window) old) × (count ≡ length (rows_of touches pages s.window))
-lent_end pages touches s index w count at marks old rows after high p low after_is count_is =
+lent_end pages touches s index w count at marks old rows after fits are w_is p low high has after_is count_is =
+    let slot = slot_low pages touches s index w at marks old rows fits are w_is p low has in
     let state = state_of w at p.closed marks in
     let all : finished state s.hot ≡ working_sets_of pages touches s =
     end_of_pass pages touches s index state s.hot (finished state s.hot) p.passes high refl refl in
     let rows_are : with_row p.closed at.row ≡ rows_of touches pages s.window =
     ap (λ (x : WorkingSets). x.windows) all in
-    let put = closed_after p.closed old rows at.count at.row low p.are in (
+    let put = closed_after p.closed old rows at.count at.row slot p.are in (
       after_is ∙ put.rows_are ∙ ap (λ (l : List WindowRow). rows_over l old) rows_are,
       count_is ∙ put.count_is ∙ ap (λ (l : List WindowRow). length l) rows_are,
     )

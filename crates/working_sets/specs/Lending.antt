@@ -1,9 +1,9 @@
 -- Rows of windows in memory that is lent. The contracts of public calls cite only the first part.
 use Rattle.std.specs.Prelude.{ℕ, ◌+◌, ◌*◌, ◌/◌, ◌^◌, ◌<◌, ◌≤◌, ◌⊎◌, nat_lt, nat_le, if◌then◌else◌, List, ◌++◌}
-use Rattle.std.specs.Prelude.{length, drop, map, slice_set}
+use Rattle.std.specs.Prelude.{length, drop, map, slice_index_or, slice_set}
 use Rattle.migration_model.specs.Touches.{GuestTouch}
 use Rattle.migration_model.specs.Windows.{WindowRow, windows_of}
-use Rattle.working_sets.specs.Counting.{PageMark, blank}
+use Rattle.working_sets.specs.Counting.{HasRoom, PageMark, blank}
 use Rattle.working_sets.specs.declared.lending.OpenWindow.{OpenWindow}
 use Rattle.working_sets.specs.declared.lending.PageSeen.{PageSeen}
 use Rattle.working_sets.specs.declared.lending.WindowNumbers.{WindowNumbers}
@@ -58,3 +58,9 @@ pub record CanTurn (w tick : ℕ) (it : OpenWindow) (slots : ℕ) : Type 0 where
   pub window_some : 1 ≤ w
   pub window_few : w ≤ 2 ^ 40
   pub slot : 1 ≤ it.row.writes → it.count < slots
+
+-- what a write to a page needs of the open window's row and of the marks
+pub record CanCount (row : WindowRow) (marks : List PageSeen) (page : ℕ) : Type 0 where
+  pub page_low : page < length marks
+  pub room : HasRoom row
+  pub mark : (slice_index_or marks page unseen).windows + 1 < 2 ^ 64

@@ -3,10 +3,9 @@
 ghost use Rattle.std.specs.Prelude.{◌≡◌, ◌≤◌, ◌<◌, ◌+◌, ◌^◌, ◌↔◌, IsTrue, length, slice_index_or, slice_set};
 ghost use Rattle.migration_model.specs.Trace.{last_by};
 ghost use Rattle.migration_model.specs.Windows.{rows_of};
-ghost use Rattle.working_sets.specs.Counting.{counted, HasRoom, marked};
-ghost use Rattle.working_sets.specs.Lending.{CanTurn, count_after, HasRows, mark_in, rows_after, rows_over};
-ghost use Rattle.working_sets.specs.Lending.{rows_turned};
-ghost use Rattle.working_sets.specs.Lending.{turned_open, unseen};
+ghost use Rattle.working_sets.specs.Counting.{counted, marked};
+ghost use Rattle.working_sets.specs.Lending.{CanCount, CanTurn, count_after, HasRows, mark_in, rows_after};
+ghost use Rattle.working_sets.specs.Lending.{rows_over, rows_turned, turned_open, unseen};
 
 use crate::counting::{Mark, blank_row, mark_after, row_after};
 use crate::window::Window;
@@ -86,9 +85,7 @@ fn turned(window: u64, tick: u64, at: OpenWindow, rows: &mut [WindowNumbers]) ->
 
 /// Counts a write to the page in the open window. Returns the window's row then.
 fn counted(marks: &mut [PageSeen], row: Window, page: u32) -> Window
-    requires page { page < length marks.old }
-    requires row { HasRoom row }
-    requires mark { (slice_index_or marks.old page unseen).windows + 1 < 2 ^ 64 }
+    requires { CanCount row marks.old page }
     ensures row { result ≡ counted row (slice_index_or marks.old page unseen).last }
     ensures marks { (seen : PageSeen) × (marks.new ≡ slice_set marks.old page seen)
         × (mark_in seen ≡ marked (mark_in (slice_index_or marks.old page unseen)) row.number) }
