@@ -61,8 +61,8 @@ fn capped(number: u128) -> u64
     number.min(u64::MAX as u128) as u64
 }
 
-/// Returns the number of a reason.
-fn number_of_reason(reason: Reason) -> u64
+/// Returns the number of a reason: 0 to 2.
+pub fn number_of_reason(reason: Reason) -> u64
     ensures { result ≡ reason_number (reason_of reason) }
 {
     match reason {

@@ -15,7 +15,7 @@ pub mod starts;
 pub mod units;
 mod verdict;
 
-pub use answer::{Answer, ErrorNumbers};
+pub use answer::{Answer, ErrorNumbers, number_of_reason};
 pub use cost::Cost;
 pub use hosts::{link_in_mib, millis_for_pages, push_hosts};
 pub use prediction::Prediction;

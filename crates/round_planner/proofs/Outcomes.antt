@@ -21,7 +21,7 @@ use Rattle.round_planner.proofs.Plans.{Follows, follows_start, follows_more, fol
 abbrev pub all_sent : List PlannedRound → ℕ
 all_sent rounds = sum_by (λ (round : PlannedRound). length round.sent) rounds
 
-sent_push : (rounds : List PlannedRound) (round : PlannedRound)
+pub sent_push : (rounds : List PlannedRound) (round : PlannedRound)
     → all_sent (rounds ++ round ∷ []) ≡ all_sent rounds + length round.sent
 sent_push rounds round =
     let one = sum_by-cons (λ (r : PlannedRound). length r.sent) round [] in

@@ -37,6 +37,6 @@ pub use marked::plan_rows;
 pub use numbers::{Following, RoundNumbers, RoundSums};
 pub use parts::{Outcome, Plan, Round, RoundRow};
 pub use planner::Planner;
-pub use planning::{par_plan, plan};
+pub use planning::{may_skip, par_plan, plan};
 pub use scan::mark_until;
 pub use step::Step;

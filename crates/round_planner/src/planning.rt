@@ -89,7 +89,7 @@ fn begin<T: Timeline>(
 }
 
 /// Returns whether pages may be skipped in a round after `done` rounds.
-pub(crate) fn may_skip(settings: &Settings, done: u64) -> bool
+pub fn may_skip(settings: &Settings, done: u64) -> bool
     ensures { result ≡ settings.now.skip && nat_le 1 done }
 {
     settings.asked().skip && done >= 1

@@ -161,33 +161,6 @@ fn place_all<T: Timeline>(
     Ok(())
 }
 
-/// Starts workers side by side, and puts the lines that they make into the slots of their cases.
-fn make_beside<R: Threads + Sync, T: Timeline + Sync>(
-    rt: &R,
-    alloc: Global,
-    timeline: &T,
-    index: &RoundIndex,
-    cases: &[Settings],
-    workers: usize,
-    taken: &mut Vec<Option<Line>>,
-) -> Result<(), SweepError>
-    requires index { IsRoundIndexOf (T.pages timeline.now) (T.touches timeline.now) index.now }
-    requires taken { AreTaken (T.pages timeline.now) (T.touches timeline.now) cases.now taken.old.items }
-    ensures taken { OnOk result (AreTaken (T.pages timeline.now) (T.touches timeline.now) cases.now taken.new.items) }
-    ensures refusal { IfErr result (λ e. e ≡ SweepError.Memory) }
-{
-    let next = AtomicUsize::new(0);
-    let work = |_worker: usize| -> Result<Vec<CaseLine>, SweepError>
-        requires { IsRoundIndexOf (T.pages timeline.now) (T.touches timeline.now) index.now }
-        ensures made { IfOk result (λ made. AreNumbered (T.pages timeline.entry.now) (T.touches timeline.entry.now)
-            cases.entry.now made.items) }
-        ensures refusal { IfErr result (λ e. e ≡ SweepError.Memory) }
-    { take_cases(alloc, timeline, index, cases, &next) };
-    let made = thread::map_indices(rt, alloc, workers, &work)?;
-    place_all(timeline, cases, taken, made)?;
-    Ok(())
-}
-
 /// How many touches and pages a worker must look at, in all of its cases, to pay for its thread.
 const WORTH_A_THREAD: usize = 1 << 20;
 
@@ -201,8 +174,9 @@ fn workers_for<T: Timeline>(timeline: &T, cases: usize, workers: usize) -> usize
     workers.min(cases).min(most)
 }
 
-/// Puts lines into the slots of their cases if it is worth starting threads for them.
-fn make_some<R: Threads + Sync, T: Timeline + Sync>(
+/// Starts workers side by side, if it is worth starting threads, and puts the lines that they make into the slots of
+/// their cases.
+fn make_beside<R: Threads + Sync, T: Timeline + Sync>(
     rt: &R,
     alloc: Global,
     timeline: &T,
@@ -220,7 +194,15 @@ fn make_some<R: Threads + Sync, T: Timeline + Sync>(
     if workers < 2 {
         return Ok(());
     }
-    make_beside(rt, alloc, timeline, index, cases, workers, taken)?;
+    let next = AtomicUsize::new(0);
+    let work = |_worker: usize| -> Result<Vec<CaseLine>, SweepError>
+        requires { IsRoundIndexOf (T.pages timeline.now) (T.touches timeline.now) index.now }
+        ensures made { IfOk result (λ made. AreNumbered (T.pages timeline.entry.now) (T.touches timeline.entry.now)
+            cases.entry.now made.items) }
+        ensures refusal { IfErr result (λ e. e ≡ SweepError.Memory) }
+    { take_cases(alloc, timeline, index, cases, &next) };
+    let made = thread::map_indices(rt, alloc, workers, &work)?;
+    place_all(timeline, cases, taken, made)?;
     Ok(())
 }
 
@@ -260,7 +242,7 @@ pub fn sweep<R: Threads + Sync, T: Timeline + Sync>(
     }
     let index = RoundIndex::build(alloc, timeline).or(Err(SweepError::Memory))?;
     let mut taken = no_lines(alloc, cases.len())?;
-    make_some(rt, alloc, timeline, &index, cases, workers, &mut taken)?;
+    make_beside(rt, alloc, timeline, &index, cases, workers, &mut taken)?;
     in_order(alloc, timeline, &index, cases, taken)
 }
 

@@ -6,8 +6,8 @@ use Rattle.migration_model.specs.Rounds.{NextRound, PlannedRound, IsSent}
 use Rattle.migration_model.specs.Touches.{GuestTouch}
 use Rattle.page_bitmap.specs.Pages.{in_words}
 use Rattle.predictions.specs.Redrawn.{redrawn_touches}
-use Rattle.predictions.specs.declared.redrawn.plans.Coming.{Coming}
-use Rattle.predictions.specs.declared.redrawn.plans.Ran.{Ran}
+use Rattle.round_planner.specs.declared.numbers.RoundNumbers.{RoundNumbers}
+use Rattle.round_planner.specs.declared.numbers.RoundSums.{RoundSums}
 use Rattle.round_planner.specs.Scanning.{CanCome, HasRun, IsScan, IsScanWithin}
 
 -- the drawn pages that a bitmap has, by their places
@@ -17,17 +17,18 @@ places_in drawn set = filter (λ place. in_words set (slice_index drawn place)) 
 -- A round that may come, by its numbers and the bitmap of its pages. The walk is at its first tick, and no page is
 -- marked.
 pub record StandsAt (pages : ℕ) (touches : List GuestTouch) (drawn : List ℕ)
-    (s : MigrationSettings) (coming : NextRound) (now : Coming) (listed marks : List ℕ) : Type 0 where
+    (s : MigrationSettings) (coming : NextRound) (now : RoundNumbers) (listed marks : List ℕ) : Type 0 where
   pub can : CanCome (length drawn) s coming
-  pub done_is : now.done ≡ coming.done
-  pub from_is : now.from ≡ coming.from
-  pub rate_is : now.rate ≡ coming.rate
+  pub done_is : now.step.done ≡ coming.done
+  pub from_is : now.step.from ≡ coming.from
+  pub rate_is : now.step.rate ≡ coming.rate
+  pub listed_is : now.listed ≡ length coming.pages
   pub pages_are : coming.pages ≡ places_in drawn listed
   pub scan : IsScan pages touches coming.from coming.from now.next marks
 
 -- some round that stands so
 pub record IsStanding (pages : ℕ) (touches : List GuestTouch) (drawn : List ℕ)
-    (s : MigrationSettings) (now : Coming) (listed marks : List ℕ) : Type 0 where
+    (s : MigrationSettings) (now : RoundNumbers) (listed marks : List ℕ) : Type 0 where
   pub coming : NextRound
   pub at : StandsAt pages touches drawn s coming now listed marks
 
@@ -42,7 +43,7 @@ pub record HasSent (pages : ℕ) (touches : List GuestTouch) (drawn : List ℕ)
 
 -- the round that came, by its numbers; the walk is at its end
 pub record HasRunTo (pages : ℕ) (touches : List GuestTouch) (drawn : List ℕ)
-    (s : MigrationSettings) (coming : NextRound) (ran : Ran) (marks : List ℕ) : Type 0 where
+    (s : MigrationSettings) (coming : NextRound) (ran : RoundSums) (marks : List ℕ) : Type 0 where
   pub round : PlannedRound
   pub dirtied : List ℕ
   pub run : HasRun (length drawn) (redrawn_touches drawn touches) s coming round dirtied

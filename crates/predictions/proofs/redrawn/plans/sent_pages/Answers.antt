@@ -1,7 +1,6 @@
-use Rattle.std.proofs.Common.{◌≡◌, ◌∙◌, ◌&&◌, ℕ, List, length, true, false, leb, refl, sym, ap, subst, arith}
+use Rattle.std.proofs.Common.{◌≡◌, ◌∙◌, ◌&&◌, true, false, leb, refl, sym, ap, subst, arith}
 use Rattle.migration_model.specs.Rounds.{IsSent}
 use Rattle.predictions.specs.Redrawn.{redrawn_touches}
-use Rattle.predictions.proofs.Drawn.{count_places}
 use Rattle.round_planner.specs.Indexing.{HasSent}
 use Rattle.round_planner.proofs.Skims.{all_is_sent}
 use Rattle.predictions.proofs.redrawn.plans.sent_pages.Goals as goal
@@ -17,8 +16,7 @@ returns-then-not-may_skip g c coming at =
       list = coming.pages;
       sent = subst (λ b. IsSent b all coming.from coming.rate coming.pages coming.pages) (sym plain)
           (all_is_sent all coming.from coming.rate coming.pages coming.pages refl);
-      count_is = c.count_in.ensures.count ∙ sym (count_places drawn c.args.listed.now)
-          ∙ ap (λ (l : List ℕ). length l) (sym at.pages_are);
+      count_is = at.listed_is;
       within = record {
         tick = coming.from;
         high = omega arith;

@@ -14,7 +14,7 @@ loop-page-preserved g c =
     let drawn = c.args.drawn.now in
     record {
       scan = looked.scan;
-      sent_is = place_more drawn (g.T.Timeline.touches c.args.timeline.now) c.args.pace.from c.args.pace.rate
+      sent_is = place_more drawn (g.T.Timeline.touches c.args.timeline.now) c.args.step.from c.args.step.rate
           c.loop-page.page-index c.loop-page.walk.sent c.look-walk.result.sent
           (λ place. in_words c.args.listed.now (get_or drawn place 0)) c.loop-page-test.true before.sent_is looked.sent;
       short = omega (arith, before.short, one_at_most _ c.loop-page.walk.sent c.look-walk.result.sent looked.sent);
@@ -26,10 +26,10 @@ returns-clause-sent g c =
     let pages = places_in c.args.drawn.now c.args.listed.now in
     let test = λ (place : ℕ). in_words c.args.listed.now (get_or c.args.drawn.now place 0) in
     record {
-      list = skim all c.args.pace.from c.args.pace.rate [] pages;
-      sent = skim_is_sent all c.args.pace.from c.args.pace.rate pages
+      list = skim all c.args.step.from c.args.step.rate [] pages;
+      sent = skim_is_sent all c.args.step.from c.args.step.rate pages
           (Rises-pages test (length c.args.drawn.now));
       count_is = c.loop-page.invariant.sent_is
-          ∙ ap (λ n. length (skim all c.args.pace.from c.args.pace.rate [] (filter test (range_with_len 0 n))))
+          ∙ ap (λ n. length (skim all c.args.step.from c.args.step.rate [] (filter test (range_with_len 0 n))))
           (omega arith);
     }
