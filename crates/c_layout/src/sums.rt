@@ -1,10 +1,6 @@
 //! Sums of plans.
 
-ghost use Rattle.std.specs.Prelude.{◌≡◌};
-ghost use Rattle.predictions.specs.Questions.{reason_number};
-ghost use Rattle.rate_limit.specs.Pacing.{reason_of};
-
-use rate_limit::Reason;
+use predictions::number_of_reason;
 use round_planner::Outcome;
 
 /// The sums of a plan: C's `struct precopy_sums`.
@@ -21,17 +17,6 @@ pub struct PlanSums {
     pub down: u64,
     /// How many pages are sent, over all rounds and after the stop.
     pub total: u64,
-}
-
-/// Returns the number of a reason.
-fn number_of_reason(reason: Reason) -> u64
-    ensures { result ≡ reason_number (reason_of reason) }
-{
-    match reason {
-        Reason::Few => 0,
-        Reason::Fast => 1,
-        Reason::Rounds => 2,
-    }
 }
 
 impl PlanSums {

@@ -1,7 +1,11 @@
 //! Worked examples, with results worked out by hand.
 
+use guest_log::Timeline;
+use page_bitmap::word_count;
 use rate_limit::{Asked, Reason, Settings};
-use round_planner::{Outcome, Plan, Planner, RoundIndex, par_plan, plan};
+use round_planner::{
+    Following, Outcome, Plan, Planner, RoundIndex, RoundNumbers, RoundSums, mark_until, par_plan, plan,
+};
 use std::alloc::{AllocError, Global};
 use std::test::Fail;
 use std::thread::Threads;
@@ -217,6 +221,48 @@ fn worked_plans(rt: HostRuntime) -> Result<(), Fail> {
             assert_eq!(rt; (told.1, numbers.as_slice()), (reason, expected));
         }
     }
+    Ok(())
+}
+
+/// Returns what follows a round that ended later than it began.
+fn after(now: &RoundNumbers, settings: &Settings, ran: &RoundSums) -> Option<Following> {
+    if now.step.done >= 64 || ran.to <= now.step.from || now.total >= 1 << 31 {
+        return None;
+    }
+    Some(now.after(settings, ran))
+}
+
+/// The two rounds of the second worked plan, and its stop.
+#[test]
+fn rounds_by_their_numbers(rt: HostRuntime) -> Result<(), Fail> {
+    let alloc = rt.alloc();
+    let trace = guest(alloc, 4, &TOUCHES)?;
+    let settings = Settings::new(asked_with(2, 1, 0, false))?;
+    let mut marks = Vec::from_elem(alloc, 0, word_count(trace.page_count() as usize))?;
+    let next = mark_until(&trace, &mut marks, 0, 2000);
+    assert_eq!(rt; (next, marks.as_slice()), (3, [0b11].as_slice()));
+    let ran = RoundSums {
+        sent: 4,
+        to: 2000,
+        next,
+        dirtied: 2,
+    };
+    let first = RoundNumbers::first(&settings, 0, 4);
+    let Some(Following::Round(second)) = after(&first, &settings, &ran) else {
+        return Err(Fail::new("no second round"));
+    };
+    let numbers = (second.step.from, second.step.rate, second.listed, second.next, second.total);
+    assert_eq!(rt; numbers, (2000, 2, 2, 3, 4));
+    let ran = RoundSums {
+        sent: 2,
+        to: 3000,
+        next: 5,
+        dirtied: 2,
+    };
+    let Some(Following::Stop(outcome)) = after(&second, &settings, &ran) else {
+        return Err(Fail::new("no stop"));
+    };
+    assert_eq!(rt; told(&outcome), (2, Reason::Fast, 3000, 1000, 8));
     Ok(())
 }
 

@@ -9,7 +9,14 @@ use Rattle.page_versions.proofs.Places.{filter_none}
 use Rattle.std.proofs.lemmas.List.Elements.{All-head, All-tail}
 use Rattle.migration_model.specs.Memory.{GuestMemory, bytes_put, image_after, image_before, image_of, put, replay}
 use Rattle.migration_model.specs.Trace.{GuestTrace, GuestWrite, IsGuestWrite, IsTrace}
-use Rattle.image_build.proofs.Replays.{Becomes, Becomes-next}
+use Rattle.image_build.proofs.Replays.{Becomes, Becomes-next, write_fits}
+
+-- the first of these writes fits the memory
+pub first_fits : (version shift pages : ℕ) (memory : List ℕ) (write : GuestWrite) (left : List GuestWrite)
+    → length memory ≡ pages * 2 ^ shift → All (IsGuestWrite version shift pages) (write ∷ left)
+    → write.page * 2 ^ shift + write.offset + length (bytes_put shift write) ≤ length memory
+first_fits version shift pages memory write left len fit =
+    write_fits version shift pages memory write len (All-head (IsGuestWrite version shift pages) write left fit)
 
 -- the writes before a tick among these
 abbrev pub before_tick : ℕ → List GuestWrite → List GuestWrite

@@ -14,6 +14,7 @@ use Rattle.predictions.specs.declared.question.Question.{Question}
 use Rattle.predictions.specs.declared.question.Terms.{Terms}
 use Rattle.predictions.specs.Redrawn.Errors.{AreErrors, SampleErrors}
 use Rattle.trace_codec.specs.Refusals.{RefusesUnlessMemory}
+use Rattle.precopy_c.specs.declared.inquiries.Inquiry.{Inquiry}
 use Rattle.precopy_c.specs.declared.questions.QuestionRefusal.{QuestionRefusal}
 use Rattle.precopy_c.specs.declared.questions.QuestionRefusal.TheVariants as refusals
 use Rattle.precopy_c.specs.declared.questions.SizedQuestion.{SizedQuestion}
@@ -40,6 +41,16 @@ IsToldOf number old new Holds = (refusal : QuestionRefusal) × (number ≡ numbe
 -- the struct is as long as this library knows it, and the question is not refused
 abbrev pub IsAsked : SizedQuestion → Type 0
 IsAsked asked = (asked.size ≡ 120) × AcceptsQuestion asked.question
+
+-- a question that may be asked, what it comes to, and the touches of the trace that these bytes encode, which has the
+-- question's scale
+pub record IsInquiry (bytes : List ℕ) (asked : SizedQuestion) (inquiry : Inquiry) : Type 0 where
+  pub is_asked : IsAsked asked
+  pub trace : GuestTrace
+  pub spells : Spells bytes trace
+  pub fits : Fits (scale_in asked.question) trace.shift trace.pages
+  pub terms_are : inquiry.terms ≡ terms_of asked.question
+  pub log_is : inquiry.log ≡ touches_in trace
 
 -- the answer to a question over a log of touches, by its plan
 pub record IsAnswerOver (terms : Terms) (log : GuestTouches) (answer : Answer) : Type 0 where

@@ -6,8 +6,8 @@ ghost use Rattle.predictions.specs.Questions.{Fits, scale_in};
 ghost use Rattle.precopy_c.specs.Enough.{AreAmountsOf, AreAmountsOver};
 ghost use Rattle.precopy_c.specs.Predictions.{IsAsked, IsToldOf, RefusesPrediction, number_of_question};
 
-use crate::questions::{QuestionRefusal, SIZE, SizedQuestion};
-use predictions::check_fit;
+use crate::inquiries::{Inquiry, inquiry};
+use crate::questions::{QuestionRefusal, SizedQuestion};
 use predictions::remedies::{Remedies, RemedyNumbers, Trial};
 use std::alloc::{AllocError, Global};
 use trace_readers::TouchLog;
@@ -33,12 +33,7 @@ fn enough(
     ensures only { (t : GuestTrace) → Spells bytes.now t → IsAsked asked.now
         → Fits (scale_in asked.now.question) t.shift t.pages → IfErr result (λ e. number_of_question e ≡ 16) }
 {
-    if asked.size != SIZE {
-        return Err(QuestionRefusal::Size);
-    }
-    let terms = asked.question.terms()?;
-    let log = TouchLog::parse(alloc, bytes)?;
-    check_fit(&terms.scale, &log.shape())?;
+    let Inquiry { log, .. } = inquiry(alloc, bytes, asked)?;
     let trial = Trial::of_question(&asked.question)?;
     let found = amounts(alloc, &trial, &log)?;
     Ok(found)

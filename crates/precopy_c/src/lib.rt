@@ -11,6 +11,7 @@ mod checking;
 mod enough;
 mod flat_memory;
 mod frames;
+mod inquiries;
 mod memories;
 mod memory_steps;
 mod page_writes;

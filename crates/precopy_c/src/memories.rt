@@ -68,8 +68,31 @@ fn answer_memory(
     Ok(())
 }
 
-/// Writes the memory after the writes before a tick, for both calls.
-fn answer_before(
+/// Writes the memory after all writes of a trace, page after page, over the front of a buffer, and sets `needed` to its
+/// length. If the buffer is too short, it sets only that. It allocates nothing.
+#[unsafe(no_mangle)]
+pub extern "C" fn precopy_memory(
+    trace: &[u8],
+    memory: &mut [u8],
+    needed: &mut usize,
+    record: &mut u32,
+) -> u32
+    ensures made { result ≡ 0 → (t : GuestTrace) × Spells trace.now t × (needed.new ≡ memory_length t)
+        × (memory.new ≡ over (image_of t).bytes memory.old) }
+    ensures short { result ≡ 61 → (t : GuestTrace) × Spells trace.now t × (needed.new ≡ memory_length t)
+        × (length memory.old < needed.new) }
+    ensures refused { result ≢ 0 → result ≢ 61 → (e : TraceError) × Refuses trace.now e × (result ≡ number_of_trace e)
+        × (needed.new ≡ needed.old) × (record.new ≡ record_after e record.old) }
+    ensures not_told { (result ≡ 0) ⊎ (result ≡ 61) → record.new ≡ record.old }
+    ensures only { (t : GuestTrace) → Spells trace.now t → (result ≡ 0) ⊎ (result ≡ 61) }
+    ensures unchanged { result ≢ 0 → memory.new ≡ memory.old }
+{
+    precopy_memory_before(trace, END, memory, needed, record)
+}
+
+/// Writes the memory after the writes before a tick, as [`precopy_memory`] does after all of them.
+#[unsafe(no_mangle)]
+pub extern "C" fn precopy_memory_before(
     trace: &[u8],
     tick: u64,
     memory: &mut [u8],
@@ -93,50 +116,6 @@ fn answer_before(
         },
         Err(error) => refuse_trace(error, record),
     }
-}
-
-/// Writes the memory after all writes of a trace, page after page, over the front of a buffer, and sets `needed` to its
-/// length. If the buffer is too short, it sets only that. It allocates nothing.
-#[unsafe(no_mangle)]
-pub extern "C" fn precopy_memory(
-    trace: &[u8],
-    memory: &mut [u8],
-    needed: &mut usize,
-    record: &mut u32,
-) -> u32
-    ensures made { result ≡ 0 → (t : GuestTrace) × Spells trace.now t × (needed.new ≡ memory_length t)
-        × (memory.new ≡ over (image_of t).bytes memory.old) }
-    ensures short { result ≡ 61 → (t : GuestTrace) × Spells trace.now t × (needed.new ≡ memory_length t)
-        × (length memory.old < needed.new) }
-    ensures refused { result ≢ 0 → result ≢ 61 → (e : TraceError) × Refuses trace.now e × (result ≡ number_of_trace e)
-        × (needed.new ≡ needed.old) × (record.new ≡ record_after e record.old) }
-    ensures not_told { (result ≡ 0) ⊎ (result ≡ 61) → record.new ≡ record.old }
-    ensures only { (t : GuestTrace) → Spells trace.now t → (result ≡ 0) ⊎ (result ≡ 61) }
-    ensures unchanged { result ≢ 0 → memory.new ≡ memory.old }
-{
-    answer_before(trace, END, memory, needed, record)
-}
-
-/// Writes the memory after the writes before a tick, as [`precopy_memory`] does after all of them.
-#[unsafe(no_mangle)]
-pub extern "C" fn precopy_memory_before(
-    trace: &[u8],
-    tick: u64,
-    memory: &mut [u8],
-    needed: &mut usize,
-    record: &mut u32,
-) -> u32
-    ensures made { result ≡ 0 → (t : GuestTrace) × Spells trace.now t × (needed.new ≡ memory_length t)
-        × (memory.new ≡ over (image_before t tick).bytes memory.old) }
-    ensures short { result ≡ 61 → (t : GuestTrace) × Spells trace.now t × (needed.new ≡ memory_length t)
-        × (length memory.old < needed.new) }
-    ensures refused { result ≢ 0 → result ≢ 61 → (e : TraceError) × Refuses trace.now e × (result ≡ number_of_trace e)
-        × (needed.new ≡ needed.old) × (record.new ≡ record_after e record.old) }
-    ensures not_told { (result ≡ 0) ⊎ (result ≡ 61) → record.new ≡ record.old }
-    ensures only { (t : GuestTrace) → Spells trace.now t → (result ≡ 0) ⊎ (result ≡ 61) }
-    ensures unchanged { result ≢ 0 → memory.new ≡ memory.old }
-{
-    answer_before(trace, tick, memory, needed, record)
 }
 
 /// Returns how many writes have a tick below this one.

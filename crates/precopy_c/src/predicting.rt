@@ -8,10 +8,11 @@ ghost use Rattle.predictions.specs.Questions.{Fits, answer_of, scale_in};
 ghost use Rattle.precopy_c.specs.Predictions.{AreNumbersOver, IsAnswerOver, IsAsked, IsPredictionOf, IsToldOf};
 ghost use Rattle.precopy_c.specs.Predictions.{RefusesPrediction, number_of_question};
 
-use crate::questions::{QuestionRefusal, SIZE, SizedQuestion};
+use crate::inquiries::{Inquiry, inquiry};
+use crate::questions::{QuestionRefusal, SizedQuestion};
 use guest_log::Timeline;
 use predictions::redrawn::Errors;
-use predictions::{Answer, ErrorNumbers, Prediction, Terms, check_fit};
+use predictions::{Answer, ErrorNumbers, Prediction, Terms};
 use round_planner::{Plan, PlanError, plan};
 use std::alloc::{AllocError, Global};
 use trace_readers::TouchLog;
@@ -68,12 +69,7 @@ fn predicted(alloc: Global, bytes: &[u8], asked: &SizedQuestion) -> Result<Told,
     ensures only { (t : GuestTrace) → Spells bytes.now t → IsAsked asked.now
         → Fits (scale_in asked.now.question) t.shift t.pages → IfErr result (λ e. number_of_question e ≡ 16) }
 {
-    if asked.size != SIZE {
-        return Err(QuestionRefusal::Size);
-    }
-    let terms = asked.question.terms()?;
-    let log = TouchLog::parse(alloc, bytes)?;
-    check_fit(&terms.scale, &log.shape())?;
+    let Inquiry { terms, log } = inquiry(alloc, bytes, asked)?;
     let answer = answered(alloc, &terms, &log)?;
     let errors = numbers(alloc, &terms, &log)?;
     Ok(Told { answer, errors })

@@ -89,27 +89,6 @@ fn push_point(
     push_words(text, " ")
 }
 
-/// Appends the points of the starts that are known, or of those that are not.
-fn push_points(
-    text: &mut Vec<u8>,
-    axis: &Axis,
-    panel: &Panel,
-    quantity: Quantity,
-    is_late: bool,
-    costs: &[StartCost],
-) -> Result<(), AllocError>
-    requires small { IsPanel panel.now }
-    ensures { OnOk result (text.new.items
-        ≡ text.old.items ++ points_of axis.now panel.now quantity is_late costs.now) }
-{
-    for at in costs {
-        if is_in(is_late, at) {
-            push_point(text, axis, panel, quantity, at)?;
-        }
-    }
-    Ok(())
-}
-
 /// Begins a curve of the starts that are known, or of those that are not.
 #[tactic(auto, unfolding(crate::specs::StartCharts::curve_head))]
 fn begin_curve(text: &mut Vec<u8>, is_late: bool) -> Result<(), AllocError>
@@ -135,7 +114,11 @@ fn push_line(
         ≡ text.old.items ++ curve_text axis.now panel.now quantity is_late costs.now) }
 {
     begin_curve(text, is_late)?;
-    push_points(text, axis, panel, quantity, is_late, costs)?;
+    for at in costs {
+        if is_in(is_late, at) {
+            push_point(text, axis, panel, quantity, at)?;
+        }
+    }
     push_words(text, "\"/>\n")
 }
 

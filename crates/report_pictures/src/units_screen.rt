@@ -275,17 +275,6 @@ fn moments_of(alloc: Global, scale: &Scale, round: &Round) -> Result<usize, Allo
     Ok(to.max(from))
 }
 
-/// Returns how wide the moments of rounds are.
-fn widest_moment(alloc: Global, scale: &Scale, plan: &Plan) -> Result<usize, AllocError>
-    ensures { IfOk result (λ width. width ≡ moment_width scale.now plan.now) }
-{
-    let mut width = 0;
-    for round in &plan.rounds {
-        width = moments_of(alloc, scale, round)?.max(width);
-    }
-    Ok(width)
-}
-
 /// Returns how wide the sizes of a round are.
 fn sizes_of(alloc: Global, scale: &Scale, round: &Round) -> Result<usize, AllocError>
     ensures { IfOk result (λ width. width ≡ sizes_width scale.now round.now) }
@@ -295,15 +284,17 @@ fn sizes_of(alloc: Global, scale: &Scale, round: &Round) -> Result<usize, AllocE
     Ok(dirtied.max(sent))
 }
 
-/// Returns how wide the sizes of rounds are.
-fn widest_size(alloc: Global, scale: &Scale, plan: &Plan) -> Result<usize, AllocError>
-    ensures { IfOk result (λ width. width ≡ size_width scale.now plan.now) }
+/// Returns how wide the moments and the sizes of the rounds of a plan are.
+fn widths_of(alloc: Global, scale: &Scale, plan: &Plan) -> Result<Widths, AllocError>
+    ensures time { IfOk result (λ widths. widths.time ≡ moment_width scale.now plan.now) }
+    ensures size { IfOk result (λ widths. widths.size ≡ size_width scale.now plan.now) }
 {
-    let mut width = 0;
+    let mut widths = Widths { time: 0, size: 0 };
     for round in &plan.rounds {
-        width = sizes_of(alloc, scale, round)?.max(width);
+        widths.time = moments_of(alloc, scale, round)?.max(widths.time);
+        widths.size = sizes_of(alloc, scale, round)?.max(widths.size);
     }
-    Ok(width)
+    Ok(widths)
 }
 
 /// Returns the line of a round: when it begins and ends, what it sends, and what is dirtied meanwhile.
@@ -411,9 +402,7 @@ pub(crate) fn push_rounds(
     ensures { OnOk result (text.new.items ≡ text.old.items
         ++ (round_lines style.now scale.now settings.now plan.now ++ 10 ∷ [])) }
 {
-    let time = widest_moment(alloc, scale, plan)?;
-    let size = widest_size(alloc, scale, plan)?;
-    let widths = Widths { time, size };
+    let widths = widths_of(alloc, scale, plan)?;
     push_round_lines(alloc, text, style, scale, settings, &widths, &plan.rounds)?;
     end_line(text)
 }

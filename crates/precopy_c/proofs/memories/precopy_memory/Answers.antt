@@ -6,7 +6,7 @@ use Rattle.precopy_c.proofs.memories.precopy_memory.Goals as goal
 
 pub returns-clause-made : goal.returns-clause-made
 returns-clause-made c zero =
-    let made = c.answer_before.ensures.made zero in (
+    let made = c.precopy_memory_before.ensures.made zero in (
       made.0,
       made.1,
       made.2,

@@ -1,23 +1,14 @@
-use Rattle.std.proofs.Common.{arith}
 use Rattle.std.proofs.lemmas.List.Elements.{All-head, All-tail}
 use Rattle.migration_model.specs.Memory.{image_before}
 use Rattle.migration_model.specs.Trace.{IsGuestWrite}
 use Rattle.guest_log.specs.Writes.{shown}
-use Rattle.image_build.proofs.Replays.{write_fits}
-use Rattle.precopy_c.proofs.Replayed.{Becomes-left_out, Becomes-put}
+use Rattle.precopy_c.proofs.Replayed.{Becomes-left_out, Becomes-put, first_fits}
 use Rattle.precopy_c.proofs.memories.replay_before.Goals as goal
 
 pub write_over-requires : goal.write_over-requires
-write_over-requires c =
-    let shape = c.shape-shape.result in
-    let version = c.args.trace.now.version in
-    let fits = All-head (IsGuestWrite version shape.shift shape.pages) (shown c.in-Some.write) c.next.new.self
-    (rw c.in-Some.ensures.steps at c.loop-write.invariant.fit) in
-    omega (
-      arith,
-      write_fits version shape.shift shape.pages c.loop-write.memory (shown c.in-Some.write)
-          c.loop-write.invariant.becomes.len fits,
-    )
+write_over-requires c = first_fits c.args.trace.now.version c.shape-shape.result.shift c.shape-shape.result.pages _
+    (shown c.in-Some.write) c.next.new.self c.loop-write.invariant.becomes.len
+    (rw c.in-Some.ensures.steps at c.loop-write.invariant.fit)
 
 pub loop-write-preserved-then-write-tick : goal.loop-write-preserved-then-write-tick
 loop-write-preserved-then-write-tick c =

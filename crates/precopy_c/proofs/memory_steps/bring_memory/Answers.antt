@@ -2,22 +2,15 @@ use Rattle.std.proofs.Common.{arith}
 use Rattle.std.proofs.lemmas.List.Elements.{All-head, All-tail}
 use Rattle.migration_model.specs.Trace.{IsGuestWrite}
 use Rattle.guest_log.specs.Writes.{shown}
-use Rattle.image_build.proofs.Replays.{write_fits}
 use Rattle.precopy_c.specs.Places.{brought_on}
+use Rattle.precopy_c.proofs.Replayed.{first_fits}
 use Rattle.precopy_c.proofs.MemorySteps.{Steps-counted, Steps-end, Steps-put, Steps-skip, Steps-start, is_step}
 use Rattle.precopy_c.proofs.memory_steps.bring_memory.Goals as goal
 
 pub write_over-requires : goal.write_over-requires
-write_over-requires c =
-    let shape = c.shape-shape.result in
-    let version = c.args.trace.now.version in
-    let fits = All-head (IsGuestWrite version shape.shift shape.pages) (shown c.in-Some.write) c.next.new.self
-    (rw c.in-Some.ensures.steps at c.loop-write.invariant.fit) in
-    omega (
-      arith,
-      write_fits version shape.shift shape.pages c.loop-write.memory (shown c.in-Some.write)
-          c.loop-write.invariant.steps.len fits,
-    )
+write_over-requires c = first_fits c.args.trace.now.version c.shape-shape.result.shift c.shape-shape.result.pages _
+    (shown c.in-Some.write) c.next.new.self c.loop-write.invariant.steps.len
+    (rw c.in-Some.ensures.steps at c.loop-write.invariant.fit)
 
 pub loop-write-preserved-then-place-from : goal.loop-write-preserved-then-place-from
 loop-write-preserved-then-place-from c =

@@ -1,7 +1,0 @@
-use Rattle.std.proofs.Common.{◌≡◌, ◌++◌, take}
-use Rattle.report_pictures.specs.StartCharts.{points_of}
-use Rattle.report_pictures.proofs.start_curves.push_points.Given as goal
-
-abbrev pub invariant-loop-at : goal.invariant-loop-at
-invariant-loop-at l = l.text.items ≡ l.fn.text.items
-    ++ points_of l.axis l.panel l.quantity l.is_late (take l.at-index l.costs)

@@ -1,7 +1,0 @@
-use Rattle.std.proofs.Common.{◌≡◌, take}
-use Rattle.report_pictures.specs.Columns.{most_of}
-use Rattle.report_pictures.specs.MeasuredScreens.{sizes_width}
-use Rattle.report_pictures.proofs.units_screen.widest_size.Given as goal
-
-abbrev pub invariant-loop-round : goal.invariant-loop-round
-invariant-loop-round l = l.width ≡ most_of (sizes_width l.scale) (take l.round-index l.plan.rounds)
