@@ -1,5 +1,5 @@
 -- How a copier's scan proceeds, step by step.
-use Rattle.std.proofs.Common.{◌≡◌, ℕ, ◌+◌, ◌/◌, ◌%◌, ◌<◌, ◌⊎◌, inl, inr, Bool, true, false, not, eqb, ◌&&◌, ◌||◌, List}
+use Rattle.std.proofs.Common.{◌≡◌, ℕ, ◌+◌, ◌/◌, ◌%◌, ◌<◌, ◌≤◌, ◌⊎◌, inl, inr, Bool, true, false, not, eqb, ◌&&◌, ◌||◌, List}
 use Rattle.std.proofs.Common.{[], ◌∷◌, ◌++◌, length, map, get_or, refl, sym, ap, subst, ◌∙◌, arith}
 use Rattle.std.specs.Int.{bit_at}
 use Rattle.std.specs.List.{Contains}
@@ -281,6 +281,70 @@ shown_is_fresh skip ahead page answer f o is held in_answer shown = elim (shown.
   | inr fresh ↦ fresh
 ]
 
+-- a log with one more page
+record Lists (page : ℕ) (before after : RoundLogView) : Type 0 where
+  kept : (q : ℕ) → IsListed before q → IsListed after q
+  here : IsListed after page
+  cases : (q : ℕ) → IsListed after q → (page ≡ q) ⊎ IsListed before q
+
+lists_skipped : (page : ℕ) (o : RoundLogView) → Lists page o (with_skipped page o)
+lists_skipped page o = record {
+  kept = λ q. skipped_before page q o;
+  here = inr (inl (Contains-push o.skipped page));
+  cases = λ q. skipped_cases page q o;
+}
+
+lists_deferred : (page : ℕ) (o : RoundLogView) → Lists page o (with_deferred page o)
+lists_deferred page o = record {
+  kept = λ q. deferred_before page q o;
+  here = inr (inr (Contains-push o.deferred page));
+  cases = λ q. deferred_cases page q o;
+}
+
+-- what a scan keeps when a page that is held, with none before it, is restored and listed
+record IsBack (ahead page : ℕ) (f new : CopyFacts) (o after : RoundLogView) : Type 0 where
+  untouched : (q : ℕ) → ahead ≤ q / 64 → in_words new.returned q ≡ in_words f.start.dirty q
+  found : (q : ℕ) → IsOwn f q → q / 64 < ahead → WasMarked f q → IsListed after q ⊎ IsHeldNow new q
+  listed : (q : ℕ) → IsListed after q → IsOwn f q × (q / 64 < ahead) × (WasMarked f q ⊎ IsFresh f q)
+  held : (q : ℕ) → IsHeldNow new q → IsOwn f q × (q / 64 < ahead) × (WasMarked f q ⊎ IsFresh f q)
+  rising : (q other : ℕ) → IsListed after q → IsHeldNow new other → q < other
+  still : (q : ℕ) → IsReturned f q → IsReturned new q
+  below : (q : ℕ) → IsListed o q → q < page
+
+comes_back : (skip : Bool) (ahead page : ℕ) (f new : CopyFacts) (o after : RoundLogView) → IsScanned skip ahead f o
+    → IsLeast f page → Lists page o after
+    → SamePages (in_words new.held) (minus (in_words f.held) (one_page page))
+    → SamePages (in_words new.returned) (union (in_words f.returned) (one_page page))
+    → IsBack ahead page f new o after
+comes_back skip ahead page f new o after is least lists same back =
+    let here = is.held page least.0 in
+    record {
+      untouched = λ q low.
+          let apart : q ≡ page → ⊥ = λ e. omega (arith, low, here.1, e) in
+          back q ∙ ap (λ (b : Bool). in_words f.returned q || b) (ne_eqb q page apart)
+          ∙ or-false (in_words f.returned q) ∙ is.untouched q low;
+      found = λ q own low marked. elim (is.found q own low marked) [
+        | inl there ↦ inl (lists.kept q there)
+        | inr held ↦ elim (cases_eq q page) [
+          | inl e ↦ inl (subst (λ (p : ℕ). IsListed after p) (sym e) lists.here)
+          | inr apart ↦ inr (left_is (in_words new.held) (in_words f.held) page q same held apart)
+        ]
+      ];
+      listed = λ q there. elim (lists.cases q there) [
+        | inl e ↦ subst (λ (p : ℕ). IsOwn f p × (p / 64 < ahead) × (WasMarked f p ⊎ IsFresh f p)) e here
+        | inr before ↦ is.listed q before
+      ];
+      held = λ q held. is.held q (left_was (in_words new.held) (in_words f.held) page q same held).0;
+      rising = λ q other there held.
+          let was = left_was (in_words new.held) (in_words f.held) page other same held in
+          elim (lists.cases q there) [
+            | inl e ↦ omega (arith, e, least.1 other was.0, was.1)
+            | inr before ↦ is.rising q other before was.0
+          ];
+      still = λ q e. back q ∙ or_left (in_words f.returned q) (eqb q page) e;
+      below = λ q there. is.rising q page there least.0;
+    }
+
 -- a page that is held, with none before it, and that was stored since, is skipped
 pub scan_skips : (ahead page word bits : ℕ) (f : CopyFacts) (o : RoundLogView) → IsScanned true ahead f o
     → IsLeast f page → IsFresh f page
@@ -288,35 +352,14 @@ pub scan_skips : (ahead page word bits : ℕ) (f : CopyFacts) (o : RoundLogView)
     → SamePages (in_words (after_restore word bits f).returned) (union (in_words f.returned) (one_page page))
     → IsScanned true ahead (after_restore word bits f) (with_skipped page o)
 scan_skips ahead page word bits f o is least fresh same back =
-    let below : (q : ℕ) → IsListed o q → q < page = λ q there. is.rising q page there least.0 in
-    let here = is.held page least.0 in
     let new : CopyFacts = after_restore word bits f in
-    let still : (q : ℕ) → IsReturned f q → IsReturned new q = λ q e. back q
-    ∙ or_left (in_words f.returned q) (eqb q page) e in
+    let kept = comes_back true ahead page f new o (with_skipped page o) is least (lists_skipped page o) same back in
     record {
-      untouched = λ q low.
-          let apart : q ≡ page → ⊥ = λ e. omega (arith, low, here.1, e) in
-          back q ∙ ap (λ (b : Bool). in_words f.returned q || b) (ne_eqb q page apart)
-          ∙ or-false (in_words f.returned q) ∙ is.untouched q low;
-      found = λ q own low marked. elim (is.found q own low marked) [
-        | inl there ↦ inl (skipped_before page q o there)
-        | inr held ↦ elim (cases_eq q page) [
-          | inl e ↦ inl (subst (λ (p : ℕ). IsListed (with_skipped page o) p) (sym e)
-              (inr (inl (Contains-push o.skipped page))))
-          | inr apart ↦ inr (left_is (in_words new.held) (in_words f.held) page q same held apart)
-        ]
-      ];
-      listed = λ q there. elim (skipped_cases page q o there) [
-        | inl e ↦ subst (λ (p : ℕ). IsOwn f p × (p / 64 < ahead) × (WasMarked f p ⊎ IsFresh f p)) e here
-        | inr before ↦ is.listed q before
-      ];
-      held = λ q held. is.held q (left_was (in_words new.held) (in_words f.held) page q same held).0;
-      rising = λ q other there held.
-          let was = left_was (in_words new.held) (in_words f.held) page other same held in
-          elim (skipped_cases page q o there) [
-            | inl e ↦ omega (arith, e, least.1 other was.0, was.1)
-            | inr before ↦ is.rising q other before was.0
-          ];
+      untouched = kept.untouched;
+      found = kept.found;
+      listed = kept.listed;
+      held = kept.held;
+      rising = kept.rising;
       returned = λ q own low is_back. elim (or_cases (in_words f.returned q) (eqb q page) (sym (back q) ∙ is_back)) [
         | inl before ↦ elim (is.returned q own low before) [
           | inl skipped ↦ inl (Contains-append_left o.skipped (page ∷ []) q skipped)
@@ -326,28 +369,28 @@ scan_skips ahead page word bits f o is least fresh same back =
             (Contains-push o.skipped page))
       ];
       skipped = λ q there. elim (Contains-push_cases o.skipped page q there) [
-        | inl before ↦ let s = is.skipped q before in (s.0, s.1, still q s.2)
+        | inl before ↦ let s = is.skipped q before in (s.0, s.1, kept.still q s.2)
         | inr e ↦ (
           refl,
           subst (λ (p : ℕ). IsFresh f p) e fresh,
           back q ∙ or_right (in_words f.returned q) (eqb q page) (eq-eqb q page (sym e)),
         )
       ];
-      deferred = λ q there. still q (is.deferred q there);
+      deferred = λ q there. kept.still q (is.deferred q there);
       reads = is.reads;
       sent = is.sent;
       sent_rise = is.sent_rise;
-      skipped_rise = rise_push o.skipped page is.skipped_rise (λ q there. below q (inr (inl there)));
+      skipped_rise = rise_push o.skipped page is.skipped_rise (λ q there. kept.below q (inr (inl there)));
       deferred_rise = is.deferred_rise;
       apart = λ q there skipped. elim (Contains-push_cases o.skipped page q skipped) [
         | inl before ↦ is.apart q there before
-        | inr e ↦ omega (arith, e, below q (inl there))
+        | inr e ↦ omega (arith, e, kept.below q (inl there))
       ];
       deferred_apart = λ q deferred. (
         (is.deferred_apart q deferred).0,
         λ skipped. elim (Contains-push_cases o.skipped page q skipped) [
           | inl before ↦ (is.deferred_apart q deferred).1 before
-          | inr e ↦ omega (arith, e, below q (inr (inr deferred)))
+          | inr e ↦ omega (arith, e, kept.below q (inr (inr deferred)))
         ],
       );
     }
@@ -359,35 +402,14 @@ pub scan_defers : (skip : Bool) (ahead page word bits : ℕ) (f : CopyFacts) (o 
     → SamePages (in_words (after_restore word bits f).returned) (union (in_words f.returned) (one_page page))
     → IsScanned skip ahead (after_restore word bits f) (with_deferred page o)
 scan_defers skip ahead page word bits f o is least same back =
-    let below : (q : ℕ) → IsListed o q → q < page = λ q there. is.rising q page there least.0 in
-    let here = is.held page least.0 in
     let new : CopyFacts = after_restore word bits f in
-    let still : (q : ℕ) → IsReturned f q → IsReturned new q = λ q e. back q
-    ∙ or_left (in_words f.returned q) (eqb q page) e in
+    let kept = comes_back skip ahead page f new o (with_deferred page o) is least (lists_deferred page o) same back in
     record {
-      untouched = λ q low.
-          let apart : q ≡ page → ⊥ = λ e. omega (arith, low, here.1, e) in
-          back q ∙ ap (λ (b : Bool). in_words f.returned q || b) (ne_eqb q page apart)
-          ∙ or-false (in_words f.returned q) ∙ is.untouched q low;
-      found = λ q own low marked. elim (is.found q own low marked) [
-        | inl there ↦ inl (deferred_before page q o there)
-        | inr held ↦ elim (cases_eq q page) [
-          | inl e ↦ inl (subst (λ (p : ℕ). IsListed (with_deferred page o) p) (sym e)
-              (inr (inr (Contains-push o.deferred page))))
-          | inr apart ↦ inr (left_is (in_words new.held) (in_words f.held) page q same held apart)
-        ]
-      ];
-      listed = λ q there. elim (deferred_cases page q o there) [
-        | inl e ↦ subst (λ (p : ℕ). IsOwn f p × (p / 64 < ahead) × (WasMarked f p ⊎ IsFresh f p)) e here
-        | inr before ↦ is.listed q before
-      ];
-      held = λ q held. is.held q (left_was (in_words new.held) (in_words f.held) page q same held).0;
-      rising = λ q other there held.
-          let was = left_was (in_words new.held) (in_words f.held) page other same held in
-          elim (deferred_cases page q o there) [
-            | inl e ↦ omega (arith, e, least.1 other was.0, was.1)
-            | inr before ↦ is.rising q other before was.0
-          ];
+      untouched = kept.untouched;
+      found = kept.found;
+      listed = kept.listed;
+      held = kept.held;
+      rising = kept.rising;
       returned = λ q own low is_back. elim (or_cases (in_words f.returned q) (eqb q page) (sym (back q) ∙ is_back)) [
         | inl before ↦ elim (is.returned q own low before) [
           | inl skipped ↦ inl skipped
@@ -396,22 +418,22 @@ scan_defers skip ahead page word bits f o is least same back =
         | inr e ↦ inr (subst (λ (p : ℕ). Contains (o.deferred ++ page ∷ []) p) (sym (eqb-true q page e))
             (Contains-push o.deferred page))
       ];
-      skipped = λ q there. let s = is.skipped q there in (s.0, s.1, still q s.2);
+      skipped = λ q there. let s = is.skipped q there in (s.0, s.1, kept.still q s.2);
       deferred = λ q there. elim (Contains-push_cases o.deferred page q there) [
-        | inl before ↦ still q (is.deferred q before)
+        | inl before ↦ kept.still q (is.deferred q before)
         | inr e ↦ back q ∙ or_right (in_words f.returned q) (eqb q page) (eq-eqb q page (sym e))
       ];
       reads = is.reads;
       sent = is.sent;
       sent_rise = is.sent_rise;
       skipped_rise = is.skipped_rise;
-      deferred_rise = rise_push o.deferred page is.deferred_rise (λ q there. below q (inr (inr there)));
+      deferred_rise = rise_push o.deferred page is.deferred_rise (λ q there. kept.below q (inr (inr there)));
       apart = is.apart;
       deferred_apart = λ q there. elim (Contains-push_cases o.deferred page q there) [
         | inl before ↦ is.deferred_apart q before
         | inr e ↦ (
-          λ sent. omega (arith, e, below q (inl sent)),
-          λ skipped. omega (arith, e, below q (inr (inl skipped))),
+          λ sent. omega (arith, e, kept.below q (inl sent)),
+          λ skipped. omega (arith, e, kept.below q (inr (inl skipped))),
         )
       ];
     }

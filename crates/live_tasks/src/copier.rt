@@ -22,11 +22,10 @@ use page_bitmap::word_count;
 use page_cache::PageCache;
 use page_message::append_frame;
 use page_versions::{PageSource, TracePages};
-use std::alloc::Global;
+use std::alloc::{AllocError, Global};
 
-/// What all copiers of a round share: a trace, what its pages are made from, and a table of them.
-#[derive(Drop)]
-pub struct Round<'a, W: WriteLog, G> {
+/// What the threads of a round share: a trace, what its pages are made from, and a table of them.
+pub struct SharedRound<'a, W: WriteLog, G> {
     pub trace: &'a W,
     pub pages: &'a TracePages,
     pub table: &'a RoundTable,
@@ -38,6 +37,14 @@ pub struct Round<'a, W: WriteLog, G> {
     pub ghost are_pages: { ArePagesOf pages.now.index pages.now.packed (W.trace trace.now) } by { Prim.hlevel props },
     pub ghost has_pages: { length table.now.start.places ≡ (W.trace trace.now).pages },
 }
+
+impl<'a, W: WriteLog, G> Clone for SharedRound<'a, W, G> {
+    fn clone(&self) -> Result<SharedRound<'a, W, G>, AllocError> {
+        Ok(*self)
+    }
+}
+
+impl<'a, W: WriteLog, G> Copy for SharedRound<'a, W, G> {}
 
 /// A copier after a round: its seat, and what it keeps for the next round.
 #[derive(Drop)]
@@ -62,7 +69,7 @@ fn page_at(word: usize, bit: u32) -> u32
     64 * word as u32 + bit
 }
 
-impl<'a, W: WriteLog, G: Gate> Round<'a, W, G> {
+impl<'a, W: WriteLog, G: Gate> SharedRound<'a, W, G> {
     /// Harvests a word: returns the bits of its marked pages, and clears them.
     fn harvest(&self, seat: &mut CopySeat, word: usize) -> u64
         requires table { copy_table seat.old ≡ self.now.table.now }

@@ -1,7 +1,7 @@
 use Rattle.std.proofs.Common.{Bool, true, false, subst, sym}
 use Rattle.live_tasks.specs.Copies.{HasPeeked, KeepsScan}
 use Rattle.live_tasks.proofs.Copying.{copies_offered, copies_unmarked, copies_skipped}
-use Rattle.live_tasks.proofs.copier.Round.copy_page.Goals as goal
+use Rattle.live_tasks.proofs.copier.SharedRound.copy_page.Goals as goal
 
 pub returns-then-not-self-clause-scan : goal.returns-then-not-self-clause-scan
 returns-then-not-self-clause-scan g c =
