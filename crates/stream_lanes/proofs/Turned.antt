@@ -7,7 +7,7 @@ use Rattle.std.proofs.lemmas.List.{get_or-map, get_or-replicate, length_push}
 use Rattle.std.proofs.lemmas.Option.{none-some, slice_get_within, get_or_from_slice_get, slice_get-get_or}
 use Rattle.stream_lanes.specs.Ends.{OutView}
 use Rattle.stream_lanes.specs.Grids.{AreColumns, AddsRow}
-use Rattle.stream_lanes.proofs.Grown.{at_push, within, set_other, is_set}
+use Rattle.stream_lanes.proofs.Grown.{at_push, within, set_other, is_kept, is_set}
 
 -- what was in a list is there after one more
 before_push : {X : Type 0} (xs : List X) (y : X) (k : ℕ) → k < length xs → slice_get (xs ++ y ∷ []) k ≡ slice_get xs k
@@ -87,9 +87,7 @@ adds-more front out first before n old new here low there pushed adds = record {
   count = length-set before n new ∙ adds.count;
   added = λ stream o a b o_is a_is b_is. elim (at_push front out o stream o_is) [
     | inl earlier ↦
-        let high = slice_get_within front stream o earlier in
-        adds.added stream o a b earlier a_is (sym (set_other before n stream new (λ e. omega (arith, high, here, e)))
-        ∙ b_is)
+        adds.added stream o a b earlier a_is (is_kept front before n stream o new b here earlier b_is)
     | inr last ↦
         let same = is_set first before n stream old new a b (last.0 ∙ sym here) low there
         (adds.rest stream (omega (arith, last.0))) a_is b_is in
