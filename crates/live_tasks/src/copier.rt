@@ -22,9 +22,10 @@ use page_bitmap::word_count;
 use page_cache::PageCache;
 use page_message::append_frame;
 use page_versions::{PageSource, TracePages};
-use std::alloc::{AllocError, Global};
+use std::alloc::Global;
 
 /// What the threads of a round share: a trace, what its pages are made from, and a table of them.
+#[derive(Drop)]
 pub struct SharedRound<'a, W: WriteLog, G> {
     pub trace: &'a W,
     pub pages: &'a TracePages,
@@ -37,14 +38,6 @@ pub struct SharedRound<'a, W: WriteLog, G> {
     pub ghost are_pages: { ArePagesOf pages.now.index pages.now.packed (W.trace trace.now) } by { Prim.hlevel props },
     pub ghost has_pages: { length table.now.start.places ≡ (W.trace trace.now).pages },
 }
-
-impl<'a, W: WriteLog, G> Clone for SharedRound<'a, W, G> {
-    fn clone(&self) -> Result<SharedRound<'a, W, G>, AllocError> {
-        Ok(*self)
-    }
-}
-
-impl<'a, W: WriteLog, G> Copy for SharedRound<'a, W, G> {}
 
 /// A copier after a round: its seat, and what it keeps for the next round.
 #[derive(Drop)]
