@@ -239,7 +239,8 @@ harvest_allowed start slots id me word alone owns low fits s shows homes at smal
           (λ other apart t. Tells-harvest start core facts word other found.owned apart t),
       (
         refl,
-        answered start core facts word answer found.sizes found.told found.owned (KnowsMark-run start shows.events shows.legal)
+        answered start core facts word answer found.sizes found.told found.owned
+            (KnowsMark-run start shows.events shows.legal)
             (IsReal-run start shows.events shows.is_start shows.legal) is small,
       ),
     )
@@ -267,12 +268,13 @@ peek_allowed start slots id me word alone owns low fits s shows homes at small =
           (Peek facts.number word) found.at
           (Needs-peek core facts.number word found.owned) refl
           (ShowWords-same start s.words core word shows.words)
-          (Tells-peeked start core facts word answer found.owned found.fresh (OnlyDue-run start shows.events shows.legal) found.told
-          is)
+          (Tells-peeked start core facts word answer found.owned found.fresh
+          (OnlyDue-run start shows.events shows.legal) found.told is)
           (λ other apart t. t),
       (
         refl,
-        answered start core facts word answer found.sizes found.told found.owned (KnowsMark-run start shows.events shows.legal)
+        answered start core facts word answer found.sizes found.told found.owned
+            (KnowsMark-run start shows.events shows.legal)
             (IsReal-run start shows.events shows.is_start shows.legal) is small,
       ),
     )
@@ -292,8 +294,8 @@ restore_allowed start slots id me word bits alone owns low small_bits held fits 
       tt,
       Shows-event start s shows word new id me.1 (of_copier facts) (of_copier (after_restore word bits facts))
           (Restore facts.number word bits) found.at
-          (Needs-restore core facts.number word bits found.owned (λ page told_bit. sym (found.told.held page) ∙ held page told_bit))
-          refl
+          (Needs-restore core facts.number word bits found.owned
+          (λ page told_bit. sym (found.told.held page) ∙ held page told_bit)) refl
           (ShowWords-dirty start s.words core (after core (Restore facts.number word bits)) word new shows.words low
           (λ q q_low. added s.words word bits q found.within ∙ ap (λ b. b || bit_pages word bits q)
           (shows.words.marked q q_low))
