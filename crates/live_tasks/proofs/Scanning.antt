@@ -1,12 +1,12 @@
 -- How a copier's scan proceeds, step by step.
-use Rattle.std.proofs.Common.{◌≡◌, ℕ, ◌+◌, ◌/◌, ◌%◌, ◌<◌, ◌≤◌, ◌⊎◌, inl, inr, Bool, true, false, not, eqb, ◌&&◌, ◌||◌, List}
-use Rattle.std.proofs.Common.{[], ◌∷◌, ◌++◌, length, map, get_or, refl, sym, ap, subst, ◌∙◌, arith}
+use Rattle.std.proofs.Common.{◌≡◌, ℕ, ◌+◌, ◌/◌, ◌%◌, ◌<◌, ◌≤◌, ◌⊎◌, inl, inr, Bool, true, false, not, eqb, ◌&&◌, ◌||◌}
+use Rattle.std.proofs.Common.{List, [], ◌∷◌, ◌++◌, length, get_or, refl, sym, ap, subst, ◌∙◌, arith}
 use Rattle.std.specs.Int.{bit_at}
 use Rattle.std.specs.List.{Contains}
 use Rattle.std.specs.List.Sorted.{IsStrictlyIncreasing}
 use Rattle.std.proofs.lemmas.Bool.{cases_eq, cases_lt, and_parts, and_from, or_cases, or_left, or_right, eqb-true}
 use Rattle.std.proofs.lemmas.Bool.{eq-eqb, ne_eqb, false≢true}
-use Rattle.std.proofs.lemmas.List.{map_push, length-append, get_or_append_left, get_or-append-add}
+use Rattle.std.proofs.lemmas.List.{length-append, get_or_append_left, get_or-append-add}
 use Rattle.std.proofs.lemmas.List.Elements.{Contains-append_left, Contains-push, Contains-push_cases, Contains-get_or}
 use Rattle.std.proofs.Math.Bool.{or-false}
 use Rattle.page_bitmap.specs.Pages.{PageSet, in_words, word_pages, bit_pages, one_page, union, minus, SamePages}
@@ -19,9 +19,8 @@ use Rattle.dirty_words.specs.Plays.{IsAnswer, MakesFresh}
 use Rattle.live_tasks.specs.RoundLogs.{RoundLogView, empty_log, with_deferred, with_sent, with_skipped, IsListed}
 use Rattle.live_tasks.specs.Scans.{IsScanned, IsOwn, WasMarked, IsHeldNow, IsReturned, IsFresh, IsLeast}
 use Rattle.live_tasks.proofs.Basics.{in_none}
-
-abbrev pages_of : List (ℕ × ℕ) → List ℕ
-pages_of sent = map (λ (s : ℕ × ℕ). s.0) sent
+use Rattle.live_tasks.proofs.Listed.{Lists, in_sent, lists_deferred, lists_skipped, pages_of, sent_before, sent_cases}
+use Rattle.live_tasks.proofs.Listed.{sent_now, sent_pages}
 
 rise_push : (xs : List ℕ) (x : ℕ) → IsStrictlyIncreasing xs → ((y : ℕ) → Contains xs y → y < x)
     → IsStrictlyIncreasing (xs ++ x ∷ [])
@@ -41,62 +40,6 @@ rise_push xs x up below k low =
           ∙ get_or-append-add xs (x ∷ []) 0 0 in
           omega (arith, here, next, below (get_or xs k 0) (Contains-get_or xs k 0 (omega (arith, end))))
     ]
-
--- ---- lists with one more page
-
-sent_pages : (page place : ℕ) (o : RoundLogView) → pages_of (with_sent page place o).sent ≡ pages_of o.sent ++ page ∷ []
-sent_pages page place o = map_push (λ (s : ℕ × ℕ). s.0) o.sent (page, place)
-
-in_sent : (page place q : ℕ) (o : RoundLogView) → Contains (pages_of (with_sent page place o).sent) q
-    → (page ≡ q) ⊎ Contains (pages_of o.sent) q
-in_sent page place q o there = elim (Contains-push_cases (pages_of o.sent) page q
-    (subst (λ (xs : List ℕ). Contains xs q) (sent_pages page place o) there)) [
-      | inl before ↦ inr before
-      | inr e ↦ inl e
-    ]
-
-sent_before : (page place q : ℕ) (o : RoundLogView) → IsListed o q → IsListed (with_sent page place o) q
-sent_before page place q o (inl there) =
-    inl (subst (λ (xs : List ℕ). Contains xs q) (sym (sent_pages page place o))
-    (Contains-append_left (pages_of o.sent) (page ∷ []) q there))
-sent_before page place q o (inr there) = inr there
-
-sent_now : (page place : ℕ) (o : RoundLogView) → IsListed (with_sent page place o) page
-sent_now page place o = inl (subst (λ (xs : List ℕ). Contains xs page) (sym (sent_pages page place o))
-    (Contains-push (pages_of o.sent) page))
-
-sent_cases : (page place q : ℕ) (o : RoundLogView) → IsListed (with_sent page place o) q → (page ≡ q) ⊎ IsListed o q
-sent_cases page place q o (inl there) = elim (in_sent page place q o there) [
-  | inl e ↦ inl e
-  | inr before ↦ inr (inl before)
-]
-sent_cases page place q o (inr there) = inr (inr there)
-
-skipped_before : (page q : ℕ) (o : RoundLogView) → IsListed o q → IsListed (with_skipped page o) q
-skipped_before page q o (inl there) = inl there
-skipped_before page q o (inr (inl there)) = inr (inl (Contains-append_left o.skipped (page ∷ []) q there))
-skipped_before page q o (inr (inr there)) = inr (inr there)
-
-skipped_cases : (page q : ℕ) (o : RoundLogView) → IsListed (with_skipped page o) q → (page ≡ q) ⊎ IsListed o q
-skipped_cases page q o (inl there) = inr (inl there)
-skipped_cases page q o (inr (inl there)) = elim (Contains-push_cases o.skipped page q there) [
-  | inl before ↦ inr (inr (inl before))
-  | inr e ↦ inl e
-]
-skipped_cases page q o (inr (inr there)) = inr (inr (inr there))
-
-deferred_before : (page q : ℕ) (o : RoundLogView) → IsListed o q → IsListed (with_deferred page o) q
-deferred_before page q o (inl there) = inl there
-deferred_before page q o (inr (inl there)) = inr (inl there)
-deferred_before page q o (inr (inr there)) = inr (inr (Contains-append_left o.deferred (page ∷ []) q there))
-
-deferred_cases : (page q : ℕ) (o : RoundLogView) → IsListed (with_deferred page o) q → (page ≡ q) ⊎ IsListed o q
-deferred_cases page q o (inl there) = inr (inl there)
-deferred_cases page q o (inr (inl there)) = inr (inr (inl there))
-deferred_cases page q o (inr (inr there)) = elim (Contains-push_cases o.deferred page q there) [
-  | inl before ↦ inr (inr (inr before))
-  | inr e ↦ inl e
-]
 
 -- ---- sets
 
@@ -280,26 +223,6 @@ shown_is_fresh skip ahead page answer f o is held in_answer shown = elim (shown.
       absurd (omega (arith, below))
   | inr fresh ↦ fresh
 ]
-
--- a log with one more page
-record Lists (page : ℕ) (before after : RoundLogView) : Type 0 where
-  kept : (q : ℕ) → IsListed before q → IsListed after q
-  here : IsListed after page
-  cases : (q : ℕ) → IsListed after q → (page ≡ q) ⊎ IsListed before q
-
-lists_skipped : (page : ℕ) (o : RoundLogView) → Lists page o (with_skipped page o)
-lists_skipped page o = record {
-  kept = λ q. skipped_before page q o;
-  here = inr (inl (Contains-push o.skipped page));
-  cases = λ q. skipped_cases page q o;
-}
-
-lists_deferred : (page : ℕ) (o : RoundLogView) → Lists page o (with_deferred page o)
-lists_deferred page o = record {
-  kept = λ q. deferred_before page q o;
-  here = inr (inr (Contains-push o.deferred page));
-  cases = λ q. deferred_cases page q o;
-}
 
 -- what a scan keeps when a page that is held, with none before it, is restored and listed
 record IsBack (ahead page : ℕ) (f new : CopyFacts) (o after : RoundLogView) : Type 0 where
