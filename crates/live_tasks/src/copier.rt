@@ -225,15 +225,12 @@ impl<'a, W: WriteLog, G: Gate> SharedRound<'a, W, G> {
             (minus (in_words copier.old.seat.facts.held) (one_page page))) }
     {
         if !self.skip {
-            self.offer_page(alloc, page, copier)?;
-            return Ok(());
+            return self.offer_page(alloc, page, copier);
         }
         if self.shows(&mut copier.seat, page) {
-            self.skip_page(page, copier)?;
-            return Ok(());
+            return self.skip_page(page, copier);
         }
-        self.offer_page(alloc, page, copier)?;
-        Ok(())
+        self.offer_page(alloc, page, copier)
     }
 
     /// Sends, defers or skips the harvested pages of a word, in ascending order.
