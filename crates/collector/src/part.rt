@@ -220,13 +220,12 @@ fn accept_slot(part: &mut Part, slot: Option<Frame>) -> Result<(), PartError>
 
 /// Returns the join of two parts: for each page, the copy with the greater stamp, or that of the first part if the
 /// stamps are equal. It moves each frame of the second part once. After an error both parts are dropped.
-pub fn merge(first: Part, second: Part) -> Result<Part, PartError>
+pub fn merge(mut first: Part, second: Part) -> Result<Part, PartError>
     requires { first.shape ≡ second.shape }
     ensures { IfOk result (λ part. part ≡ join first second) }
 {
     // For the proof: the table fits the shape.
     let _ = &first.shape;
-    let mut first = first;
     for slot in second.into_frames() {
         accept_slot(&mut first, slot)?;
     }

@@ -4,10 +4,11 @@ use Rattle.std.proofs.Common.{◌∙◌, arith}
 use Rattle.std.specs.Prelude.{IsTrue}
 use mathlib.Core.Option.{none}
 use Rattle.atomic_table.specs.Table.{step, Allows}
-use Rattle.page_bitmap.specs.Pages.{in_words, bit_pages, IsWithin}
+use Rattle.page_bitmap.specs.Pages.{in_words, one_page, word_pages, bit_pages, union, minus, IsWithin, SamePages}
 use Rattle.dirty_core.specs.Start.{Start, IsStart}
-use Rattle.dirty_words.specs.Facts.{last_place, OwnsPage, OwnsWord, CopyFits, CopyFacts}
-use Rattle.dirty_words.specs.Plays.{stores, marks, harvests, peeks, restores, reads}
+use Rattle.dirty_words.specs.Facts.{last_place, OwnsPage, OwnsWord, CopyFits, CopyFacts, after_harvest, after_peek}
+use Rattle.dirty_words.specs.Facts.{after_restore, after_read}
+use Rattle.dirty_words.specs.Plays.{stores, marks, harvests, peeks, restores, reads, MakesFresh}
 use Rattle.dirty_words.specs.Shows.{place_word, Shows}
 use Rattle.dirty_words.specs.Seats.{TableView, GuestView, CopyView, table_view, guest_view, copy_view, guest_table}
 use Rattle.dirty_words.specs.Seats.{copy_table}
@@ -15,11 +16,12 @@ use Rattle.dirty_words.specs.Invariants.{IsTable, guest_facts, copy_facts, IsGue
 use Rattle.dirty_words.specs.declared.table.RoundTable.TheInside.{Inside as TableFields}
 use Rattle.dirty_words.specs.declared.guest.GuestSeat.TheInside.{Inside as GuestFields}
 use Rattle.dirty_words.specs.declared.copier.CopySeat.TheInside.{Inside as CopyFields}
-use Rattle.dirty_words.proofs.Changes.{Before}
+use Rattle.dirty_words.proofs.Changes.{Before, harvest_changes, peek_changes, restore_changes, read_changes}
 use Rattle.dirty_words.proofs.Steps.{store_allowed, mark_allowed, harvest_allowed, peek_allowed, restore_allowed}
-use Rattle.dirty_words.proofs.Steps.{read_allowed}
+use Rattle.dirty_words.proofs.Steps.{read_allowed, own_word_low, word_low}
 
--- a guest's seat and a table, as a call finds them
+-- ---- a guest's seat and a table, as a call finds them
+
 pub record GuestCall (seat : GuestFields) (table : TableFields) (guest : GuestView) (of : TableView) : Type 0 where
   pub seat_is : guest_view seat.seat.table_id (guest_facts seat) ≡ guest
   pub seat_kept : IsGuestSeat seat
@@ -27,14 +29,14 @@ pub record GuestCall (seat : GuestFields) (table : TableFields) (guest : GuestVi
   pub table_kept : IsTable table
   pub same : guest_table guest ≡ of
 
-pub record CopyCall (seat : CopyFields) (table : TableFields) (copier : CopyView) (of : TableView) : Type 0 where
-  pub seat_is : copy_view seat.seat.table_id (copy_facts seat) ≡ copier
-  pub seat_kept : IsCopySeat seat
-  pub table_is : table_view table.table.shared.table_id table.table.shared.key ≡ of
-  pub table_kept : IsTable table
-  pub same : copy_table copier ≡ of
+pub guest_call : {seat : GuestFields} {table : TableFields} {guest : GuestView} {of : TableView}
+    → guest_view seat.seat.table_id (guest_facts seat) ≡ guest → IsGuestSeat seat
+    → table_view table.table.shared.table_id table.table.shared.key ≡ of → IsTable table → guest_table guest ≡ of
+    → GuestCall seat table guest of
+guest_call seat_is seat_kept table_is table_kept same =
+    record { seat_is = seat_is; seat_kept = seat_kept; table_is = table_is; table_kept = table_kept; same = same }
 
-module _ (seat : GuestFields) (table : TableFields) (guest : GuestView) (of : TableView)
+module _ {seat : GuestFields} {table : TableFields} {guest : GuestView} {of : TableView}
     (call : GuestCall seat table guest of) where
   one_table : table_view seat.seat.table_id (guest_facts seat).start
       ≡ table_view table.table.shared.table_id table.table.shared.key
@@ -98,7 +100,29 @@ module _ (seat : GuestFields) (table : TableFields) (guest : GuestView) (of : Ta
             is,
       )
 
-module _ (seat : CopyFields) (table : TableFields) (copier : CopyView) (of : TableView)
+-- ---- a copier's seat and a table, as a call finds them
+
+pub record CopyCall (seat : CopyFields) (table : TableFields) (copier : CopyView) (of : TableView) : Type 0 where
+  pub seat_is : copy_view seat.seat.table_id (copy_facts seat) ≡ copier
+  pub seat_kept : IsCopySeat seat
+  pub table_is : table_view table.table.shared.table_id table.table.shared.key ≡ of
+  pub table_kept : IsTable table
+  pub same : copy_table copier ≡ of
+
+pub copy_call : {seat : CopyFields} {table : TableFields} {copier : CopyView} {of : TableView}
+    → copy_view seat.seat.table_id (copy_facts seat) ≡ copier → IsCopySeat seat
+    → table_view table.table.shared.table_id table.table.shared.key ≡ of → IsTable table → copy_table copier ≡ of
+    → CopyCall seat table copier of
+copy_call seat_is seat_kept table_is table_kept same =
+    record { seat_is = seat_is; seat_kept = seat_kept; table_is = table_is; table_kept = table_kept; same = same }
+
+-- a word that the copier owns is one of the dirty words, and of the words that are held
+pub record HasWord (seat : CopyFields) (word : ℕ) : Type 0 where
+  pub owns : OwnsWord (copy_facts seat) word
+  pub real : word < length (copy_facts seat).start.dirty
+  pub within : word < length seat.held.items
+
+module _ {seat : CopyFields} {table : TableFields} {copier : CopyView} {of : TableView}
     (call : CopyCall seat table copier of) where
   one_copy_table : table_view seat.seat.table_id (copy_facts seat).start
       ≡ table_view table.table.shared.table_id table.table.shared.key
@@ -110,19 +134,67 @@ module _ (seat : CopyFields) (table : TableFields) (copier : CopyView) (of : Tab
   one_copy_start : (copy_facts seat).start ≡ table.table.shared.key
   one_copy_start = ap (λ t. t.start) one_copy_table
 
-  pub copy_facts_are : copier.facts ≡ copy_facts seat
+  copy_facts_are : copier.facts ≡ copy_facts seat
   copy_facts_are = sym (ap (λ g. g.facts) call.seat_is)
 
-  pub before : Before copier.facts
+  -- a word of the seat is one of the words that are held
+  held_low : (word : ℕ) → word < length (copy_facts seat).start.dirty → word < length seat.held.items
+  held_low word low =
+      let n = call.seat_kept.fits.held_words in
+      let m = ap length call.seat_kept.held in
+      omega arith
+
+  pub has_word : (word : ℕ) → OwnsWord copier.facts word → HasWord seat word
+  has_word word owns =
+      let owned : OwnsWord (copy_facts seat) word = subst (λ f. OwnsWord f word) copy_facts_are owns in
+      let real = own_word_low (copy_facts seat) word call.seat_kept.is_start owned in
+      record { owns = owned; real = real; within = held_low word real }
+
+  -- the word of a held page is one of those too
+  pub has_page : (page : ℕ) → IsTrue (in_words copier.facts.held page)
+      → (page / 64 < length (copy_facts seat).start.dirty) × (page / 64 < length seat.held.items)
+  has_page page held =
+      let own : IsTrue (in_words (copy_facts seat).held page) =
+      subst (λ f. IsTrue (in_words f.held page)) copy_facts_are held in
+      let real = word_low (copy_facts seat).start page call.seat_kept.is_start
+      (call.seat_kept.fits.held page own).page_real in
+      (real, held_low (page / 64) real)
+
+  before : Before copier.facts
   before = record {
     fits = subst (λ f. CopyFits f) (sym copy_facts_are) call.seat_kept.fits;
     is_start = subst (λ f. IsStart f.start) (sym copy_facts_are) call.seat_kept.is_start;
   }
 
-  -- what a seat's own facts become, its contract's facts become
-  pub facts_after : (new : CopyFacts) (change : CopyFacts → CopyFacts) → new ≡ change (copy_facts seat)
-      → new ≡ change copier.facts
-  facts_after new change is = is ∙ ap change (sym copy_facts_are)
+  -- ---- what a seat's own facts become, its contract's facts become
+
+  pub harvested : (new : CopyFacts) (word answer : ℕ) → OwnsWord copier.facts word
+      → new ≡ after_harvest word answer (copy_facts seat)
+      → SamePages (in_words new.held) (union (in_words copier.facts.held) (bit_pages word answer))
+      × SamePages (in_words new.returned) (minus (in_words copier.facts.returned) (word_pages word))
+      × MakesFresh copier.facts word answer new
+  harvested new word answer owns is = harvest_changes copier.facts new word answer before owns
+      (is ∙ ap (after_harvest word answer) (sym copy_facts_are))
+
+  pub peeked : (new : CopyFacts) (word answer : ℕ) → OwnsWord copier.facts word
+      → new ≡ after_peek word answer (copy_facts seat) → MakesFresh copier.facts word answer new
+  peeked new word answer owns is = peek_changes copier.facts new word answer before owns
+      (is ∙ ap (after_peek word answer) (sym copy_facts_are))
+
+  pub restored : (new : CopyFacts) (word bits : ℕ) → OwnsWord copier.facts word → bits < 2 ^ 64
+      → new ≡ after_restore word bits (copy_facts seat)
+      → SamePages (in_words new.held) (minus (in_words copier.facts.held) (bit_pages word bits))
+      × SamePages (in_words new.returned) (union (in_words copier.facts.returned) (bit_pages word bits))
+  restored new word bits owns small is = restore_changes copier.facts new word bits before owns small
+      (is ∙ ap (after_restore word bits) (sym copy_facts_are))
+
+  pub was_read : (new : CopyFacts) (page place : ℕ) → IsTrue (in_words copier.facts.held page)
+      → new ≡ after_read page place (copy_facts seat)
+      → SamePages (in_words new.held) (minus (in_words copier.facts.held) (one_page page))
+  was_read new page place held is = read_changes copier.facts new page place before held
+      (is ∙ ap (after_read page place) (sym copy_facts_are))
+
+  -- ---- what a call asks
 
   -- a word that the copier owns is one of the table's dirty words
   own_word : (word : ℕ) → OwnsWord (copy_facts seat) word → (word < length table.table.shared.key.dirty)

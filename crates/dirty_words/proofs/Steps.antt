@@ -178,6 +178,41 @@ answered start core facts word answer sizes told owned knows real is fits = reco
       omega (arith, low, pages);
 }
 
+-- what a copier finds at a step on a word that it owns
+record CopierFinds (start : Start) (s : State ℕ (List Facts)) (core : DirtyCore) (id : ℕ) (facts : CopyFacts)
+    (word : ℕ) : Type 0 where
+  at : get_elem? s.views id ≡ some (lone_copier facts)
+  sizes : core.sizes ≡ sizes_of start
+  told : TellsCopier start core facts
+  owned : CopierOwns core.sizes facts.number word
+  within : word < length s.words
+  held : word < length facts.held
+  returned : word < length facts.returned
+  fresh : word < length facts.fresh
+
+copier_finds : (start : Start) (s : State ℕ (List Facts)) (shows : Shows start s) (id : ℕ) (me : Me ℕ (List Facts))
+    (word : ℕ)
+    → me ≡ (lone_copier (copier_in me.0), []) → OwnsWord (copier_in me.0) word → word < length start.dirty
+    → CopyFits (copier_in me.0) → get_elem? s.views id ≡ some me.0
+    → CopierFinds start s (core_after start shows.events) id (copier_in me.0) word
+copier_finds start s shows id me word alone owns low fits at =
+    let facts : CopyFacts = copier_in me.0 in
+    let core : DirtyCore = core_after start shows.events in
+    let sizes : core.sizes ≡ sizes_of start = sizes-core_after start shows.events in
+    let at' : get_elem? s.views id ≡ some (lone_copier facts) = at ∙ ap (λ m. some m.0) alone in
+    let told : TellsCopier start core facts = (shows.views id 0 (lone_copier facts) (of_copier facts) at' refl).1 in
+    let words : length facts.start.dirty ≡ length start.dirty = ap (λ k. length k.dirty) told.start_is in
+    record {
+      at = at';
+      sizes = sizes;
+      told = told;
+      owned = core_copier_owns start core facts word sizes told.start_is owns;
+      within = let sized = shows.words.sized in omega arith;
+      held = let n = fits.held_words in omega arith;
+      returned = let n = fits.returned_words in omega arith;
+      fresh = let n = fits.fresh_words in omega arith;
+    }
+
 pub harvest_allowed : (start : Start) (slots id : ℕ) (me : Me ℕ (List Facts)) (word : ℕ)
     → me ≡ (lone_copier (copier_in me.0), []) → OwnsWord (copier_in me.0) word → word < length start.dirty
     → CopyFits (copier_in me.0)
@@ -185,16 +220,7 @@ pub harvest_allowed : (start : Start) (slots id : ℕ) (me : Me ℕ (List Facts)
 harvest_allowed start slots id me word alone owns low fits s shows homes at small =
     let facts : CopyFacts = copier_in me.0 in
     let core : DirtyCore = core_after start shows.events in
-    let sizes : core.sizes ≡ sizes_of start = sizes-core_after start shows.events in
-    let at' : get_elem? s.views id ≡ some (lone_copier facts) = at ∙ ap (λ m. some m.0) alone in
-    let told : TellsCopier start core facts = (shows.views id 0 (lone_copier facts) (of_copier facts) at' refl).1 in
-    let owned : CopierOwns core.sizes facts.number word = core_copier_owns start core facts word sizes told.start_is
-    owns in
-    let words : length facts.start.dirty ≡ length start.dirty = ap (λ k. length k.dirty) told.start_is in
-    let within : word < length s.words = let sized = shows.words.sized in omega arith in
-    let in_held : word < length facts.held = let n = fits.held_words in omega arith in
-    let in_returned : word < length facts.returned = let n = fits.returned_words in omega arith in
-    let in_fresh : word < length facts.fresh = let n = fits.fresh_words in omega arith in
+    let found = copier_finds start s shows id me word alone owns low fits at in
     let answer : ℕ = slice_index s.words word in
     let is : SamePages (bit_pages word answer) (common (word_pages word) core.marked) =
     word_marked s.words core.marked word (λ page e. shows.words.marked page (omega arith)) in (
@@ -202,18 +228,19 @@ harvest_allowed start slots id me word alone owns low fits s shows homes at smal
       keeps,
       tt,
       Shows-event start s shows word 0 id me.1 (of_copier facts) (of_copier (after_harvest word answer facts))
-          (Harvest facts.number word) at'
-          (Needs-harvest core facts.number word owned) refl
+          (Harvest facts.number word) found.at
+          (Needs-harvest core facts.number word found.owned) refl
           (ShowWords-dirty start s.words core (after core (Harvest facts.number word)) word 0 shows.words low
-          (λ q q_low. cleared s.words word q within ∙ ap (λ b. b && not (word_pages word q))
+          (λ q q_low. cleared s.words word q found.within ∙ ap (λ b. b && not (word_pages word q))
           (shows.words.marked q q_low))
           (λ q. refl))
-          (Tells-harvested start core facts word answer owned in_held in_returned in_fresh
-          (OnlyDue-run start shows.events shows.legal) told is)
-          (λ other apart t. Tells-harvest start core facts word other owned apart t),
+          (Tells-harvested start core facts word answer found.owned found.held found.returned found.fresh
+          (OnlyDue-run start shows.events shows.legal) found.told is)
+          (λ other apart t. Tells-harvest start core facts word other found.owned apart t),
       (
         refl,
-        answered start core facts word answer sizes told owned (KnowsMark-run start shows.events shows.legal)
+        answered start core facts word answer found.sizes found.told found.owned
+            (KnowsMark-run start shows.events shows.legal)
             (IsReal-run start shows.events shows.is_start shows.legal) is small,
       ),
     )
@@ -230,13 +257,7 @@ pub peek_allowed : (start : Start) (slots id : ℕ) (me : Me ℕ (List Facts)) (
 peek_allowed start slots id me word alone owns low fits s shows homes at small =
     let facts : CopyFacts = copier_in me.0 in
     let core : DirtyCore = core_after start shows.events in
-    let sizes : core.sizes ≡ sizes_of start = sizes-core_after start shows.events in
-    let at' : get_elem? s.views id ≡ some (lone_copier facts) = at ∙ ap (λ m. some m.0) alone in
-    let told : TellsCopier start core facts = (shows.views id 0 (lone_copier facts) (of_copier facts) at' refl).1 in
-    let owned : CopierOwns core.sizes facts.number word = core_copier_owns start core facts word sizes told.start_is
-    owns in
-    let words : length facts.start.dirty ≡ length start.dirty = ap (λ k. length k.dirty) told.start_is in
-    let in_fresh : word < length facts.fresh = let n = fits.fresh_words in omega arith in
+    let found = copier_finds start s shows id me word alone owns low fits at in
     let answer : ℕ = slice_index s.words word in
     let is : SamePages (bit_pages word answer) (common (word_pages word) core.marked) =
     word_marked s.words core.marked word (λ page e. shows.words.marked page (omega arith)) in (
@@ -244,15 +265,16 @@ peek_allowed start slots id me word alone owns low fits s shows homes at small =
       keeps,
       tt,
       Shows-event start s shows word answer id me.1 (of_copier facts) (of_copier (after_peek word answer facts))
-          (Peek facts.number word) at'
-          (Needs-peek core facts.number word owned) refl
+          (Peek facts.number word) found.at
+          (Needs-peek core facts.number word found.owned) refl
           (ShowWords-same start s.words core word shows.words)
-          (Tells-peeked start core facts word answer owned in_fresh (OnlyDue-run start shows.events shows.legal) told
-          is)
+          (Tells-peeked start core facts word answer found.owned found.fresh
+          (OnlyDue-run start shows.events shows.legal) found.told is)
           (λ other apart t. t),
       (
         refl,
-        answered start core facts word answer sizes told owned (KnowsMark-run start shows.events shows.legal)
+        answered start core facts word answer found.sizes found.told found.owned
+            (KnowsMark-run start shows.events shows.legal)
             (IsReal-run start shows.events shows.is_start shows.legal) is small,
       ),
     )
@@ -265,29 +287,21 @@ pub restore_allowed : (start : Start) (slots id : ℕ) (me : Me ℕ (List Facts)
 restore_allowed start slots id me word bits alone owns low small_bits held fits s shows homes at small =
     let facts : CopyFacts = copier_in me.0 in
     let core : DirtyCore = core_after start shows.events in
-    let sizes : core.sizes ≡ sizes_of start = sizes-core_after start shows.events in
-    let at' : get_elem? s.views id ≡ some (lone_copier facts) = at ∙ ap (λ m. some m.0) alone in
-    let told : TellsCopier start core facts = (shows.views id 0 (lone_copier facts) (of_copier facts) at' refl).1 in
-    let owned : CopierOwns core.sizes facts.number word = core_copier_owns start core facts word sizes told.start_is
-    owns in
-    let words : length facts.start.dirty ≡ length start.dirty = ap (λ k. length k.dirty) told.start_is in
-    let within : word < length s.words = let sized = shows.words.sized in omega arith in
-    let in_held : word < length facts.held = let n = fits.held_words in omega arith in
-    let in_returned : word < length facts.returned = let n = fits.returned_words in omega arith in
+    let found = copier_finds start s shows id me word alone owns low fits at in
     let new : ℕ = bit_or (slice_index s.words word) bits in (
       lone_copier (after_restore word bits facts),
       keeps,
       tt,
       Shows-event start s shows word new id me.1 (of_copier facts) (of_copier (after_restore word bits facts))
-          (Restore facts.number word bits) at'
-          (Needs-restore core facts.number word bits owned (λ page told_bit. sym (told.held page) ∙ held page told_bit))
-          refl
+          (Restore facts.number word bits) found.at
+          (Needs-restore core facts.number word bits found.owned
+          (λ page told_bit. sym (found.told.held page) ∙ held page told_bit)) refl
           (ShowWords-dirty start s.words core (after core (Restore facts.number word bits)) word new shows.words low
-          (λ q q_low. added s.words word bits q within ∙ ap (λ b. b || bit_pages word bits q)
+          (λ q q_low. added s.words word bits q found.within ∙ ap (λ b. b || bit_pages word bits q)
           (shows.words.marked q q_low))
           (λ q. refl))
-          (Tells-restored start core facts word bits in_held in_returned small_bits told)
-          (λ other apart t. Tells-restore start core facts word bits other owned apart t),
+          (Tells-restored start core facts word bits found.held found.returned small_bits found.told)
+          (λ other apart t. Tells-restore start core facts word bits other found.owned apart t),
       refl,
     )
 

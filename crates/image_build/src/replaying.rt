@@ -75,13 +75,12 @@ pub fn replay_view(alloc: Global, trace: &TraceView<'_>) -> Result<Image, ImageE
 }
 
 /// Returns the memory after all writes, each put there as it is read.
-fn replay_reader(alloc: Global, reader: TraceReader<'_>) -> Result<Image, ReplayError>
+fn replay_reader(alloc: Global, mut reader: TraceReader<'_>) -> Result<Image, ReplayError>
     requires { reader.writes ≡ [] }
     ensures made { IfOk result (λ image. (trace : GuestTrace) × Spells reader.entry.bytes trace
         × (image ≡ image_of trace)) }
     ensures refused { IfErr result (RefusesReplay reader.entry.bytes) }
 {
-    let mut reader = reader;
     let shape = reader.shape();
     let mut memory = blank(alloc, shape)?;
     for _ in 0..shape.writes {

@@ -26,10 +26,12 @@ use Rattle.live_engine.specs.Lists.{rows_of}
 use Rattle.stream_receivers.specs.Receivers.{AreEnds, AreFrames, HasFrames, ReceiverView}
 use Rattle.stream_receivers.proofs.Had.{has_same}
 use Rattle.stream_receivers.proofs.Ends.{holds_at}
+use Rattle.live_engine.specs.declared.migration.EndedRun.{EndedRun}
 use Rattle.live_engine.specs.declared.opening.Team.{Team}
+use Rattle.live_engine.specs.declared.rounds.Progress.{Progress}
 use Rattle.live_engine.specs.Joining.{AreJoined, HaveCapacity, IsAsInBase, IsCurrentText, IsMarked, IsSentBy, lanes_of}
 use Rattle.live_engine.specs.Receiving.{AreCrossed, HaveArrived, IsSentTo, lanes_in}
-use Rattle.live_engine.specs.Runs.{AllSentArrived, AreDone, AreOpened, HaveEnded, IsTeamOf}
+use Rattle.live_engine.specs.Runs.{AllSentArrived, AreDone, AreOpened, HasEnded, IsTeamOf}
 use Rattle.live_engine.proofs.Crossed.{lanes_kept, shapes_kept}
 use Rattle.live_engine.proofs.Each.{all_at, any_at, any_there, made_of, makes_at, pick}
 use Rattle.live_engine.proofs.Running.{fits_pages}
@@ -251,33 +253,36 @@ sizes_of trace streams states each = all_at (λ (row : List OutView). length row
 
 -- the lanes that are left cross like those that were opened
 pub still_crossed : (trace : GuestTrace) (s : MigrationSettings) (plan : MigrationPlan) (team : Team)
-    (first states : List CopierStateView) (opened receivers : List ReceiverView)
-    (closed : ClosedView) (rounds : List LiveRound) → AreOpened trace team first opened
-    → HaveEnded trace s plan team first opened closed rounds states receivers
-    → AreCrossed (length states) team.streams (lanes_of (rows_of states)) (map lanes_in receivers)
-still_crossed trace s plan team first states opened receivers closed rounds are ended =
-    let done = ended.done in
-    let same = ended.same in
-    subst (λ (n : ℕ). AreCrossed n team.streams (lanes_of (rows_of states)) (map lanes_in receivers))
+    (first : List CopierStateView) (opened : List ReceiverView) (ended : EndedRun) → AreOpened trace team first opened
+    → HasEnded trace s plan team first opened ended
+    → AreCrossed (length ended.progress.states.items) team.streams (lanes_of (rows_of ended.progress.states.items))
+    (map lanes_in ended.receivers.items)
+still_crossed trace s plan team first opened ended are is =
+    let done = is.done in
+    let receivers = ended.receivers.items in
+    let sends : List (List LaneId) = lanes_of (rows_of ended.progress.states.items) in
+    subst (λ (n : ℕ). AreCrossed n team.streams sends (map lanes_in receivers))
     (sym done.under_way.states_are)
     (subst (λ (sends : List (List LaneId)). AreCrossed team.copiers team.streams sends (map lanes_in receivers))
     (sym done.lanes)
     (subst (λ (takes : List (List LaneId)). AreCrossed team.copiers team.streams (lanes_of (rows_of first)) takes)
-    (sym (lanes_kept opened receivers same)) are.crossed))
+    (sym (lanes_kept opened receivers is.same)) are.crossed))
 
 -- what was sent has arrived
 pub all_came : (trace : GuestTrace) (s : MigrationSettings) (plan : MigrationPlan) (team : Team)
-    (first states : List CopierStateView) (opened receivers : List ReceiverView)
-    (closed : ClosedView) (rounds : List LiveRound) (parts : List GuestPart) → AreOpened trace team first opened
-    → HaveEnded trace s plan team first opened closed rounds states receivers
-    → (All (λ (r : ReceiverView). r.part.shape ≡ shape_of_trace trace) receivers
-    → AreFrames (shape_of_trace trace) (IsSentBy (rows_of states))
-    → HaveArrived (shape_of_trace trace) team.streams (rows_of states) parts)
-    → AllSentArrived trace s.base team.streams closed parts
-all_came trace s plan team first states opened receivers closed rounds parts are ended come_by =
-    let done = ended.done in
+    (first : List CopierStateView) (opened : List ReceiverView) (ended : EndedRun) (parts : List GuestPart)
+    → AreOpened trace team first opened → HasEnded trace s plan team first opened ended
+    → (All (λ (r : ReceiverView). r.part.shape ≡ shape_of_trace trace) ended.receivers.items
+    → AreFrames (shape_of_trace trace) (IsSentBy (rows_of ended.progress.states.items))
+    → HaveArrived (shape_of_trace trace) team.streams (rows_of ended.progress.states.items) parts)
+    → AllSentArrived trace s.base team.streams ended.progress.closed parts
+all_came trace s plan team first opened ended parts are is come_by =
+    let done = is.done in
+    let closed = ended.progress.closed in
+    let rounds = ended.progress.rounds.items in
+    let states : List CopierStateView = ended.progress.states.items in
     let come : HaveArrived (shape_of_trace trace) team.streams (rows_of states) parts =
-    come_by (shapes_kept (shape_of_trace trace) opened receivers ended.same are.shapes)
+    come_by (shapes_kept (shape_of_trace trace) opened ended.receivers.items is.same are.shapes)
     (λ text sent. (let h = done.joined.honest text sent in (h.frame, h.spells))) in
     let sizes = sizes_of trace team.streams states done.under_way.each in
     record {
@@ -292,10 +297,9 @@ all_came trace s plan team first states opened receivers closed rounds parts are
 
 -- the rounds keep the law of the settings
 pub keeps_settings : (trace : GuestTrace) (s : MigrationSettings) (plan : MigrationPlan) (team : Team)
-    (first states : List CopierStateView) (opened : List ReceiverView)
-    (closed : ClosedView) (rounds : List LiveRound) → IsTeamOf s team → AreOpened trace team first opened
-    → AreDone trace s plan team first closed rounds states
-    → LiveRounds trace s.base s.skip s.workers s.lane plan.rounds rounds
-keeps_settings trace s plan team first states opened closed rounds team_is are done =
-    subst (λ (n : ℕ). LiveRounds trace s.base s.skip n s.lane plan.rounds rounds) team_is.copiers_are
+    (first : List CopierStateView) (opened : List ReceiverView) (progress : Progress) → IsTeamOf s team
+    → AreOpened trace team first opened → AreDone trace s plan team first progress
+    → LiveRounds trace s.base s.skip s.workers s.lane plan.rounds progress.rounds.items
+keeps_settings trace s plan team first opened progress team_is are done =
+    subst (λ (n : ℕ). LiveRounds trace s.base s.skip n s.lane plan.rounds progress.rounds.items) team_is.copiers_are
     (done.law s.lane (subst (λ (n : ℕ). HaveCapacity n (lanes_of (rows_of first))) team_is.lane_is are.capacity))

@@ -1,5 +1,6 @@
 pub mod Seated
 pub mod Joining
+pub mod Crews
 pub mod Lists
 pub mod Runs
 pub mod Warm

@@ -18,7 +18,9 @@ use Rattle.dirty_words.specs.Closing.{FitsPages}
 use Rattle.dirty_words.specs.Seats.{ClosedView}
 use Rattle.live_tasks.specs.CopierStates.{CopierStateView, IsCopierState}
 use Rattle.stream_receivers.specs.Receivers.{ReceiverView}
+use Rattle.live_engine.specs.declared.migration.EndedRun.{EndedRun}
 use Rattle.live_engine.specs.declared.opening.Team.{Team}
+use Rattle.live_engine.specs.declared.rounds.Progress.{Progress}
 use Rattle.live_engine.specs.Joining.{AreJoined, HaveCapacity, HaveSentNothing, IsAsInBase, IsMarked, lanes_of}
 use Rattle.live_engine.specs.Lists.{rows_of}
 use Rattle.live_engine.specs.Receiving.{AreCrossed, identity_of, lanes_in}
@@ -40,6 +42,10 @@ pub record IsTeamOf (s : MigrationSettings) (team : Team) : Type 0 where
   pub copiers_are : team.copiers ≡ s.workers
   pub streams_are : team.streams ≡ s.streams
   pub lane_is : team.lane ≡ s.lane
+
+-- the plan of a migration of this trace
+abbrev pub IsPlanOf : GuestTrace → MigrationSettings → MigrationPlan → Type 0
+IsPlanOf trace s plan = IsPlan trace.pages (touches_of trace) s plan
 
 -- the next table may open, and there is a state for each copier
 pub record IsUnderWay (trace : GuestTrace) (team : Team) (closed : ClosedView)
@@ -66,21 +72,19 @@ pub record AreOpened (trace : GuestTrace) (team : Team) (states : List CopierSta
 
 -- all planned rounds are done, by copiers that had these states before
 pub record AreDone (trace : GuestTrace) (s : MigrationSettings) (plan : MigrationPlan) (team : Team)
-    (before : List CopierStateView)
-    (closed : ClosedView) (rounds : List LiveRound) (states : List CopierStateView) : Type 0 where
-  pub under_way : IsUnderWay trace team closed states
-  pub lanes : lanes_of (rows_of states) ≡ lanes_of (rows_of before)
-  pub joined : AreJoined trace s.base team.copiers plan.stop plan.rounds rounds closed (rows_of states)
+    (before : List CopierStateView) (progress : Progress) : Type 0 where
+  pub under_way : IsUnderWay trace team progress.closed progress.states.items
+  pub lanes : lanes_of (rows_of progress.states.items) ≡ lanes_of (rows_of before)
+  pub joined : AreJoined trace s.base team.copiers plan.stop plan.rounds progress.rounds.items progress.closed
+      (rows_of progress.states.items)
   pub law : (lane : ℕ) → HaveCapacity lane (lanes_of (rows_of before))
-      → LiveRounds trace s.base s.skip team.copiers lane plan.rounds rounds
+      → LiveRounds trace s.base s.skip team.copiers lane plan.rounds progress.rounds.items
 
 -- the rounds are done, and each receiver has the lanes and the guest that it had
-pub record HaveEnded (trace : GuestTrace) (s : MigrationSettings) (plan : MigrationPlan) (team : Team)
-    (before : List CopierStateView)
-    (opened : List ReceiverView) (closed : ClosedView) (rounds : List LiveRound) (states : List CopierStateView)
-    (receivers : List ReceiverView) : Type 0 where
-  pub done : AreDone trace s plan team before closed rounds states
-  pub same : map identity_of receivers ≡ map identity_of opened
+pub record HasEnded (trace : GuestTrace) (s : MigrationSettings) (plan : MigrationPlan) (team : Team)
+    (before : List CopierStateView) (opened : List ReceiverView) (ended : EndedRun) : Type 0 where
+  pub done : AreDone trace s plan team before ended.progress
+  pub same : map identity_of ended.receivers.items ≡ map identity_of opened
 
 -- All that was sent has reached the parts. A page that isn't marked is no older there than at the stop, or has the
 -- version that it had in the base.
@@ -119,7 +123,7 @@ pub record IsStoppedAt (trace : GuestTrace) (versions : List ℕ)
 pub record IsStopped (trace : GuestTrace) (s : MigrationSettings) (stop : ℕ) (at_stop : GuestMemory) (versions : List ℕ)
     (index : GuestIndex) (rounds : List LiveRound) : Type 0 where
   pub plan : MigrationPlan
-  pub is_plan : IsPlan trace.pages (touches_of trace) s plan
+  pub is_plan : IsPlanOf trace s plan
   pub stop_is : stop ≡ plan.stop
   pub at_stop_is : at_stop ≡ image_before trace plan.stop
   pub stopped : IsStoppedAt trace versions index at_stop
@@ -130,7 +134,7 @@ pub record IsStopped (trace : GuestTrace) (s : MigrationSettings) (stop : ℕ) (
 pub record IsLiveRun (trace : GuestTrace) (s : MigrationSettings) (stop : ℕ) (at_stop at_end : GuestMemory)
     (rounds : List LiveRound) : Type 0 where
   pub plan : MigrationPlan
-  pub is_plan : IsPlan trace.pages (touches_of trace) s plan
+  pub is_plan : IsPlanOf trace s plan
   pub stop_is : stop ≡ plan.stop
   pub at_stop_is : at_stop ≡ image_before trace plan.stop
   pub at_end_is : at_end ≡ image_of trace

@@ -13,7 +13,7 @@ use Rattle.live_tasks.specs.declared.copier.Copier.{Copier}
 abbrev pub EachAt : {X : Type 0} → (X → ℕ → Type 0) → List X → Type 0
 EachAt {X} Holds xs = (i : ℕ) → i < length xs → (x : X) × (x ≡ slice_index_or xs i x) × Holds x i
 
--- what the copiers of a round share: what the trace's pages are made from, and a table of them
+-- what the threads of a round share: what the trace's pages are made from, and a table of them
 pub record IsRoundOf (trace : GuestTrace) (pages : TracePages) (table : TableView) : Type 0 where
   pub are_pages : ArePagesOf pages.index pages.packed trace
   pub has_pages : length table.start.places ≡ trace.pages

@@ -1,17 +1,17 @@
 //! A migration, from its plan to its final copy.
 
-ghost use Rattle.std.specs.Prelude.{IfOk};
+ghost use Rattle.std.specs.Prelude.{◌≡◌, IfOk, OnOk, length, map};
 ghost use Rattle.image_build.specs.Joins.{memory_by};
-ghost use Rattle.live_engine.specs.Runs.{AreNewStates, HaveEnded, IsLiveRun, IsStopped, IsTeam};
-ghost use Rattle.migration_model.specs.Rounds.{IsPlan};
-ghost use Rattle.migration_model.specs.Touches.{touches_of};
+ghost use Rattle.live_engine.specs.Receiving.{identity_of};
+ghost use Rattle.live_engine.specs.Runs.{AreDone, AreNewStates, HasEnded, IsLiveRun, IsPlanOf, IsStopped};
+ghost use Rattle.live_engine.specs.Runs.{IsTeam};
 ghost use Rattle.page_versions.specs.Copies.{ArePagesOf};
 
 use crate::error::LiveError;
 use crate::live_round::LiveRound;
 use crate::opening::{Team, open_lanes};
 use crate::preparation::{Preparation, prepare};
-use crate::receivers::{Signals, drain_all, start_receivers};
+use crate::receivers::{Receives, Signals, drain_all, start_receivers};
 use crate::rounds::{Migration, Progress};
 use crate::stop_and_copy::stop_and_copy;
 use crate::stopped::StoppedGuest;
@@ -25,8 +25,38 @@ use std::collections::VecDeque;
 use std::sync::Wait;
 use std::sync::atomic::Ordering;
 use std::thread;
-use std::thread::{Scope, Threads, scope_env};
+use std::thread::{PromisedHandle, Scope, Threads, scope_env};
 use stream_receivers::{Receiver, join_first};
+
+/// What a run leaves: the state of the migration after its last round, and the receivers.
+#[derive(Drop)]
+struct EndedRun {
+    progress: Progress,
+    receivers: Vec<Receiver>,
+}
+
+/// Starts the receivers, and then runs all rounds.
+fn run_started<'s, E, W: WriteLog + Sync, G: Gate, R: Threads + Wait + Sync>(
+    rt: &'s R,
+    scope: &'s Scope<'s, E>,
+    alloc: Global,
+    migration: &Migration<'s, W, G>,
+    states: VecDeque<CopierState>,
+    receivers: Vec<Receiver>,
+    handles: &mut Vec<PromisedHandle<Receiver, Receives>>,
+) -> Result<Progress, LiveError>
+    requires plan { IsPlanOf (W.trace migration.now.trace.now) migration.now.settings.now migration.now.plan.now }
+    requires states { AreNewStates (W.trace migration.now.trace.now) migration.now.team states.items }
+    requires none { length handles.old.items ≡ 0 }
+    ensures done { IfOk result (AreDone (W.trace migration.now.trace.now) migration.now.settings.now
+        migration.now.plan.now migration.now.team states.items) }
+    ensures started { OnOk result (map (λ h. identity_of h.promise.receiver.value) handles.new.items
+        ≡ map identity_of receivers.items) }
+{
+    let (gate, signals) = (migration.gate, migration.signals);
+    start_receivers(rt, scope, gate, signals, receivers, handles)?;
+    migration.run_rounds(rt, alloc, states)
+}
 
 /// Runs all rounds beside the receivers. On every path it sets the flag and waits for all receivers before it returns
 /// an error.
@@ -37,25 +67,22 @@ fn run_beside_receivers<'s, E, W: WriteLog + Sync, G: Gate, R: Threads + Wait + 
     migration: &Migration<'s, W, G>,
     states: VecDeque<CopierState>,
     receivers: Vec<Receiver>,
-) -> Result<(Progress, Vec<Receiver>), LiveError>
-    requires plan { IsPlan (W.trace migration.now.trace.now).pages (touches_of (W.trace migration.now.trace.now))
-        migration.now.settings.now migration.now.plan.now }
+) -> Result<EndedRun, LiveError>
+    requires plan { IsPlanOf (W.trace migration.now.trace.now) migration.now.settings.now migration.now.plan.now }
     requires states { AreNewStates (W.trace migration.now.trace.now) migration.now.team states.items }
-    ensures { IfOk result (λ ended. HaveEnded (W.trace migration.now.trace.now) migration.now.settings.now
-        migration.now.plan.now migration.now.team states.items receivers.items
-        ended.0.closed ended.0.rounds.items ended.0.states.items ended.1.items) }
+    ensures { IfOk result (HasEnded (W.trace migration.now.trace.now) migration.now.settings.now
+        migration.now.plan.now migration.now.team states.items receivers.items) }
 {
     let mut handles = Vec::new(alloc);
-    let (gate, signals) = (migration.gate, migration.signals);
-    let done = match start_receivers(rt, scope, gate, signals, receivers, &mut handles) {
-        Ok(()) => migration.run_rounds(rt, alloc, states),
-        Err(refused) => Err(refused),
-    };
-    signals.ended.store(true, Ordering::SeqCst);
+    let done = run_started(rt, scope, alloc, migration, states, receivers, &mut handles);
+    migration.signals.ended.store(true, Ordering::SeqCst);
     let joined = join_all(rt, handles);
     let progress = done?;
     let receivers = joined?;
-    Ok((progress, receivers))
+    Ok(EndedRun {
+        progress,
+        receivers,
+    })
 }
 
 /// Runs all rounds with the receivers beside them, in threads that have ended when it returns.
@@ -65,13 +92,11 @@ fn run_all<W: WriteLog + Sync, G: Gate, R: Threads + Wait + Sync>(
     migration: &Migration<'_, W, G>,
     states: VecDeque<CopierState>,
     receivers: Vec<Receiver>,
-) -> Result<(Progress, Vec<Receiver>), LiveError>
-    requires plan { IsPlan (W.trace migration.now.trace.now).pages (touches_of (W.trace migration.now.trace.now))
-        migration.now.settings.now migration.now.plan.now }
+) -> Result<EndedRun, LiveError>
+    requires plan { IsPlanOf (W.trace migration.now.trace.now) migration.now.settings.now migration.now.plan.now }
     requires states { AreNewStates (W.trace migration.now.trace.now) migration.now.team states.items }
-    ensures { IfOk result (λ ended. HaveEnded (W.trace migration.now.trace.now) migration.now.settings.now
-        migration.now.plan.now migration.now.team states.items receivers.items
-        ended.0.closed ended.0.rounds.items ended.0.states.items ended.1.items) }
+    ensures { IfOk result (HasEnded (W.trace migration.now.trace.now) migration.now.settings.now
+        migration.now.plan.now migration.now.team states.items receivers.items) }
 {
     let Migration {
         trace,
@@ -85,14 +110,13 @@ fn run_all<W: WriteLog + Sync, G: Gate, R: Threads + Wait + Sync>(
     thread::scope(
         scope_env(),
         rt,
-        move |scope| -> Result<(Progress, Vec<Receiver>), LiveError>
+        move |scope| -> Result<EndedRun, LiveError>
             requires pages { ArePagesOf pages.now.index pages.now.packed (W.trace trace.now) }
             requires team { IsTeam team }
-            requires plan { IsPlan (W.trace trace.now).pages (touches_of (W.trace trace.now)) settings.now plan.now }
+            requires plan { IsPlanOf (W.trace trace.now) settings.now plan.now }
             requires states { AreNewStates (W.trace trace.now) team states.items }
-            ensures { IfOk result (λ ended. HaveEnded (W.trace trace.entry.now) settings.entry.now plan.entry.now team
-                states.items receivers.items
-                ended.0.closed ended.0.rounds.items ended.0.states.items ended.1.items) }
+            ensures { IfOk result (HasEnded (W.trace trace.entry.now) settings.entry.now plan.entry.now team
+                states.items receivers.items) }
         {
             let migration = Migration {
                 trace,
@@ -136,7 +160,10 @@ pub fn migrate<W: WriteLog + Sync, G: Gate, R: Threads + Wait + Sync>(
         signals: &signals,
         team,
     };
-    let (progress, receivers) = run_all(rt, alloc, &migration, states, receivers)?;
+    let EndedRun {
+        progress,
+        receivers,
+    } = run_all(rt, alloc, &migration, states, receivers)?;
     let Progress {
         closed,
         states,

@@ -2,9 +2,8 @@
 //! begins with.
 
 ghost use Rattle.std.specs.Prelude.{◌≡◌, IfErr, IfOk, Some, option_map};
+ghost use Rattle.live_engine.specs.Runs.{IsPlanOf};
 ghost use Rattle.migration_model.specs.Memory.{image_before};
-ghost use Rattle.migration_model.specs.Rounds.{IsPlan};
-ghost use Rattle.migration_model.specs.Touches.{touches_of};
 ghost use Rattle.migration_model.specs.Warm.{first_part};
 ghost use Rattle.page_versions.specs.Copies.{ArePagesOf};
 
@@ -38,8 +37,7 @@ struct Plans<'a, W: WriteLog> {
 }
 
 impl<'a, W: WriteLog> Promise<Result<Plan, PlanError>> for Plans<'a, W> {
-    ghost kept_by = { λ p result. IfOk result (λ plan. IsPlan (W.trace p.trace.now).pages
-        (touches_of (W.trace p.trace.now)) p.settings.now plan) };
+    ghost kept_by = { λ p result. IfOk result (λ plan. IsPlanOf (W.trace p.trace.now) p.settings.now plan) };
 }
 
 /// The thread that makes a warm start's memory owes the memory before the base, unless memory runs out.
@@ -55,8 +53,7 @@ impl<'a, W: WriteLog> Promise<Result<Image, ImageError>> for Remembers<'a, W> {
 
 /// Returns the plan for what a log describes.
 fn plan_of<W: WriteLog>(alloc: Global, trace: &W, settings: &Settings) -> Result<Plan, PlanError>
-    ensures { IfOk result (λ plan. IsPlan (W.trace trace.now).pages (touches_of (W.trace trace.now))
-        settings.now plan) }
+    ensures { IfOk result (λ plan. IsPlanOf (W.trace trace.now) settings.now plan) }
 {
     plan(alloc, trace, settings)
 }
@@ -74,8 +71,7 @@ fn start_planner<'s, E, W: WriteLog + Sync>(
 {
     let promise = Plans { trace, settings };
     let run = move || -> Result<Plan, PlanError>
-        ensures { IfOk result (λ plan. IsPlan (W.trace trace.entry.now).pages (touches_of (W.trace trace.entry.now))
-            settings.entry.now plan) }
+        ensures { IfOk result (λ plan. IsPlanOf (W.trace trace.entry.now) settings.entry.now plan) }
     { plan_of(alloc, trace, settings) };
     Ok(scope.spawn_with(promise, run)?)
 }
@@ -106,8 +102,7 @@ fn plan_and_pages<'s, W: WriteLog + Sync, R: Threads + Sync>(
     planner: PromisedHandle<Result<Plan, PlanError>, Plans<'s, W>>,
 ) -> Result<(Plan, TracePages), LiveError>
     requires { planner.promise.trace.now ≡ trace.now }
-    ensures plan { IfOk result (λ made. IsPlan (W.trace trace.now).pages (touches_of (W.trace trace.now))
-        planner.entry.promise.settings.now made.0) }
+    ensures plan { IfOk result (λ made. IsPlanOf (W.trace trace.now) planner.entry.promise.settings.now made.0) }
     ensures pages { IfOk result (λ made. ArePagesOf made.1.index made.1.packed (W.trace trace.now)) }
     ensures memory { IfErr result (λ e. e ≡ LiveError.Memory) }
 {
@@ -124,8 +119,7 @@ fn prepare_cold<'s, E, W: WriteLog + Sync, R: Threads + Sync>(
     trace: &'s W,
     settings: &'s Settings,
 ) -> Result<(Plan, TracePages), LiveError>
-    ensures plan { IfOk result (λ made. IsPlan (W.trace trace.now).pages (touches_of (W.trace trace.now))
-        settings.now made.0) }
+    ensures plan { IfOk result (λ made. IsPlanOf (W.trace trace.now) settings.now made.0) }
     ensures pages { IfOk result (λ made. ArePagesOf made.1.index made.1.packed (W.trace trace.now)) }
 {
     let planner = start_planner(scope, alloc, trace, settings)?;
@@ -170,8 +164,8 @@ fn finish_warm<'s, W: WriteLog + Sync, R: Threads + Sync>(
     requires memory { threads.memory.promise.trace.now ≡ trace.now }
     requires base { threads.memory.promise.base ≡ base }
     requires planner { threads.planner.promise.trace.now ≡ trace.now }
-    ensures plan { IfOk result (λ made. IsPlan (W.trace trace.now).pages (touches_of (W.trace trace.now))
-        threads.entry.planner.promise.settings.now made.0) }
+    ensures plan { IfOk result (λ made. IsPlanOf (W.trace trace.now) threads.entry.planner.promise.settings.now
+        made.0) }
     ensures pages { IfOk result (λ made. ArePagesOf made.1.index made.1.packed (W.trace trace.now)) }
     ensures first { IfOk result (λ made. made.2 ≡ first_part (W.trace trace.now) (Some base)) }
     ensures memory { IfErr result (λ e. e ≡ LiveError.Memory) }
@@ -194,8 +188,7 @@ fn prepare_warm<'s, E, W: WriteLog + Sync, R: Threads + Sync>(
     settings: &'s Settings,
     base: u64,
 ) -> Result<(Plan, TracePages, Part), LiveError>
-    ensures plan { IfOk result (λ made. IsPlan (W.trace trace.now).pages (touches_of (W.trace trace.now))
-        settings.now made.0) }
+    ensures plan { IfOk result (λ made. IsPlanOf (W.trace trace.now) settings.now made.0) }
     ensures pages { IfOk result (λ made. ArePagesOf made.1.index made.1.packed (W.trace trace.now)) }
     ensures first { IfOk result (λ made. made.2 ≡ first_part (W.trace trace.now) (Some base)) }
 {
@@ -211,8 +204,7 @@ pub(crate) fn prepare<W: WriteLog + Sync, R: Threads + Wait + Sync>(
     trace: &W,
     settings: &Settings,
 ) -> Result<Preparation, LiveError>
-    ensures plan { IfOk result (λ p. IsPlan (W.trace trace.now).pages (touches_of (W.trace trace.now))
-        settings.now p.plan) }
+    ensures plan { IfOk result (λ p. IsPlanOf (W.trace trace.now) settings.now p.plan) }
     ensures pages { IfOk result (λ p. ArePagesOf p.pages.index p.pages.packed (W.trace trace.now)) }
     ensures first { IfOk result (λ p. p.first ≡ option_map (λ tick. first_part (W.trace trace.now) (Some tick))
         settings.now.base) }
@@ -221,8 +213,7 @@ pub(crate) fn prepare<W: WriteLog + Sync, R: Threads + Wait + Sync>(
         scope_env(),
         rt,
         move |scope| -> Result<Preparation, LiveError>
-            ensures plan { IfOk result (λ p. IsPlan (W.trace trace.entry.now).pages
-                (touches_of (W.trace trace.entry.now)) settings.entry.now p.plan) }
+            ensures plan { IfOk result (λ p. IsPlanOf (W.trace trace.entry.now) settings.entry.now p.plan) }
             ensures pages { IfOk result (λ p. ArePagesOf p.pages.index p.pages.packed (W.trace trace.entry.now)) }
             ensures first { IfOk result (λ p. p.first
                 ≡ option_map (λ tick. first_part (W.trace trace.entry.now) (Some tick)) settings.entry.now.base) }

@@ -98,11 +98,10 @@ fn receive<R: Wait, G: Gate>(
     gate: &G,
     stream: usize,
     signals: &Signals,
-    receiver: Receiver,
+    mut receiver: Receiver,
 ) -> Receiver
     ensures { identity_of result ≡ identity_of receiver }
 {
-    let mut receiver = receiver;
     let mut looks = 0u32;
     for _ in 0..u64::MAX {
         let ended = signals.ended.load(Ordering::SeqCst);
@@ -168,11 +167,13 @@ pub(crate) fn start_receivers<'s, E, R: Wait + Sync, G: Gate>(
 }
 
 /// Returns the lanes of each copier.
-fn take_lanes(alloc: Global, states: VecDeque<CopierState>) -> Result<Vec<Vec<LaneOut>>, LiveError>
+fn take_lanes(
+    alloc: Global,
+    mut states: VecDeque<CopierState>,
+) -> Result<Vec<Vec<LaneOut>>, LiveError>
     ensures rows { IfOk result (λ rows. map (λ row. row.items) rows.items ≡ rows_of states.items) }
     ensures memory { IfErr result (λ e. e ≡ LiveError.Memory) }
 {
-    let mut states = states;
     let mut rows = Vec::with_capacity(alloc, states.len())?;
     for _ in 0..states.len() {
         let Some(state) = states.pop_front() else {

@@ -3,10 +3,9 @@
 ghost use Rattle.std.specs.Prelude.{◌≡◌, ◌&&◌, nat_le, ◌≤◌, ◌++◌, ◌∷◌, ℕ, [], List, Option, IfErr, IfOk, IfSome, map};
 ghost use Rattle.live_engine.specs.Joining.{AreJoined, HaveCapacity, lanes_of};
 ghost use Rattle.live_engine.specs.Lists.{rows_of};
-ghost use Rattle.live_engine.specs.Runs.{AreDone, AreNewStates, IsTeam, IsUnderWay};
+ghost use Rattle.live_engine.specs.Runs.{AreDone, AreNewStates, IsPlanOf, IsTeam, IsUnderWay};
 ghost use Rattle.migration_model.specs.Live.{LiveRounds};
-ghost use Rattle.migration_model.specs.Rounds.{IsPlan, PlannedRound};
-ghost use Rattle.migration_model.specs.Touches.{touches_of};
+ghost use Rattle.migration_model.specs.Rounds.{PlannedRound};
 ghost use Rattle.page_versions.specs.Copies.{ArePagesOf};
 ghost use Rattle.std.proofs.Props.{props};
 
@@ -14,15 +13,15 @@ use crate::error::LiveError;
 use crate::live_round::{LiveRound, list};
 use crate::opening::{Team, versions_before};
 use crate::receivers::Signals;
-use crate::threads::{Crew, run_crew};
+use crate::threads::{Crew, EndedCrew, run_crew};
 use crate::warm::pages_lacking;
 use dirty_core::Opening;
 use dirty_words::{Closed, CopySeat, Opened, RoundTable};
 use guest_log::WriteLog;
-use live_tasks::{Copier, CopierState, Gate, Point, Round, Ticks};
+use live_tasks::{Copier, CopierState, Gate, Point, SharedRound, Ticks};
 use page_versions::TracePages;
 use rate_limit::Settings;
-use round_planner::Plan;
+use round_planner::{Plan, Round};
 use std::alloc::Global;
 use std::collections::VecDeque;
 use std::sync::Wait;
@@ -113,7 +112,7 @@ impl<'a, W: WriteLog + Sync, G: Gate> Migration<'a, W, G> {
         rt: &R,
         alloc: Global,
         skip: bool,
-        planned: &round_planner::Round,
+        planned: &Round,
         progress: Progress,
     ) -> Result<Progress, LiveError>
         requires span { planned.now.from ≤ planned.now.to }
@@ -142,9 +141,8 @@ impl<'a, W: WriteLog + Sync, G: Gate> Migration<'a, W, G> {
         let Progress {
             closed,
             states,
-            rounds,
+            mut rounds,
         } = progress;
-        let mut rounds = rounds;
         let number = rounds.len();
         let ticks = Ticks {
             from: planned.from,
@@ -163,7 +161,7 @@ impl<'a, W: WriteLog + Sync, G: Gate> Migration<'a, W, G> {
             guests,
             copiers,
         } = RoundTable::open(alloc, opening)?;
-        let round = Round {
+        let round = SharedRound {
             trace: self.trace,
             pages: self.pages,
             table: &table,
@@ -176,7 +174,7 @@ impl<'a, W: WriteLog + Sync, G: Gate> Migration<'a, W, G> {
             copiers,
             states,
         };
-        let (guests, copiers) = run_crew(rt, alloc, &round, ticks, crew)?;
+        let EndedCrew { guests, copiers } = run_crew(rt, alloc, &round, ticks, crew)?;
         let (seats, states) = take_apart(alloc, copiers)?;
         let closed = table.close(guests, seats);
         self.gate.at(Point::RoundClosed { round: number });
@@ -196,12 +194,10 @@ impl<'a, W: WriteLog + Sync, G: Gate> Migration<'a, W, G> {
         alloc: Global,
         states: VecDeque<CopierState>,
     ) -> Result<Progress, LiveError>
-        requires plan { IsPlan (W.trace self.now.trace.now).pages (touches_of (W.trace self.now.trace.now))
-            self.now.settings.now self.now.plan.now }
+        requires plan { IsPlanOf (W.trace self.now.trace.now) self.now.settings.now self.now.plan.now }
         requires states { AreNewStates (W.trace self.now.trace.now) self.now.team states.items }
-        ensures { IfOk result (λ p. AreDone (W.trace self.now.trace.now) self.now.settings.now self.now.plan.now
-            self.now.team states.items
-            p.closed p.rounds.items p.states.items) }
+        ensures { IfOk result (AreDone (W.trace self.now.trace.now) self.now.settings.now self.now.plan.now
+            self.now.team states.items) }
     {
         let (settings, plan) = (self.settings, self.plan);
         let asked = settings.asked();

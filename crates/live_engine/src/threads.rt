@@ -5,9 +5,9 @@ ghost use Rattle.std.specs.List.{All};
 ghost use Rattle.dirty_words.specs.Closing.{first_guests, first_copiers};
 ghost use Rattle.dirty_words.specs.Facts.{first_guest, first_copier};
 ghost use Rattle.dirty_words.specs.Seats.{copy_table, guest_table};
+ghost use Rattle.live_engine.specs.Crews.{CrewHasEnded, IsCrewOf};
 ghost use Rattle.live_engine.specs.Lists.{rows_of};
-ghost use Rattle.live_engine.specs.Seated.{AreCopied, AreReplayed, EachAt, IsReplayed, IsRoundOf, copy_task};
-ghost use Rattle.live_engine.specs.Seated.{replay_task};
+ghost use Rattle.live_engine.specs.Seated.{EachAt, IsReplayed, IsRoundOf, copy_task, replay_task};
 ghost use Rattle.live_tasks.specs.Copies.{HasCopied};
 ghost use Rattle.live_tasks.specs.CopierStates.{IsCopierState};
 ghost use Rattle.live_tasks.specs.Replays.{OpensAt};
@@ -16,7 +16,7 @@ use crate::error::LiveError;
 use dirty_words::{CopySeat, GuestSeat, RoundTable};
 use guest_log::WriteLog;
 use joined_threads::join_all;
-use live_tasks::{Copier, CopierState, Gate, Round, SeatError, Ticks, replay};
+use live_tasks::{Copier, CopierState, Gate, SeatError, SharedRound, Ticks, replay};
 use std::alloc::Global;
 use std::collections::VecDeque;
 use std::marker::Model;
@@ -75,7 +75,7 @@ impl<'a, W: WriteLog> Promise<Result<Copier, SeatError>> for Copies<'a, W> {
 /// Starts a replayer.
 fn start_guest<'s, E, W: WriteLog + Sync, G: Gate>(
     scope: &'s Scope<'s, E>,
-    round: &Round<'s, W, G>,
+    round: &SharedRound<'s, W, G>,
     ticks: Ticks,
     seat: GuestSeat,
 ) -> Result<PromisedHandle<GuestSeat, Replays<'s, W>>, LiveError>
@@ -86,7 +86,7 @@ fn start_guest<'s, E, W: WriteLog + Sync, G: Gate>(
     ensures promised { IfOk result (λ h. h.promise ≡ replay_task (W.trace round.now.trace.now) round.now.table.now
         ticks.from ticks.to seat.facts.number) }
 {
-    let Round {
+    let SharedRound {
         trace,
         table,
         gate,
@@ -110,7 +110,7 @@ fn start_guest<'s, E, W: WriteLog + Sync, G: Gate>(
 /// Starts the replayers, in order. Without room for its handle a replayer is not started.
 fn start_replayers<'s, E, W: WriteLog + Sync, G: Gate>(
     scope: &'s Scope<'s, E>,
-    round: &Round<'s, W, G>,
+    round: &SharedRound<'s, W, G>,
     ticks: Ticks,
     seats: Vec<GuestSeat>,
     handles: &mut Vec<PromisedHandle<GuestSeat, Replays<'s, W>>>,
@@ -136,7 +136,7 @@ fn start_replayers<'s, E, W: WriteLog + Sync, G: Gate>(
 fn start_copier<'s, E, W: WriteLog + Sync, G: Gate>(
     scope: &'s Scope<'s, E>,
     alloc: Global,
-    round: &Round<'s, W, G>,
+    round: &SharedRound<'s, W, G>,
     seat: CopySeat,
     state: CopierState,
 ) -> Result<PromisedHandle<Result<Copier, SeatError>, Copies<'s, W>>, LiveError>
@@ -148,7 +148,7 @@ fn start_copier<'s, E, W: WriteLog + Sync, G: Gate>(
         ≡ copy_task (W.trace round.now.trace.now) round.now.skip round.now.table.now
         round.now.streams seat.facts.number state.outs) }
 {
-    let Round {
+    let SharedRound {
         trace,
         pages,
         table,
@@ -173,7 +173,7 @@ fn start_copier<'s, E, W: WriteLog + Sync, G: Gate>(
             seat.facts.number streams
             state.outs copier.seat copier.state) }
     {
-        let round = Round {
+        let round = SharedRound {
             trace,
             pages,
             table,
@@ -190,9 +190,9 @@ fn start_copier<'s, E, W: WriteLog + Sync, G: Gate>(
 fn start_copiers<'s, E, W: WriteLog + Sync, G: Gate>(
     scope: &'s Scope<'s, E>,
     alloc: Global,
-    round: &Round<'s, W, G>,
+    round: &SharedRound<'s, W, G>,
     seats: Vec<CopySeat>,
-    states: VecDeque<CopierState>,
+    mut states: VecDeque<CopierState>,
     handles: &mut Vec<PromisedHandle<Result<Copier, SeatError>, Copies<'s, W>>>,
 ) -> Result<(), LiveError>
     requires seats { seats.items ≡ first_copiers round.now.table.now }
@@ -204,7 +204,6 @@ fn start_copiers<'s, E, W: WriteLog + Sync, G: Gate>(
     ensures started { OnOk result (EachAt (λ h i. h.promise ≡ copy_task (W.trace round.now.trace.now) round.now.skip
         round.now.table.now round.now.streams i (slice_index_or (rows_of states.items) i [])) handles.new.items) }
 {
-    let mut states = states;
     for seat in seats {
         let Some(state) = states.pop_front() else {
             unreachable!()
@@ -240,64 +239,83 @@ pub(crate) struct Crew {
     pub(crate) states: VecDeque<CopierState>,
 }
 
-/// Runs a round's replayers and copiers, each in its own thread and all at once. It waits for those that run before it
-/// returns an error; `Thread` comes before `Memory`.
-fn run_in_scope<'s, E, W: WriteLog + Sync, G: Gate, R: Threads>(
-    rt: &R,
+/// A crew after a round: the seats of its replayers, and its copiers.
+#[derive(Drop)]
+pub(crate) struct EndedCrew {
+    pub(crate) guests: Vec<GuestSeat>,
+    pub(crate) copiers: Vec<Copier>,
+}
+
+/// Starts a round's replayers and then its copiers.
+fn start_crew<'s, E, W: WriteLog + Sync, G: Gate>(
     scope: &'s Scope<'s, E>,
     alloc: Global,
-    round: &Round<'s, W, G>,
+    round: &SharedRound<'s, W, G>,
     ticks: Ticks,
     crew: Crew,
-) -> Result<(Vec<GuestSeat>, Vec<Copier>), LiveError>
+    guests: &mut Vec<PromisedHandle<GuestSeat, Replays<'s, W>>>,
+    copiers: &mut Vec<PromisedHandle<Result<Copier, SeatError>, Copies<'s, W>>>,
+) -> Result<(), LiveError>
     requires opening { OpensAt (W.trace round.now.trace.now) ticks.from round.now.table.now.start }
-    requires guests { crew.guests.items ≡ first_guests round.now.table.now }
-    requires copiers { crew.copiers.items ≡ first_copiers round.now.table.now }
-    requires count { length crew.states.items ≡ length crew.copiers.items }
-    requires states { All (IsCopierState (W.trace round.now.trace.now) round.now.streams) crew.states.items }
-    ensures guests { IfOk result (λ ended. AreReplayed (W.trace round.now.trace.now) round.now.table.now
-        ticks.from ticks.to ended.0.items) }
-    ensures copiers { IfOk result (λ ended. AreCopied (W.trace round.now.trace.now) round.now.skip round.now.table.now
-        round.now.streams (rows_of crew.states.items) ended.1.items) }
+    requires crew { IsCrewOf (W.trace round.now.trace.now) round.now.table.now round.now.streams crew }
+    requires no_guests { length guests.old.items ≡ 0 }
+    requires no_copiers { length copiers.old.items ≡ 0 }
+    ensures guests { OnOk result (length guests.new.items ≡ length crew.guests.items) }
+    ensures replays { OnOk result (EachAt (λ h i. h.promise ≡ replay_task (W.trace round.now.trace.now)
+        round.now.table.now ticks.from ticks.to i) guests.new.items) }
+    ensures copiers { OnOk result (length copiers.new.items ≡ length crew.copiers.items) }
+    ensures copies { OnOk result (EachAt (λ h i. h.promise ≡ copy_task (W.trace round.now.trace.now) round.now.skip
+        round.now.table.now round.now.streams i (slice_index_or (rows_of crew.states.items) i [])) copiers.new.items) }
 {
     let Crew {
         guests: guest_seats,
         copiers: copy_seats,
         states,
     } = crew;
+    start_replayers(scope, round, ticks, guest_seats, guests)?;
+    start_copiers(scope, alloc, round, copy_seats, states, copiers)
+}
+
+/// Runs a round's replayers and copiers, each in its own thread and all at once. It waits for those that run before it
+/// returns an error; `Thread` comes before `Memory`.
+fn run_in_scope<'s, E, W: WriteLog + Sync, G: Gate, R: Threads>(
+    rt: &R,
+    scope: &'s Scope<'s, E>,
+    alloc: Global,
+    round: &SharedRound<'s, W, G>,
+    ticks: Ticks,
+    crew: Crew,
+) -> Result<EndedCrew, LiveError>
+    requires opening { OpensAt (W.trace round.now.trace.now) ticks.from round.now.table.now.start }
+    requires crew { IsCrewOf (W.trace round.now.trace.now) round.now.table.now round.now.streams crew }
+    ensures { IfOk result (CrewHasEnded (W.trace round.now.trace.now) round.now.skip round.now.table.now
+        round.now.streams ticks crew) }
+{
     let mut guests = Vec::new(alloc);
     let mut copiers = Vec::new(alloc);
-    let started = match start_replayers(scope, round, ticks, guest_seats, &mut guests) {
-        Ok(()) => start_copiers(scope, alloc, round, copy_seats, states, &mut copiers),
-        Err(refused) => Err(refused),
-    };
+    let started = start_crew(scope, alloc, round, ticks, crew, &mut guests, &mut copiers);
     let replayed = join_all(rt, guests);
     let copied = join_all(rt, copiers);
     started?;
     let guests = replayed?;
     let copiers = unrefused(alloc, copied?)?;
-    Ok((guests, copiers))
+    Ok(EndedCrew { guests, copiers })
 }
 
 /// Runs a round's replayers and copiers, each in its own thread, and waits until all have ended.
 pub(crate) fn run_crew<W: WriteLog + Sync, G: Gate, R: Threads + Wait + Sync>(
     rt: &R,
     alloc: Global,
-    round: &Round<'_, W, G>,
+    round: &SharedRound<'_, W, G>,
     ticks: Ticks,
     crew: Crew,
-) -> Result<(Vec<GuestSeat>, Vec<Copier>), LiveError>
+) -> Result<EndedCrew, LiveError>
     requires opening { OpensAt (W.trace round.now.trace.now) ticks.from round.now.table.now.start }
-    requires guests { crew.guests.items ≡ first_guests round.now.table.now }
-    requires copiers { crew.copiers.items ≡ first_copiers round.now.table.now }
-    requires count { length crew.states.items ≡ length crew.copiers.items }
-    requires states { All (IsCopierState (W.trace round.now.trace.now) round.now.streams) crew.states.items }
-    ensures guests { IfOk result (λ ended. AreReplayed (W.trace round.now.trace.now) round.now.table.now
-        ticks.from ticks.to ended.0.items) }
-    ensures copiers { IfOk result (λ ended. AreCopied (W.trace round.now.trace.now) round.now.skip round.now.table.now
-        round.now.streams (rows_of crew.states.items) ended.1.items) }
+    requires crew { IsCrewOf (W.trace round.now.trace.now) round.now.table.now round.now.streams crew }
+    ensures { IfOk result (CrewHasEnded (W.trace round.now.trace.now) round.now.skip round.now.table.now
+        round.now.streams ticks crew) }
 {
-    let Round {
+    let SharedRound {
         trace,
         pages,
         table,
@@ -308,20 +326,13 @@ pub(crate) fn run_crew<W: WriteLog + Sync, G: Gate, R: Threads + Wait + Sync>(
     thread::scope(
         scope_env(),
         rt,
-        move |scope| -> Result<(Vec<GuestSeat>, Vec<Copier>), LiveError>
+        move |scope| -> Result<EndedCrew, LiveError>
             requires of { IsRoundOf (W.trace trace.now) pages.now table.now }
             requires opening { OpensAt (W.trace trace.now) ticks.from table.now.start }
-            requires guests { crew.guests.items ≡ first_guests table.now }
-            requires copiers { crew.copiers.items ≡ first_copiers table.now }
-            requires count { length crew.states.items ≡ length crew.copiers.items }
-            requires states { All (IsCopierState (W.trace trace.now) streams) crew.states.items }
-            ensures guests { IfOk result (λ ended. AreReplayed (W.trace trace.entry.now) table.entry.now
-                ticks.from ticks.to
-                ended.0.items) }
-            ensures copiers { IfOk result (λ ended. AreCopied (W.trace trace.entry.now) skip table.entry.now streams
-                (rows_of crew.states.items) ended.1.items) }
+            requires crew { IsCrewOf (W.trace trace.now) table.now streams crew }
+            ensures { IfOk result (CrewHasEnded (W.trace trace.entry.now) skip table.entry.now streams ticks crew) }
         {
-            let round = Round {
+            let round = SharedRound {
                 trace,
                 pages,
                 table,

@@ -1,4 +1,5 @@
 -- A page that a copier sent, skipped or deferred.
+use Rattle.std.specs.Prelude.{Result, Ok, Err, OnOk}
 use Rattle.std.proofs.Common.{◌≡◌, inl, inr, ℕ, ◌+◌, ◌/◌, Bool, true, false, List, length, refl, sym, ap, subst, ◌∙◌}
 use Rattle.migration_model.specs.Trace.{GuestTrace}
 use Rattle.page_bitmap.specs.Pages.{in_words, one_page, bit_pages, word_pages, minus, union, SamePages}
@@ -182,3 +183,8 @@ copy_begins trace skip start number f first outs o facts nothing same = (
   subst (λ (b : RoundLogView). IsPosted trace first b outs) (sym nothing)
       (subst (λ (l : List OutView). IsPosted trace first empty_log l) (sym same) (posting_begins trace first)),
 )
+
+-- a fact on success that follows from another
+pub on_ok : {X E P Q : Type 0} (r : Result X E) → (P → Q) → OnOk r P → OnOk r Q
+on_ok (Ok x) follows holds = follows holds
+on_ok (Err e) follows holds = tt

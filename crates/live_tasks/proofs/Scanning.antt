@@ -1,12 +1,12 @@
 -- How a copier's scan proceeds, step by step.
-use Rattle.std.proofs.Common.{◌≡◌, ℕ, ◌+◌, ◌/◌, ◌%◌, ◌<◌, ◌⊎◌, inl, inr, Bool, true, false, not, eqb, ◌&&◌, ◌||◌, List}
-use Rattle.std.proofs.Common.{[], ◌∷◌, ◌++◌, length, map, get_or, refl, sym, ap, subst, ◌∙◌, arith}
+use Rattle.std.proofs.Common.{◌≡◌, ℕ, ◌+◌, ◌/◌, ◌%◌, ◌<◌, ◌≤◌, ◌⊎◌, inl, inr, Bool, true, false, not, eqb, ◌&&◌, ◌||◌}
+use Rattle.std.proofs.Common.{List, [], ◌∷◌, ◌++◌, length, get_or, refl, sym, ap, subst, ◌∙◌, arith}
 use Rattle.std.specs.Int.{bit_at}
 use Rattle.std.specs.List.{Contains}
 use Rattle.std.specs.List.Sorted.{IsStrictlyIncreasing}
 use Rattle.std.proofs.lemmas.Bool.{cases_eq, cases_lt, and_parts, and_from, or_cases, or_left, or_right, eqb-true}
 use Rattle.std.proofs.lemmas.Bool.{eq-eqb, ne_eqb, false≢true}
-use Rattle.std.proofs.lemmas.List.{map_push, length-append, get_or_append_left, get_or-append-add}
+use Rattle.std.proofs.lemmas.List.{length-append, get_or_append_left, get_or-append-add}
 use Rattle.std.proofs.lemmas.List.Elements.{Contains-append_left, Contains-push, Contains-push_cases, Contains-get_or}
 use Rattle.std.proofs.Math.Bool.{or-false}
 use Rattle.page_bitmap.specs.Pages.{PageSet, in_words, word_pages, bit_pages, one_page, union, minus, SamePages}
@@ -19,9 +19,8 @@ use Rattle.dirty_words.specs.Plays.{IsAnswer, MakesFresh}
 use Rattle.live_tasks.specs.RoundLogs.{RoundLogView, empty_log, with_deferred, with_sent, with_skipped, IsListed}
 use Rattle.live_tasks.specs.Scans.{IsScanned, IsOwn, WasMarked, IsHeldNow, IsReturned, IsFresh, IsLeast}
 use Rattle.live_tasks.proofs.Basics.{in_none}
-
-abbrev pages_of : List (ℕ × ℕ) → List ℕ
-pages_of sent = map (λ (s : ℕ × ℕ). s.0) sent
+use Rattle.live_tasks.proofs.Listed.{Lists, in_sent, lists_deferred, lists_skipped, pages_of, sent_before, sent_cases}
+use Rattle.live_tasks.proofs.Listed.{sent_now, sent_pages}
 
 rise_push : (xs : List ℕ) (x : ℕ) → IsStrictlyIncreasing xs → ((y : ℕ) → Contains xs y → y < x)
     → IsStrictlyIncreasing (xs ++ x ∷ [])
@@ -41,62 +40,6 @@ rise_push xs x up below k low =
           ∙ get_or-append-add xs (x ∷ []) 0 0 in
           omega (arith, here, next, below (get_or xs k 0) (Contains-get_or xs k 0 (omega (arith, end))))
     ]
-
--- ---- lists with one more page
-
-sent_pages : (page place : ℕ) (o : RoundLogView) → pages_of (with_sent page place o).sent ≡ pages_of o.sent ++ page ∷ []
-sent_pages page place o = map_push (λ (s : ℕ × ℕ). s.0) o.sent (page, place)
-
-in_sent : (page place q : ℕ) (o : RoundLogView) → Contains (pages_of (with_sent page place o).sent) q
-    → (page ≡ q) ⊎ Contains (pages_of o.sent) q
-in_sent page place q o there = elim (Contains-push_cases (pages_of o.sent) page q
-    (subst (λ (xs : List ℕ). Contains xs q) (sent_pages page place o) there)) [
-      | inl before ↦ inr before
-      | inr e ↦ inl e
-    ]
-
-sent_before : (page place q : ℕ) (o : RoundLogView) → IsListed o q → IsListed (with_sent page place o) q
-sent_before page place q o (inl there) =
-    inl (subst (λ (xs : List ℕ). Contains xs q) (sym (sent_pages page place o))
-    (Contains-append_left (pages_of o.sent) (page ∷ []) q there))
-sent_before page place q o (inr there) = inr there
-
-sent_now : (page place : ℕ) (o : RoundLogView) → IsListed (with_sent page place o) page
-sent_now page place o = inl (subst (λ (xs : List ℕ). Contains xs page) (sym (sent_pages page place o))
-    (Contains-push (pages_of o.sent) page))
-
-sent_cases : (page place q : ℕ) (o : RoundLogView) → IsListed (with_sent page place o) q → (page ≡ q) ⊎ IsListed o q
-sent_cases page place q o (inl there) = elim (in_sent page place q o there) [
-  | inl e ↦ inl e
-  | inr before ↦ inr (inl before)
-]
-sent_cases page place q o (inr there) = inr (inr there)
-
-skipped_before : (page q : ℕ) (o : RoundLogView) → IsListed o q → IsListed (with_skipped page o) q
-skipped_before page q o (inl there) = inl there
-skipped_before page q o (inr (inl there)) = inr (inl (Contains-append_left o.skipped (page ∷ []) q there))
-skipped_before page q o (inr (inr there)) = inr (inr there)
-
-skipped_cases : (page q : ℕ) (o : RoundLogView) → IsListed (with_skipped page o) q → (page ≡ q) ⊎ IsListed o q
-skipped_cases page q o (inl there) = inr (inl there)
-skipped_cases page q o (inr (inl there)) = elim (Contains-push_cases o.skipped page q there) [
-  | inl before ↦ inr (inr (inl before))
-  | inr e ↦ inl e
-]
-skipped_cases page q o (inr (inr there)) = inr (inr (inr there))
-
-deferred_before : (page q : ℕ) (o : RoundLogView) → IsListed o q → IsListed (with_deferred page o) q
-deferred_before page q o (inl there) = inl there
-deferred_before page q o (inr (inl there)) = inr (inl there)
-deferred_before page q o (inr (inr there)) = inr (inr (Contains-append_left o.deferred (page ∷ []) q there))
-
-deferred_cases : (page q : ℕ) (o : RoundLogView) → IsListed (with_deferred page o) q → (page ≡ q) ⊎ IsListed o q
-deferred_cases page q o (inl there) = inr (inl there)
-deferred_cases page q o (inr (inl there)) = inr (inr (inl there))
-deferred_cases page q o (inr (inr there)) = elim (Contains-push_cases o.deferred page q there) [
-  | inl before ↦ inr (inr (inr before))
-  | inr e ↦ inl e
-]
 
 -- ---- sets
 
@@ -281,6 +224,50 @@ shown_is_fresh skip ahead page answer f o is held in_answer shown = elim (shown.
   | inr fresh ↦ fresh
 ]
 
+-- what a scan keeps when a page that is held, with none before it, is restored and listed
+record IsBack (ahead page : ℕ) (f new : CopyFacts) (o after : RoundLogView) : Type 0 where
+  untouched : (q : ℕ) → ahead ≤ q / 64 → in_words new.returned q ≡ in_words f.start.dirty q
+  found : (q : ℕ) → IsOwn f q → q / 64 < ahead → WasMarked f q → IsListed after q ⊎ IsHeldNow new q
+  listed : (q : ℕ) → IsListed after q → IsOwn f q × (q / 64 < ahead) × (WasMarked f q ⊎ IsFresh f q)
+  held : (q : ℕ) → IsHeldNow new q → IsOwn f q × (q / 64 < ahead) × (WasMarked f q ⊎ IsFresh f q)
+  rising : (q other : ℕ) → IsListed after q → IsHeldNow new other → q < other
+  still : (q : ℕ) → IsReturned f q → IsReturned new q
+  below : (q : ℕ) → IsListed o q → q < page
+
+comes_back : (skip : Bool) (ahead page : ℕ) (f new : CopyFacts) (o after : RoundLogView) → IsScanned skip ahead f o
+    → IsLeast f page → Lists page o after
+    → SamePages (in_words new.held) (minus (in_words f.held) (one_page page))
+    → SamePages (in_words new.returned) (union (in_words f.returned) (one_page page))
+    → IsBack ahead page f new o after
+comes_back skip ahead page f new o after is least lists same back =
+    let here = is.held page least.0 in
+    record {
+      untouched = λ q low.
+          let apart : q ≡ page → ⊥ = λ e. omega (arith, low, here.1, e) in
+          back q ∙ ap (λ (b : Bool). in_words f.returned q || b) (ne_eqb q page apart)
+          ∙ or-false (in_words f.returned q) ∙ is.untouched q low;
+      found = λ q own low marked. elim (is.found q own low marked) [
+        | inl there ↦ inl (lists.kept q there)
+        | inr held ↦ elim (cases_eq q page) [
+          | inl e ↦ inl (subst (λ (p : ℕ). IsListed after p) (sym e) lists.here)
+          | inr apart ↦ inr (left_is (in_words new.held) (in_words f.held) page q same held apart)
+        ]
+      ];
+      listed = λ q there. elim (lists.cases q there) [
+        | inl e ↦ subst (λ (p : ℕ). IsOwn f p × (p / 64 < ahead) × (WasMarked f p ⊎ IsFresh f p)) e here
+        | inr before ↦ is.listed q before
+      ];
+      held = λ q held. is.held q (left_was (in_words new.held) (in_words f.held) page q same held).0;
+      rising = λ q other there held.
+          let was = left_was (in_words new.held) (in_words f.held) page other same held in
+          elim (lists.cases q there) [
+            | inl e ↦ omega (arith, e, least.1 other was.0, was.1)
+            | inr before ↦ is.rising q other before was.0
+          ];
+      still = λ q e. back q ∙ or_left (in_words f.returned q) (eqb q page) e;
+      below = λ q there. is.rising q page there least.0;
+    }
+
 -- a page that is held, with none before it, and that was stored since, is skipped
 pub scan_skips : (ahead page word bits : ℕ) (f : CopyFacts) (o : RoundLogView) → IsScanned true ahead f o
     → IsLeast f page → IsFresh f page
@@ -288,35 +275,14 @@ pub scan_skips : (ahead page word bits : ℕ) (f : CopyFacts) (o : RoundLogView)
     → SamePages (in_words (after_restore word bits f).returned) (union (in_words f.returned) (one_page page))
     → IsScanned true ahead (after_restore word bits f) (with_skipped page o)
 scan_skips ahead page word bits f o is least fresh same back =
-    let below : (q : ℕ) → IsListed o q → q < page = λ q there. is.rising q page there least.0 in
-    let here = is.held page least.0 in
     let new : CopyFacts = after_restore word bits f in
-    let still : (q : ℕ) → IsReturned f q → IsReturned new q = λ q e. back q
-    ∙ or_left (in_words f.returned q) (eqb q page) e in
+    let kept = comes_back true ahead page f new o (with_skipped page o) is least (lists_skipped page o) same back in
     record {
-      untouched = λ q low.
-          let apart : q ≡ page → ⊥ = λ e. omega (arith, low, here.1, e) in
-          back q ∙ ap (λ (b : Bool). in_words f.returned q || b) (ne_eqb q page apart)
-          ∙ or-false (in_words f.returned q) ∙ is.untouched q low;
-      found = λ q own low marked. elim (is.found q own low marked) [
-        | inl there ↦ inl (skipped_before page q o there)
-        | inr held ↦ elim (cases_eq q page) [
-          | inl e ↦ inl (subst (λ (p : ℕ). IsListed (with_skipped page o) p) (sym e)
-              (inr (inl (Contains-push o.skipped page))))
-          | inr apart ↦ inr (left_is (in_words new.held) (in_words f.held) page q same held apart)
-        ]
-      ];
-      listed = λ q there. elim (skipped_cases page q o there) [
-        | inl e ↦ subst (λ (p : ℕ). IsOwn f p × (p / 64 < ahead) × (WasMarked f p ⊎ IsFresh f p)) e here
-        | inr before ↦ is.listed q before
-      ];
-      held = λ q held. is.held q (left_was (in_words new.held) (in_words f.held) page q same held).0;
-      rising = λ q other there held.
-          let was = left_was (in_words new.held) (in_words f.held) page other same held in
-          elim (skipped_cases page q o there) [
-            | inl e ↦ omega (arith, e, least.1 other was.0, was.1)
-            | inr before ↦ is.rising q other before was.0
-          ];
+      untouched = kept.untouched;
+      found = kept.found;
+      listed = kept.listed;
+      held = kept.held;
+      rising = kept.rising;
       returned = λ q own low is_back. elim (or_cases (in_words f.returned q) (eqb q page) (sym (back q) ∙ is_back)) [
         | inl before ↦ elim (is.returned q own low before) [
           | inl skipped ↦ inl (Contains-append_left o.skipped (page ∷ []) q skipped)
@@ -326,28 +292,28 @@ scan_skips ahead page word bits f o is least fresh same back =
             (Contains-push o.skipped page))
       ];
       skipped = λ q there. elim (Contains-push_cases o.skipped page q there) [
-        | inl before ↦ let s = is.skipped q before in (s.0, s.1, still q s.2)
+        | inl before ↦ let s = is.skipped q before in (s.0, s.1, kept.still q s.2)
         | inr e ↦ (
           refl,
           subst (λ (p : ℕ). IsFresh f p) e fresh,
           back q ∙ or_right (in_words f.returned q) (eqb q page) (eq-eqb q page (sym e)),
         )
       ];
-      deferred = λ q there. still q (is.deferred q there);
+      deferred = λ q there. kept.still q (is.deferred q there);
       reads = is.reads;
       sent = is.sent;
       sent_rise = is.sent_rise;
-      skipped_rise = rise_push o.skipped page is.skipped_rise (λ q there. below q (inr (inl there)));
+      skipped_rise = rise_push o.skipped page is.skipped_rise (λ q there. kept.below q (inr (inl there)));
       deferred_rise = is.deferred_rise;
       apart = λ q there skipped. elim (Contains-push_cases o.skipped page q skipped) [
         | inl before ↦ is.apart q there before
-        | inr e ↦ omega (arith, e, below q (inl there))
+        | inr e ↦ omega (arith, e, kept.below q (inl there))
       ];
       deferred_apart = λ q deferred. (
         (is.deferred_apart q deferred).0,
         λ skipped. elim (Contains-push_cases o.skipped page q skipped) [
           | inl before ↦ (is.deferred_apart q deferred).1 before
-          | inr e ↦ omega (arith, e, below q (inr (inr deferred)))
+          | inr e ↦ omega (arith, e, kept.below q (inr (inr deferred)))
         ],
       );
     }
@@ -359,35 +325,14 @@ pub scan_defers : (skip : Bool) (ahead page word bits : ℕ) (f : CopyFacts) (o 
     → SamePages (in_words (after_restore word bits f).returned) (union (in_words f.returned) (one_page page))
     → IsScanned skip ahead (after_restore word bits f) (with_deferred page o)
 scan_defers skip ahead page word bits f o is least same back =
-    let below : (q : ℕ) → IsListed o q → q < page = λ q there. is.rising q page there least.0 in
-    let here = is.held page least.0 in
     let new : CopyFacts = after_restore word bits f in
-    let still : (q : ℕ) → IsReturned f q → IsReturned new q = λ q e. back q
-    ∙ or_left (in_words f.returned q) (eqb q page) e in
+    let kept = comes_back skip ahead page f new o (with_deferred page o) is least (lists_deferred page o) same back in
     record {
-      untouched = λ q low.
-          let apart : q ≡ page → ⊥ = λ e. omega (arith, low, here.1, e) in
-          back q ∙ ap (λ (b : Bool). in_words f.returned q || b) (ne_eqb q page apart)
-          ∙ or-false (in_words f.returned q) ∙ is.untouched q low;
-      found = λ q own low marked. elim (is.found q own low marked) [
-        | inl there ↦ inl (deferred_before page q o there)
-        | inr held ↦ elim (cases_eq q page) [
-          | inl e ↦ inl (subst (λ (p : ℕ). IsListed (with_deferred page o) p) (sym e)
-              (inr (inr (Contains-push o.deferred page))))
-          | inr apart ↦ inr (left_is (in_words new.held) (in_words f.held) page q same held apart)
-        ]
-      ];
-      listed = λ q there. elim (deferred_cases page q o there) [
-        | inl e ↦ subst (λ (p : ℕ). IsOwn f p × (p / 64 < ahead) × (WasMarked f p ⊎ IsFresh f p)) e here
-        | inr before ↦ is.listed q before
-      ];
-      held = λ q held. is.held q (left_was (in_words new.held) (in_words f.held) page q same held).0;
-      rising = λ q other there held.
-          let was = left_was (in_words new.held) (in_words f.held) page other same held in
-          elim (deferred_cases page q o there) [
-            | inl e ↦ omega (arith, e, least.1 other was.0, was.1)
-            | inr before ↦ is.rising q other before was.0
-          ];
+      untouched = kept.untouched;
+      found = kept.found;
+      listed = kept.listed;
+      held = kept.held;
+      rising = kept.rising;
       returned = λ q own low is_back. elim (or_cases (in_words f.returned q) (eqb q page) (sym (back q) ∙ is_back)) [
         | inl before ↦ elim (is.returned q own low before) [
           | inl skipped ↦ inl skipped
@@ -396,22 +341,22 @@ scan_defers skip ahead page word bits f o is least same back =
         | inr e ↦ inr (subst (λ (p : ℕ). Contains (o.deferred ++ page ∷ []) p) (sym (eqb-true q page e))
             (Contains-push o.deferred page))
       ];
-      skipped = λ q there. let s = is.skipped q there in (s.0, s.1, still q s.2);
+      skipped = λ q there. let s = is.skipped q there in (s.0, s.1, kept.still q s.2);
       deferred = λ q there. elim (Contains-push_cases o.deferred page q there) [
-        | inl before ↦ still q (is.deferred q before)
+        | inl before ↦ kept.still q (is.deferred q before)
         | inr e ↦ back q ∙ or_right (in_words f.returned q) (eqb q page) (eq-eqb q page (sym e))
       ];
       reads = is.reads;
       sent = is.sent;
       sent_rise = is.sent_rise;
       skipped_rise = is.skipped_rise;
-      deferred_rise = rise_push o.deferred page is.deferred_rise (λ q there. below q (inr (inr there)));
+      deferred_rise = rise_push o.deferred page is.deferred_rise (λ q there. kept.below q (inr (inr there)));
       apart = is.apart;
       deferred_apart = λ q there. elim (Contains-push_cases o.deferred page q there) [
         | inl before ↦ is.deferred_apart q before
         | inr e ↦ (
-          λ sent. omega (arith, e, below q (inl sent)),
-          λ skipped. omega (arith, e, below q (inr (inl skipped))),
+          λ sent. omega (arith, e, kept.below q (inl sent)),
+          λ skipped. omega (arith, e, kept.below q (inr (inl skipped))),
         )
       ];
     }

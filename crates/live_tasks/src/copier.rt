@@ -24,9 +24,9 @@ use page_message::append_frame;
 use page_versions::{PageSource, TracePages};
 use std::alloc::Global;
 
-/// What all copiers of a round share: a trace, what its pages are made from, and a table of them.
+/// What the threads of a round share: a trace, what its pages are made from, and a table of them.
 #[derive(Drop)]
-pub struct Round<'a, W: WriteLog, G> {
+pub struct SharedRound<'a, W: WriteLog, G> {
     pub trace: &'a W,
     pub pages: &'a TracePages,
     pub table: &'a RoundTable,
@@ -62,7 +62,7 @@ fn page_at(word: usize, bit: u32) -> u32
     64 * word as u32 + bit
 }
 
-impl<'a, W: WriteLog, G: Gate> Round<'a, W, G> {
+impl<'a, W: WriteLog, G: Gate> SharedRound<'a, W, G> {
     /// Harvests a word: returns the bits of its marked pages, and clears them.
     fn harvest(&self, seat: &mut CopySeat, word: usize) -> u64
         requires table { copy_table seat.old ≡ self.now.table.now }
@@ -225,15 +225,12 @@ impl<'a, W: WriteLog, G: Gate> Round<'a, W, G> {
             (minus (in_words copier.old.seat.facts.held) (one_page page))) }
     {
         if !self.skip {
-            self.offer_page(alloc, page, copier)?;
-            return Ok(());
+            return self.offer_page(alloc, page, copier);
         }
         if self.shows(&mut copier.seat, page) {
-            self.skip_page(page, copier)?;
-            return Ok(());
+            return self.skip_page(page, copier);
         }
-        self.offer_page(alloc, page, copier)?;
-        Ok(())
+        self.offer_page(alloc, page, copier)
     }
 
     /// Sends, defers or skips the harvested pages of a word, in ascending order.

@@ -87,10 +87,9 @@ impl CopierState {
         let CopierState {
             dealer,
             pages,
-            log,
+            mut log,
             outs,
         } = self;
-        let mut log = log;
         log.clear();
         RoundState {
             dealer,

@@ -9,7 +9,7 @@ mod gate;
 mod replayer;
 mod round_log;
 
-pub use copier::{Copier, Round};
+pub use copier::{Copier, SharedRound};
 pub use copier_state::CopierState;
 pub use error::SeatError;
 pub use gate::{Gate, OpenGate, Point};

@@ -60,7 +60,7 @@ pub fn replay<W: WriteLog, G: Gate>(
     ticks: Ticks,
     table: &RoundTable,
     gate: &G,
-    seat: GuestSeat,
+    mut seat: GuestSeat,
 ) -> GuestSeat
     requires table { guest_table seat ≡ table.now }
     requires idle { seat.facts ≡ first_guest table.now.start seat.facts.number }
@@ -71,7 +71,6 @@ pub fn replay<W: WriteLog, G: Gate>(
 {
     // For the proof: `shape` promises that the log describes a trace.
     let _ = trace.shape();
-    let mut seat = seat;
     let first = trace.before(ticks.from);
     let end = trace.before(ticks.to);
     for index in first..end {

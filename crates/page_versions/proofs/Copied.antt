@@ -1,6 +1,6 @@
 -- Copies of writes in the writes' place.
 use Rattle.std.proofs.Common.{◌≡◌, ℕ, zero, suc, ◌+◌, ◌-◌, ◌<◌, ◌≤◌, eqb, List, [], ◌∷◌, ◌++◌, length, map, take}
-use Rattle.std.proofs.Common.{drop, get_or, refl, sym, ap, subst, ◌∙◌, arith}
+use Rattle.std.proofs.Common.{drop, get_or, Bor, IfSome, Option, Some, refl, sym, ap, subst, ◌∙◌, arith}
 use Rattle.std.specs.List.{All, between}
 use Rattle.std.specs.List.Sorted.{IsNonDecreasing}
 use Rattle.std.proofs.lemmas.List.{drop-map, drop_at, get_or-drop, get_or-map, get_or_default, length-drop, length-map}
@@ -97,6 +97,18 @@ pub packed_page : (pack : GuestPack) (trace : GuestTrace) (page : ℕ) (found : 
     → page < trace.pages → found ≡ get_or pack.pages page found → found ≡ map (copy_of trace) (places_of trace page)
 packed_page pack trace page found is low at =
     at ∙ get_or_default pack.pages page found [] (omega (arith, low, is.len)) ∙ is.each page low
+
+-- the copies in the packed writes that a source has
+pub source_copies : (trace view : GuestTrace) {packed : Option (Bor GuestPack)} {own : Bor GuestPack} {pack : GuestPack}
+    (page : ℕ) (found : List GuestWrite)
+    → trace ≡ view → page < view.pages → packed ≡ Some own → IfSome packed (λ p. IsPackOf p.now trace)
+    → pack ≡ own.now → found ≡ get_or pack.pages page found
+    → found ≡ map (copy_of trace) (places_of trace page)
+source_copies trace view {packed} {own} {pack} page found same low some are pack_is at =
+    packed_page own.now trace page found
+    (subst (λ (o : Option (Bor GuestPack)). IfSome o (λ p. IsPackOf p.now trace)) some are)
+    (omega (arith, low, ap (λ (t : GuestTrace). t.pages) same))
+    (at ∙ ap (λ (p : GuestPack). get_or p.pages page found) pack_is)
 
 -- they stay within the page
 pub copies_within : (trace : GuestTrace) (places : List ℕ) → IsTrace trace

@@ -75,28 +75,8 @@ fn page_of<W: WriteLog>(alloc: Global, trace: &W, places: &[u32]) -> Result<Page
 /// The most pages whose writes one thread copies. Those of more pages are copied by halves, each in its own thread.
 const PAGES_ALONE: u32 = 16_384;
 
-/// Returns copies of the writes of the pages from one number up to another, page by page.
-fn copied_alone<W: WriteLog>(
-    alloc: Global,
-    trace: &W,
-    index: &PageIndex,
-    from: u32,
-    to: u32,
-) -> Result<Vec<PageWrites>, AllocError>
-    requires trace { IsTrace (W.trace trace.now) }
-    requires index { IsIndexOf index.now (W.trace trace.now) }
-    requires order { from ≤ to }
-    requires bound { to ≤ (W.trace trace.now).pages }
-    ensures { IfOk result (λ pages. pages.items ≡ copies_of (W.trace trace.now) from (to - from)) }
-{
-    let mut pages = Vec::with_capacity(alloc, (to - from) as usize)?;
-    for page in from..to {
-        pages.push(page_of(alloc, trace, index.places(page))?)?;
-    }
-    Ok(pages)
-}
-
-/// Returns what `copied_alone` does. If there are many pages, several threads make the copies.
+/// Returns copies of the writes of the pages from one number up to another, page by page. If there are many pages,
+/// several threads make the copies.
 fn copied<R: Threads + Sync, W: WriteLog + Sync>(
     rt: &R,
     alloc: Global,
@@ -112,7 +92,11 @@ fn copied<R: Threads + Sync, W: WriteLog + Sync>(
     ensures { IfOk result (λ pages. pages.items ≡ copies_of (W.trace trace.now) from (to - from)) }
 {
     if to - from <= PAGES_ALONE {
-        return copied_alone(alloc, trace, index, from, to);
+        let mut pages = Vec::with_capacity(alloc, (to - from) as usize)?;
+        for page in from..to {
+            pages.push(page_of(alloc, trace, index.places(page))?)?;
+        }
+        return Ok(pages);
     }
     let middle = from + (to - from) / 2;
     let low = || -> Result<Vec<PageWrites>, AllocError>

@@ -32,7 +32,7 @@ pub fn final_copy<R: Threads + Wait + Sync, W: WriteLog + Sync>(
     closed: &Closed,
     workers: usize,
     streams: usize,
-    parts: Vec<Part>,
+    mut parts: Vec<Part>,
 ) -> Result<Vec<Part>, CopyError>
     requires of { IsIndexOf index.now (W.trace trace.now) }
     requires closed { FitsPages closed.now (W.trace trace.now).pages (length (W.trace trace.now).writes) }
@@ -54,7 +54,6 @@ pub fn final_copy<R: Threads + Wait + Sync, W: WriteLog + Sync>(
         versions: &closed.versions,
     };
     let frames = frames_by_workers(rt, alloc, &current, &marked, workers)?;
-    let mut parts = parts;
     know_parts(&parts);
     let mut dealer = Dealer::new(streams);
     deal_out(&mut dealer, &mut parts, frames)?;

@@ -61,6 +61,23 @@ set_same (x ∷ xs) zero (suc k) y is low = absurd (omega (arith, is))
 set_same (x ∷ xs) (suc n) zero y is low = absurd (omega (arith, is))
 set_same (x ∷ xs) (suc n) (suc k) y is low = set_same xs n k y (omega (arith, is)) (omega (arith, low))
 
+-- an element before the slot that is set
+pub is_kept : {X Y : Type 0} (front : List X) (before : List Y) (n k : ℕ) (x : X) (new y : Y) → n ≡ length front
+    → slice_get front k ≡ Some x → slice_get (set before n new) k ≡ Some y → slice_get before k ≡ Some y
+is_kept front before n k x new y here earlier is =
+    let high = slice_get_within front k x earlier in
+    sym (set_other before n k new (λ e. omega (arith, high, here, e))) ∙ is
+
+-- the element that is set in a slot, and the one that was there before
+pub is_set : {X : Type 0} (first before : List X) (n k : ℕ) (old new a b : X) → k ≡ n → n < length before
+    → old ≡ get_or before n old → slice_get before k ≡ slice_get first k → slice_get first k ≡ Some a
+    → slice_get (set before n new) k ≡ Some b → (old ≡ a) × (new ≡ b)
+is_set {X} first before n k old new a b same low there kept a_is b_is = (
+  same_Some old a (ap (λ (x : X). Some x) there ∙ sym (slice_get-get_or before n old low)
+      ∙ ap (λ i. slice_get before i) (sym same) ∙ kept ∙ a_is),
+  same_Some new b (sym (set_same before n k new same low) ∙ b_is),
+)
+
 -- one more lane of a worker
 pub worker-more : (capacity : ℕ) (front : List OutView) (out : OutView) (first before : List (Vec InView Global))
     (n : ℕ) (old new : Vec InView Global)
@@ -71,20 +88,13 @@ worker-more capacity front out first before n old new here low there lane adds =
   count = length-set before n new ∙ adds.count;
   added = λ stream o a b o_is a_is b_is. elim (at_push front out o stream o_is) [
     | inl earlier ↦
-        let high = slice_get_within front stream o earlier in
-        adds.added stream o a b earlier a_is (sym (set_other before n stream new (λ e. omega (arith, high, here, e)))
-        ∙ b_is)
+        adds.added stream o a b earlier a_is (is_kept front before n stream o new b here earlier b_is)
     | inr last ↦
-        let same : stream ≡ n = last.0 ∙ sym here in
-        let b_new : new ≡ b = same_Some new b (sym (set_same before n stream new same low) ∙ b_is) in
-        let old_there : slice_get before n ≡ Some old = slice_get-get_or before n old low
-        ∙ ap (λ (v : Vec InView Global). Some v) (sym there) in
-        let a_old : old ≡ a =
-        same_Some old a (sym old_there ∙ ap (λ k. slice_get before k) (sym same)
-        ∙ adds.rest stream (omega (arith, last.0)) ∙ a_is) in
+        let same = is_set first before n stream old new a b (last.0 ∙ sym here) low there
+        (adds.rest stream (omega (arith, last.0))) a_is b_is in
         subst (λ (e : OutView). AddsLane capacity e a.items b.items) last.1
-        (subst (λ (v : Vec InView Global). AddsLane capacity out v.items b.items) a_old
-        (subst (λ (v : Vec InView Global). AddsLane capacity out old.items v.items) b_new lane))
+        (subst (λ (v : Vec InView Global). AddsLane capacity out v.items b.items) same.0
+        (subst (λ (v : Vec InView Global). AddsLane capacity out old.items v.items) same.1 lane))
   ];
   rest = λ stream past.
       let long = length_push front out in

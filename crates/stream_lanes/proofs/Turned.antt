@@ -4,10 +4,10 @@ use Rattle.std.proofs.Common.{set, map, replicate, Some, refl, sym, ap, subst, �
 use Rattle.std.specs.List.{All, slice_get}
 use Rattle.std.proofs.lemmas.List.{length-append, length-set, length-map, length-replicate, get_or-append-add}
 use Rattle.std.proofs.lemmas.List.{get_or-map, get_or-replicate, length_push}
-use Rattle.std.proofs.lemmas.Option.{none-some, same_Some, slice_get_within, get_or_from_slice_get, slice_get-get_or}
+use Rattle.std.proofs.lemmas.Option.{none-some, slice_get_within, get_or_from_slice_get, slice_get-get_or}
 use Rattle.stream_lanes.specs.Ends.{OutView}
 use Rattle.stream_lanes.specs.Grids.{AreColumns, AddsRow}
-use Rattle.stream_lanes.proofs.Grown.{at_push, within, set_other, set_same}
+use Rattle.stream_lanes.proofs.Grown.{at_push, within, set_other, is_kept, is_set}
 
 -- what was in a list is there after one more
 before_push : {X : Type 0} (xs : List X) (y : X) (k : ℕ) → k < length xs → slice_get (xs ++ y ∷ []) k ≡ slice_get xs k
@@ -87,19 +87,12 @@ adds-more front out first before n old new here low there pushed adds = record {
   count = length-set before n new ∙ adds.count;
   added = λ stream o a b o_is a_is b_is. elim (at_push front out o stream o_is) [
     | inl earlier ↦
-        let high = slice_get_within front stream o earlier in
-        adds.added stream o a b earlier a_is (sym (set_other before n stream new (λ e. omega (arith, high, here, e)))
-        ∙ b_is)
+        adds.added stream o a b earlier a_is (is_kept front before n stream o new b here earlier b_is)
     | inr last ↦
-        let same : stream ≡ n = last.0 ∙ sym here in
-        let b_new : new ≡ b = same_Some new b (sym (set_same before n stream new same low) ∙ b_is) in
-        let old_there : slice_get before n ≡ Some old = slice_get-get_or before n old low
-        ∙ ap (λ (v : Vec OutView Global). Some v) (sym there) in
-        let a_old : old ≡ a =
-        same_Some old a (sym old_there ∙ ap (λ k. slice_get before k) (sym same)
-        ∙ adds.rest stream (omega (arith, last.0)) ∙ a_is) in
-        ap (λ (v : Vec OutView Global). v.items) (sym b_new) ∙ pushed
-        ∙ ap (λ (v : Vec OutView Global). v.items ++ out ∷ []) a_old ∙ ap (λ (e : OutView). a.items ++ e ∷ []) last.1
+        let same = is_set first before n stream old new a b (last.0 ∙ sym here) low there
+        (adds.rest stream (omega (arith, last.0))) a_is b_is in
+        ap (λ (v : Vec OutView Global). v.items) (sym same.1) ∙ pushed
+        ∙ ap (λ (v : Vec OutView Global). v.items ++ out ∷ []) same.0 ∙ ap (λ (e : OutView). a.items ++ e ∷ []) last.1
   ];
   rest = λ stream past.
       let long = length_push front out in

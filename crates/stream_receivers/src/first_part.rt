@@ -13,7 +13,7 @@ use std::mem;
 pub fn join_first(
     alloc: Global,
     first: Option<Part>,
-    parts: Vec<Part>,
+    mut parts: Vec<Part>,
 ) -> Result<Vec<Part>, PartError>
     requires some { 1 ≤ length parts.items }
     requires shapes { IfSome first (λ one. All (λ part. one.shape ≡ part.shape) parts.items) }
@@ -22,7 +22,6 @@ pub fn join_first(
     let Some(first) = first else {
         return Ok(parts);
     };
-    let mut parts = parts;
     let empty = Part::new(alloc, first.shape());
     let part = mem::replace(&mut parts[0], empty);
     parts[0] = merge(first, part)?;

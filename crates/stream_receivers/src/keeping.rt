@@ -10,11 +10,10 @@ const HEAD: usize = 9;
 
 /// Returns the frame whose bytes are those behind the head of a text. They stay in the text's buffer.
 #[tactic(auto, using(crate::proofs::Viewed::shifted))]
-pub(crate) fn frame_behind_head(page: u32, stamp: u32, text: Vec<u8>) -> Frame
+pub(crate) fn frame_behind_head(page: u32, stamp: u32, mut text: Vec<u8>) -> Frame
     requires { 9 ≤ length text.items }
     ensures { result ≡ frame_with page stamp (Some (drop 9 text.items)) }
 {
-    let mut text = text;
     let size = text.len() - HEAD;
     text.copy_within(HEAD.., 0);
     text.truncate(size);

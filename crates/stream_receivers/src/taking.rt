@@ -98,13 +98,11 @@ pub(crate) fn give_back(end: &mut LaneIn, text: Option<Vec<u8>>)
 /// Takes what is left on a lane, unless something was refused before. Returns the first refusal.
 pub(crate) fn accept_rest(
     part: &mut Part,
-    refusal: Option<ReceiverError>,
-    rest: Rest,
+    mut refusal: Option<ReceiverError>,
+    mut rest: Rest,
 ) -> Option<ReceiverError>
     ensures { Accepts part.old part.new refusal result rest }
 {
-    let mut refusal = refusal;
-    let mut rest = rest;
     while let Some(text) = rest.take() {
         drop(accept(part, &mut refusal, text));
     }
@@ -114,7 +112,7 @@ pub(crate) fn accept_rest(
 /// Takes what is left on each lane. Returns the first refusal.
 pub(crate) fn accept_rests(
     part: &mut Part,
-    refusal: Option<ReceiverError>,
+    mut refusal: Option<ReceiverError>,
     ends: Vec<LaneIn>,
     outs: Vec<LaneOut>,
 ) -> Option<ReceiverError>
@@ -124,7 +122,6 @@ pub(crate) fn accept_rests(
     ensures kept { IfSome refusal (λ e. result ≡ Some e) }
     ensures held { IsHeld part.old.shape (IsSentOn outs.items) part.new result }
 {
-    let mut refusal = refusal;
     for (out, end) in outs.into_iter().zip(ends) {
         let rest = drain(out, end);
         refusal = accept_rest(part, refusal, rest);

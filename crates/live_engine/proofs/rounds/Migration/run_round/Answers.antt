@@ -17,24 +17,29 @@ use Rattle.live_engine.proofs.Rounding.{idle_guests, idle_copiers, all_states, o
 use Rattle.live_engine.proofs.Running.{law_next, joined_next}
 use Rattle.live_engine.proofs.rounds.Migration.run_round.Goals as goal
 
-pub run_crew-requires-clause-count : goal.run_crew-requires-clause-count
-run_crew-requires-clause-count g c κs within =
+pub run_crew-requires-clause-crew : goal.run_crew-requires-clause-crew
+run_crew-requires-clause-crew g c κs within =
     let table = c.in_ok-table.field-0.table in
     let count : length c.in_ok-table.field-0.copiers.items ≡ table.start.copiers =
     ap length c.in_ok-table.ensures.copiers ∙ length-map-range_with_len
     (λ (n : ℕ). copy_view table.id (first_copier table.start n)) 0 table.start.copiers in
-    c.requires.under_way.states_are ∙ sym (count ∙ ap (λ (s : Start). s.copiers)
-    (c.in_ok-table.ensures.table ∙ c.in-Some.ensures.given))
+    record {
+      guests = c.in_ok-table.ensures.guests;
+      copiers = c.in_ok-table.ensures.copiers;
+      count = c.requires.under_way.states_are ∙ sym (count ∙ ap (λ (s : Start). s.copiers)
+          (c.in_ok-table.ensures.table ∙ c.in-Some.ensures.given));
+      states = c.requires.under_way.each;
+    }
 
 pub close-closed-requires-clause-guests : goal.close-closed-requires-clause-guests
 close-closed-requires-clause-guests g c =
     idle_guests (g.W.WriteLog.trace c.args.self.now.trace.now) c.in_ok-table.field-0.table c.planned.inside.from
-    c.planned.inside.to c.in_ok-guests.guests.items c.in_ok-guests.ensures.guests
+    c.planned.inside.to c.in_ok-guests.field-0.guests.items c.in_ok-guests.ensures.guests
 
 pub close-closed-requires-clause-copiers : goal.close-closed-requires-clause-copiers
 close-closed-requires-clause-copiers g c =
     idle_copiers (g.W.WriteLog.trace c.args.self.now.trace.now) c.may_skip.result c.in_ok-table.field-0.table
-    c.args.self.now.team.streams (rows_of c.args.progress.states.items) c.in_ok-guests.copiers.items
+    c.args.self.now.team.streams (rows_of c.args.progress.states.items) c.in_ok-guests.field-0.copiers.items
     c.in_ok-seats.seats.items c.in_ok-seats.ensures.seats c.in_ok-guests.ensures.copiers
 
 pub returns : goal.returns
@@ -53,13 +58,13 @@ returns g c =
     ∙ ap (λ (v : ClosedView). start_with v.versions v.dirty team.replayers team.copiers) c.closed.view_is in
     let opens : OpensAt trace plan.from table.start = opens_so trace plan.from table.start old team.replayers
     team.copiers start_is c.requires.under_way.size c.requires.joined.2.versions in
-    let replayed : AreReplayed trace table plan.from plan.to c.in_ok-guests.guests.items =
-    subst (λ (p : PlannedRound). AreReplayed trace table p.from p.to c.in_ok-guests.guests.items) c.planned.view_is
-    c.in_ok-guests.ensures.guests in
+    let replayed : AreReplayed trace table plan.from plan.to c.in_ok-guests.field-0.guests.items =
+    subst (λ (p : PlannedRound). AreReplayed trace table p.from p.to c.in_ok-guests.field-0.guests.items)
+    c.planned.view_is c.in_ok-guests.ensures.guests in
     let done : IsLiveRound trace skip team.copiers old.dirty plan.from plan.to new (lists_of states)
     × HavePosted trace team.copiers (lists_of states) (rows_of first) (rows_of states) =
     round_done trace skip table plan.from plan.to team.streams team.replayers team.copiers first
-    c.in_ok-guests.guests.items c.in_ok-guests.copiers.items
+    c.in_ok-guests.field-0.guests.items c.in_ok-guests.field-0.copiers.items
     c.in_ok-seats.seats.items states old new start_is
     (subst (λ (s : Start). IsStart s) (sym c.in_ok-table.ensures.table) c.in_ok-table.ensures.start) c.requires.span
     opens
@@ -76,10 +81,10 @@ returns g c =
         size = c.close-closed.ensures.left.left.versions ∙ ap (λ (s : Start). length s.places) start_is
             ∙ c.requires.under_way.size;
         states_are = ap length (c.in_ok-listed.ensures.states ∙ c.in_ok-seats.ensures.states)
-            ∙ length-map c.in_ok-guests.copiers.items (λ (c : Copier). c.state)
+            ∙ length-map c.in_ok-guests.field-0.copiers.items (λ (c : Copier). c.state)
             ∙ c.in_ok-guests.ensures.copiers.count ∙ ap (λ (s : Start). s.copiers) start_is;
         each = subst (All (IsCopierState trace team.streams)) (sym c.in_ok-listed.ensures.states)
-            (all_states trace skip table team.streams (rows_of first) c.in_ok-guests.copiers.items states
+            (all_states trace skip table team.streams (rows_of first) c.in_ok-guests.field-0.copiers.items states
             c.in_ok-seats.ensures.states c.in_ok-guests.ensures.copiers);
       };
       lanes = ap (λ (ds : List CopierStateView). lanes_of (rows_of ds)) c.in_ok-listed.ensures.states ∙ done.1.lanes;

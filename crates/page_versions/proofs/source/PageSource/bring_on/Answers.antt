@@ -1,5 +1,4 @@
-use Rattle.std.proofs.Common.{◌≡◌, ℕ, ◌^◌, ◌<◌, ◌≤◌, leb, ltb, Bor, IfSome, List, Option, get_or, length, map, sym, ap}
-use Rattle.std.proofs.Common.{subst, ◌∙◌, arith}
+use Rattle.std.proofs.Common.{◌≡◌, ℕ, ◌^◌, ◌<◌, ◌≤◌, leb, ltb, List, length, sym, ap, ◌∙◌, arith}
 use Rattle.std.specs.List.{between, filter}
 use Rattle.std.proofs.lemmas.List.{length-map}
 use Rattle.migration_model.specs.Trace.{GuestTrace}
@@ -9,8 +8,8 @@ use Rattle.page_versions.specs.Index.{places_of}
 use Rattle.page_versions.specs.Pages.{put_all}
 use Rattle.page_versions.proofs.Later.{later_page}
 use Rattle.page_versions.proofs.Places.{places_rise}
-use Rattle.page_versions.specs.Copies.{GuestPack, IsPackOf, copy_of, put_copies}
-use Rattle.page_versions.proofs.Copied.{between_mapped, copies_put, copies_within, packed_page, places_bound}
+use Rattle.page_versions.specs.Copies.{copy_of, put_copies}
+use Rattle.page_versions.proofs.Copied.{between_mapped, copies_put, copies_within, places_bound, source_copies}
 use Rattle.page_versions.proofs.source.PageSource.bring_on.Goals as goal
 
 pub run_between-start-requires : goal.run_between-start-requires
@@ -20,14 +19,8 @@ run_between-start-requires g c =
 pub put_run-requires-clause-bound : goal.put_run-requires-clause-bound
 put_run-requires-clause-bound g c =
     let trace = g.W.WriteLog.trace c.self.inside.trace.now in
-    let found = c.index-writes.result.now in
-    let same = ap (λ (t : GuestTrace). t.pages) c.self.view_is in
-    let low : c.args.page < trace.pages = omega (arith, c.requires.page, same) in
-    let is : IsPackOf c.in-Some.packed.now trace =
-    subst (λ (o : Option (Bor GuestPack)). IfSome o (λ p. IsPackOf p.now trace)) c.in-Some.is c.self.invariant.1 in
-    let own : found ≡ map (copy_of trace) (places_of trace c.args.page) =
-    packed_page c.in-Some.packed.now trace c.args.page found is low
-    (c.index-writes.ensures ∙ ap (λ (p : GuestPack). get_or p.pages c.args.page found) c.packed.view_is) in
+    let own = source_copies trace c.args.self.now c.args.page c.index-writes.result.now c.self.view_is c.requires.page
+    c.in-Some.is c.self.invariant.1 c.packed.view_is c.index-writes.ensures in
     omega (
       arith,
       c.run_between-start.ensures.bound,
@@ -39,22 +32,16 @@ put_run-requires-clause-bound g c =
 pub put_run-requires-clause-within : goal.put_run-requires-clause-within
 put_run-requires-clause-within g c =
     let trace = g.W.WriteLog.trace c.self.inside.trace.now in
-    let found = c.index-writes.result.now in
-    let same = ap (λ (t : GuestTrace). t.pages) c.self.view_is in
-    let low : c.args.page < trace.pages = omega (arith, c.requires.page, same) in
-    let is : IsPackOf c.in-Some.packed.now trace =
-    subst (λ (o : Option (Bor GuestPack)). IfSome o (λ p. IsPackOf p.now trace)) c.in-Some.is c.self.invariant.1 in
-    let own : found ≡ map (copy_of trace) (places_of trace c.args.page) =
-    packed_page c.in-Some.packed.now trace c.args.page found is low
-    (c.index-writes.ensures ∙ ap (λ (p : GuestPack). get_or p.pages c.args.page found) c.packed.view_is) in
+    let own = source_copies trace c.args.self.now c.args.page c.index-writes.result.now c.self.view_is c.requires.page
+    c.in-Some.is c.self.invariant.1 c.packed.view_is c.index-writes.ensures in
     rw (own, c.shape.ensures.shift)
     (copies_within trace (places_of trace c.args.page) c.shape.ensures.is_trace (places_bound trace c.args.page))
 
 pub put_run-requires-clause-room : goal.put_run-requires-clause-room
 put_run-requires-clause-room g c =
     let trace = g.W.WriteLog.trace c.self.inside.trace.now in
-    let same = ap (λ (t : GuestTrace). t.pages) c.self.view_is in
-    let low : c.args.page < trace.pages = omega (arith, c.requires.page, same) in
+    let low : c.args.page < trace.pages =
+    omega (arith, c.requires.page, ap (λ (t : GuestTrace). t.pages) c.self.view_is) in
     ap length c.requires.bytes
     ∙ ap (λ (t : GuestTrace). length (page_at t c.args.page c.args.from.version)) (sym c.self.view_is)
     ∙ length-page_at trace c.args.page c.args.from.version c.shape.ensures.is_trace low
@@ -63,14 +50,10 @@ put_run-requires-clause-room g c =
 pub returns-clause-bytes : goal.returns-clause-bytes
 returns-clause-bytes g c =
     let trace = g.W.WriteLog.trace c.self.inside.trace.now in
-    let found = c.index-writes.result.now in
-    let same = ap (λ (t : GuestTrace). t.pages) c.self.view_is in
-    let low : c.args.page < trace.pages = omega (arith, c.requires.page, same) in
-    let is : IsPackOf c.in-Some.packed.now trace =
-    subst (λ (o : Option (Bor GuestPack)). IfSome o (λ p. IsPackOf p.now trace)) c.in-Some.is c.self.invariant.1 in
-    let own : found ≡ map (copy_of trace) (places_of trace c.args.page) =
-    packed_page c.in-Some.packed.now trace c.args.page found is low
-    (c.index-writes.ensures ∙ ap (λ (p : GuestPack). get_or p.pages c.args.page found) c.packed.view_is) in
+    let own = source_copies trace c.args.self.now c.args.page c.index-writes.result.now c.self.view_is c.requires.page
+    c.in-Some.is c.self.invariant.1 c.packed.view_is c.index-writes.ensures in
+    let low : c.args.page < trace.pages =
+    omega (arith, c.requires.page, ap (λ (t : GuestTrace). t.pages) c.self.view_is) in
     let page = c.args.page in
     let from = c.args.from.version in
     let to = c.args.to in

@@ -2,7 +2,7 @@ use Rattle.std.proofs.Common.{sym, ◌∙◌}
 use Rattle.std.proofs.lemmas.Bool.{false≢true}
 use Rattle.live_tasks.proofs.Copying.{advances_past, advances_own}
 use Rattle.live_tasks.proofs.Held.{holds_all, holds_first}
-use Rattle.live_tasks.proofs.copier.Round.copy_word.Goals as goal
+use Rattle.live_tasks.proofs.copier.SharedRound.copy_word.Goals as goal
 
 pub returns-then-not-owns-clause-scan : goal.returns-then-not-owns-clause-scan
 returns-then-not-owns-clause-scan g c =

@@ -2,7 +2,7 @@ use Rattle.std.proofs.Common.{◌≡◌, ◌*◌, ◌%◌, ◌^◌, Bool, not, �
 use Rattle.std.proofs.lemmas.Bool.{eqb-true}
 use Rattle.page_bitmap.specs.Pages.{in_words}
 use Rattle.page_bitmap.proofs.Bits.{one_bit}
-use Rattle.live_tasks.proofs.copier.Round.restore.Goals as goal
+use Rattle.live_tasks.proofs.copier.SharedRound.restore.Goals as goal
 
 pub restore-requires-clause-held : goal.restore-requires-clause-held
 restore-requires-clause-held g c q bit =

@@ -1,7 +1,7 @@
 use Rattle.std.proofs.Common.{arith}
 use Rattle.std.proofs.lemmas.Grind.{common_steps}
 use Rattle.live_tasks.proofs.Copying.{offers_sent}
-use Rattle.live_tasks.proofs.copier.Round.offer_page.Goals as goal
+use Rattle.live_tasks.proofs.copier.SharedRound.offer_page.Goals as goal
 
 pub returns-clause-offered : goal.returns-clause-offered
 returns-clause-offered g c =

@@ -3,7 +3,7 @@ use Rattle.dirty_words.specs.Facts.{HoldsNone}
 use Rattle.live_tasks.specs.RoundLogs.{IsPosted}
 use Rattle.live_tasks.specs.Scans.{IsScanned}
 use Rattle.live_tasks.specs.Copies.{IsReady}
-use Rattle.live_tasks.proofs.copier.Round.copy.Given as goal
+use Rattle.live_tasks.proofs.copier.SharedRound.copy.Given as goal
 
 abbrev pub invariant-loop-word : goal.invariant-loop-word
 invariant-loop-word g l = record {

@@ -1,6 +1,6 @@
 use Rattle.live_tasks.specs.Copies.{IsReady, KeepsScan}
 use Rattle.live_tasks.specs.Scans.{HoldsFrom}
-use Rattle.live_tasks.proofs.copier.Round.copy_bits.Given as goal
+use Rattle.live_tasks.proofs.copier.SharedRound.copy_bits.Given as goal
 
 abbrev pub invariant-loop-bit : goal.invariant-loop-bit
 invariant-loop-bit g l = record {

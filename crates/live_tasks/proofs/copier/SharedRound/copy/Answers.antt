@@ -7,7 +7,7 @@ use Rattle.live_tasks.specs.RoundLogs.{RoundLogView, IsPosted}
 use Rattle.live_tasks.specs.Scans.{IsScanned}
 use Rattle.live_tasks.proofs.Posting.{same_count}
 use Rattle.live_tasks.proofs.Copying.{copy_begins}
-use Rattle.live_tasks.proofs.copier.Round.copy.Goals as goal
+use Rattle.live_tasks.proofs.copier.SharedRound.copy.Goals as goal
 
 -- how many words there are
 words : (word end count pages : ℕ) → word ≤ end → end ≤ word → end ≡ (count + 63) / 64 → count ≡ pages

@@ -7,7 +7,7 @@ use Rattle.live_tasks.specs.Scans.{IsOwn}
 use Rattle.live_tasks.proofs.Copying.{keeps_both}
 use Rattle.page_bitmap.specs.Pages.{in_words, minus, one_page, SamePages}
 use Rattle.live_tasks.proofs.Held.{holds_less, own_page, shown}
-use Rattle.live_tasks.proofs.copier.Round.copy_bits.Goals as goal
+use Rattle.live_tasks.proofs.copier.SharedRound.copy_bits.Goals as goal
 
 pub copy_page-requires-clause-own : goal.copy_page-requires-clause-own
 copy_page-requires-clause-own g c κs within =
