@@ -1,10 +1,12 @@
-//! Frames of the worked guest, which is stopped after its third write.
+//! Frames of the worked guest, which is stopped after its third write, and of any guest of its shape.
+
+ghost use Rattle.std.specs.Prelude.{◌≡◌};
 
 use page_versions::PageIndex;
 use std::alloc::Global;
 use std::test::Fail;
 use stream_check::{StreamsError, check_streams};
-use trace_codec::decode;
+use trace_codec::{Shape, decode};
 use worked_guest::TRACE;
 
 pub(crate) type Page = [u8; 16];
@@ -25,6 +27,27 @@ pub(crate) const SECOND: Page = [0, 0, 0, 0, 0, 0, 0, 0, 0, 0, 0, 0, 0, 0, 0, 2]
 
 /// The second page after the third write of the trace.
 pub(crate) const THIRD: Page = [3, 0, 0, 0, 0, 0, 0, 0, 0, 0, 0, 0, 0, 0, 0, 2];
+
+/// The third page, which is zeros, in a frame.
+pub(crate) const ZEROS_FRAME: [u8; 9] = [2, 0, 0, 0, 0, 0, 0, 0, 0];
+
+/// The last page at version 4, in a frame.
+pub(crate) const DATA_FRAME: [u8; 25] = [
+    3, 0, 0, 0, 4, 0, 0, 0, 1, 0, 0, 4, 5, 0, 0, 0, 0, 0, 0, 0, 0, 0, 0, 0, 0,
+];
+
+/// Returns the sizes of the guest and its trace: 4 pages of 16 bytes, and 5 writes.
+pub(crate) fn shape() -> Shape
+    ensures pages { result.pages ≡ 4 }
+    ensures writes { result.writes ≡ 5 }
+    ensures shift { result.shift ≡ 4 }
+{
+    Shape {
+        shift: 4,
+        pages: 4,
+        writes: 5,
+    }
+}
 
 /// A stream in which all is right. Its frames begin at bytes 0, 25, 50, 59 and 68, and it has 93.
 pub(crate) const RIGHT: [Sent<'static>; 5] = [

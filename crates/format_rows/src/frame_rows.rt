@@ -1,32 +1,12 @@
 //! Worked examples: frames of a guest of 4 pages of 16 bytes, with 5 writes.
 
-ghost use Rattle.std.specs.Prelude.{◌≡◌};
-
+use crate::fixtures::{DATA_FRAME, ZEROS_FRAME, shape};
 use page_message::{
     Body, Frame, FrameError, FrameView, append_frame, decode_frame, encode_frame, frame_of,
     view_frame,
 };
 use std::alloc::{AllocError, Global};
 use std::test::Fail;
-use trace_codec::Shape;
-
-const ZEROS_FRAME: [u8; 9] = [2, 0, 0, 0, 0, 0, 0, 0, 0];
-
-const DATA_FRAME: [u8; 25] = [
-    3, 0, 0, 0, 4, 0, 0, 0, 1, 0, 0, 4, 5, 0, 0, 0, 0, 0, 0, 0, 0, 0, 0, 0, 0,
-];
-
-fn shape() -> Shape
-    ensures pages { result.pages ≡ 4 }
-    ensures writes { result.writes ≡ 5 }
-    ensures shift { result.shift ≡ 4 }
-{
-    Shape {
-        shift: 4,
-        pages: 4,
-        writes: 5,
-    }
-}
 
 /// Returns the bytes with one of them changed, and cut to a length.
 fn changed(

@@ -3,29 +3,12 @@
 ghost use Rattle.std.specs.Prelude.{◌≡◌, ◌<◌, ◌≤◌};
 ghost use Rattle.page_message.specs.Shapes.{shape_of};
 
+use crate::fixtures::{DATA_FRAME, ZEROS_FRAME, shape};
 use collector::{Fate, Part, PartError, merge};
 use page_message::{Body, FrameError, append_frame, decode_frame, frame_of};
 use std::alloc::{AllocError, Global};
 use std::test::Fail;
 use trace_codec::Shape;
-
-const ZEROS_FRAME: [u8; 9] = [2, 0, 0, 0, 0, 0, 0, 0, 0];
-
-const DATA_FRAME: [u8; 25] = [
-    3, 0, 0, 0, 4, 0, 0, 0, 1, 0, 0, 4, 5, 0, 0, 0, 0, 0, 0, 0, 0, 0, 0, 0, 0,
-];
-
-fn shape() -> Shape
-    ensures pages { result.pages ≡ 4 }
-    ensures writes { result.writes ≡ 5 }
-    ensures shift { result.shift ≡ 4 }
-{
-    Shape {
-        shift: 4,
-        pages: 4,
-        writes: 5,
-    }
-}
 
 /// Gives the part a page filled with this byte. Returns the page's fate, or None if memory ran out.
 fn give(

@@ -3,25 +3,13 @@
 ghost use Rattle.std.specs.Prelude.{◌≡◌, ◌≤◌, ◌<◌, IfOk, IfSome, Some, map, slice_get};
 ghost use Rattle.stream_receivers.specs.Receivers.{AreEnds, AreNewEnds};
 
+use crate::fixtures::shape;
 use collector::Part;
 use page_message::{Body, FrameError, append_frame};
 use std::alloc::Global;
 use std::test::Fail;
 use stream_lanes::{LaneIn, LaneOut, Lanes, by_stream, lanes};
 use stream_receivers::{Receiver, ReceiverError};
-use trace_codec::Shape;
-
-fn shape() -> Shape
-    ensures pages { result.pages ≡ 4 }
-    ensures writes { result.writes ≡ 5 }
-    ensures shift { result.shift ≡ 4 }
-{
-    Shape {
-        shift: 4,
-        pages: 4,
-        writes: 5,
-    }
-}
 
 /// Returns the first item.
 fn first_of<T: Drop>(items: Vec<T>) -> Option<T>

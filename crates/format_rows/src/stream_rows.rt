@@ -5,6 +5,7 @@ ghost use Rattle.std.specs.List.{All};
 ghost use Rattle.migration_model.specs.Frames.{IsFrame};
 ghost use Rattle.page_message.specs.Shapes.{shape_of};
 
+use crate::fixtures::shape;
 use page_message::{Frame, frame_of};
 use std::alloc::Global;
 use std::test::Fail;
@@ -12,18 +13,6 @@ use stream_split::{Dealer, split};
 use trace_codec::Shape;
 
 const TWO_FRAMES: [u8; 18] = [2, 0, 0, 0, 0, 0, 0, 0, 0, 2, 0, 0, 0, 0, 0, 0, 0, 0];
-
-fn shape() -> Shape
-    ensures pages { result.pages ≡ 4 }
-    ensures writes { result.writes ≡ 5 }
-    ensures shift { result.shift ≡ 4 }
-{
-    Shape {
-        shift: 4,
-        pages: 4,
-        writes: 5,
-    }
-}
 
 fn add_frame(shape: &Shape, frames: &mut Vec<Frame>, frame: Frame) -> Result<(), Fail>
     requires so_far { All (IsFrame (shape_of shape.now)) frames.old.items }

@@ -8,24 +8,7 @@ use trace_codec::{
     Shape, TestSource, Timeline, TraceError, WriteLog, checked_write, decode, read_header,
 };
 use trace_readers::HeldTrace;
-use worked_guest::{NO_WRITES, TRACE};
-
-/// Returns the first bytes of the trace, some of them changed, and more after them.
-fn changed(
-    alloc: Global,
-    len: usize,
-    place: usize,
-    patch: &[u8],
-    more: &[u8],
-) -> Result<Vec<u8>, AllocError> {
-    let mut bytes = Vec::from_slice(alloc, &TRACE)?;
-    for (byte, new) in bytes.iter_mut().skip(place).zip(patch) {
-        *byte = *new;
-    }
-    bytes.truncate(len);
-    bytes.extend_from_slice(more)?;
-    Ok(bytes)
-}
+use worked_guest::{NO_WRITES, REFUSED, TRACE, changed};
 
 /// Returns the shape, and ticks, pages, offsets and bytes in order.
 fn told<L: WriteLog>(
@@ -85,15 +68,19 @@ fn holds_each_write(rt: HostRuntime) -> Result<(), Fail> {
 fn header_and_first_record_are_tested(rt: HostRuntime) -> Result<(), Fail> {
     let header = read_header(&TRACE)?;
     let shape = header.shape;
-    let (tick, behind) = checked_write(header, 0, 0, &TRACE[16..])?;
+    let (write, behind) = checked_write(header, 0, 0, &TRACE[16..])?;
     let late = checked_write(header, 1, 7, &TRACE[16..]).err();
     assert_eq!(rt;
         (
             (header.version, shape.shift, shape.pages, shape.writes),
-            (tick, behind.len()),
+            (write.tick, write.page, write.bytes, behind.len()),
             late
         ),
-        ((1, 4, 4, 5), (0, 69), Some(TraceError::TickOrder(7)))
+        (
+            (1, 4, 4, 5),
+            (0, 0, [1].as_slice(), 69),
+            Some(TraceError::TickOrder(7))
+        )
     );
     Ok(())
 }
@@ -168,21 +155,7 @@ fn refusals(
 #[test]
 fn refuses_the_first_cause(rt: HostRuntime) -> Result<(), Fail> {
     let alloc = rt.alloc();
-    let refused: [(usize, usize, &[u8], &[u8], TraceError); 12] = [
-        (0, 0, &[], &[], TraceError::ShortHeader),
-        (15, 0, &[], &[], TraceError::ShortHeader),
-        (102, 0, &[0x51], &[], TraceError::BadMagic),
-        (102, 12, &[6], &[], TraceError::ShortRecord(5)),
-        (101, 0, &[], &[], TraceError::ShortRecord(4)),
-        (102, 47, &[0xff, 0xff], &[], TraceError::ShortRecord(1)),
-        (102, 67, &[0xaf, 4], &[], TraceError::TickOrder(3)),
-        (102, 55, &[1], &[], TraceError::TickTooLarge(2)),
-        (102, 41, &[4], &[], TraceError::PageOutOfRange(1)),
-        (102, 47, &[0], &[], TraceError::EmptyWrite(1)),
-        (102, 45, &[16], &[], TraceError::OutOfPage(1)),
-        (102, 0, &[], &[0], TraceError::TrailingBytes),
-    ];
-    for (len, place, patch, more, cause) in refused {
+    for ((len, place, patch, more), cause) in REFUSED {
         let causes = refusals(alloc, len, place, patch, more)?;
         assert_eq!(rt; causes, [Some(cause); 2]);
     }

@@ -10,12 +10,11 @@ use Rattle.clap.specs.Walk.{Row, one_of, rows_of}
 use Rattle.clap.specs.declared.parser.matches.Found.{Found}
 use Rattle.clap.proofs.WalkLemmas.{one_text-rows, raw_values-rows}
 use Rattle.job_words.specs.Options.{AsksForSweep, IsFlag, Says}
-use Rattle.job_words.specs.Jobs.{RefusesJob, case_words}
+use Rattle.job_words.specs.Jobs.{SweepFails, case_words}
 use Rattle.job_words.specs.Cases.{RefusesWords}
 use Rattle.migration_model.specs.Rates.{MigrationSettings}
 use Rattle.job_words.specs.declared.command.WordsError.{WordsError}
 use Rattle.job_words.specs.declared.command.WordsError.TheVariants.{Help, Memory, Refused, Usage}
-use Rattle.job_words.specs.declared.command.WordsRefusal.TheVariants.{Case, CaseSettings, Settings, TooManyCases}
 
 -- `u64::from_str`
 abbrev pub gives_u64 : List ℕ → Result ℕ ParseIntError → Type 0
@@ -83,19 +82,13 @@ case_words_from_found found o d r is none same =
     ∙ given_words o d none
     ∙ ap (λ (x : Option (List (List ℕ))). unwrap_or x []) (same ∙ raw_values-rows found (codes "case"))
 
--- a refusal of the cases refuses the sweep
-pub refuses_sweep : (rows : List Row) (options : MigrationSettings) (e : WordsError) → AsksForSweep rows options
-    → RefusesWords options (case_words rows) e → RefusesJob (codes "sweep") rows e
-refuses_sweep rows options Memory asked refused = tt
-refuses_sweep rows options (Help text) asked refused = absurd refused
-refuses_sweep rows options (Usage text) asked refused = absurd refused
-refuses_sweep rows options (Refused TooManyCases) asked refused =
-    (refl, record { options = options; asked = asked; refused = refused })
-refuses_sweep rows options (Refused (Case place)) asked refused =
-    (refl, record { options = options; asked = asked; refused = refused })
-refuses_sweep rows options (Refused (CaseSettings place e)) asked refused =
-    (refl, record { options = options; asked = asked; refused = refused })
-refuses_sweep rows options (Refused (Settings e)) asked refused = absurd refused
+-- a refusal of the cases is one of the sweep
+pub sweep_fails : (rows : List Row) (options : MigrationSettings) (e : WordsError) → AsksForSweep rows options
+    → RefusesWords options (case_words rows) e → SweepFails rows e
+sweep_fails rows options Memory asked refused = tt
+sweep_fails rows options (Help text) asked refused = absurd refused
+sweep_fails rows options (Usage text) asked refused = absurd refused
+sweep_fails rows options (Refused e) asked refused = record { options = options; asked = asked; refused = refused }
 
 -- what holds of an error holds of a result that is this error
 pub on_error : {A E : Type 0} (r : Result A E) (e : E) (P : E → Type 0) → IsErrAnd r (λ f. f ≡ e) → P e → IfErr r P

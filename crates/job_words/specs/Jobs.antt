@@ -47,6 +47,13 @@ pub record RefusesSweep (rows : List Row) (refusal : WordsRefusal) : Type 0 wher
   pub asked : AsksForSweep rows options
   pub refused : RefusesCases options (case_words rows) refusal
 
+-- a sweep has no cases: they are refused, or memory ran out
+abbrev pub SweepFails : List Row → WordsError → Type 0
+SweepFails rows errors.Memory = ⊤
+SweepFails rows (errors.Help text) = ⊥
+SweepFails rows (errors.Usage text) = ⊥
+SweepFails rows (errors.Refused refusal) = RefusesSweep rows refusal
+
 -- A command of this name is refused for this: the settings of `report` or `live`, or the cases of `sweep`.
 abbrev pub RefusesCommand : Text → List Row → WordsRefusal → Type 0
 RefusesCommand name rows (refusals.Settings e) = ((name ≡ codes "report") ⊎ (name ≡ codes "live")) × AreRefused rows e

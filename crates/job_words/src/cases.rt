@@ -5,12 +5,13 @@ ghost use Rattle.std.specs.Prelude.{Err, IfErr, IfNone, IfOk, IfSome};
 ghost use Rattle.migration_model.specs.Rates.{AreSettings};
 ghost use Rattle.job_words.specs.Cases.{AreCases, IsCase, IsNoCase, IsNumber, RefusesCase, RefusesWords};
 ghost use Rattle.job_words.specs.Cases.{SpellsNumbers};
-ghost use Rattle.clap.specs.Words.{rule_of};
+ghost use Rattle.clap.specs.Words.{found_of, rows_of, rule_of};
 ghost use Rattle.job_words.specs.Commands.{AddsRules, case_rule, sweep_rules};
+ghost use Rattle.job_words.specs.Jobs.{AsksForCases, SweepFails};
 
 use crate::command::{WordsError, WordsRefusal};
-use crate::options::with_sweep;
-use clap::{Arg, ArgAction, Command};
+use crate::options::{sweep_options, with_sweep};
+use clap::{Arg, ArgAction, ArgMatches, Command};
 use rate_limit::{Asked, Settings};
 use std::alloc::{AllocError, Global};
 
@@ -98,14 +99,11 @@ fn case_of(options: &Asked, number: usize, word: &str) -> Result<Settings, Words
     let Some(asked) = asked_of(options, word) else {
         return Err(WordsRefusal::Case(number));
     };
-    match Settings::new(asked) {
-        Ok(settings) => Ok(settings),
-        Err(error) => Err(WordsRefusal::CaseSettings(number, error)),
-    }
+    Settings::new(asked).map_err(|error| WordsRefusal::CaseSettings(number, error))
 }
 
 /// Returns the settings of all cases, in order, or why the first refused case has none.
-pub fn cases_of(alloc: Global, options: &Asked, words: &[&str]) -> Result<Vec<Settings>, WordsError>
+fn cases_of(alloc: Global, options: &Asked, words: &[&str]) -> Result<Vec<Settings>, WordsError>
     ensures each { IfOk result (λ cases. AreCases options.now (map (λ w. w.now) words.now) cases.items) }
     ensures few { IfOk result (λ cases. length cases.items ≤ 256) }
     ensures refused { IfErr result (λ e. RefusesWords options.now (map (λ w. w.now) words.now) e) }
@@ -116,10 +114,22 @@ pub fn cases_of(alloc: Global, options: &Asked, words: &[&str]) -> Result<Vec<Se
     }
     let mut cases = Vec::with_capacity(alloc, words.len())?;
     for (number, word) in words.iter().enumerate() {
-        match case_of(options, number, word) {
-            Ok(settings) => cases.push(settings)?,
-            Err(refusal) => return Err(WordsError::Refused(refusal)),
-        }
+        let settings = case_of(options, number, word)?;
+        cases.push(settings)?;
     }
     Ok(cases)
+}
+
+/// Returns the cases that the options and the words of a sweep ask for, and the number of workers.
+pub fn cases_and_workers(
+    alloc: Global,
+    options: &ArgMatches,
+) -> Result<(Vec<Settings>, usize), WordsError>
+    ensures made { IfOk result (λ sweep. AsksForCases (rows_of (found_of options.now)) sweep.0.items sweep.1) }
+    ensures failed { IfErr result (SweepFails (rows_of (found_of options.now))) }
+{
+    let asked = sweep_options(options);
+    let words = options.get_strs("case").unwrap_or(&[]);
+    let cases = cases_of(alloc, &asked, words)?;
+    Ok((cases, asked.workers as usize))
 }

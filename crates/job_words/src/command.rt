@@ -6,10 +6,11 @@ ghost use Rattle.clap.specs.Words.{app_of, found_of, rows_of};
 ghost use Rattle.job_words.specs.Commands.{AreHelpNames, FailsByKind, IsLeaf, TellsError, WordsAsk, WordsFail};
 ghost use Rattle.job_words.specs.Commands.{help_names, precopy_line};
 ghost use Rattle.job_words.specs.Jobs.{AsksForJob, IsCommand, RefusesJob};
-ghost use Rattle.job_words.specs.declared.command.WordsError.TheVariants.{Memory};
+ghost use Rattle.job_words.specs.declared.command.WordsError.TheVariants.{Memory, Refused};
+ghost use Rattle.job_words.specs.declared.command.WordsRefusal.TheVariants.{Settings};
 
-use crate::cases::{cases_of, with_cases};
-use crate::options::{is_flag, settings_of, sweep_options, with_live, with_report};
+use crate::cases::{cases_and_workers, with_cases};
+use crate::options::{is_flag, settings_of, with_live, with_report};
 use clap::error::ErrorKind;
 use clap::{ArgMatches, Command};
 use job_kinds::{Job, Show};
@@ -63,6 +64,22 @@ impl<T: Drop> From<AllocFailed<T>> for WordsError {
 
     fn from(_error: AllocFailed<T>) -> WordsError {
         WordsError::Memory
+    }
+}
+
+impl From<WordsRefusal> for WordsError {
+    ghost from_gives = { λ refusal e. e ≡ Refused refusal };
+
+    fn from(refusal: WordsRefusal) -> WordsError {
+        WordsError::Refused(refusal)
+    }
+}
+
+impl From<SettingsError> for WordsError {
+    ghost from_gives = { λ error e. e ≡ Refused (Settings error) };
+
+    fn from(error: SettingsError) -> WordsError {
+        WordsError::Refused(WordsRefusal::Settings(error))
     }
 }
 
@@ -190,10 +207,7 @@ fn report_of(options: &ArgMatches) -> Result<Job, WordsError>
     ensures made { IfOk result (λ job. AsksForJob (codes "report") (rows_of (found_of options.now)) job) }
     ensures refused { IfErr result (λ e. RefusesJob (codes "report") (rows_of (found_of options.now)) e) }
 {
-    match settings_of(options) {
-        Ok(settings) => Ok(Job::Report(settings)),
-        Err(error) => Err(WordsError::Refused(WordsRefusal::Settings(error))),
-    }
+    Ok(Job::Report(settings_of(options)?))
 }
 
 /// Returns the live run that its options ask for.
@@ -201,15 +215,13 @@ fn live_of(options: &ArgMatches) -> Result<Job, WordsError>
     ensures made { IfOk result (λ job. AsksForJob (codes "live") (rows_of (found_of options.now)) job) }
     ensures refused { IfErr result (λ e. RefusesJob (codes "live") (rows_of (found_of options.now)) e) }
 {
+    let settings = settings_of(options)?;
     let show = if is_flag(options, "at-stop") {
         Show::Stop
     } else {
         Show::End
     };
-    match settings_of(options) {
-        Ok(settings) => Ok(Job::Live(settings, show)),
-        Err(error) => Err(WordsError::Refused(WordsRefusal::Settings(error))),
-    }
+    Ok(Job::Live(settings, show))
 }
 
 /// Returns the sweep that its options and cases ask for.
@@ -217,13 +229,8 @@ fn sweep_of(alloc: Global, options: &ArgMatches) -> Result<Job, WordsError>
     ensures made { IfOk result (λ job. AsksForJob (codes "sweep") (rows_of (found_of options.now)) job) }
     ensures refused { IfErr result (λ e. RefusesJob (codes "sweep") (rows_of (found_of options.now)) e) }
 {
-    let asked = sweep_options(options);
-    let words = options.get_strs("case").unwrap_or(&[]);
-    let cases = cases_of(alloc, &asked, words)?;
-    Ok(Job::Sweep {
-        cases,
-        workers: asked.workers as usize,
-    })
+    let (cases, workers) = cases_and_workers(alloc, options)?;
+    Ok(Job::Sweep { cases, workers })
 }
 
 /// Returns the job that the command of this name asks for.

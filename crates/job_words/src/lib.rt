@@ -5,9 +5,9 @@ mod cases;
 mod command;
 mod options;
 
-pub use cases::{cases_of, with_cases};
+pub use cases::{cases_and_workers, with_cases};
 pub use command::{WordsError, WordsRefusal, job_of, leaf_command, refusal_of, words};
 pub use options::{
-    Number, flag, given, is_flag, number, said, settings_of, sweep_options, with_numbers,
-    with_report, with_sweep,
+    Number, flag, is_flag, number, number_given, number_or, settings_of, sweep_options,
+    with_numbers, with_report, with_sweep,
 };

@@ -119,12 +119,11 @@ pub fn flag<'a>(alloc: Global, name: &'a str, help: &'a str) -> Arg<'a>
 /// Returns the command with these options, each of which takes a whole number.
 pub fn with_numbers<'a>(
     alloc: Global,
-    command: Command<'a>,
+    mut command: Command<'a>,
     numbers: &[Number<'a>],
 ) -> Result<Command<'a>, AllocError>
     ensures { IfOk result (λ new. AddsRules command.entry (map (λ n. number_rule n.0.now) numbers.now) new) }
 {
-    let mut command = command;
     for (name, help) in numbers {
         command = command.arg(number(alloc, name, help))?;
     }
@@ -172,17 +171,17 @@ pub fn with_sweep<'a>(alloc: Global, command: Command<'a>) -> Result<Command<'a>
 }
 
 /// Returns the number given for an option.
-pub fn said(matches: &ArgMatches, name: &str) -> Option<u64>
+pub fn number_given(matches: &ArgMatches, name: &str) -> Option<u64>
     ensures { Says (rows_of (found_of matches.now)) name.now result }
 {
     matches.get_one::<u64>(name)
 }
 
 /// Returns the number given for an option, or the default.
-pub fn given(matches: &ArgMatches, name: &str, default: u64) -> u64
+pub fn number_or(matches: &ArgMatches, name: &str, default: u64) -> u64
     ensures { IsGiven (rows_of (found_of matches.now)) name.now default result }
 {
-    said(matches, name).unwrap_or(default)
+    number_given(matches, name).unwrap_or(default)
 }
 
 /// Returns whether a flag is present.
@@ -197,9 +196,9 @@ pub fn sweep_options(matches: &ArgMatches) -> Asked
     ensures { AsksForSweep (rows_of (found_of matches.now)) result }
 {
     Asked {
-        start: given(matches, "start", DEFAULTS.start),
-        workers: given(matches, "workers", DEFAULTS.workers),
-        base: said(matches, "base"),
+        start: number_or(matches, "start", DEFAULTS.start),
+        workers: number_or(matches, "workers", DEFAULTS.workers),
+        base: number_given(matches, "base"),
         ..DEFAULTS
     }
 }
@@ -209,20 +208,20 @@ fn asked_of(matches: &ArgMatches) -> Asked
     ensures { AsksFor (rows_of (found_of matches.now)) result }
 {
     Asked {
-        min: given(matches, "min", DEFAULTS.min),
-        max: given(matches, "max", DEFAULTS.max),
-        increment: given(matches, "inc", DEFAULTS.increment),
-        threshold: given(matches, "threshold", DEFAULTS.threshold),
-        rounds: given(matches, "rounds", DEFAULTS.rounds),
-        start: given(matches, "start", DEFAULTS.start),
-        window: given(matches, "window", DEFAULTS.window),
-        hot: given(matches, "hot", DEFAULTS.hot),
-        workers: given(matches, "workers", DEFAULTS.workers),
-        streams: given(matches, "streams", DEFAULTS.streams),
-        replayers: given(matches, "replayers", DEFAULTS.replayers),
-        lane: given(matches, "lane", DEFAULTS.lane),
+        min: number_or(matches, "min", DEFAULTS.min),
+        max: number_or(matches, "max", DEFAULTS.max),
+        increment: number_or(matches, "inc", DEFAULTS.increment),
+        threshold: number_or(matches, "threshold", DEFAULTS.threshold),
+        rounds: number_or(matches, "rounds", DEFAULTS.rounds),
+        start: number_or(matches, "start", DEFAULTS.start),
+        window: number_or(matches, "window", DEFAULTS.window),
+        hot: number_or(matches, "hot", DEFAULTS.hot),
+        workers: number_or(matches, "workers", DEFAULTS.workers),
+        streams: number_or(matches, "streams", DEFAULTS.streams),
+        replayers: number_or(matches, "replayers", DEFAULTS.replayers),
+        lane: number_or(matches, "lane", DEFAULTS.lane),
         skip: is_flag(matches, "skip"),
-        base: said(matches, "base"),
+        base: number_given(matches, "base"),
     }
 }
 

@@ -25,6 +25,19 @@ pub(crate) const THIRD: Page = [3, 0, 0, 0, 0, 0, 0, 0, 0, 0, 0, 0, 0, 0, 0, 2];
 /// The last page after its only write.
 pub(crate) const FOURTH: Page = [0, 0, 4, 5, 0, 0, 0, 0, 0, 0, 0, 0, 0, 0, 0, 0];
 
+/// A page, from one version to another, and its bytes.
+pub(crate) const VERSIONS: [(u32, u32, u32, Page); 9] = [
+    (0, 0, 0, ZEROS),
+    (0, 1, 5, FIRST),
+    (1, 0, 1, ZEROS),
+    (1, 2, 2, SECOND),
+    (1, 3, 4, THIRD),
+    (1, 5, 5, SECOND),
+    (2, 0, 5, ZEROS),
+    (3, 0, 3, ZEROS),
+    (3, 4, 5, FOURTH),
+];
+
 /// The memory before the writes at tick 2500.
 pub(crate) static AT_STOP: [u8; 64] = [
     1, 0, 0, 0, 0, 0, 0, 0, 0, 0, 0, 0, 0, 0, 0, 0, //

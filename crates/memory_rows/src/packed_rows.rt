@@ -3,7 +3,9 @@
 ghost use Rattle.std.specs.Prelude.{◌≡◌};
 
 use crate::cache_rows::page_at;
-use crate::fixtures::{FIRST, FOURTH, Page, SECOND, THIRD, ZEROS, guest, page_of, releasing_guest};
+use crate::fixtures::{
+    FIRST, FOURTH, Page, SECOND, THIRD, VERSIONS, ZEROS, guest, page_of, releasing_guest,
+};
 use page_cache::{KeptPages, PageCache};
 use page_versions::{PackedWrites, PageIndex, PageProgress, PageSource, are_short};
 use std::alloc::Global;
@@ -53,19 +55,7 @@ fn packed_pages(rt: HostRuntime) -> Result<(), Fail> {
     }
     let packed = PackedWrites::of(&rt, alloc, &trace, &index)?;
     let source = PageSource::new(&trace, &index, Some(&packed));
-    // a page, from one version to another, and its bytes
-    let cases: [(u32, u32, u32, Page); 9] = [
-        (0, 0, 0, ZEROS),
-        (0, 1, 5, FIRST),
-        (1, 0, 1, ZEROS),
-        (1, 2, 2, SECOND),
-        (1, 3, 4, THIRD),
-        (1, 5, 5, SECOND),
-        (2, 0, 5, ZEROS),
-        (3, 0, 3, ZEROS),
-        (3, 4, 5, FOURTH),
-    ];
-    for (page, first, last, expected) in cases {
+    for (page, first, last, expected) in VERSIONS {
         for version in first..last + 1 {
             assert!(rt;
                 made(alloc, &source, page, version) == Some(expected),

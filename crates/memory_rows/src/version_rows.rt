@@ -1,6 +1,6 @@
 //! Worked examples, with results worked out by hand.
 
-use crate::fixtures::{FIRST, FOURTH, Page, SECOND, THIRD, ZEROS, guest, page_of};
+use crate::fixtures::{FIRST, FOURTH, Page, SECOND, THIRD, VERSIONS, ZEROS, guest, page_of};
 use page_versions::{PageIndex, PageProgress};
 use std::alloc::Global;
 use std::test::Fail;
@@ -76,19 +76,7 @@ fn bytes_of_pages(rt: HostRuntime) -> Result<(), Fail> {
     let alloc = rt.alloc();
     let trace = guest(alloc, 0)?;
     let index = PageIndex::build(&rt, alloc, &trace)?;
-    // a page, from one version to another, and its bytes
-    let cases: [(u32, u32, u32, Page); 9] = [
-        (0, 0, 0, ZEROS),
-        (0, 1, 5, FIRST),
-        (1, 0, 1, ZEROS),
-        (1, 2, 2, SECOND),
-        (1, 3, 4, THIRD),
-        (1, 5, 5, SECOND),
-        (2, 0, 5, ZEROS),
-        (3, 0, 3, ZEROS),
-        (3, 4, 5, FOURTH),
-    ];
-    for (page, first, last, expected) in cases {
+    for (page, first, last, expected) in VERSIONS {
         for version in first..last + 1 {
             let found = page_at(alloc, &index, &trace, page, version);
             assert!(rt; found == Some(expected), "{page} at {version}");

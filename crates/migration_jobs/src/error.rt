@@ -1,7 +1,7 @@
 //! Why a run ended without its output.
 
 ghost use Rattle.std.specs.Prelude.{◌≡◌};
-ghost use Rattle.migration_jobs.specs.declared.error.RunError.TheVariants.{Live};
+ghost use Rattle.migration_jobs.specs.declared.error.RunError.TheVariants.{Live, Trace};
 
 use live_engine::LiveError;
 use thiserror::Error;
@@ -26,6 +26,14 @@ pub enum RunError {
     /// The writer failed, took none of some bytes, or failed to flush.
     #[error("write")]
     Write,
+}
+
+impl From<TraceError> for RunError {
+    ghost from_gives = { λ error e. e ≡ Trace error };
+
+    fn from(error: TraceError) -> RunError {
+        RunError::Trace(error)
+    }
 }
 
 impl From<LiveError> for RunError {

@@ -85,10 +85,8 @@ fn whole_image<S: Source>(
     let Ok(mut memory) = WrittenMemory::blank(alloc, header.shape) else {
         return Err(RunError::Memory);
     };
-    match incoming.visit(source, header, &mut memory) {
-        Ok(()) => Ok(memory.into_bytes()),
-        Err(error) => Err(RunError::Trace(error)),
-    }
+    incoming.visit(source, header, &mut memory)?;
+    Ok(memory.into_bytes())
 }
 
 /// Returns the memory after all writes of a trace, to be made page by page.
@@ -106,10 +104,8 @@ fn paged_image<R: Threads + Sync, S: Source>(
     ensures own { IfErr result (λ e. (job : Job) → IsOtherJob job → RefusesOutput job e) }
     ensures read_failed { (result ≡ Err (RunError.Trace ReadFault)) ↔ (S.has_failed source.new ≡ true) }
 {
-    match incoming.hold(alloc, source) {
-        Ok(trace) => ReplayedMemory::of(rt, alloc, trace).or(Err(RunError::Memory)),
-        Err(error) => Err(RunError::Trace(error)),
-    }
+    let trace = incoming.hold(alloc, source)?;
+    ReplayedMemory::of(rt, alloc, trace).or(Err(RunError::Memory))
 }
 
 /// Returns the memory after all writes of the trace that a source holds.
@@ -124,10 +120,7 @@ pub(crate) fn image_output<R: Threads + Sync, S: Source>(
     ensures own { IfErr result (λ e. (job : Job) → IsOtherJob job → RefusesOutput job e) }
     ensures read_failed { (result ≡ Err (RunError.Trace ReadFault)) ↔ (S.has_failed source.new ≡ true) }
 {
-    let (incoming, header) = match opened(alloc, source) {
-        Ok(found) => found,
-        Err(error) => return Err(RunError::Trace(error)),
-    };
+    let (incoming, header) = opened(alloc, source)?;
     match header {
         Some(header) => Ok(Output::Text(whole_image(alloc, source, incoming, header)?)),
         None => Ok(Output::Replayed(paged_image(rt, alloc, source, incoming)?)),

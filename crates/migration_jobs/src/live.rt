@@ -49,8 +49,6 @@ pub(crate) fn live_output<R: Threads + Wait + Sync, S: Source, G: Gate>(
     ensures own { IfErr result (λ e. (job : Job) → IsLiveJob job → RefusesOutput job e) }
     ensures read_failed { (result ≡ Err (RunError.Trace ReadFault)) ↔ (S.has_failed source.new ≡ true) }
 {
-    match HeldTrace::read(alloc, source) {
-        Ok(trace) => live_of_trace(rt, alloc, settings, show, trace, gate),
-        Err(refusal) => Err(RunError::Trace(refusal)),
-    }
+    let trace = HeldTrace::read(alloc, source)?;
+    live_of_trace(rt, alloc, settings, show, trace, gate)
 }

@@ -108,10 +108,8 @@ fn report_output<R: Threads + Sync, S: Source>(
     ensures own { IfErr result (λ e. (job : Job) → IsOtherJob job → RefusesOutput job e) }
     ensures read_failed { (result ≡ Err (RunError.Trace ReadFault)) ↔ (S.has_failed source.new ≡ true) }
 {
-    match TouchLog::read(alloc, source) {
-        Ok(log) => report_of_log(rt, alloc, settings, &log),
-        Err(refusal) => Err(RunError::Trace(refusal)),
-    }
+    let log = TouchLog::read(alloc, source)?;
+    report_of_log(rt, alloc, settings, &log)
 }
 
 /// Returns the sweep over a log of touches.
@@ -145,10 +143,8 @@ fn sweep_output<R: Threads + Sync, S: Source>(
     ensures own { IfErr result (λ e. (job : Job) → IsOtherJob job → RefusesOutput job e) }
     ensures read_failed { (result ≡ Err (RunError.Trace ReadFault)) ↔ (S.has_failed source.new ≡ true) }
 {
-    match TouchLog::read(alloc, source) {
-        Ok(log) => sweep_of_log(rt, alloc, cases, workers, &log),
-        Err(refusal) => Err(RunError::Trace(refusal)),
-    }
+    let log = TouchLog::read(alloc, source)?;
+    sweep_of_log(rt, alloc, cases, workers, &log)
 }
 
 /// Returns the output of a job over the trace that a source holds.
@@ -223,12 +219,8 @@ pub fn run<R: Threads + Wait + Sync, S: Source, K: Sink, G: Gate>(
     ensures read_failed { (result ≡ Err (RunError.Trace ReadFault)) ↔ (S.has_failed source.new ≡ true) }
     ensures write_failed { (result ≡ Err RunError.Write) ↔ (K.has_failed sink.new ≡ true) }
 {
-    match read_output(rt, alloc, job, source, gate) {
-        Ok(output) => {
-            let answer = write_output(rt, alloc, sink, &output, workers_of(job));
-            remains.end(output);
-            answer
-        }
-        Err(error) => Err(error),
-    }
+    let output = read_output(rt, alloc, job, source, gate)?;
+    let answer = write_output(rt, alloc, sink, &output, workers_of(job));
+    remains.end(output);
+    answer
 }

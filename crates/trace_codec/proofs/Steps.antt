@@ -1,21 +1,20 @@
 -- What reading one more write adds.
-use Rattle.std.proofs.Common.{◌≡◌, ℕ, zero, suc, ◌+◌, ◌-◌, ◌^◌, ◌<◌, ◌≤◌, ltb, Bool, true, false, ◌&&◌, ◌⊎◌, inl}
+use Rattle.std.proofs.Common.{◌≡◌, ℕ, zero, suc, ◌+◌, ◌^◌, ◌≤◌, Bool, true, false, ◌&&◌, ◌⊎◌, inl}
 use Rattle.std.proofs.Common.{inr, eqb, cond, List, [], ◌∷◌, ◌++◌, length, take, drop, Option, Some, None, refl, sym}
 use Rattle.std.proofs.Common.{ap, ◌∙◌, add-one, arith}
 use Rattle.std.specs.List.{All}
-use Rattle.std.proofs.lemmas.List.{length-take, length-drop, take_all}
+use Rattle.std.proofs.lemmas.List.{length-take, length-drop}
 use Rattle.std.proofs.lemmas.List.Elements.{All-push}
-use Rattle.std.proofs.lemmas.Bool.{and_parts, cases_Bool, cases_eq, eq-eqb, eqb-true, le-ltb, lt-leb, lt-ltb, ltb-false}
+use Rattle.std.proofs.lemmas.Bool.{and_parts, cases_Bool, cases_eq, eq-eqb, eqb-true, ltb-false}
 use Rattle.std.proofs.lemmas.Bool.{leb-false, ne_eqb}
 use Rattle.migration_model.specs.Trace.{IsGuestWrite}
-use Rattle.migration_model.specs.TraceReading.{tick_in, page_in, offset_in, length_in, write_in, rest_after, writes_in}
+use Rattle.migration_model.specs.TraceReading.{tick_in, offset_in, length_in, write_in, rest_after, writes_in}
 use Rattle.migration_model.specs.TraceReading.{rest_of}
 use Rattle.migration_model.proofs.Writes.{writes_in_more, rest_of_more}
 use Rattle.migration_model.proofs.Order.{last_by-push, in_order-push}
 use Rattle.trace_codec.specs.Reading.{HoldsWrites, ReadsTo}
 use Rattle.trace_codec.specs.Refusals.{is_empty_write, write_refusal}
 use Rattle.trace_codec.specs.declared.error.TraceError.{TraceError}
-use Rattle.trace_codec.specs.declared.error.TraceError.TheVariants.{OutOfPage}
 
 -- a test that let something pass
 pub passed : (b : Bool) (e : TraceError) (others : Option TraceError) → cond b (Some e) others ≡ None
@@ -42,41 +41,6 @@ passes_empty version offset len (inr release) = elim (cases_eq len 0) [
   | inl none ↦ rw (eq-eqb len 0 none, eq-eqb version 2 release.0, eq-eqb offset 0 release.1) refl
   | inr some ↦ rw (ne_eqb len 0 some) refl
 ]
-
--- the bytes after the first n are all that are left
-pub all_behind : (n : ℕ) (bytes : List ℕ) → take (length bytes - n) (drop n bytes) ≡ drop n bytes
-all_behind n bytes = take_all (length bytes - n) (drop n bytes) (omega (arith, length-drop n bytes))
-
--- ---- the tests of a record, one after another
-
-skip : (b : Bool) (e : TraceError) (others r : Option TraceError) → b ≡ false → others ≡ r → cond b (Some e) others ≡ r
-skip b e others r is same = rw is same
-
--- the test of where a write ends in its page
-abbrev pub end_test : ℕ → ℕ → List ℕ → Option TraceError
-end_test shift i bytes = cond (ltb (2 ^ shift) (offset_in bytes + length_in bytes)) (Some (OutOfPage i)) None
-
--- if all other tests pass, it is the one that decides
-pub last_test : (version shift pages before i : ℕ) (bytes : List ℕ) → 16 ≤ length bytes
-    → 16 + length_in bytes ≤ length bytes → before ≤ tick_in bytes
-    → tick_in bytes < 2 ^ 40 → page_in bytes < pages → is_empty_write version (offset_in bytes) (length_in bytes)
-    ≡ false
-    → write_refusal version shift pages before i bytes ≡ end_test shift i bytes
-last_test version shift pages before i bytes long whole order tick page some =
-    skip _ _ _ _ (le-ltb (length bytes) 16 long)
-    (skip _ _ _ _ (le-ltb (length bytes) (16 + length_in bytes) whole)
-    (skip _ _ _ _ (le-ltb (tick_in bytes) before order)
-    (skip _ _ _ _ (lt-leb (2 ^ 40) (tick_in bytes) tick)
-    (skip _ _ _ _ (lt-leb pages (page_in bytes) page)
-    (skip _ _ _ _ some refl)))))
-
-pub out_of_page : (shift i : ℕ) (bytes : List ℕ) → 2 ^ shift < offset_in bytes + length_in bytes
-    → end_test shift i bytes ≡ Some (OutOfPage i)
-out_of_page shift i bytes past = rw (lt-ltb (2 ^ shift) (offset_in bytes + length_in bytes) past) refl
-
-pub within_page : (shift i : ℕ) (bytes : List ℕ) → offset_in bytes + length_in bytes ≤ 2 ^ shift
-    → end_test shift i bytes ≡ None
-within_page shift i bytes within = rw (le-ltb (2 ^ shift) (offset_in bytes + length_in bytes) within) refl
 
 -- what a write that is not refused is
 pub record IsRight (version shift pages before : ℕ) (bytes : List ℕ) : Type 0 where

@@ -1,15 +1,13 @@
-//! The numbers at the front of some bytes, and the refusals of headers and records.
+//! The numbers at the front of some bytes, and the refusals of headers.
 
 ghost use Rattle.std.specs.Prelude.{◌≡◌, ◌≤◌, ◌+◌, length, drop, slice_index, IfOk, IfErr, OnOk, Some, None};
 ghost use Rattle.std.specs.Int.{w16, w32, w64};
 ghost use Rattle.migration_model.specs.Numbers.{number_in};
-ghost use Rattle.migration_model.specs.TraceReading.{tick_in, rest_after};
-ghost use Rattle.trace_codec.specs.Refusals.{header_refusal, is_magic, write_refusal};
+ghost use Rattle.trace_codec.specs.Reading.{IsCut};
+ghost use Rattle.trace_codec.specs.Refusals.{header_refusal, is_magic};
 
 use crate::error::TraceError;
-use crate::limits::{
-    MAX_LENGTH, MAX_WRITES, TICK_LIMIT, is_empty_write, is_page_count, is_shift, is_version,
-};
+use crate::limits::{MAX_LENGTH, MAX_WRITES, is_page_count, is_shift, is_version};
 use byteorder::{ByteOrder, LittleEndian};
 use guest_log::{Header, Shape};
 
@@ -92,48 +90,13 @@ pub fn read_header(bytes: &[u8]) -> Result<Header, TraceError>
     Ok(Header { version, shape })
 }
 
-/// Tests the write at the front, which is write `index` of a trace with this header; the previous write was at tick
-/// `before`. Returns its tick and the bytes after it, or what it is refused for, `E8` to `E13`.
-#[tactic(auto, unfolding(migration_model::specs::TraceReading::rest_after))]
-pub fn checked_write<'a>(
-    header: Header,
-    before: u64,
-    index: u32,
-    bytes: &'a [u8],
-) -> Result<(u64, &'a [u8]), TraceError>
-    ensures refused { IfErr result (λ e. write_refusal header.version header.shape.shift header.shape.pages before
-        index bytes.now ≡ Some e) }
-    ensures accepted { OnOk result (write_refusal header.version header.shape.shift header.shape.pages before index
-        bytes.now ≡ None) }
-    ensures tick { IfOk result (λ found. found.0 ≡ tick_in bytes.now) }
-    ensures rest { IfOk result (λ found. found.1.now ≡ rest_after bytes.now) }
+/// Returns the header of a trace's bytes, and the bytes after it.
+pub(crate) fn split_header(bytes: &[u8]) -> Result<(Header, &[u8]), TraceError>
+    ensures cut { IfOk result (λ found. IsCut bytes.now found.0.version found.0.shape.shift found.0.shape.pages
+        found.0.shape.writes found.1.now) }
+    ensures refused { IfErr result (λ e. header_refusal bytes.now ≡ Some e) }
 {
-    let shape = header.shape;
-    if bytes.len() < 16 {
-        return Err(TraceError::ShortRecord(index));
-    }
-    let len = u16_in(&bytes[14..]);
-    let end = 16 + len as usize;
-    if bytes.len() < end {
-        return Err(TraceError::ShortRecord(index));
-    }
-    let tick = u64_in(bytes);
-    if tick < before {
-        return Err(TraceError::TickOrder(index));
-    }
-    if tick >= TICK_LIMIT {
-        return Err(TraceError::TickTooLarge(index));
-    }
-    if u32_in(&bytes[8..]) >= shape.pages {
-        return Err(TraceError::PageOutOfRange(index));
-    }
-    let offset = u16_in(&bytes[12..]);
-    if is_empty_write(header.version, offset, len as usize) {
-        return Err(TraceError::EmptyWrite(index));
-    }
-    if shape.page_size() < offset as usize + len as usize {
-        return Err(TraceError::OutOfPage(index));
-    }
-    let (_, rest) = bytes.split_at(end);
-    Ok((tick, rest))
+    let header = read_header(bytes)?;
+    let (_, body) = bytes.split_at(16);
+    Ok((header, body))
 }

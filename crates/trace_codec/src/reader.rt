@@ -8,8 +8,8 @@ ghost use Rattle.trace_codec.specs.Refusals.{Refuses};
 ghost use Rattle.guest_log.specs.Writes.{shown};
 
 use crate::error::TraceError;
-use crate::fields::{checked_write, read_header};
-use crate::records::first_write;
+use crate::fields::split_header;
+use crate::records::checked_write;
 use guest_log::{Header, Shape, WriteView};
 use std::marker::Model;
 
@@ -41,8 +41,7 @@ impl<'a> TraceReader<'a> {
         ensures writes { IfOk result (λ r. r.writes ≡ []) }
         ensures refused { IfErr result (Refuses bytes.entry.now) }
     {
-        let header = read_header(bytes)?;
-        let (_, rest) = bytes.split_at(16);
+        let (header, rest) = split_header(bytes)?;
         Ok(TraceReader {
             bytes,
             header,
@@ -84,10 +83,9 @@ impl<'a> TraceReader<'a> {
         ensures refused { IfErr result (Refuses self.old.bytes) }
         ensures kept { OnErr result (self.new ≡ self.old) }
     {
-        let (tick, rest) = checked_write(self.header, self.last, self.index, self.rest)?;
-        let (write, _) = first_write(self.rest);
+        let (write, rest) = checked_write(self.header, self.last, self.index, self.rest)?;
         self.index += 1;
-        self.last = tick;
+        self.last = write.tick;
         self.rest = rest;
         Ok(write)
     }

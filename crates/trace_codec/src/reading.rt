@@ -17,7 +17,7 @@ use std::alloc::{AllocError, Global};
 const PIECE: usize = 262_144;
 
 /// Returns the bytes with space after the first `filled` ones, and never more than one byte past the longest trace.
-fn with_room(bytes: Vec<u8>, filled: usize) -> Result<Vec<u8>, AllocError>
+fn with_room(mut bytes: Vec<u8>, filled: usize) -> Result<Vec<u8>, AllocError>
     requires within { filled ≤ vec_len bytes }
     requires short { filled ≤ MAX_LENGTH }
     requires bound { vec_len bytes ≤ MAX_LENGTH + 1 }
@@ -25,7 +25,6 @@ fn with_room(bytes: Vec<u8>, filled: usize) -> Result<Vec<u8>, AllocError>
     ensures room { IfOk result (λ v. filled < vec_len v) }
     ensures bound { IfOk result (λ v. vec_len v ≤ MAX_LENGTH + 1) }
 {
-    let mut bytes = bytes;
     if filled < bytes.len() {
         return Ok(bytes);
     }

@@ -7,8 +7,8 @@ ghost use Rattle.trace_codec.specs.Reading.{IsBody, IsView, RefusesBody};
 ghost use Rattle.trace_codec.specs.Refusals.{Refuses};
 
 use crate::error::TraceError;
-use crate::fields::{checked_write, read_header};
-use crate::records::Records;
+use crate::fields::split_header;
+use crate::records::{Records, checked_write};
 use crate::trace::Trace;
 use guest_log::{Header, Shape};
 use std::alloc::{AllocError, Global};
@@ -24,8 +24,8 @@ fn check_writes(header: Header, bytes: &[u8]) -> Result<(), TraceError>
     let mut last = 0;
     let mut rest = bytes;
     for index in 0..header.shape.writes {
-        let (tick, after) = checked_write(header, last, index, rest)?;
-        last = tick;
+        let (write, after) = checked_write(header, last, index, rest)?;
+        last = write.tick;
         rest = after;
     }
     if !rest.is_empty() {
@@ -56,8 +56,7 @@ impl<'a> TraceView<'a> {
         ensures found { IfOk result (λ trace. Spells bytes.now trace) }
         ensures refused { IfErr result (Refuses bytes.now) }
     {
-        let header = read_header(bytes)?;
-        let (_, body) = bytes.split_at(16);
+        let (header, body) = split_header(bytes)?;
         check_writes(header, body)?;
         Ok(TraceView { header, body })
     }

@@ -46,9 +46,9 @@ impl FrontRecords {
     {
         let index = self.positions.len() as u32;
         let (_, rest) = bytes.split_at(self.end);
-        let (tick, behind) = checked_write(self.header, self.last, index, rest)?;
+        let (write, behind) = checked_write(self.header, self.last, index, rest)?;
         self.positions.push(self.end as u32)?;
-        self.last = tick;
+        self.last = write.tick;
         self.end = bytes.len() - behind.len();
         Ok(())
     }
@@ -69,7 +69,7 @@ impl FrontRecords {
     }
 
     /// Returns all records of a whole trace, after which no bytes follow.
-    pub(crate) fn all(self, bytes: &[u8]) -> Result<FrontRecords, TraceError>
+    pub(crate) fn all(mut self, bytes: &[u8]) -> Result<FrontRecords, TraceError>
         requires { IsTested bytes.now self }
         ensures spelled { IfOk result (λ all. Spells bytes.now
             (held_trace all.header.version all.header.shape.shift all.header.shape.pages
@@ -78,11 +78,10 @@ impl FrontRecords {
             all.header.shape.writes bytes.now all.positions.items) }
         ensures refused { IfErr result (RefusesUnlessMemory bytes.now) }
     {
-        let mut front = self;
-        front.go_on(bytes)?;
-        if front.end < bytes.len() {
+        self.go_on(bytes)?;
+        if self.end < bytes.len() {
             return Err(TraceError::TrailingBytes);
         }
-        Ok(front)
+        Ok(self)
     }
 }

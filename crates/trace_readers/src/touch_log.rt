@@ -48,7 +48,7 @@ fn touch_in(write: &WriteView<'_>) -> Touch
 /// Returns the log of the writes that a reader has in front of it, with slots reserved for `room` of them.
 fn log_of_reader(
     alloc: Global,
-    reader: TraceReader<'_>,
+    mut reader: TraceReader<'_>,
     room: usize,
 ) -> Result<TouchLog, TraceError>
     requires { reader.writes ≡ [] }
@@ -56,7 +56,6 @@ fn log_of_reader(
         × (log ≡ touches_in trace)) }
     ensures refused { IfErr result (RefusesUnlessMemory reader.entry.bytes) }
 {
-    let mut reader = reader;
     let header = reader.header();
     let mut touches = Vec::with_capacity(alloc, room)?;
     for _ in 0..header.shape.writes {

@@ -10,9 +10,7 @@ ghost use Rattle.trace_codec.specs.Source.{SourceRefuses};
 
 use crate::pieces::Pieces;
 use crate::write_visitor::WriteVisitor;
-use trace_codec::{
-    Header, MAX_LENGTH, Source, TraceError, checked_write, first_write, read_header,
-};
+use trace_codec::{Header, MAX_LENGTH, Source, TraceError, checked_write, read_header};
 
 /// How far the records of a trace are taken: `count` of them, the last at tick `last`.
 #[derive(Clone, Copy)]
@@ -62,10 +60,9 @@ fn visit_record<'a, V: WriteVisitor>(
     ensures room { IfErr result (λ e. wants_bytes e ≡ true → length bytes.now < 65_551) }
     ensures fault { IfErr result (λ e. e ≢ TraceError.ReadFault) }
 {
-    let (tick, rest) = checked_write(taken.header, taken.last, taken.count, bytes)?;
-    let (write, _) = first_write(bytes);
+    let (write, rest) = checked_write(taken.header, taken.last, taken.count, bytes)?;
     visitor.visit(&write)?;
-    taken.last = tick;
+    taken.last = write.tick;
     taken.count += 1;
     Ok(rest)
 }
@@ -192,7 +189,7 @@ fn visit_piece<S: Source, V: WriteVisitor>(
 pub(crate) fn visit_rest<S: Source, V: WriteVisitor>(
     source: &mut S,
     pieces: &mut Pieces,
-    taken: Taken,
+    mut taken: Taken,
     visitor: &mut V,
 ) -> Result<(), TraceError>
     requires unfailed { S.has_failed source.old ≡ false }
@@ -204,7 +201,6 @@ pub(crate) fn visit_rest<S: Source, V: WriteVisitor>(
         → IsVisiting (V.makes start visitor.old) old (S.remaining source.old) taken pieces.old → SourceRefuses old e) }
     ensures failed { (result ≡ Err TraceError.ReadFault) ↔ (S.has_failed source.new ≡ true) }
 {
-    let mut taken = taken;
     while pieces.count() <= MAX_LENGTH {
         if !visit_piece(source, pieces, &mut taken, visitor)? {
             return Ok(());

@@ -4,4 +4,3 @@ pub mod QuantityLemmas
 pub mod RefusalLemmas
 pub mod LineFacts
 pub mod Parsing
-pub mod ViewLemmas

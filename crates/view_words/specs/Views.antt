@@ -5,7 +5,7 @@ use Rattle.clap.specs.Simple.{App, subcommand_of}
 use Rattle.clap.specs.Walk.{Row, Text}
 use Rattle.migration_model.specs.Rates.{MigrationSettings}
 use Rattle.job_words.specs.Commands.{FailsByKind}
-use Rattle.job_words.specs.Jobs.{AsksForCases, RefusesSweep}
+use Rattle.job_words.specs.Jobs.{AsksForCases, SweepFails}
 use Rattle.job_words.specs.Options.{Says}
 use Rattle.job_words.specs.declared.command.WordsError.{WordsError}
 use Rattle.job_words.specs.declared.command.WordsError.TheVariants as errors
@@ -89,15 +89,9 @@ AreMissing rows e = (e ≡ asked.Limits refused.Missing) × LacksLimits rows
 abbrev pub RefusesPrediction : List Row → ViewWordsError → Type 0
 RefusesPrediction rows e = RefusesSettings rows e ⊎ AreMissing rows e
 
--- the cases of a sweep are refused for this, or its scale, or memory ran out
-abbrev pub RefusesCases : List Row → WordsError → Type 0
-RefusesCases rows errors.Memory = ⊤
-RefusesCases rows (errors.Help text) = ⊥
-RefusesCases rows (errors.Usage text) = ⊥
-RefusesCases rows (errors.Refused refusal) = RefusesSweep rows refusal
-
+-- the document of a sweep fails for its cases or its scale
 abbrev pub RefusesSweepWords : List Row → ViewWordsError → Type 0
-RefusesSweepWords rows (asked.Words e) = RefusesCases rows e
+RefusesSweepWords rows (asked.Words e) = SweepFails rows e
 RefusesSweepWords rows (asked.Limits e) = RefusesScaleWords rows e
 
 -- A command of this name is refused for this. `json` is one if it does not come right after the program's name.

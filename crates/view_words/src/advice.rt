@@ -14,7 +14,7 @@ use crate::limits::{LimitsRefusal, says_units};
 use crate::measures::measure_of;
 use crate::options::settings_for;
 use clap::ArgMatches;
-use job_words::{WordsError, WordsRefusal, said};
+use job_words::{WordsError, WordsRefusal, number_given};
 use predictions::units::{Limits, Scale};
 use rate_limit::Settings;
 use trace_views::{Budget, Measured, View};
@@ -26,7 +26,7 @@ fn advice_in_ticks(options: &ArgMatches) -> Result<AskedView, ViewWordsError>
         asked.scale) }
     ensures refused { IfErr result (RefusesAdvice (rows_of (found_of options.now))) }
 {
-    let Some(down) = said(options, "down") else {
+    let Some(down) = number_given(options, "down") else {
         return Err(ViewWordsError::Limits(LimitsRefusal::NoBudget));
     };
     let settings = match settings_for(options) {
@@ -40,7 +40,7 @@ fn advice_in_ticks(options: &ArgMatches) -> Result<AskedView, ViewWordsError>
         view: View::Advise {
             budget: Budget {
                 down,
-                total: said(options, "total"),
+                total: number_given(options, "total"),
             },
             settings,
             measured: None,
@@ -61,7 +61,7 @@ fn is_down_said(options: &ArgMatches) -> bool
     ensures there { result ≡ true → IsThere (rows_of (found_of options.now)) (codes "down") }
     ensures unsaid { result ≡ false → Says (rows_of (found_of options.now)) (codes "down") None }
 {
-    said(options, "down").is_some()
+    number_given(options, "down").is_some()
 }
 
 /// Returns the advice for limits, with these settings.
@@ -75,7 +75,7 @@ fn measured_advice(options: &ArgMatches, settings: &Settings, measured: Measured
         view: View::Advise {
             budget: Budget {
                 down: ticks_of(&measured.scale, &measured.limits),
-                total: said(options, "total"),
+                total: number_given(options, "total"),
             },
             settings: *settings,
             measured: Some(measured),
@@ -94,10 +94,7 @@ fn advice_in_units(options: &ArgMatches) -> Result<AskedView, ViewWordsError>
     if is_down_said(options) {
         return Err(ViewWordsError::Limits(LimitsRefusal::TwoBudgets));
     }
-    let measure = match measure_of(options) {
-        Ok(measure) => measure,
-        Err(refusal) => return Err(ViewWordsError::Limits(refusal)),
-    };
+    let measure = measure_of(options)?;
     match limited(&measure) {
         Some((scale, limits)) => Ok(measured_advice(
             options,

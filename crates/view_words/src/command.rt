@@ -14,11 +14,10 @@ ghost use Rattle.view_words.specs.Commands.{IsCommand, IsDocument, json_line, js
 ghost use Rattle.view_words.specs.Starts.{RefusesStarts};
 ghost use Rattle.view_words.specs.Usage.{IsUsage};
 ghost use Rattle.view_words.specs.Views.{AsksForDocument, AsksForPrediction, AsksForView, FailsOn, Names};
-ghost use Rattle.view_words.specs.Views.{RefusesCases};
 ghost use Rattle.view_words.specs.Views.{RefusesDocument, RefusesPrediction, RefusesSettings, RefusesSweepWords};
 ghost use Rattle.view_words.specs.Views.{RefusesView, WordsAsk};
 ghost use Rattle.view_words.specs.Views.{WordsFail, width_text};
-ghost use Rattle.view_words.specs.declared.command.ViewWordsError.TheVariants.{Words};
+ghost use Rattle.view_words.specs.declared.command.ViewWordsError.TheVariants.{Limits, Words};
 
 use crate::advice::advice_of;
 use crate::limits::{LimitsRefusal, with_scale, with_units};
@@ -27,7 +26,7 @@ use crate::options::{style_of, with_budget, with_style};
 use crate::starts::{form_of, starts_of, with_chart, with_starts};
 use clap::{ArgMatches, Command};
 use job_words::{
-    WordsError, cases_of, leaf_command, refusal_of, sweep_options, with_cases, with_report,
+    WordsError, cases_and_workers, leaf_command, number_given, refusal_of, with_cases, with_report,
 };
 use predictions::units::{Limits, Scale};
 use std::alloc::{AllocError, Global};
@@ -40,6 +39,22 @@ pub enum ViewWordsError {
     Words(WordsError),
     /// Limits in time and bytes are refused.
     Limits(LimitsRefusal),
+}
+
+impl From<WordsError> for ViewWordsError {
+    ghost from_gives = { λ error e. e ≡ Words error };
+
+    fn from(error: WordsError) -> ViewWordsError {
+        ViewWordsError::Words(error)
+    }
+}
+
+impl From<LimitsRefusal> for ViewWordsError {
+    ghost from_gives = { λ refusal e. e ≡ Limits refusal };
+
+    fn from(refusal: LimitsRefusal) -> ViewWordsError {
+        ViewWordsError::Limits(refusal)
+    }
 }
 
 impl From<AllocError> for ViewWordsError {
@@ -189,54 +204,22 @@ pub(crate) fn usage(alloc: Global, text: &str) -> ViewWordsError
     }
 }
 
-/// Returns the sweep that its options and cases ask for, as a document with this scale.
-fn sweep_view(
-    alloc: Global,
-    options: &ArgMatches,
-    scale: &Option<Scale>,
-) -> Result<View, WordsError>
-    requires { AsksForScale (rows_of (found_of options.now)) scale.now }
-    ensures made { IfOk result (λ view. AsksForDocument (codes "sweep") (rows_of (found_of options.now)) view
-        scale.now) }
-    ensures refused { IfErr result (λ e. RefusesCases (rows_of (found_of options.now)) e) }
-{
-    let asked = sweep_options(options);
-    let words = options.get_strs("case").unwrap_or(&[]);
-    let cases = cases_of(alloc, &asked, words)?;
-    Ok(View::JsonSweep {
-        cases,
-        workers: asked.workers as usize,
-        scale: *scale,
-    })
-}
-
-/// Returns a view with its scale, or why there is none.
-fn scaled(
-    view: Result<View, WordsError>,
-    scale: &Option<Scale>,
-) -> Result<AskedView, ViewWordsError>
-    ensures made { IfOk result (λ asked. (asked.scale ≡ scale.now) × (view ≡ Ok asked.view)) }
-    ensures refused { IfErr result (λ e. IsErrAnd view (λ w. e ≡ ViewWordsError.Words w)) }
-{
-    match view {
-        Ok(view) => Ok(AskedView {
-            view,
-            scale: *scale,
-        }),
-        Err(error) => Err(ViewWordsError::Words(error)),
-    }
-}
-
 /// Returns the JSON document of a sweep that its options and cases ask for.
 fn json_sweep_of(alloc: Global, options: &ArgMatches) -> Result<AskedView, ViewWordsError>
     ensures made { IfOk result (λ asked. AsksForDocument (codes "sweep") (rows_of (found_of options.now)) asked.view
         asked.scale) }
     ensures refused { IfErr result (RefusesSweepWords (rows_of (found_of options.now))) }
 {
-    match scale_said(options) {
-        Ok(scale) => scaled(sweep_view(alloc, options, &scale), &scale),
-        Err(refusal) => Err(ViewWordsError::Limits(refusal)),
-    }
+    let scale = &scale_said(options)?;
+    let (cases, workers) = cases_and_workers(alloc, options)?;
+    Ok(AskedView {
+        view: View::JsonSweep {
+            cases,
+            workers,
+            scale: *scale,
+        },
+        scale: *scale,
+    })
 }
 
 /// Returns the JSON document of a report that its options ask for.
@@ -245,16 +228,14 @@ fn json_report_of(options: &ArgMatches) -> Result<AskedView, ViewWordsError>
         asked.scale) }
     ensures refused { IfErr result (RefusesSettings (rows_of (found_of options.now))) }
 {
-    match measure_of(options) {
-        Ok(measure) => Ok(AskedView {
-            view: View::JsonReport {
-                settings: measure.settings,
-                scale: measure.scale,
-            },
+    let measure = measure_of(options)?;
+    Ok(AskedView {
+        view: View::JsonReport {
+            settings: measure.settings,
             scale: measure.scale,
-        }),
-        Err(refusal) => Err(ViewWordsError::Limits(refusal)),
-    }
+        },
+        scale: measure.scale,
+    })
 }
 
 /// Returns the JSON document of starts that their options ask for.
@@ -285,10 +266,7 @@ fn show_of(alloc: Global, options: &ArgMatches) -> Result<AskedView, ViewWordsEr
     ensures refused { IfErr result (λ e. RefusesSettings (rows_of (found_of options.now)) e
         ⊎ (IsUsage width_text e × IsWidthRefused (rows_of (found_of options.now)))) }
 {
-    let measure = match measure_of(options) {
-        Ok(measure) => measure,
-        Err(refusal) => return Err(ViewWordsError::Limits(refusal)),
-    };
+    let measure = measure_of(options)?;
     match style_of(options) {
         Some(style) => Ok(AskedView {
             view: View::Show {
@@ -308,16 +286,14 @@ fn chart_of(options: &ArgMatches) -> Result<AskedView, ViewWordsError>
         asked.scale) }
     ensures refused { IfErr result (RefusesSettings (rows_of (found_of options.now))) }
 {
-    match measure_of(options) {
-        Ok(measure) => Ok(AskedView {
-            view: View::Chart {
-                settings: measure.settings,
-                scale: measure.scale,
-            },
+    let measure = measure_of(options)?;
+    Ok(AskedView {
+        view: View::Chart {
+            settings: measure.settings,
             scale: measure.scale,
-        }),
-        Err(refusal) => Err(ViewWordsError::Limits(refusal)),
-    }
+        },
+        scale: measure.scale,
+    })
 }
 
 /// Returns the scale and the limits that options ask for, if there are both.
@@ -338,14 +314,11 @@ fn prediction_of(
     ensures made { IfOk result (AsksForPrediction (rows_of (found_of options.now)) form) }
     ensures refused { IfErr result (RefusesPrediction (rows_of (found_of options.now))) }
 {
-    let measure = match measure_of(options) {
-        Ok(measure) => measure,
-        Err(refusal) => return Err(ViewWordsError::Limits(refusal)),
-    };
+    let measure = measure_of(options)?;
     match limited(&measure) {
         Some((scale, limits)) => Ok(AskedPrediction {
             settings: measure.settings,
-            increment: job_words::said(options, "inc"),
+            increment: number_given(options, "inc"),
             scale,
             limits,
             form,

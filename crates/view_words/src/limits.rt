@@ -9,11 +9,12 @@ ghost use Rattle.view_words.specs.Quantities.{IsRate, IsTime};
 ghost use Rattle.view_words.specs.Units.{AreLimitsSaid, HasNoUnits, IsNo, IsNoSample, IsSaid, RefusesWord, SaysBy};
 ghost use Rattle.view_words.specs.Units.{SaysSample, has_units, is_incomplete, quantity_rule, scale_in, scale_rules};
 ghost use Rattle.view_words.specs.Units.{unit_rules};
+ghost use Rattle.view_words.specs.declared.limits.LimitsRefusal.TheVariants.{Range, Settings};
 
 use crate::quantities::{link_rate_of, sample_of, time_of};
 use crate::ranges::{RangeRefusal, scale_refused};
 use clap::{Arg, ArgAction, ArgMatches, Command};
-use job_words::{number, said};
+use job_words::{number, number_given};
 use predictions::units::{Limits, Scale};
 use rate_limit::SettingsError;
 use std::alloc::{AllocError, Global};
@@ -61,6 +62,22 @@ pub enum LimitsRefusal {
     /// Another setting is out of its range.
     #[error("settings {0}")]
     Settings(SettingsError),
+}
+
+impl From<RangeRefusal> for LimitsRefusal {
+    ghost from_gives = { λ refusal e. e ≡ Range refusal };
+
+    fn from(refusal: RangeRefusal) -> LimitsRefusal {
+        LimitsRefusal::Range(refusal)
+    }
+}
+
+impl From<SettingsError> for LimitsRefusal {
+    ghost from_gives = { λ error e. e ≡ Settings error };
+
+    fn from(error: SettingsError) -> LimitsRefusal {
+        LimitsRefusal::Settings(error)
+    }
 }
 
 /// An option of a quantity: its name, the name of its value, and its help.
@@ -115,12 +132,11 @@ fn quantity<'a>(alloc: Global, name: &'a str, value: &'a str, help: &'a str) -> 
 /// Returns the command with options that take quantities.
 fn with_quantities<'a>(
     alloc: Global,
-    command: Command<'a>,
+    mut command: Command<'a>,
     quantities: &[Quantity<'a>],
 ) -> Result<Command<'a>, AllocError>
     ensures { IfOk result (λ new. AddsRules command.entry (map (λ q. quantity_rule q.0.now) quantities.now) new) }
 {
-    let mut command = command;
     for (name, value, help) in quantities {
         command = command.arg(quantity(alloc, name, value, help))?;
     }
@@ -186,7 +202,7 @@ pub fn says_units(options: &ArgMatches) -> bool
         || has_word(options, "reserve")
         || has_word(options, "tick")
         || has_word(options, "sampled")
-        || said(options, "page").is_some()
+        || number_given(options, "page").is_some()
 }
 
 /// Returns an option's time, if it is given, or a refusal if its word is not a time.
@@ -252,7 +268,7 @@ pub(crate) fn said_of(options: &ArgMatches) -> Result<Said, LimitsRefusal>
     let reserve = time_said(options, "reserve", LimitsRefusal::Reserve)?;
     Ok(Said {
         tick,
-        page: said(options, "page"),
+        page: number_given(options, "page"),
         sampled,
         link,
         first,

@@ -9,7 +9,9 @@ ghost use Rattle.view_words.specs.Styles.{AsksForStyle, IsWidthRefused};
 
 use crate::limits::with_units;
 use clap::{ArgMatches, Command};
-use job_words::{flag, given, is_flag, number, said, sweep_options, with_report, with_sweep};
+use job_words::{
+    flag, is_flag, number, number_given, number_or, sweep_options, with_report, with_sweep,
+};
 use rate_limit::{Asked, Settings, SettingsError};
 use report_pictures::Style;
 use std::alloc::{AllocError, Global};
@@ -41,7 +43,7 @@ fn grid_of(options: &ArgMatches) -> Asked
     ensures { AsksForGrid (rows_of (found_of options.now)) result }
 {
     let asked = sweep_options(options);
-    let max = given(options, "max", asked.max);
+    let max = number_or(options, "max", asked.max);
     Asked {
         max,
         min: asked.min.min(max),
@@ -83,7 +85,7 @@ pub(crate) fn style_of(options: &ArgMatches) -> Option<Style>
     ensures style { IfSome result (λ style. AsksForStyle (rows_of (found_of options.now)) style) }
     ensures refused { IfNone result (IsWidthRefused (rows_of (found_of options.now))) }
 {
-    let width = given(options, "width", DEFAULT_WIDTH);
+    let width = number_or(options, "width", DEFAULT_WIDTH);
     if width < MIN_WIDTH || width > MAX_WIDTH {
         return None;
     }

@@ -11,7 +11,7 @@ use crate::command::{ViewWordsError, limited, usage};
 use crate::limits::{LimitsRefusal, with_units};
 use crate::measures::{Measure, measure_of};
 use clap::{Arg, ArgAction, ArgMatches, Command};
-use job_words::{Number, flag, is_flag, said, with_numbers};
+use job_words::{Number, flag, is_flag, number_given, with_numbers};
 use predictions::starts::Starts;
 use predictions::units::{Limits, Scale};
 use std::alloc::{AllocError, Global};
@@ -96,8 +96,8 @@ fn ticks_of(options: &ArgMatches, from: u64) -> Option<Starts>
     ensures made { IfSome result (λ starts. AsksForTicks (rows_of (found_of options.now)) from starts) }
     ensures refused { IfNone result (AreTicksRefused (rows_of (found_of options.now)) from) }
 {
-    let to = said(options, "to");
-    let every = said(options, "every");
+    let to = number_given(options, "to");
+    let every = number_given(options, "every");
     let last = to.unwrap_or(from);
     if every.unwrap_or(1) < 1 || last < from || last >= START_LIMIT {
         return None;
@@ -143,10 +143,7 @@ pub(crate) fn starts_of(
     ensures made { IfOk result (AsksForStarts (rows_of (found_of options.now)) form) }
     ensures refused { IfErr result (RefusesStarts (rows_of (found_of options.now))) }
 {
-    let measure = match measure_of(options) {
-        Ok(measure) => measure,
-        Err(refusal) => return Err(ViewWordsError::Limits(refusal)),
-    };
+    let measure = measure_of(options)?;
     match limited(&measure) {
         Some(both) => starts_with(alloc, options, &measure, both, form),
         None => Err(ViewWordsError::Limits(LimitsRefusal::Missing)),

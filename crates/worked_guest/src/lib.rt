@@ -1,9 +1,11 @@
 //! Guests whose traces and memories were worked out by hand, and settings for them: for tests.
 #![tactic(auto)]
 
+mod changes;
 mod settings;
 
-pub use settings::asked;
+pub use changes::{Change, REFUSED, changed};
+pub use settings::{REPORT, asked};
 
 /// The trace of a guest of 4 pages of 16 bytes, which writes pages 0 and 1 at ticks 0 and 5, page 1 at tick 1200, and
 /// pages 3 and 1 at tick 2500.

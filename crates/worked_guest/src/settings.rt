@@ -1,4 +1,4 @@
-//! Settings for tests.
+//! Settings for tests, and the report that they make.
 
 ghost use Rattle.std.specs.Prelude.{◌≡◌};
 ghost use Rattle.worked_guest.specs.Worked.{slow};
@@ -27,3 +27,16 @@ pub fn asked() -> Asked
         base: None,
     }
 }
+
+/// The report on the trace of the guest of five writes with these settings.
+pub static REPORT: &str = "trace pages 4 size 16 writes 5
+window 0 writes 2 pages 2 again 0 fresh 2
+window 1 writes 1 pages 1 again 1 fresh 0
+window 2 writes 2 pages 2 again 1 fresh 1
+hot 2 pages 1
+page 1
+round 0 from 0 to 2000 rate 2 pages 4 sent 4 dirtied 2
+round 1 from 2000 to 3000 rate 2 pages 2 sent 2 dirtied 2
+round 2 from 3000 to 3667 rate 3 pages 2 sent 2 dirtied 0
+stop few at 3667 pages 0 down 0 total 8
+";

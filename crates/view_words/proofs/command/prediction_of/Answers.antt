@@ -5,10 +5,10 @@ pub returns-in-None-clause-refused : goal.returns-in-None-clause-refused
 returns-in-None-clause-refused c = inr (
   refl,
   record {
-    settings = c.in-Ok.measure.settings;
-    scale = c.in-Ok.measure.scale;
-    limits = c.in-Ok.measure.limits;
-    asks = c.in-Ok.ensures.made;
+    settings = c.in_ok-measure.measure.settings;
+    scale = c.in_ok-measure.measure.scale;
+    limits = c.in_ok-measure.measure.limits;
+    asks = c.in_ok-measure.ensures.made;
     lacks = c.in-None.ensures.none;
   },
 )

@@ -1,6 +1,6 @@
 use Rattle.clap.specs.Words.{found_of}
 use Rattle.job_words.proofs.OptionLemmas.{says_from_found}
-use Rattle.job_words.proofs.options.said.Goals as goal
+use Rattle.job_words.proofs.options.number_given.Goals as goal
 
 pub returns : goal.returns
 returns c = says_from_found (found_of c.args.matches.now) c.args.name.now c.get_one.result c.get_one.ensures.none
