@@ -4,7 +4,8 @@ use guest_log::Timeline;
 use page_bitmap::word_count;
 use rate_limit::{Asked, Reason, Settings};
 use round_planner::{
-    Following, Outcome, Plan, Planner, RoundIndex, RoundNumbers, RoundSums, mark_until, par_plan, plan,
+    Following, Outcome, Plan, Planner, RoundIndex, RoundNumbers, RoundSums, mark_until, par_plan,
+    plan,
 };
 use std::alloc::{AllocError, Global};
 use std::test::Fail;
@@ -251,7 +252,13 @@ fn rounds_by_their_numbers(rt: HostRuntime) -> Result<(), Fail> {
     let Some(Following::Round(second)) = after(&first, &settings, &ran) else {
         return Err(Fail::new("no second round"));
     };
-    let numbers = (second.step.from, second.step.rate, second.listed, second.next, second.total);
+    let numbers = (
+        second.step.from,
+        second.step.rate,
+        second.listed,
+        second.next,
+        second.total,
+    );
     assert_eq!(rt; numbers, (2000, 2, 2, 3, 4));
     let ran = RoundSums {
         sent: 2,
