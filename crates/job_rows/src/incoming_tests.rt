@@ -2,11 +2,12 @@
 
 ghost use Rattle.std.specs.Prelude.{⊤};
 
-use crate::tests::{changed, whole};
+use crate::tests::whole;
 use std::alloc::{AllocError, Global};
 use std::test::Fail;
 use trace_codec::{TestSource, Timeline, TraceError, WriteLog, WriteView};
 use trace_readers::{HeldTrace, IncomingTrace, WriteVisitor};
+use worked_guest::changed;
 
 /// A write: its tick, page, offset and length, and the sum of its bytes.
 pub(crate) type Seen = (u64, u32, u16, usize, u32);

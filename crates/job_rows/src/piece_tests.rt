@@ -2,12 +2,13 @@
 
 ghost use Rattle.std.specs.Prelude.{None, false};
 
-use crate::tests::{changed, ran, sink, whole};
+use crate::tests::{ran, sink, whole};
 use migration_jobs::{Job, RunError};
 use std::alloc::{AllocError, Global};
 use std::test::Fail;
 use trace_codec::{Source, TestSource, Timeline, TraceError};
 use trace_readers::TouchLog;
+use worked_guest::{REFUSED, changed};
 
 /// A source of endless bytes, which leaves the buffer as it is.
 #[derive(Drop)]
@@ -80,21 +81,7 @@ fn logs_bytes_that_stand_whole(rt: HostRuntime) -> Result<(), Fail> {
 #[test]
 fn refuses_the_first_cause_in_pieces(rt: HostRuntime) -> Result<(), Fail> {
     let alloc = rt.alloc();
-    let refused: [(usize, usize, &[u8], &[u8], TraceError); 12] = [
-        (0, 0, &[], &[], TraceError::ShortHeader),
-        (15, 0, &[], &[], TraceError::ShortHeader),
-        (102, 0, &[0x51], &[], TraceError::BadMagic),
-        (102, 12, &[6], &[], TraceError::ShortRecord(5)),
-        (101, 0, &[], &[], TraceError::ShortRecord(4)),
-        (102, 47, &[0xff, 0xff], &[], TraceError::ShortRecord(1)),
-        (102, 67, &[0xaf, 4], &[], TraceError::TickOrder(3)),
-        (102, 55, &[1], &[], TraceError::TickTooLarge(2)),
-        (102, 41, &[4], &[], TraceError::PageOutOfRange(1)),
-        (102, 47, &[0], &[], TraceError::EmptyWrite(1)),
-        (102, 45, &[16], &[], TraceError::OutOfPage(1)),
-        (102, 0, &[], &[0], TraceError::TrailingBytes),
-    ];
-    for (len, place, patch, more, cause) in refused {
+    for ((len, place, patch, more), cause) in REFUSED {
         for greatest in [1, 20, 102, 1000] {
             let bytes = changed(alloc, len, place, patch, more)?;
             let log = log_of(alloc, bytes, greatest, None);

@@ -12,7 +12,7 @@ use std::alloc::{AllocError, Global};
 use std::test::Fail;
 use trace_codec::{TestSource, Trace, TraceError, TraceView, decode, encode, read_trace};
 use trace_readers::{HeldTrace, TouchLog};
-use worked_guest::{MEMORY, MEMORY_AT_2000, TRACE, asked};
+use worked_guest::{MEMORY, MEMORY_AT_2000, REPORT, TRACE, asked};
 
 /// The tests' trace in version 2, except that its last write releases page 1.
 pub(crate) static RELEASED: [u8; 101] = [
@@ -31,19 +31,6 @@ static MEMORY_RELEASED: [u8; 64] = [
     0, 0, 0, 0, 0, 0, 0, 0, 0, 0, 0, 0, 0, 0, 0, 0, //
     0, 0, 4, 5, 0, 0, 0, 0, 0, 0, 0, 0, 0, 0, 0, 0,
 ];
-
-/// Its report at the tests' slow rates.
-const REPORT: &str = "trace pages 4 size 16 writes 5
-window 0 writes 2 pages 2 again 0 fresh 2
-window 1 writes 1 pages 1 again 1 fresh 0
-window 2 writes 2 pages 2 again 1 fresh 1
-hot 2 pages 1
-page 1
-round 0 from 0 to 2000 rate 2 pages 4 sent 4 dirtied 2
-round 1 from 2000 to 3000 rate 2 pages 2 sent 2 dirtied 2
-round 2 from 3000 to 3667 rate 3 pages 2 sent 2 dirtied 0
-stop few at 3667 pages 0 down 0 total 8
-";
 
 /// Returns the bytes with one of them changed.
 fn with_byte(alloc: Global, bytes: &[u8], offset: usize, byte: u8) -> Result<Vec<u8>, AllocError> {

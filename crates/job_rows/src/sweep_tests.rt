@@ -1,9 +1,10 @@
 //! Sweeps over no cases.
 
-use crate::tests::{changed, ran, sink};
+use crate::tests::{ran, sink};
 use migration_jobs::{Job, RunError};
 use std::test::Fail;
 use trace_codec::{TestSource, TraceError};
+use worked_guest::changed;
 
 #[test]
 fn sweeps_no_case(rt: HostRuntime) -> Result<(), Fail> {

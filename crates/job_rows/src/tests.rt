@@ -10,31 +10,7 @@ use std::sync::Wait;
 use std::test::Fail;
 use std::thread::Threads;
 use trace_codec::{TestSource, Trace, TraceError, TraceView, decode, encode, read_trace};
-use worked_guest::{MEMORY, MEMORY_AT_2000, TRACE};
-
-/// Returns the first `len` bytes of the trace with `patch` over those from `place` on, and `more` after them.
-pub(crate) fn changed(
-    alloc: Global,
-    len: usize,
-    place: usize,
-    patch: &[u8],
-    more: &[u8],
-) -> Result<Vec<u8>, AllocError> {
-    let mut bytes = Vec::new(alloc);
-    for (i, byte) in TRACE.iter().enumerate() {
-        if i >= len {
-            break;
-        }
-        let byte = if place <= i && i - place < patch.len() {
-            patch[i - place]
-        } else {
-            *byte
-        };
-        bytes.push(byte)?;
-    }
-    bytes.extend_from_slice(more)?;
-    Ok(bytes)
-}
+use worked_guest::{MEMORY, MEMORY_AT_2000, TRACE, changed};
 
 pub(crate) fn sink(alloc: Global) -> TestSink
     ensures { result.has_failed ≡ false }

@@ -1,8 +1,8 @@
 //! Live runs from the command line.
 
-use crate::tests::{changed, told, whole};
+use crate::tests::{told, whole};
 use std::test::Fail;
-use worked_guest::{MEMORY, MEMORY_AT_2000};
+use worked_guest::{MEMORY, MEMORY_AT_2000, changed};
 
 #[test]
 fn runs_live_by_the_command_line(rt: HostRuntime) -> Result<(), Fail> {

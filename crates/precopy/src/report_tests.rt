@@ -1,11 +1,12 @@
 //! Reports from the command line, with lines worked out by hand.
 
-use crate::tests::{changed, told, whole};
+use crate::tests::{told, whole};
 use migration_jobs::TestSink;
 use std::alloc::{AllocError, Global};
 use std::sync::Wait;
 use std::test::Fail;
 use std::thread::Threads;
+use worked_guest::{REPORT, changed};
 
 /// The slow rates of the worked rounds.
 const SLOW: [&str; 5] = [
@@ -49,19 +50,6 @@ round 0 from 0 to 4 rate 1000 pages 4 sent 4 dirtied 1
 stop few at 4 pages 1 down 1 total 5
 ";
 
-/// The report of the worked rounds.
-static THREE_ROUNDS: &str = "trace pages 4 size 16 writes 5
-window 0 writes 2 pages 2 again 0 fresh 2
-window 1 writes 1 pages 1 again 1 fresh 0
-window 2 writes 2 pages 2 again 1 fresh 1
-hot 2 pages 1
-page 1
-round 0 from 0 to 2000 rate 2 pages 4 sent 4 dirtied 2
-round 1 from 2000 to 3000 rate 2 pages 2 sent 2 dirtied 2
-round 2 from 3000 to 3667 rate 3 pages 2 sent 2 dirtied 0
-stop few at 3667 pages 0 down 0 total 8
-";
-
 /// The report on a trace without writes.
 static NO_WRITES: &str = "trace pages 4 size 16 writes 0
 hot 2 pages 0
@@ -75,7 +63,7 @@ fn reports_working_sets(rt: HostRuntime) -> Result<(), Fail> {
     let slow: [&[&str]; 3] = [&SLOW, &slow_and("--workers=2"), &slow_and("--workers=16")];
     for options in slow {
         let (status, output, _) = report(&rt, alloc, whole(alloc)?, options)?;
-        assert!(rt; status == 0 && output.bytes() == THREE_ROUNDS.as_bytes());
+        assert!(rt; status == 0 && output.bytes() == REPORT.as_bytes());
     }
     for workers in ["--workers=1", "--workers=2", "--workers=16"] {
         let options = ["--window=5000", "--hot", "1", workers];

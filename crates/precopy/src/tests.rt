@@ -9,31 +9,7 @@ use std::sync::Wait;
 use std::test::Fail;
 use std::thread::Threads;
 use trace_codec::TestSource;
-use worked_guest::TRACE;
-
-/// The first `len` bytes of the trace with `patch` over those from `place` on, and `more` after them.
-pub(crate) fn changed(
-    alloc: Global,
-    len: usize,
-    place: usize,
-    patch: &[u8],
-    more: &[u8],
-) -> Result<Vec<u8>, AllocError> {
-    let mut bytes = Vec::new(alloc);
-    for (i, byte) in TRACE.iter().enumerate() {
-        if i >= len {
-            break;
-        }
-        let byte = if place <= i && i - place < patch.len() {
-            patch[i - place]
-        } else {
-            *byte
-        };
-        bytes.push(byte)?;
-    }
-    bytes.extend_from_slice(more)?;
-    Ok(bytes)
-}
+use worked_guest::{TRACE, changed};
 
 fn words(alloc: Global, command: &str) -> Result<Vec<String>, AllocError> {
     let mut words = Vec::new(alloc);

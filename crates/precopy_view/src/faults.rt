@@ -6,6 +6,8 @@ ghost use Rattle.migration_jobs.specs.Sink.{AppendsPart};
 ghost use Rattle.program_edge.specs.Ends.{IsTold, TellsRun, memory_line};
 ghost use Rattle.precopy_view.specs.Ends.{IsHelpOf, IsRefusal, TellsShow, TellsViewWords};
 ghost use Rattle.precopy_view.specs.Fitting.{FitsScale, IsMisfit};
+ghost use Rattle.precopy_view.specs.declared.faults.ShowError.TheVariants.{Run};
+ghost use Rattle.migration_jobs.specs.declared.error.RunError.TheVariants.{Trace};
 
 use migration_jobs::{RunError, Sink};
 use predictions::units::Scale;
@@ -31,6 +33,22 @@ pub enum ShowError {
     /// A view could not be made.
     #[error("{0}")]
     View(ViewError),
+}
+
+impl From<RunError> for ShowError {
+    ghost from_gives = { λ error e. e ≡ Run error };
+
+    fn from(error: RunError) -> ShowError {
+        ShowError::Run(error)
+    }
+}
+
+impl From<TraceError> for ShowError {
+    ghost from_gives = { λ error e. e ≡ Run (Trace error) };
+
+    fn from(error: TraceError) -> ShowError {
+        ShowError::Run(RunError::Trace(error))
+    }
 }
 
 /// Tests whether a trace may have a scale: the size of its pages, and how many pages it has.

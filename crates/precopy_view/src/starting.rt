@@ -35,10 +35,7 @@ fn text_of<R: Threads + Sync, S: Source>(
     ensures read_failed { (result ≡ Err (ShowError.Run (RunError.Trace ReadFault)))
         ↔ (S.has_failed source.new ≡ true) }
 {
-    let log = match TouchLog::read(alloc, source) {
-        Ok(log) => log,
-        Err(refusal) => return Err(ShowError::Run(RunError::Trace(refusal))),
-    };
+    let log = TouchLog::read(alloc, source)?;
     check_scale(&asked.scale, &log)?;
     match view_text(rt, alloc, &asked.view, &log) {
         Ok(shown) => Ok(shown),
@@ -70,10 +67,8 @@ fn run_view<R: Threads + Sync, S: Source, K: Sink>(
     ensures write_failed { (result ≡ Err (ShowError.Run RunError.Write)) ↔ (K.has_failed sink.new ≡ true) }
 {
     let shown = text_of(rt, alloc, asked, source)?;
-    match write_out(sink, &shown.text) {
-        Ok(()) => Ok(shown.kept),
-        Err(error) => Err(ShowError::Run(error)),
-    }
+    write_out(sink, &shown.text)?;
+    Ok(shown.kept)
 }
 
 /// Makes a view and writes it, and returns the program's status.

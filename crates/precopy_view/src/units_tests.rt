@@ -1,6 +1,6 @@
 //! Worked examples of times and bytes: of reports, and of starts.
 
-use crate::tests::told;
+use crate::tests::{answer, told};
 use std::test::Fail;
 
 // The limits below: a link of 64 pages of the guest in 1,000 ticks, and a guest of which one page in four was recorded.
@@ -29,16 +29,9 @@ sent in all: 384 bytes
 
 #[test]
 fn shows_times_and_bytes(rt: HostRuntime) -> Result<(), Fail> {
-    let words = [
-        "show",
-        "--width=82",
-        "--link=1KiB",
-        "--downtime=200ms",
-        "--reserve=10ms",
-        "--page=16",
-        "--sampled=4/16",
-    ];
-    let (status, output, _) = told(&rt, rt.alloc(), 102, &words)?;
+    let line =
+        "show --width=82 --link=1KiB --downtime=200ms --reserve=10ms --page=16 --sampled=4/16";
+    let (status, output) = answer(&rt, rt.alloc(), line)?;
     assert!(rt; status == 0 && output.bytes() == SCREEN.as_bytes());
     Ok(())
 }
@@ -61,14 +54,8 @@ precopy live --min 16 --max 16 --inc 0 --threshold 2 --rounds 2 --start 0
 
 #[test]
 fn advises_for_a_downtime_in_time(rt: HostRuntime) -> Result<(), Fail> {
-    let words = [
-        "advise",
-        "--link=1KiB",
-        "--downtime=200ms",
-        "--page=16",
-        "--sampled=4/16",
-    ];
-    let (status, output, _) = told(&rt, rt.alloc(), 102, &words)?;
+    let line = "advise --link=1KiB --downtime=200ms --page=16 --sampled=4/16";
+    let (status, output) = answer(&rt, rt.alloc(), line)?;
     assert!(rt; status == 0 && output.bytes() == ADVICE.as_bytes());
     Ok(())
 }
@@ -81,14 +68,8 @@ static SWEEP: &str = "{\"units\":{\"tick_seconds\":0.001000,\"page_bytes\":16,\"
 
 #[test]
 fn writes_a_sweep_in_times_and_bytes(rt: HostRuntime) -> Result<(), Fail> {
-    let words = [
-        "json",
-        "sweep",
-        "--page=16",
-        "--sampled=4/16",
-        "2,4,1,1,8,0",
-    ];
-    let (status, output, _) = told(&rt, rt.alloc(), 102, &words)?;
+    let line = "json sweep --page=16 --sampled=4/16 2,4,1,1,8,0";
+    let (status, output) = answer(&rt, rt.alloc(), line)?;
     assert!(rt; status == 0 && output.bytes() == SWEEP.as_bytes());
     Ok(())
 }
@@ -135,16 +116,8 @@ static REPORT: &str = "{\"trace\":{\"pages\":4,\"size\":16,\"writes\":5},\
 
 #[test]
 fn writes_times_and_bytes(rt: HostRuntime) -> Result<(), Fail> {
-    let words = [
-        "json",
-        "report",
-        "--link=1KiB",
-        "--downtime=200ms",
-        "--reserve=10ms",
-        "--page=16",
-        "--sampled=4/16",
-    ];
-    let (status, output, _) = told(&rt, rt.alloc(), 102, &words)?;
+    let line = "json report --link=1KiB --downtime=200ms --reserve=10ms --page=16 --sampled=4/16";
+    let (status, output) = answer(&rt, rt.alloc(), line)?;
     assert!(rt; status == 0 && output.bytes() == REPORT.as_bytes());
     Ok(())
 }
@@ -213,17 +186,9 @@ worst: 0.000 s, --start 0: time 385 ms, sent 384 bytes, downtime 135 ms, kept
 
 #[test]
 fn tells_when_to_migrate(rt: HostRuntime) -> Result<(), Fail> {
-    let words = [
-        "when",
-        "--link=1KiB",
-        "--downtime=200ms",
-        "--reserve=10ms",
-        "--page=16",
-        "--sampled=4/16",
-        "--every=800",
-        "--to=2400",
-    ];
-    let (status, output, _) = told(&rt, rt.alloc(), 102, &words)?;
+    let line =
+        "when --link=1KiB --downtime=200ms --reserve=10ms --page=16 --sampled=4/16 --every=800 --to=2400";
+    let (status, output) = answer(&rt, rt.alloc(), line)?;
     assert!(rt; status == 0 && output.bytes() == STARTS.as_bytes());
     Ok(())
 }
@@ -241,34 +206,18 @@ static DOCUMENT: &str = "{\"limit_seconds\":0.100000,\"starts\":[\
 
 #[test]
 fn a_limit_that_no_start_keeps_has_a_status(rt: HostRuntime) -> Result<(), Fail> {
-    let words = [
-        "json",
-        "when",
-        "--link=1KiB",
-        "--downtime=100ms",
-        "--reserve=10ms",
-        "--page=16",
-        "--sampled=4/16",
-        "--rounds=1",
-        "--every=2400",
-    ];
-    let (status, output, _) = told(&rt, rt.alloc(), 102, &words)?;
+    let line =
+        "json when --link=1KiB --downtime=100ms --reserve=10ms --page=16 --sampled=4/16 --rounds=1 --every=2400";
+    let (status, output) = answer(&rt, rt.alloc(), line)?;
     assert!(rt; status == 3 && output.bytes() == DOCUMENT.as_bytes());
     Ok(())
 }
 
 #[test]
 fn no_known_start_has_a_status(rt: HostRuntime) -> Result<(), Fail> {
-    let words = [
-        "when",
-        "--link=1KiB",
-        "--downtime=200ms",
-        "--reserve=10ms",
-        "--page=16",
-        "--sampled=4/16",
-        "--from=2400",
-    ];
-    let (status, output, _) = told(&rt, rt.alloc(), 102, &words)?;
+    let line =
+        "when --link=1KiB --downtime=200ms --reserve=10ms --page=16 --sampled=4/16 --from=2400";
+    let (status, output) = answer(&rt, rt.alloc(), line)?;
     assert!(rt;
         status == 4
             && output.bytes().ends_with(
@@ -280,16 +229,8 @@ fn no_known_start_has_a_status(rt: HostRuntime) -> Result<(), Fail> {
 
 #[test]
 fn draws_starts(rt: HostRuntime) -> Result<(), Fail> {
-    let words = [
-        "when",
-        "--chart",
-        "--link=1KiB",
-        "--downtime=200ms",
-        "--reserve=10ms",
-        "--page=16",
-        "--sampled=4/16",
-    ];
-    let (status, output, _) = told(&rt, rt.alloc(), 102, &words)?;
+    let line = "when --chart --link=1KiB --downtime=200ms --reserve=10ms --page=16 --sampled=4/16";
+    let (status, output) = answer(&rt, rt.alloc(), line)?;
     let picture = output.bytes();
     assert!(rt; status == 0 && picture.starts_with(b"<svg ") && picture.ends_with(b"</svg>\n"));
     Ok(())

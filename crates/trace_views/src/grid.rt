@@ -1,8 +1,7 @@
 //! The cases that advice is chosen from.
 
 ghost use Rattle.std.specs.Prelude.{◌≡◌, ◌≤◌, ◌++◌, IfOk, OnOk};
-ghost use Rattle.trace_views.specs.Grid.{cases_on, grid_of, kept, part, threshold_within, with_increments};
-ghost use Rattle.trace_views.specs.Grid.{with_minima, with_rounds, with_skips, with_thresholds};
+ghost use Rattle.trace_views.specs.Grid.{cases_on, grid_of, kept, part, threshold_within, with_minima};
 
 use crate::budget::Budget;
 use rate_limit::{Asked, Settings};
@@ -72,93 +71,45 @@ impl Grid {
     {
         let mut cases = Vec::with_capacity(alloc, MOST_CASES)?;
         cases.push(*settings)?;
-        self.push_minima(&mut cases, settings.asked())?;
+        self.push_all(&mut cases, settings.asked())?;
         Ok(cases)
     }
 
-    /// Appends settings with each least rate.
-    fn push_minima(&self, cases: &mut Vec<Settings>, asked: &Asked) -> Result<(), AllocError>
+    /// Appends settings with each combination of the values, without and with skipping.
+    fn push_all(&self, cases: &mut Vec<Settings>, asked: &Asked) -> Result<(), AllocError>
         ensures { OnOk result (cases.new.items ≡ cases.old.items ++ with_minima self.now asked.now) }
     {
         for min in &self.min {
-            self.push_increments(
-                cases,
-                &Asked {
-                    min: *min,
-                    ..*asked
-                },
-            )?;
+            for increment in &self.increment {
+                for threshold in &self.threshold {
+                    for rounds in &self.rounds {
+                        let asked = Asked {
+                            min: *min,
+                            increment: *increment,
+                            threshold: *threshold,
+                            rounds: *rounds,
+                            ..*asked
+                        };
+                        push_kept(
+                            cases,
+                            Asked {
+                                skip: false,
+                                ..asked
+                            },
+                        )?;
+                        push_kept(
+                            cases,
+                            Asked {
+                                skip: true,
+                                ..asked
+                            },
+                        )?;
+                    }
+                }
+            }
         }
         Ok(())
     }
-
-    /// Appends settings with each increment.
-    fn push_increments(&self, cases: &mut Vec<Settings>, asked: &Asked) -> Result<(), AllocError>
-        ensures { OnOk result (cases.new.items ≡ cases.old.items ++ with_increments self.now asked.now) }
-    {
-        for increment in &self.increment {
-            self.push_thresholds(
-                cases,
-                &Asked {
-                    increment: *increment,
-                    ..*asked
-                },
-            )?;
-        }
-        Ok(())
-    }
-
-    /// Appends settings with each threshold.
-    fn push_thresholds(&self, cases: &mut Vec<Settings>, asked: &Asked) -> Result<(), AllocError>
-        ensures { OnOk result (cases.new.items ≡ cases.old.items ++ with_thresholds self.now asked.now) }
-    {
-        for threshold in &self.threshold {
-            self.push_rounds(
-                cases,
-                &Asked {
-                    threshold: *threshold,
-                    ..*asked
-                },
-            )?;
-        }
-        Ok(())
-    }
-
-    /// Appends settings with each number of rounds.
-    fn push_rounds(&self, cases: &mut Vec<Settings>, asked: &Asked) -> Result<(), AllocError>
-        ensures { OnOk result (cases.new.items ≡ cases.old.items ++ with_rounds self.now asked.now) }
-    {
-        for rounds in &self.rounds {
-            push_skips(
-                cases,
-                &Asked {
-                    rounds: *rounds,
-                    ..*asked
-                },
-            )?;
-        }
-        Ok(())
-    }
-}
-
-/// Appends settings without and with skipping.
-fn push_skips(cases: &mut Vec<Settings>, asked: &Asked) -> Result<(), AllocError>
-    ensures { OnOk result (cases.new.items ≡ cases.old.items ++ with_skips asked.now) }
-{
-    push_kept(
-        cases,
-        Asked {
-            skip: false,
-            ..*asked
-        },
-    )?;
-    push_kept(
-        cases,
-        Asked {
-            skip: true,
-            ..*asked
-        },
-    )
 }
 
 /// Appends settings, if none of them is out of range.
