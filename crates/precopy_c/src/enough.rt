@@ -6,7 +6,7 @@ ghost use Rattle.predictions.specs.Questions.{Fits, scale_in};
 ghost use Rattle.precopy_c.specs.Enough.{AreAmountsOf, AreAmountsOver};
 ghost use Rattle.precopy_c.specs.Predictions.{IsAsked, IsToldOf, RefusesPrediction, number_of_question};
 
-use crate::inquiries::{Inquiry, inquiry};
+use crate::inquiries::{Inquiry, inquiry_of};
 use crate::questions::{QuestionRefusal, SizedQuestion};
 use predictions::remedies::{Remedies, RemedyNumbers, Trial};
 use std::alloc::{AllocError, Global};
@@ -33,7 +33,7 @@ fn enough(
     ensures only { (t : GuestTrace) → Spells bytes.now t → IsAsked asked.now
         → Fits (scale_in asked.now.question) t.shift t.pages → IfErr result (λ e. number_of_question e ≡ 16) }
 {
-    let Inquiry { log, .. } = inquiry(alloc, bytes, asked)?;
+    let Inquiry { log, .. } = inquiry_of(alloc, bytes, asked)?;
     let trial = Trial::of_question(&asked.question)?;
     let found = amounts(alloc, &trial, &log)?;
     Ok(found)

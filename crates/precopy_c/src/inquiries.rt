@@ -18,7 +18,7 @@ pub(crate) struct Inquiry {
 }
 
 /// Returns what a question comes to, and the touches of the trace that the bytes encode. The question is tested first.
-pub(crate) fn inquiry(
+pub(crate) fn inquiry_of(
     alloc: Global,
     bytes: &[u8],
     asked: &SizedQuestion,

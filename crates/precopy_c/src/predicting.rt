@@ -8,7 +8,7 @@ ghost use Rattle.predictions.specs.Questions.{Fits, answer_of, scale_in};
 ghost use Rattle.precopy_c.specs.Predictions.{AreNumbersOver, IsAnswerOver, IsAsked, IsPredictionOf, IsToldOf};
 ghost use Rattle.precopy_c.specs.Predictions.{RefusesPrediction, number_of_question};
 
-use crate::inquiries::{Inquiry, inquiry};
+use crate::inquiries::{Inquiry, inquiry_of};
 use crate::questions::{QuestionRefusal, SizedQuestion};
 use guest_log::Timeline;
 use predictions::redrawn::Errors;
@@ -69,7 +69,7 @@ fn predicted(alloc: Global, bytes: &[u8], asked: &SizedQuestion) -> Result<Told,
     ensures only { (t : GuestTrace) → Spells bytes.now t → IsAsked asked.now
         → Fits (scale_in asked.now.question) t.shift t.pages → IfErr result (λ e. number_of_question e ≡ 16) }
 {
-    let Inquiry { terms, log } = inquiry(alloc, bytes, asked)?;
+    let Inquiry { terms, log } = inquiry_of(alloc, bytes, asked)?;
     let answer = answered(alloc, &terms, &log)?;
     let errors = numbers(alloc, &terms, &log)?;
     Ok(Told { answer, errors })

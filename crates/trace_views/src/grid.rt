@@ -2,6 +2,7 @@
 
 ghost use Rattle.std.specs.Prelude.{◌≡◌, ◌≤◌, ◌++◌, IfOk, OnOk};
 ghost use Rattle.trace_views.specs.Grid.{cases_on, grid_of, kept, part, threshold_within, with_minima};
+ghost use Rattle.trace_views.specs.Grid.{with_increments, with_thresholds};
 
 use crate::budget::Budget;
 use rate_limit::{Asked, Settings};
@@ -71,41 +72,62 @@ impl Grid {
     {
         let mut cases = Vec::with_capacity(alloc, MOST_CASES)?;
         cases.push(*settings)?;
-        self.push_all(&mut cases, settings.asked())?;
+        self.push_minima(&mut cases, settings.asked())?;
         Ok(cases)
     }
 
-    /// Appends settings with each combination of the values, without and with skipping.
-    fn push_all(&self, cases: &mut Vec<Settings>, asked: &Asked) -> Result<(), AllocError>
+    /// Appends settings with each least rate, and with each of the other values.
+    fn push_minima(&self, cases: &mut Vec<Settings>, asked: &Asked) -> Result<(), AllocError>
         ensures { OnOk result (cases.new.items ≡ cases.old.items ++ with_minima self.now asked.now) }
     {
         for min in &self.min {
-            for increment in &self.increment {
-                for threshold in &self.threshold {
-                    for rounds in &self.rounds {
-                        let asked = Asked {
-                            min: *min,
-                            increment: *increment,
-                            threshold: *threshold,
-                            rounds: *rounds,
-                            ..*asked
-                        };
-                        push_kept(
-                            cases,
-                            Asked {
-                                skip: false,
-                                ..asked
-                            },
-                        )?;
-                        push_kept(
-                            cases,
-                            Asked {
-                                skip: true,
-                                ..asked
-                            },
-                        )?;
-                    }
-                }
+            self.push_increments(
+                cases,
+                &Asked {
+                    min: *min,
+                    ..*asked
+                },
+            )?;
+        }
+        Ok(())
+    }
+
+    /// Appends settings with each increment, and with what stops a plan.
+    fn push_increments(&self, cases: &mut Vec<Settings>, asked: &Asked) -> Result<(), AllocError>
+        ensures { OnOk result (cases.new.items ≡ cases.old.items ++ with_increments self.now asked.now) }
+    {
+        for increment in &self.increment {
+            self.push_stops(
+                cases,
+                &Asked {
+                    increment: *increment,
+                    ..*asked
+                },
+            )?;
+        }
+        Ok(())
+    }
+
+    /// Appends settings with each threshold and number of rounds, without and with skipping.
+    fn push_stops(&self, cases: &mut Vec<Settings>, asked: &Asked) -> Result<(), AllocError>
+        ensures { OnOk result (cases.new.items ≡ cases.old.items ++ with_thresholds self.now asked.now) }
+    {
+        for threshold in &self.threshold {
+            for rounds in &self.rounds {
+                let plain = Asked {
+                    threshold: *threshold,
+                    rounds: *rounds,
+                    skip: false,
+                    ..*asked
+                };
+                push_kept(cases, plain)?;
+                push_kept(
+                    cases,
+                    Asked {
+                        skip: true,
+                        ..plain
+                    },
+                )?;
             }
         }
         Ok(())

@@ -9,7 +9,6 @@ ghost use Rattle.trace_views.specs.Json.{units_object, window_object, window_uni
 
 use crate::document::Document;
 use crate::error::ViewError;
-use crate::sweep_document::write_scaled_pages;
 use guest_log::Shape;
 use predictions::units::Scale;
 use rate_limit::Settings;
@@ -40,7 +39,9 @@ fn write_scale(
     out.begin_object()?;
     out.seconds_member(alloc, "tick_seconds", scale.tick() as u128)?;
     out.seconds_member(alloc, "window_seconds", scale.micros(length))?;
-    write_scaled_pages(out, scale)?;
+    out.number_member("page_bytes", scale.page())?;
+    out.number_member("sampled_pages", scale.sampled())?;
+    out.number_member("guest_pages", scale.guest())?;
     out.end_object()?;
     Ok(())
 }

@@ -4,7 +4,7 @@ use Rattle.migration_model.proofs.Traces.{one_trace_lem}
 use Rattle.migration_model.specs.Trace.{GuestTrace}
 use Rattle.predictions.specs.Questions.{Fits, scale_in}
 use Rattle.precopy_c.specs.Predictions.{RefusesPrediction}
-use Rattle.precopy_c.proofs.inquiries.inquiry.Goals as goal
+use Rattle.precopy_c.proofs.inquiries.inquiry_of.Goals as goal
 
 pub returns-in_err-log-clause-refused : goal.returns-in_err-log-clause-refused
 returns-in_err-log-clause-refused c =
