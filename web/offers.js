@@ -1,4 +1,4 @@
-// What can be taken of what is enough for a limit. The amount that was found may have many digits. The next of few
+// What can be taken of what is enough for a limit. The amount that was found may have many digits. The next one of few
 // digits is offered in its place, if the module says that it keeps the limit too: what is shown is then taken.
 
 import { exactQuantity, roundedUp } from "./quantities.js";
