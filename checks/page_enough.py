@@ -98,7 +98,8 @@ def check_taken(asked, page, view):
     taken = page.browser.value(CONTROL.replace("NAME", name))
     if taken != said:
         raise Failure(f"{taken} is taken for the {name} that is shown as {said}")
-    if "Keeps the limit" not in found["verdict"]:
+    verdict = found["verdict"].replace("\u00a0", " ")
+    if "It converges: " not in verdict or " is kept." not in verdict:
         raise Failure(f"{name} {said} is taken: {found['verdict']}")
     if view:
         words = found["predict"].removesuffix(" < TRACE").split()[1:]

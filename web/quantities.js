@@ -19,9 +19,8 @@ const FAMILIES = [
 /** The least count in which a slider shows an amount in a unit that does not divide it. */
 const LEAST_COUNT = 10;
 
-/** The most digits behind a point, and the power of ten for them. */
+/** The most digits behind a point. */
 const MOST_PLACES = 6;
-const PLACE_SHARE = 10n ** BigInt(MOST_PLACES);
 
 /** All digits of a number together make less than this. */
 const END_OF_DIGITS = 1n << 64n;
@@ -57,10 +56,16 @@ export function quantityIn(word, units) {
   return found && quantityOf(found[1], found[2], units);
 }
 
-/** The count of an amount in a unit, so that it leads back to the amount, or null if no count does. */
+/** The count of an amount in a unit with the fewest digits that leads back to the amount, or null if no count does. */
 function exactCount(amount, size) {
-  const scaled = (BigInt(amount) * PLACE_SHARE + size - 1n) / size;
-  return (scaled * size) / PLACE_SHARE === BigInt(amount) ? decimalText(scaled, PLACE_SHARE, MOST_PLACES) : null;
+  for (let digits = 0; digits <= MOST_PLACES; digits += 1) {
+    const power = 10n ** BigInt(digits);
+    const scaled = (BigInt(amount) * power + size - 1n) / size;
+    if ((scaled * size) / power === BigInt(amount)) {
+      return decimalText(scaled, power, digits);
+    }
+  }
+  return null;
 }
 
 /** The count of a quantity as a field shows it: if none leads back to the amount, then rounded down. */
