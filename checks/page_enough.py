@@ -8,7 +8,7 @@ from fractions import Fraction
 from limit_cases import RATES, TIMES, redrawn
 from page_cases import SMALL, micros
 from remedies import Limits, Others, Remedies, Trial, remedies
-from view_texts import Failure, ran
+from view_texts import Failure, sweep_facts, told
 
 # The page takes smaller amounts than this.
 MOST_OF_PAGE = 1 << 53
@@ -88,21 +88,20 @@ CONTROL = """(() => {
 })()"""
 
 
-def check_taken(asked, page, view):
-    """What a click takes is what is shown, and keeps the limit: the page says so, and the program if it is there."""
+def check_taken(asked, page, precopy):
+    """What a click takes is what is shown, and keeps the limit: the page says so, and so does a plan of the program."""
     offers = page.browser.value(OFFERED)
     if not offers:
         return
     name, said = offers[asked.start % len(offers)]
     found = page.after(f"document.querySelector('[data-takes={name}]').click()")
-    taken = page.browser.value(CONTROL.replace("NAME", name))
-    if taken != said:
-        raise Failure(f"{taken} is taken for the {name} that is shown as {said}")
-    verdict = found["verdict"].replace("\u00a0", " ")
-    if "It converges: " not in verdict or " is kept." not in verdict:
-        raise Failure(f"{name} {said} is taken: {found['verdict']}")
-    if view:
-        words = found["predict"].removesuffix(" < TRACE").split()[1:]
-        status, text, faults = ran(view, words, asked.known.path)
-        if status != 0:
-            raise Failure(f"{words}: status {status}, {text[:200]!r}, {faults!r}")
+    taken, verdict = page.browser.value(CONTROL.replace("NAME", name)), found["verdict"].replace("\u00a0", " ")
+    if taken != said or "It converges: " not in verdict or " is kept." not in verdict:
+        raise Failure(f"{taken} is taken for the {name} that is shown as {said}: {verdict}")
+    words = found["commands"]["live"].split()
+    case = [words[words.index(f"--{option}") + 1] for option in ("min", "max", "inc", "threshold", "rounds")]
+    case.append(str(int("--skip" in words)))
+    plan = sweep_facts(told(precopy, ["sweep", *asked.place(), ",".join(case)], asked.known.path))["cases"][0]
+    limit = amount_in([said], "", TIMES) if name == "downtime" else asked.downtime
+    if plan["stop"] != "few" or plan["at"] > asked.known.last or plan["down"] * asked.tick + asked.reserve > limit:
+        raise Failure(f"{name} {said} is taken, and the plan is {plan}")
