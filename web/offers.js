@@ -22,8 +22,8 @@ function offerOf({ name, units }, { state, question }, sizes, amount) {
 
 /**
  * The offer of few digits for an amount that is enough; null if there is none. It is the next above the last amount
- * that was tried and is not enough, it is less than what is set if the amount is, and it can be taken. Its question is
- * still to be asked.
+ * that was tried and is not enough, and less than what is set if the amount is. If the amount can be taken, so can it.
+ * Its question is still to be asked.
  */
 function fewDigitsOffer(some, prediction, sizes, amount) {
   const { name, units, grain } = some;
@@ -31,7 +31,9 @@ function fewDigitsOffer(some, prediction, sizes, amount) {
   const least = Math.max(0, Number(amount) - grain + 1);
   const amounts = DIGITS.map((digits) => roundedUp(least, prediction.state[name].unit, units, digits))
     .filter((above) => (amount < set ? BigInt(above) < set : amount > set));
-  const found = amounts.map((above) => offerOf(some, prediction, sizes, above)).find(({ state }) => state !== null);
+  const offers = amounts.map((above) => offerOf(some, prediction, sizes, above));
+  const canTake = offerOf(some, prediction, sizes, Number(amount)).state !== null;
+  const found = offers.find(({ state }) => state !== null) ?? (canTake ? null : offers[0]);
   const isOther = found && amountOf(found.quantity) !== amount;
   return isOther ? { ...found, name, question: { ...prediction.question, [name]: amountOf(found.quantity) } } : null;
 }
