@@ -26,11 +26,13 @@ import { WindowsView } from "./windows-view.js";
 /** How long the page waits for a change to be the last one until it announces it, in milliseconds. */
 const SETTLED = 400;
 
-/** How many pictures stand on paper beside one: plans beside each other, and else two if there are two. */
+/** How many pictures there are in a row on paper: of several plans all, and then one of all else; of one plan two. */
 function picturesAbreast(plot) {
   const plans = Number(byId("plans").dataset.plans);
-  const hasOther = plans === 1 || !byId("starts-answer").hidden;
-  return plans > 1 && byId("plans").contains(plot) ? plans : hasOther ? 2 : 1;
+  if (plans === 1) {
+    return 2;
+  }
+  return byId("plans").contains(plot) ? plans : 1;
 }
 
 /** The example that is shown if the address asks for nothing. */
