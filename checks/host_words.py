@@ -15,6 +15,16 @@ def host_lines(link: int, millis: int) -> list[str]:
             else "libvirt: takes a downtime of 1 ms to 2,000 s"]
 
 
+def is_command(line: str) -> bool:
+    """Whether a line has words for a hypervisor. Else it says what that does not take."""
+    return ": takes " not in line
+
+
+def sentence_of(line: str) -> str:
+    """A line that is no command, as a sentence."""
+    return line.replace(": ", " ", 1) + "."
+
+
 def hosts_member(link: int, millis: int) -> dict:
     """The same as a member of a document."""
     mib = {"bandwidth_mib": link >> 20} if link >> 20 else {}

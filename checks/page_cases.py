@@ -3,27 +3,20 @@
 The facts are worked out from the lines of `precopy report` and `precopy sweep`, by the rules of docs/COMMANDS.md.
 """
 
-import math
 import os
 import random
-import re
-from fractions import Fraction
 
 import page_shapes
 from amount_texts import error_text, moment_text, size_text, time_text
-from limit_cases import RATES, TIMES, Known, redrawn
-from remedies import Limits, Others, Remedies, Trial, remedies
+from host_words import host_lines, is_command, sentence_of
+from limit_cases import RATES, Known, redrawn
+from page_tables import round_texts, window_texts
 from view_texts import TOP, Failure, document_of, ran, report_facts, sweep_facts, told
 
 TRACES = ["a.pcwt", "gzip.pcwt", "released.pcwt", "guests/mid.light.pcwt", "guests/sqlite.light.pcwt"]
-ROWS_SHOWN = 100
 SHAPES, SETTINGS = 15, 20
 # Of how many pages the standard errors, and what is enough for the limit, are worked out here too.
 SMALL = 2_000
-# The page takes smaller amounts than this.
-MOST_OF_PAGE = 1 << 53
-# The longest downtime that QEMU takes.
-MOST_DOWNTIME_MILLIS = 2_000_000
 
 
 def example(name):
@@ -153,66 +146,36 @@ def plural(count, noun):
     return f"{count:,} {noun}{'' if count == 1 else 's'}"
 
 
-def few_digits(share):
-    """A number as the page writes it with about three digits; of a great one no digit before its point is left out."""
-    digits = next((digits for digits in range(9) if share * 10**digits >= 100), 9)
-    rounded = math.floor(share * 10**digits + Fraction(1, 2))
-    whole, rest = divmod(rounded, 10**digits)
-    return f"{whole}.{rest:0{digits}}".rstrip("0").rstrip(".") if digits else str(whole)
-
-
-def seconds_in(micros):
-    """A moment in a table, as the page writes it: in seconds, with all their digits, of which there are three."""
-    return f"{micros // 1_000_000:,}.{f'{micros % 1_000_000:06}'.rstrip('0').ljust(3, '0')}"
-
-
-def round_texts(asked, rounds):
-    """The table of rounds, as the page writes it: rates are in a unit of the link's family that the link has one of."""
-    def share(rate):
-        return Fraction(rate * asked.page * asked.guest * 1_000, asked.sampled * asked.tick)
-
-    unit = re.sub(r"[\d.]", "", asked.link[1])
-    fitting = [name for name in RATES if name[1:] == unit[1:] and asked.link[0] >= RATES[name]]
-    unit = max(fitting, key=RATES.get, default=unit)
-    rows = []
-    for number, begin, end, rate, *pages in (some.values() for some in rounds):
-        texts = [*(seconds_in((tick - asked.start) * asked.tick) for tick in (begin, end)),
-                 few_digits(share(rate) / RATES[unit])]
-        beside = [f" {count:,}" * asked.ticks for count in (begin, end, rate)]
-        rows.append([f"{number:,}", *map("".join, zip(texts, beside)), *(f"{count:,}" for count in pages)])
-    return rows
-
-
-def window_texts(asked, windows):
-    """The table of windows, as the page writes it."""
-    rows = [list(some.values()) for some in windows[:ROWS_SHOWN]]
-    return [[f"{number:,}", seconds_in(number * asked.window * asked.tick), *(f"{count:,}" for count in counts)]
-            for number, *counts in rows]
+def hosts(asked):
+    """What the page gives QEMU and libvirt: commands, and sentences on what they do not take, as `precopy-view` has
+    them."""
+    link, _, downtime, reserve = asked.limits()
+    lines = host_lines(link, (downtime - reserve) // 1_000)
+    words, sentences = {}, {}
+    for name in ("QEMU", "libvirt"):
+        own = [line for line in lines if line.startswith(f"{name}: ")]
+        words[name.lower()] = "\n".join(line.removeprefix(f"{name}: ") for line in own if is_command(line))
+        sentences[name.lower()] = [sentence_of(line) for line in own if not is_command(line)]
+    return words, sentences
 
 
 def commands(asked):
-    """The words that the page gives for `precopy live`, QEMU and libvirt. What these cannot be told is left out."""
-    link, _, downtime, reserve = asked.limits()
+    """The words that the page gives for `precopy live`, QEMU and libvirt."""
     least, most, increment, threshold = asked.settings()
     live = f"precopy live --min {least} --max {most} --inc {increment} --threshold {threshold} --rounds {asked.rounds} "
     live += " ".join([*(word.replace("=", " ") for word in asked.place()), *["--skip"] * asked.skip]) + " < TRACE"
-    millis = (downtime - reserve) // 1_000
-    is_short = millis <= MOST_DOWNTIME_MILLIS
-    qemu = [f"migrate_set_parameter max-bandwidth {link}B"]
-    qemu += [f"migrate_set_parameter downtime-limit {millis}"] * is_short
-    libvirt = [f"virsh migrate-setspeed DOMAIN {link >> 20}"] * (link >= 1 << 20)
-    libvirt += [f"virsh migrate-setmaxdowntime DOMAIN {millis}"] * (is_short and millis > 0)
-    return {"live": live, "qemu": "\n".join(qemu), "libvirt": "\n".join(libvirt)}
+    return {"live": live, **hosts(asked)[0]}
 
 
 def check_notes(asked, notes):
-    """A note says of each hypervisor what its commands do not: a part of the link or of the downtime."""
+    """A note says of each hypervisor what it does not take, and what of a limit its commands leave out."""
     link, _, downtime, reserve = asked.limits()
-    is_cut = (downtime - reserve) % 1_000 > 0 or downtime - reserve < 1_000 or (
-        downtime - reserve) // 1_000 > MOST_DOWNTIME_MILLIS
-    wanted = {"qemu": is_cut, "libvirt": is_cut or link % (1 << 20) * 100 >= link}
-    if {name: bool(note) for name, note in notes.items()} != wanted:
-        raise Failure(f"notes on hypervisors: {notes}")
+    for name, sentences in hosts(asked)[1].items():
+        is_cut = (downtime - reserve) % 1_000 > 0 or downtime - reserve < 1_000
+        is_slow = name == "libvirt" and link % (1 << 20) * 100 >= link
+        missing = [sentence for sentence in sentences if sentence not in notes[name]]
+        if missing or bool(notes[name]) != bool(sentences or is_cut or is_slow):
+            raise Failure(f"the note on {name} is {notes[name]!r}, without {missing}")
 
 
 def figures(asked, report):
@@ -260,56 +223,6 @@ def errors(asked, document):
     if is_small and document["kept"] != "unknown" and told_by_program != drawn_errors(asked):
         raise Failure(f"errors of {told_by_program} in place of {drawn_errors(asked)}")
     return told_by_program
-
-
-def remedies_of(asked, first, increment):
-    """What keeps the limit by `bench/remedies.py`, the link in bytes a second. `first` and `increment` may be None."""
-    link, _, downtime, reserve = asked.limits()
-    others = Others(asked.rounds, asked.start, bool(asked.skip), asked.base, increment)
-    scale = redrawn.Scale(asked.tick, asked.page, asked.sampled, asked.guest)
-    found = remedies(asked.known.guest, Trial(scale, Limits(link, downtime, first, reserve), others))
-    return found._replace(link=found.link and found.link * 125)
-
-
-def amount_in(lines, words, units):
-    """The amount of the line that begins with these words, in bytes a second or microseconds."""
-    line = next((line for line in lines if line.startswith(words)), None)
-    if line is None:
-        return None
-    count, unit = re.match(r"([\d.]+) (\S+?)(?:/s)?(?:,|$)", line.removeprefix(words)).groups()
-    return math.floor(Fraction(count) * units[unit])
-
-
-def enough_in(lines):
-    """What lines of the page say of what is enough for the limit."""
-    slowed = [re.fullmatch(r"the guest slowed to (\d+) % of its speed, by a throttle of \d+ %", line) for line in lines]
-    speeds = [int(found[1]) for found in slowed if found]
-    is_kept = lines[0].startswith("Enough for the limit: these settings.")
-    return Remedies(is_kept, amount_in(lines, "link rate ", RATES), amount_in(lines, "downtime limit ", TIMES),
-                    speeds[0] if speeds else None)
-
-
-def enough_of(document):
-    """The same by a document of `json predict`, if it has that."""
-    told = document and document.get("enough")
-    if not told:
-        return None
-    down = told.get("down_seconds")
-    return Remedies(told["answer"] == "asked", told.get("link_bytes"), down if down is None else micros(down),
-                    told.get("guest_percent"))
-
-
-def check_enough(asked, lines, document):
-    """Tests what is enough for the limit: beside the model if the trace is small, and beside the program."""
-    if lines == ["Enough for the limit: unknown, since the trace ends before the migration does."]:
-        return
-    found, wanted = enough_in(lines), [enough_of(document)]
-    if asked.known.pages <= SMALL:
-        first = None if asked.first == 100 else asked.limits()[1]
-        wanted.append(remedies_of(asked, first, None if asked.increase == 10 else asked.settings()[2]))
-    for some in filter(None, wanted):
-        if max(some.link or 0, some.downtime or 0) < MOST_OF_PAGE and found != some:
-            raise Failure(f"enough: {lines} in place of {some}")
 
 
 def reason(asked, report):

@@ -1,7 +1,8 @@
 """What the planner's page says of kept plans beside another, and what it gives hypervisors."""
 
+from amount_texts import time_text
+from host_words import LONGEST_MILLIS, host_lines, sentence_of
 from page_acts import asked, require, typed
-from page_cases import time_text
 
 
 def check_comparison(page):
@@ -55,21 +56,26 @@ def check_axes(page):
             f"{seconds} s at {stop}, and {long} s at {far}")
 
 
+# What is said of a link or a downtime that a hypervisor does not take.
+SLOW = sentence_of(host_lines(0, 1)[2])
+SHORT = sentence_of(host_lines(1 << 20, 0)[3])
+LONG = sentence_of(host_lines(1 << 20, LONGEST_MILLIS + 1)[1])
+
 # Settings, what libvirt and QEMU are told of them, and words of what they are not told.
 HOSTS = [
-    ("link=600KB&downtime=4ms", {"libvirt": "virsh migrate-setmaxdowntime DOMAIN 4"}, {"libvirt": "600 KB/s"}),
+    ("link=600KB&downtime=4ms", {"libvirt": "virsh migrate-setmaxdowntime DOMAIN 4"}, {"libvirt": SLOW}),
     ("link=1.5MiB&downtime=2500us",
      {"libvirt": "virsh migrate-setspeed DOMAIN 1\nvirsh migrate-setmaxdowntime DOMAIN 2"},
      {"libvirt": "1.5 MiB/s", "qemu": "2.5 ms"}),
     ("link=8MiB&downtime=2ms&reserve=1.5ms", {"libvirt": "virsh migrate-setspeed DOMAIN 8"},
-     {"libvirt": "at least 1 ms", "qemu": time_text(500)}),
-    ("link=600KB&downtime=2500us&reserve=2ms", {"libvirt": ""}, {"libvirt": "600 KB/s", "qemu": time_text(500)}),
+     {"libvirt": SHORT, "qemu": time_text(500)}),
+    ("link=600KB&downtime=2500us&reserve=2ms", {"libvirt": ""}, {"libvirt": f"{SLOW} {SHORT}", "qemu": time_text(500)}),
     ("link=8MiB&downtime=4ms", {"libvirt": "virsh migrate-setspeed DOMAIN 8\n"
                                 "virsh migrate-setmaxdowntime DOMAIN 4"}, {}),
     ("link=8KB&downtime=2001s", {"libvirt": "", "qemu": "migrate_set_parameter max-bandwidth 8000B"},
-     {"libvirt": "2,000 s", "qemu": "2,000 s"}),
+     {"libvirt": f"{SLOW} {SHORT}", "qemu": LONG}),
     ("link=10Gbit&downtime=4us&tick=1us", {"libvirt": "virsh migrate-setspeed DOMAIN 1192"},
-     {"libvirt": "at least 1 ms", "qemu": time_text(4)}),
+     {"libvirt": SHORT, "qemu": time_text(4)}),
 ]
 
 

@@ -73,6 +73,35 @@ OVERLAPS = """
 })
 """
 
+# Columns of tables whose points, or ends of whole numbers, are not below each other.
+RAGGED = """
+[...document.querySelectorAll(".numbers")].filter((table) => table.offsetParent).flatMap((table) => {
+  const placeIn = ({ firstChild: text }) => {
+    const range = document.createRange();
+    const at = text.data.includes(".") ? text.data.indexOf(".") : text.data.length;
+    range.setStart(text, at - 1);
+    range.setEnd(text, at);
+    return range.getBoundingClientRect().right;
+  };
+  const columns = [...table.querySelectorAll("thead th")].map((head, column) => [head.textContent,
+    [...table.querySelectorAll("tbody tr")].map((row) => placeIn(row.children[column]))]);
+  return columns.filter(([, places]) => Math.max(...places) - Math.min(...places) > 0.6)
+    .map(([name, places]) => `${name}: ${places.slice(0, 5)}`);
+})
+"""
+
+# Places that have a part with nothing beside it at its left or at its right, though there is room.
+GAPS = """
+[...document.querySelectorAll("PLACES")].filter((place) => place.offsetParent).flatMap((place) => {
+  const boxes = [...place.children].filter((part) => part.offsetParent).map((part) => part.getBoundingClientRect());
+  const whole = place.getBoundingClientRect();
+  const rows = boxes.map(({ top }) => boxes.filter((box) => box.top <= top + 1 && top + 1 < box.bottom));
+  const isFull = (row) => Math.min(...row.map(({ left }) => left)) < whole.left + 2
+    && Math.max(...row.map(({ right }) => right)) > whole.right - 2;
+  return rows.filter((row) => !isFull(row)).map((row) => `${place.id}: ${row.length} of ${boxes.length} in a row`);
+})
+"""
+
 
 # Marks of pictures with a contrast below a bound to what they lie on: the paper, a halo of its colour, or another mark.
 # Opacity counts. PAIRS are names of marks, each with that of the mark below it, or null.
@@ -143,6 +172,10 @@ def check_look(page, name, is_long=False):
     require(not poor, f"contrast, {name}: {poor}")
     over = browser.value(OVERLAPS)
     require(not over, f"texts, {name}: {over}")
+    ragged = browser.value(RAGGED)
+    require(not ragged, f"columns, {name}: {ragged}")
+    gaps = browser.value(GAPS.replace("PLACES", ".pair"))
+    require(not gaps, f"gaps, {name}: {gaps}")
     parts = "#comparison, #controls, pre" + ", .scrolls" * (not is_long)
     cut = browser.value(f"[...document.querySelectorAll('{parts}')]"
                         ".filter((part) => part.scrollWidth > part.clientWidth).map((part) => part.id)")

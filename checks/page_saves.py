@@ -6,9 +6,10 @@ import struct
 import xml.etree.ElementTree
 from fractions import Fraction
 
-import page_cases
 from limit_cases import RATES
 from page_acts import PLAIN, asked, require
+from page_tables import moment_texts, rate_texts
+
 
 def saved_files(page, count):
     """Presses all buttons that save something, and returns the files by their names: so many."""
@@ -44,14 +45,15 @@ LEGENDS = {"rounds-this": ["Rounds", "sent", "downtime"], "working-set": ["Worki
 
 def check_rounds(rows, shown):
     """The file of rounds has the numbers of the table, whose ticks are milliseconds, and the same in ticks."""
-    start, page, weight = int(PLAIN["start"]), 4096, Fraction(129_819, 4_154)
-    texts = []
-    for number, begin, end, size, *pages, first, last, rate in rows:
+    start, weight = int(PLAIN["start"]), 4096 * Fraction(129_819, 4_154)
+    for _, begin, end, size, *_, first, last, rate in rows:
         require((begin, end) == ((first - start) * 1_000, (last - start) * 1_000), f"{begin}, {end}: {first}, {last}")
-        require(size == math.floor(rate * page * weight), f"{size} bytes a second for a rate of {rate}")
-        texts.append([f"{number:,}", page_cases.seconds_in(begin), page_cases.seconds_in(end),
-                      page_cases.few_digits(rate * page * weight / RATES["Gbit"]), *(f"{some:,}" for some in pages)])
-    require(texts == shown["rounds"], f"{texts} in place of {shown['rounds']}")
+        require(size == math.floor(rate * weight), f"{size} bytes a second for a rate of {rate}")
+    columns = [list(column) for column in zip(*rows)]
+    rates = rate_texts([rate * weight / RATES["Gbit"] for rate in columns[-1]])
+    texts = [columns[0], moment_texts(columns[1]), moment_texts(columns[2]), rates, *columns[4:7]]
+    found = [[text if isinstance(text, str) else f"{text:,}" for text in row] for row in zip(*texts)]
+    require(found == shown["rounds"], f"{found} in place of {shown['rounds']}")
 
 
 def check_table(name, text, shown):

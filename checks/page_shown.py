@@ -152,6 +152,16 @@ class Page:
         return self.browser.value("[...document.querySelectorAll('#limits-answer p, #limits-answer li')]"
                                   ".map((line) => line.textContent.replace(/ Take it$/, ''))")
 
+    def exact_enough(self):
+        """The same with all digits, which the title of a rounded amount has."""
+        return self.browser.value("""[...document.querySelectorAll("#limits-answer :is(p, li)")].map((line) => {
+          const copy = line.cloneNode(true);
+          copy.querySelectorAll("b[title]").forEach((amount) => {
+            amount.textContent = amount.title.replace("The search found ", "");
+          });
+          return copy.textContent.replace(/ Take it$/, "");
+        })""")
+
     def rest(self):
         """Waits until the page draws nothing anew, and its pictures are as wide as their places."""
         self.browser.value("atRest()")

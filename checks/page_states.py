@@ -9,7 +9,7 @@ import re
 
 import page_shapes
 from page_cases import example
-from page_looks import ALL_MARKS, HEIGHT, MARKS, STARTS_MARKS, check_look, check_names, read_nodes, require
+from page_looks import ALL_MARKS, GAPS, HEIGHT, MARKS, STARTS_MARKS, check_look, check_names, read_nodes, require
 from page_saves import saved_files
 from page_uses import end_worker, read
 
@@ -254,16 +254,22 @@ def check_stacked(page):
 
 
 def check_paper(page, folder):
-    """On paper the page is one: settings, prediction and pictures. With kept plans it may be two."""
+    """On paper the page is one: settings, prediction and pictures. With kept plans it may be two. No row has a gap."""
     browser = page.browser
-    for name in ("starts", "many-kept", "refused-control"):
+    for name in ("starts", "kept", "many-kept", "refused-control", "enough"):
         browser.dress(1400, HEIGHT, is_dark=True)
         STATES[name](page)
+        browser.call("Emulation.setEmulatedMedia", media="print")
+        browser.value("dispatchEvent(new Event('beforeprint'))")
+        gaps = browser.value(GAPS.replace("PLACES", ".pair, #results"))
+        browser.value("dispatchEvent(new Event('afterprint'))")
+        browser.call("Emulation.setEmulatedMedia", media="")
+        require(not gaps, f"{name} on paper: {gaps}")
         printed = base64.b64decode(browser.call("Page.printToPDF", printBackground=True, paperWidth=8.27,
                                                 paperHeight=11.69)["data"])
         put(folder, f"paper-{name}.pdf", printed)
         count = len(re.findall(rb"/Type\s*/Page\b", printed))
-        require(count <= (2 if name == "many-kept" else 1), f"{name} takes {count} pages of paper")
+        require(count <= (2 if name in ("kept", "many-kept") else 1), f"{name} takes {count} pages of paper")
     browser.dress(1400, HEIGHT)
 
 

@@ -1,7 +1,7 @@
-// The same limits in the words of QEMU's monitor and of libvirt: those of `precopy-view predict`, but for what a
-// hypervisor cannot be told. That is no command, and a sentence says why.
+// The same limits in the words of QEMU's monitor and of libvirt: those of `precopy-view predict`. Of what a hypervisor
+// does not take a sentence says that. Others say what of a limit its command leaves out.
 
-import { counted, timeText } from "./numbers.js";
+import { timeText } from "./numbers.js";
 import { quantityWords } from "./quantities.js";
 import { RATE_UNITS } from "./units.js";
 
@@ -14,6 +14,13 @@ const NOTICED = 100n;
 /** The longest downtime that QEMU takes, and with it libvirt, in milliseconds. */
 const MOST_MILLIS = 2_000_000n;
 
+/** What hypervisors do not take, in the sentences of `precopy-view predict`. */
+const REFUSED = {
+  qemuDowntime: "QEMU takes a downtime of at most 2,000 s.",
+  libvirtDowntime: "libvirt takes a downtime of 1 ms to 2,000 s.",
+  libvirtLink: "libvirt takes whole MiB a second, and the link has less than one.",
+};
+
 /** What a hypervisor takes as a downtime: what is left for pages, in whole milliseconds. */
 function millisIn({ downtime, reserve }) {
   return (downtime - reserve) / 1_000n;
@@ -23,26 +30,25 @@ function millisIn({ downtime, reserve }) {
 function downtimeNote(limits, isLibvirt) {
   const millis = millisIn(limits);
   const left = limits.downtime - limits.reserve;
-  const said = `${timeText(left)} for pages`;
-  if (millis > MOST_MILLIS) {
-    return `QEMU takes a downtime of at most ${counted(MOST_MILLIS / 1_000n)} s, and here it is ${said}.`;
+  if (millis > MOST_MILLIS || (isLibvirt && millis === 0n)) {
+    return isLibvirt ? REFUSED.libvirtDowntime : REFUSED.qemuDowntime;
   }
   if (millis === 0n) {
-    return isLibvirt ? `libvirt takes a downtime of at least 1 ms, and here it is ${said}.`
-      : `QEMU takes whole milliseconds of downtime, and here it is ${said}. With 0 it stops the guest only once no `
-        + "page is left.";
+    return `QEMU takes whole milliseconds of downtime, and here it is ${timeText(left)} for pages. With 0 it stops the `
+      + "guest only once no page is left.";
   }
-  return left === millis * 1_000n ? "" : `A downtime is in whole milliseconds: ${millis} ms of the ${said}.`;
+  return left === millis * 1_000n ? ""
+    : `A downtime is in whole milliseconds: ${millis} ms of the ${timeText(left)} for pages.`;
 }
 
 /** Why the link is no command of libvirt, or is noticeably more than that; nothing if it is neither. */
 function linkNote({ link }, words) {
   if (link < LIBVIRT_UNIT) {
-    return `libvirt takes whole MiB/s, and the least of them is more than the link of ${words}. QEMU's monitor takes `
-      + "it.";
+    return REFUSED.libvirtLink;
   }
   return (link % LIBVIRT_UNIT) * NOTICED < link ? ""
-    : `libvirt takes whole MiB/s: ${link / LIBVIRT_UNIT} MiB/s is less than the link of ${words}, and takes longer.`;
+    : `libvirt takes whole MiB a second: ${link / LIBVIRT_UNIT} MiB/s is less than the link of ${words}, and takes `
+      + "longer.";
 }
 
 function joinedNotes(...notes) {

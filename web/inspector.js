@@ -8,8 +8,8 @@ const TIP_GAP = 14;
 /**
  * Lets the user look at the items of a picture. `look` has `count` items, `find`s an item by its place in pixels, has
  * `words` of an item and its `span` in pixels, the `panels` in which it is marked, and says if there is `none`. It may
- * have `choose`, which Enter, Space and a click call; a click gives its place too. A finger only looks: then the `offer`
- * button takes what was looked at.
+ * have `choose`, which Enter, Space and a click call; a click gives its place too. A finger only looks: then the
+ * `offer` button takes what was looked at.
  */
 export class Inspector {
   constructor(plot, readout, name, offer = null) {

@@ -1,8 +1,10 @@
-// What takes long to answer: standard errors, and what keeps a limit. A worker of its own answers it, so that no plan
-// waits. Only what is shown is asked for: what was asked before and has no answer yet is left out.
+// What takes long to answer: standard errors, what keeps a limit, and whether a rounded amount does too. A worker of
+// its own answers it, so that no plan waits. Only what is shown is asked for: what was asked before and has no answer
+// yet is left out.
 
+import { fewDigitsOffers } from "./offers.js";
 import { PlannerClient, WorkerEnded } from "./planner-client.js";
-import { isUnknown } from "./predictions.js";
+import { isGood, isUnknown } from "./predictions.js";
 import { Refusal } from "./planner.js";
 
 /** How many answers are kept. */
@@ -35,7 +37,8 @@ export class LateAnswers {
     const ask = (kind, { question }) => ({ kind, trace, question, key: lateKey(kind, trace, question) });
     const errors = predictions.filter(mayHaveErrors).map((some) => ask("errors", some));
     const remedies = prediction && !isUnknown(prediction) ? [ask("remedies", prediction)] : [];
-    this.wanted = [...errors.slice(0, 1), ...remedies, ...errors.slice(1)];
+    const offers = prediction ? this.offersOf(trace, prediction).map((some) => ask("predict", some)) : [];
+    this.wanted = [...errors.slice(0, 1), ...remedies, ...offers, ...errors.slice(1)];
     if (!this.isAsking) {
       this.askAll();
     }
@@ -47,8 +50,26 @@ export class LateAnswers {
   }
 
   /** What keeps the limit of a prediction: null if there is no answer, and undefined if it is still to come. */
-  remediesOf(trace, prediction) {
+  leastOf(trace, prediction) {
     return isUnknown(prediction) ? null : this.known.get(lateKey("remedies", trace, prediction.question));
+  }
+
+  /** The amounts of few digits that may keep the limit of a prediction. */
+  offersOf(trace, prediction) {
+    const least = this.leastOf(trace, prediction);
+    return least ? fewDigitsOffers(prediction, trace.sizes, least) : [];
+  }
+
+  /** The same as `leastOf`, with those amounts of few digits that keep the limit, by their names. */
+  remediesOf(trace, prediction) {
+    const offers = this.offersOf(trace, prediction);
+    const answers = offers.map(({ question }) => this.known.get(lateKey("predict", trace, question)));
+    if (answers.includes(undefined)) {
+      return undefined;
+    }
+    const kept = offers.filter((_, place) => answers[place] !== null && isGood(answers[place]));
+    const least = this.leastOf(trace, prediction);
+    return least && { ...least, offers: Object.fromEntries(kept.map((some) => [some.name, some])) };
   }
 
   /** Asks until all that is wanted is known. */

@@ -1,16 +1,11 @@
-// What is enough for the limit: the module's answer, as `precopy-view predict` tells it. A click takes an amount.
+// What is enough for the limit: the module's answer, as `precopy-view predict` tells it, in few digits where these keep
+// the limit too. A click takes what is shown.
 
 import { byId, html } from "./elements.js";
+import { AMOUNTS, offered } from "./offers.js";
 import { isUnknown } from "./predictions.js";
-import { exactQuantity, quantityWords } from "./quantities.js";
-import { withQuantity } from "./taking.js";
-import { RATE_UNITS, TIME_UNITS } from "./units.js";
-
-/** The amounts that can be taken. */
-const AMOUNTS = [
-  { name: "link", words: "link rate", units: RATE_UNITS },
-  { name: "downtime", words: "downtime limit", units: TIME_UNITS },
-];
+import { quantityWords } from "./quantities.js";
+import { amountOf } from "./units.js";
 
 /** How many digits a share of the amount that is set has. */
 const SHARE_DIGITS = 3;
@@ -69,7 +64,8 @@ export class LimitsView {
       return [];
     }
     const lines = AMOUNTS.filter(({ name }) => remedies[name] !== null)
-      .map((some) => this.amountLine(some, trace, prediction, remedies[some.name]));
+      .map((some) => this.amountLine(some, prediction.question[some.name],
+        offered(some, prediction, trace.sizes, remedies[some.name], remedies.offers[some.name])));
     if (remedies.speed !== null) {
       lines.push(html("li", {}, "the guest slowed to ", html("b", {}, `${remedies.speed} %`),
         ` of its speed, by a throttle of ${100n - remedies.speed} %`));
@@ -77,12 +73,13 @@ export class LimitsView {
     return [this.sentence(headOf(remedies)), ...(lines.length > 0 ? [html("ul", {}, ...lines)] : [])];
   }
 
-  amountLine({ name, words, units }, trace, { state, question }, amount) {
-    const quantity = exactQuantity(Number(amount), state[name].unit, units);
+  /** A line on an amount that is offered in place of the one that is set. Its title has all digits. */
+  amountLine({ name, words, units }, set, { quantity, exact, state }) {
     const said = quantityWords(quantity, units);
-    const taken = amount === question[name] ? null : withQuantity(state, trace.sizes, question, name, quantity);
-    const button = taken ? [" ", this.takeButton(name, `${words} ${said}`, taken)] : [];
-    return html("li", {}, `${words} `, html("b", {}, said), shareWords(amount, question[name]), ...button);
+    const isExact = quantity.amount === exact.amount;
+    const title = isExact ? null : `The search found ${quantityWords(exact, units)}`;
+    const button = state ? [" ", this.takeButton(name, `${words} ${said}`, state)] : [];
+    return html("li", {}, `${words} `, html("b", { title }, said), shareWords(amountOf(quantity), set), ...button);
   }
 
   takeButton(name, words, taken) {

@@ -26,8 +26,14 @@ import { WindowsView } from "./windows-view.js";
 /** How long the page waits for a change to be the last one until it announces it, in milliseconds. */
 const SETTLED = 400;
 
-/** The width of a picture on paper, where two stand beside each other, in pixels. */
-const WIDTH_ON_PAPER = 560;
+/** How many pictures there are in a row on paper: of several plans all, and then one of all else; of one plan two. */
+function picturesAbreast(plot) {
+  const plans = Number(byId("plans").dataset.plans);
+  if (plans === 1) {
+    return 2;
+  }
+  return byId("plans").contains(plot) ? plans : 1;
+}
 
 /** The example that is shown if the address asks for nothing. */
 const FIRST_EXAMPLE = "sqlite";
@@ -80,7 +86,7 @@ class Page {
     byId("comparison").addEventListener("click", ({ target }) => this.pressed(target));
     this.listenToDrops();
     addEventListener("popstate", () => this.follow());
-    addEventListener("beforeprint", () => this.drawFor(WIDTH_ON_PAPER));
+    addEventListener("beforeprint", () => this.drawFor(picturesAbreast));
     addEventListener("afterprint", () => this.drawFor(null));
     watchWidths([byId("windows-plot"), byId("starts-plot")], this.planSoon);
   }
@@ -319,8 +325,8 @@ class Page {
   }
 
   /** Draws pictures as wide as they are on paper, so that their words can be read there; with null as on the screen. */
-  drawFor(width) {
-    fixWidths(width);
+  drawFor(abreastOf) {
+    fixWidths(abreastOf);
     this.draw();
   }
 
@@ -344,7 +350,7 @@ class Page {
     }
     const { settings, kept } = this.shown;
     this.askLate();
-    if (kind === "remedies") {
+    if (kind !== "errors") {
       this.drawLimits();
     } else if (this.plans.last) {
       this.plans.drawComparison(settings, kept);

@@ -206,6 +206,7 @@ export class PlanView {
       }
     });
     this.figures.slice(others.length + 1).forEach((figure) => { figure.whole.hidden = true; });
+    byId("plans").dataset.plans = 1 + others.filter(Boolean).length;
   }
 
   figureAt(place) {

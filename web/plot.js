@@ -39,18 +39,21 @@ export function watchWidths(plots, changed) {
   plots.forEach((plot) => observer.observe(plot));
 }
 
-/** The width that all plots have on paper; null on the screen. */
-let widthOnPaper = null;
+/** The widths of plots on paper, of which so many stand beside each other, in pixels. */
+const WIDTHS_ON_PAPER = { 1: 1160, 2: 560, 3: 376, 4: 276 };
 
-/** Gives all plots a width for paper, or with null their own. */
-export function fixWidths(width) {
-  widthOnPaper = width;
+/** What tells of a plot on paper how many stand beside each other; null on the screen. */
+let abreastOnPaper = null;
+
+/** Gives plots their widths on paper, by how many stand beside each other, or with null those on the screen. */
+export function fixWidths(abreastOf) {
+  abreastOnPaper = abreastOf;
 }
 
 /** The width of a plot, in pixels. */
 export function widthOf(plot) {
-  if (widthOnPaper !== null) {
-    return widthOnPaper;
+  if (abreastOnPaper !== null) {
+    return WIDTHS_ON_PAPER[abreastOnPaper(plot)];
   }
   if (!seenWidths.get(plot)) {
     seenWidths.set(plot, plot.clientWidth);

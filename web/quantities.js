@@ -19,9 +19,8 @@ const FAMILIES = [
 /** The least count in which a slider shows an amount in a unit that does not divide it. */
 const LEAST_COUNT = 10;
 
-/** The most digits behind a point, and the power of ten for them. */
+/** The most digits behind a point. */
 const MOST_PLACES = 6;
-const PLACE_SHARE = 10n ** BigInt(MOST_PLACES);
 
 /** All digits of a number together make less than this. */
 const END_OF_DIGITS = 1n << 64n;
@@ -57,10 +56,16 @@ export function quantityIn(word, units) {
   return found && quantityOf(found[1], found[2], units);
 }
 
-/** The count of an amount in a unit, so that it leads back to the amount, or null if no count does. */
+/** The count of an amount in a unit with the fewest digits that leads back to the amount, or null if no count does. */
 function exactCount(amount, size) {
-  const scaled = (BigInt(amount) * PLACE_SHARE + size - 1n) / size;
-  return (scaled * size) / PLACE_SHARE === BigInt(amount) ? decimalText(scaled, PLACE_SHARE, MOST_PLACES) : null;
+  for (let digits = 0; digits <= MOST_PLACES; digits += 1) {
+    const power = 10n ** BigInt(digits);
+    const scaled = (BigInt(amount) * power + size - 1n) / size;
+    if ((scaled * size) / power === BigInt(amount)) {
+      return decimalText(scaled, power, digits);
+    }
+  }
+  return null;
 }
 
 /** The count of a quantity as a field shows it: if none leads back to the amount, then rounded down. */
@@ -141,14 +146,46 @@ export function isInBits(unit) {
 /** The most digits behind a point of a number with few digits. */
 const MOST_DIGITS = 9;
 
-/** A quotient of whole numbers with about three digits: of a greater one no digit is left out before its point. */
-export function fewDigitsText(number, divisor) {
+/** The least number of digits behind a point, up to a bound, with which a quotient makes `least` without its point. */
+function digitsFor(number, divisor, least) {
   let digits = 0;
-  while (digits < MOST_DIGITS && (number * 10n ** BigInt(digits)) / divisor < 100n) {
+  while (digits < MOST_DIGITS && (number * 10n ** BigInt(digits)) / divisor < least) {
     digits += 1;
   }
-  const power = 10n ** BigInt(digits);
-  return decimalText((2n * number * power + divisor) / (2n * divisor), power, digits);
+  return digits;
+}
+
+/** A quotient of whole numbers without its point, rounded, if it has so many digits behind it. */
+function rounded(number, divisor, digits) {
+  return (2n * number * 10n ** BigInt(digits) + divisor) / (2n * divisor);
+}
+
+/** A quotient of whole numbers with about three digits: of a greater one no digit is left out before its point. */
+export function fewDigitsText(number, divisor) {
+  const digits = digitsFor(number, divisor, 100n);
+  return decimalText(rounded(number, divisor, digits), 10n ** BigInt(digits), digits);
+}
+
+/** The most digits behind the points of a column, unless its least number has only zeros with them. */
+const MOST_OF_COLUMN = 3;
+
+/** How many digits a decimal number has behind its point. */
+export function digitsBehind(text) {
+  return text.split(".")[1]?.length ?? 0;
+}
+
+/**
+ * Quotients, pairs of whole numbers, as the texts of a column: each with as many digits behind its point as one of them
+ * needs for about three digits, but no more than a bound.
+ */
+export function columnTexts(quotients) {
+  const needed = quotients.map(([number, divisor]) => digitsBehind(fewDigitsText(number, divisor)));
+  const seen = quotients.map(([number, divisor]) => digitsFor(number, divisor, 1n));
+  const digits = Math.min(Math.max(...needed), Math.max(MOST_OF_COLUMN, ...seen));
+  return quotients.map(([number, divisor]) => {
+    const all = String(rounded(number, divisor, digits)).padStart(digits + 1, "0");
+    return digits === 0 ? all : `${all.slice(0, -digits)}.${all.slice(-digits)}`;
+  });
 }
 
 /** A number with about three digits. */
@@ -167,6 +204,14 @@ export function exactQuantity(amount, unit, units) {
   const families = [familyOf(unit), ...FAMILIES.filter(([first]) => Object.hasOwn(units, first))];
   const quantities = families.map(([first]) => inFittingUnit(amount, first, units));
   return quantities.find((some) => exactCount(amount, units[some.unit]) !== null) ?? { amount, unit: families[1][0] };
+}
+
+/** The least amount of so many digits in a unit of the family of this one that is no less than an amount. */
+export function roundedUp(amount, unit, units, digits) {
+  const size = units[inFittingUnit(amount, familyOf(unit)[0], units).unit];
+  const power = 10n ** BigInt(digitsFor(BigInt(amount), size, 10n ** BigInt(digits - 1)));
+  const count = (BigInt(amount) * power + size - 1n) / size;
+  return Number((count * size) / power);
 }
 
 /** An amount in the greatest unit that it has one of, of the family of this unit. */

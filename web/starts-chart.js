@@ -142,7 +142,7 @@ export function costWords(cost) {
     return "unknown, since the trace ends before the migration does";
   }
   const [time, sent, downtime] = [timeText(cost.time), bytesText(cost.bytes), timeText(cost.downtime)].map(unbroken);
-  return `time ${time}, sent ${sent}, downtime ${downtime}, ${keptWords(cost)}`;
+  return `time\u00a0${time}, sent\u00a0${sent}, downtime\u00a0${downtime}, ${keptWords(cost)}`;
 }
 
 /** What a migration from a start costs, in words. */

@@ -162,8 +162,8 @@ export class StartsView {
     }
     const saved = (text, name) => unbroken(signed(best.cost[name] - cost[name], text));
     const words = isBest ? "This plan starts there."
-      : `At the best start instead of this one: time ${saved(timeText, "time")}, sent ${saved(bytesText, "bytes")}, `
-        + `downtime ${saved(timeText, "downtime")}.`;
+      : `At the best start instead of this one: time\u00a0${saved(timeText, "time")}, sent\u00a0`
+        + `${saved(bytesText, "bytes")}, downtime\u00a0${saved(timeText, "downtime")}.`;
     return [html("p", { id: "saving" }, words)];
   }
 

@@ -3,55 +3,65 @@
 
 import { html } from "./elements.js";
 import { counted, decimalText, timeText } from "./numbers.js";
-import { fewDigitsText } from "./quantities.js";
+import { columnTexts, digitsBehind } from "./quantities.js";
 import { microsOf, rateIn } from "./units.js";
 
-/** A table row by row; the first text of a row heads it, and each other one may be a list of parts. */
-function tableOf(caption, columns, rows) {
-  const cells = Array.from(rows, ([first, ...others]) => html("tr", {},
-    html("th", { scope: "row" }, first), ...others.map((parts) => html("td", {}, ...[parts].flat()))));
-  return html("table", { class: "numbers" }, html("caption", {}, caption),
-    html("thead", {}, html("tr", {}, ...columns.map((name) => html("th", { scope: "col" }, name)))),
-    html("tbody", {}, ...cells));
+/** A cell's text, and what stands beside it in small print if there is something. */
+function cellParts(text, beside) {
+  return beside === undefined ? [text] : [text, " ", html("small", {}, beside)];
+}
+
+/** A table of columns, each with its name, a text for each row, and maybe one beside that. The first heads the rows. */
+function tableOf(caption, [heads, ...others]) {
+  const rows = heads.texts.map((head, row) => html("tr", {}, html("th", { scope: "row" }, head),
+    ...others.map(({ texts, besides = [] }) => html("td", {}, ...cellParts(texts[row], besides[row])))));
+  const names = [heads, ...others].map(({ name }) => html("th", { scope: "col" }, name));
+  const table = html("table", { class: "numbers" }, html("caption", {}, caption),
+    html("thead", {}, html("tr", {}, ...names)), html("tbody", {}, ...rows));
+  const widths = others.flatMap(({ besides = [] }) => besides.map(({ length }) => length));
+  // What stands beside numbers is equally wide in all rows, so that their points are below each other.
+  table.style.setProperty("--beside", `${Math.max(0, ...widths)}ch`);
+  return table;
 }
 
 /** How many digits of a second a moment has at least. */
 const LEAST_DIGITS = 3;
 
-/** A moment, given in microseconds, as a number of seconds with all their digits. */
-function inSeconds(micros) {
-  const [whole, rest = ""] = decimalText(micros, 1_000_000n, 6).split(".");
-  return `${counted(whole)}.${rest.padEnd(LEAST_DIGITS, "0")}`;
+/** Moments, given in microseconds, as numbers of seconds: each with as many digits as one of them has. */
+function inSeconds(moments) {
+  const texts = moments.map((micros) => decimalText(micros, 1_000_000n, 6));
+  const digits = Math.max(LEAST_DIGITS, ...texts.map(digitsBehind));
+  return texts.map((text) => {
+    const [whole, rest = ""] = text.split(".");
+    return `${counted(whole)}.${rest.padEnd(digits, "0")}`;
+  });
 }
 
 // ---- Rounds.
 
-/** The columns of a table of rounds: their names, and the texts of a round. Rates are in a unit. */
-function roundColumns({ settings, scale, state }, unit) {
-  const beside = (text, number) => (state.ticks ? [text, " ", html("small", {}, counted(number))] : text);
-  const since = (tick) => beside(inSeconds(microsOf(scale, tick - settings.start)), tick);
-  const rateText = ({ rate }) => {
-    const { bytes, seconds } = rateIn(scale, rate);
-    return beside(fewDigitsText(bytes, seconds * unit.size), rate);
-  };
+/** The columns of a table of rounds. Rates are in a unit. */
+function roundColumns({ plan: { rounds }, settings, scale, state }, unit) {
+  const allOf = (name) => rounds.map((round) => round[name]);
+  const besides = (name) => (state.ticks ? allOf(name).map(counted) : []);
+  const since = (tick) => microsOf(scale, tick - settings.start);
+  const rates = allOf("rate").map((rate) => rateIn(scale, rate));
+  const inUnit = columnTexts(rates.map(({ bytes, seconds }) => [bytes, seconds * unit.size]));
   return [
-    ["round", (_, place) => counted(place)],
-    ["from,\u00a0s", ({ from }) => since(from)],
-    ["to,\u00a0s", ({ to }) => since(to)],
-    [`rate, ${unit.name}`, rateText],
-    ["to send", ({ pages }) => counted(pages)],
-    ["sent", ({ sent }) => counted(sent)],
-    ["dirtied", ({ dirtied }) => counted(dirtied)],
+    { name: "round", texts: rounds.map((_, place) => counted(place)) },
+    { name: "from,\u00a0s", texts: inSeconds(allOf("from").map(since)), besides: besides("from") },
+    { name: "to,\u00a0s", texts: inSeconds(allOf("to").map(since)), besides: besides("to") },
+    { name: `rate, ${unit.name}`, texts: inUnit, besides: besides("rate") },
+    { name: "to send", texts: allOf("pages").map(counted) },
+    { name: "sent", texts: allOf("sent").map(counted) },
+    { name: "dirtied", texts: allOf("dirtied").map(counted) },
   ];
 }
 
 /** The rounds of a plan as a table. */
 export function roundsTable(prediction, unit) {
-  const columns = roundColumns(prediction, unit);
   const pages = prediction.scale.isSample ? "pages of the sample" : "pages";
   const ticks = prediction.state.ticks ? "; in small print ticks of the trace, and pages per 1,000 of them" : "";
-  return tableOf(`Times since the start, and ${pages}${ticks}`, columns.map(([name]) => name),
-    prediction.plan.rounds.map((round, place) => columns.map(([, text]) => text(round, place))));
+  return tableOf(`Times since the start, and ${pages}${ticks}`, roundColumns(prediction, unit));
 }
 
 const ROUND_HEADS = ["round", "from_us", "to_us", "rate_bytes_per_second", "pages", "sent_pages", "dirtied_pages",
@@ -72,7 +82,6 @@ export function roundsFile({ plan, settings, scale }) {
 /** The most windows that a table has: more would keep the page busy for long. A file has all. */
 const MOST_ROWS = 100;
 
-const WINDOW_COLUMNS = ["window", "from,\u00a0s", "writes", "pages", "again", "new"];
 const WINDOW_HEADS = ["window", "from_us", "to_us", "writes", "pages", "again_pages", "fresh_pages"];
 
 /** What of a window is counted, in the order of both. */
@@ -83,14 +92,19 @@ function countsIn(windows, row) {
 /** The windows of a trace as a table. A window has `length` ticks. */
 export function windowsTable(windows, length, scale) {
   const width = microsOf(scale, length);
-  const rows = Array.from({ length: Math.min(windows.count, MOST_ROWS) }, (_, row) => {
-    const number = windows.number[row];
-    return [counted(number), inSeconds(BigInt(number) * width), ...countsIn(windows, row).map(counted)];
-  });
+  const numbers = Array.from(windows.number.subarray(0, MOST_ROWS));
+  const allOf = (name) => Array.from(windows[name].subarray(0, MOST_ROWS), counted);
   const more = windows.count > MOST_ROWS ? `, the first ${counted(MOST_ROWS)} of ${counted(windows.count)}` : "";
   const pages = scale.isSample ? "; pages of the sample" : "";
   return tableOf(`Windows of ${timeText(width)} with a write${more}${pages}; again: also in the window before, `
-    + "new: never before", WINDOW_COLUMNS, rows);
+    + "new: never before", [
+    { name: "window", texts: numbers.map(counted) },
+    { name: "from,\u00a0s", texts: inSeconds(numbers.map((number) => BigInt(number) * width)) },
+    { name: "writes", texts: allOf("writes") },
+    { name: "pages", texts: allOf("pages") },
+    { name: "again", texts: allOf("again") },
+    { name: "new", texts: allOf("fresh") },
+  ]);
 }
 
 /** The rows of a file of windows, one at a time: there may be a million. */
