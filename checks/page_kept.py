@@ -57,25 +57,26 @@ def check_axes(page):
 
 
 # What is said of a link or a downtime that a hypervisor does not take.
-SLOW = sentence_of(host_lines(0, 1)[2])
-SHORT = sentence_of(host_lines(1 << 20, 0)[3])
-LONG = sentence_of(host_lines(1 << 20, LONGEST_MILLIS + 1)[1])
+NO_LINK = sentence_of(host_lines(0, 1)[2])
+NO_LIBVIRT_DOWNTIME = sentence_of(host_lines(1 << 20, 0)[3])
+NO_QEMU_DOWNTIME = sentence_of(host_lines(1 << 20, LONGEST_MILLIS + 1)[1])
 
 # Settings, what libvirt and QEMU are told of them, and words of what they are not told.
 HOSTS = [
-    ("link=600KB&downtime=4ms", {"libvirt": "virsh migrate-setmaxdowntime DOMAIN 4"}, {"libvirt": SLOW}),
+    ("link=600KB&downtime=4ms", {"libvirt": "virsh migrate-setmaxdowntime DOMAIN 4"}, {"libvirt": NO_LINK}),
     ("link=1.5MiB&downtime=2500us",
      {"libvirt": "virsh migrate-setspeed DOMAIN 1\nvirsh migrate-setmaxdowntime DOMAIN 2"},
      {"libvirt": "1.5 MiB/s", "qemu": "2.5 ms"}),
     ("link=8MiB&downtime=2ms&reserve=1.5ms", {"libvirt": "virsh migrate-setspeed DOMAIN 8"},
-     {"libvirt": SHORT, "qemu": time_text(500)}),
-    ("link=600KB&downtime=2500us&reserve=2ms", {"libvirt": ""}, {"libvirt": f"{SLOW} {SHORT}", "qemu": time_text(500)}),
+     {"libvirt": NO_LIBVIRT_DOWNTIME, "qemu": time_text(500)}),
+    ("link=600KB&downtime=2500us&reserve=2ms", {"libvirt": ""},
+     {"libvirt": f"{NO_LINK} {NO_LIBVIRT_DOWNTIME}", "qemu": time_text(500)}),
     ("link=8MiB&downtime=4ms", {"libvirt": "virsh migrate-setspeed DOMAIN 8\n"
                                 "virsh migrate-setmaxdowntime DOMAIN 4"}, {}),
     ("link=8KB&downtime=2001s", {"libvirt": "", "qemu": "migrate_set_parameter max-bandwidth 8000B"},
-     {"libvirt": f"{SLOW} {SHORT}", "qemu": LONG}),
+     {"libvirt": f"{NO_LINK} {NO_LIBVIRT_DOWNTIME}", "qemu": NO_QEMU_DOWNTIME}),
     ("link=10Gbit&downtime=4us&tick=1us", {"libvirt": "virsh migrate-setspeed DOMAIN 1192"},
-     {"libvirt": SHORT, "qemu": time_text(4)}),
+     {"libvirt": NO_LIBVIRT_DOWNTIME, "qemu": time_text(4)}),
 ]
 
 

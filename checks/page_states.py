@@ -14,7 +14,7 @@ from page_saves import saved_files
 from page_uses import end_worker, read
 
 WIDTHS = [390, 900, 1400]
-FULL_WIDTHS = [360, *WIDTHS, 600, 800, 1024, 1920]
+FULL_WIDTHS = [360, *WIDTHS, 480, 600, 800, 1024, 1920]
 LEAST_MARK_CONTRAST = 3
 # The pixels of the name of a kept plan.
 ROOM_OF_NAME = 80

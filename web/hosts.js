@@ -1,5 +1,5 @@
-// The same limits in the words of QEMU's monitor and of libvirt: those of `precopy-view predict`. Of what a hypervisor
-// does not take a sentence says that. Others say what of a limit its command leaves out.
+// The same limits in the words of QEMU's monitor and of libvirt: those of `precopy-view predict`. A sentence says what
+// a hypervisor does not take; others say what its commands leave out of a limit.
 
 import { timeText } from "./numbers.js";
 import { quantityWords } from "./quantities.js";

@@ -73,12 +73,16 @@ export class LimitsView {
     return [this.sentence(headOf(remedies)), ...(lines.length > 0 ? [html("ul", {}, ...lines)] : [])];
   }
 
-  /** A line on an amount that is offered in place of the one that is set. Its title has all digits. */
+  /**
+   * A line on an amount that is offered in place of the one that is set. Its title and its button's name have all digits
+   * if these are not shown.
+   */
   amountLine({ name, words, units }, set, { quantity, exact, state }) {
     const said = quantityWords(quantity, units);
     const isExact = quantity.amount === exact.amount;
     const title = isExact ? null : `The search found ${quantityWords(exact, units)}`;
-    const button = state ? [" ", this.takeButton(name, `${words} ${said}`, state)] : [];
+    const spoken = [`${words} ${said}`, title].filter(Boolean).join(". ");
+    const button = state ? [" ", this.takeButton(name, spoken, state)] : [];
     return html("li", {}, `${words} `, html("b", { title }, said), shareWords(amountOf(quantity), set), ...button);
   }
 
