@@ -74,8 +74,8 @@ export class LimitsView {
   }
 
   /**
-   * A line on an amount that is offered in place of the one that is set. Its title and its button's name have all digits
-   * if these are not shown.
+   * A line on an amount that is offered in place of the one that is set. Its title and its button's name have all
+   * digits if these are not shown.
    */
   amountLine({ name, words, units }, set, { quantity, exact, state }) {
     const said = quantityWords(quantity, units);
