@@ -47,6 +47,14 @@ class Edit:
                 raise BadEdit(f"it leaves {path} as it is")
         return texts
 
+    def changed_lines(self, top):
+        """Returns the lines that the body changes, by path and number. It changes lines, and neither adds nor removes any."""
+        lines = {}
+        for path, text in self.put_in(top).items():
+            pairs = zip(text_of(top, path).split("\n"), text.split("\n"))
+            lines.update({(path, number): new for number, (old, new) in enumerate(pairs) if old != new})
+        return lines
+
 
 def digest_of(path):
     """Returns what tells one text of a wrong body from another, in the record of tries."""

@@ -8,8 +8,8 @@ use stream_check::{FrameCause, StreamChecker, Taken, WrongFrame};
 use trace_codec::{WriteLog, decode};
 use worked_guest::TRACE;
 
-/// Takes the first bytes of a stream, then all behind what was taken, and returns both answers. If the first is an error,
-/// it stands for both.
+/// Takes the first bytes of a stream, then all behind what was taken, and returns both answers. If the first is an
+/// error, it stands for both.
 fn in_two(
     alloc: Global,
     stream: &[u8],

@@ -10,6 +10,6 @@ mod write;
 mod write_log;
 
 pub use shape::{Header, LAST_VERSION, Shape};
-pub use timeline::{Timeline, Touch};
+pub use timeline::{Timeline, Touch, last_tick};
 pub use write::{Write, WriteView};
 pub use write_log::WriteLog;

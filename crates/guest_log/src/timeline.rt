@@ -1,8 +1,8 @@
 //! When pages are written, without the bytes.
 
-ghost use Rattle.std.specs.Prelude.{◌≡◌, ◌<◌, ◌≤◌, ℕ, true, false, nat_lt, List, length, slice_index_or};
+ghost use Rattle.std.specs.Prelude.{◌≡◌, ◌<◌, ◌≤◌, ◌^◌, ℕ, true, false, nat_lt, List, length, slice_index_or};
 ghost use Rattle.std.specs.List.Sorted.{IsPartitionPoint};
-ghost use Rattle.migration_model.specs.Touches.{AreTouches, GuestTouch, no_touch};
+ghost use Rattle.migration_model.specs.Touches.{AreTouches, GuestTouch, last_tick_of, no_touch};
 
 use std::marker::Model;
 
@@ -54,4 +54,15 @@ pub trait Timeline {
         ensures bound { result ≤ length (touches self.now) }
         ensures point { IsPartitionPoint (λ touch. nat_lt touch.tick tick ≡ true)
             (λ touch. nat_lt touch.tick tick ≡ false) (touches self.now) result };
+}
+
+/// Returns the tick of the last touch, or 0 if there is none.
+pub fn last_tick<T: Timeline>(timeline: &T) -> u64
+    ensures value { result ≡ last_tick_of (T.touches timeline.now) }
+    ensures low { result < 2 ^ 40 }
+{
+    match timeline.touch_count() {
+        0 => 0,
+        count => timeline.touch(count - 1).tick,
+    }
 }

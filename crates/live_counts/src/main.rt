@@ -1,4 +1,5 @@
-//! Does what `precopy live` does, and then tells on standard error how many frames its receivers took, for the benchmark.
+//! Does what `precopy live` does, and then tells on standard error how many frames its receivers took, for the
+//! benchmark.
 #![tactic(auto)]
 
 use anyhow::{Result, bail};

@@ -57,7 +57,8 @@ law_more trace base skip copiers lane planned rounds plan round law keeps =
     }
 
 -- if skipping is on in one round it is on
-pub law_of_all : (trace : GuestTrace) (base : Option ℕ) (now skip : Bool) (copiers lane : ℕ) (planned : List PlannedRound)
+pub law_of_all : (trace : GuestTrace) (base : Option ℕ) (now skip : Bool) (copiers lane : ℕ)
+    (planned : List PlannedRound)
     (rounds : List LiveRound) (plan : PlannedRound) (round : LiveRound)
     → (now ≡ true → skip ≡ true) → KeepsLaw trace base now copiers lane planned rounds plan round
     → KeepsLaw trace base skip copiers lane planned rounds plan round

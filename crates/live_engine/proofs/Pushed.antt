@@ -13,7 +13,8 @@ last_of xs x =
     ap (slice_get (xs ++ x ∷ [])) index ∙ slice_get-get_or (xs ++ x ∷ []) (length xs + 0) x (omega (arith, len))
     ∙ ap Some (get_or-append-add xs (x ∷ []) 0 x)
 
-pub is_last : {X : Type 0} (xs : List X) (x y : X) → slice_get (xs ++ x ∷ []) (length (xs ++ x ∷ []) - 1) ≡ Some y → x ≡ y
+pub is_last : {X : Type 0} (xs : List X) (x y : X) → slice_get (xs ++ x ∷ []) (length (xs ++ x ∷ []) - 1) ≡ Some y
+    → x ≡ y
 is_last xs x y there = same_Some x y (sym (last_of xs x) ∙ there)
 
 pub at_front : {X : Type 0} (xs : List X) (x y : X) (i : ℕ) → i < length xs → slice_get (xs ++ x ∷ []) i ≡ Some y

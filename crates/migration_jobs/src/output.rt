@@ -164,8 +164,8 @@ fn pieces_for(threads: usize) -> usize
     threads * PIECES_EACH
 }
 
-/// Writes all of some memory and flushes. It allocates its pieces before it writes the first byte, and nothing later but
-/// what starting a thread takes.
+/// Writes all of some memory and flushes. It allocates its pieces before it writes the first byte, and nothing later
+/// but what starting a thread takes.
 fn write_memory<R: Threads + Sync, K: Sink, M: PagedMemory + Sync>(
     rt: &R,
     alloc: Global,

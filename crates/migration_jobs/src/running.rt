@@ -186,10 +186,10 @@ fn workers_of(job: &Job) -> usize {
 }
 
 /// Runs one job: reads a trace to the end of the source, makes its output, writes it and flushes. Texts are made whole
-/// before they are written; memory is written in pieces, which workers make in memory that was taken before. So nothing
-/// is written while anything but a write can still fail: each error but `Write` leaves nothing written, and `Write`
-/// leaves a prefix of the output. Only the threads of a live run call the gate. `remains` says whether the memory of the
-/// output is freed.
+/// before they are written; memory is written in pieces, which workers make in memory that was taken before. So
+/// nothing is written while anything but a write can still fail: each error but `Write` leaves nothing written, and
+/// `Write` leaves a prefix of the output. Only the threads of a live run call the gate. `remains` says whether the
+/// memory of the output is freed.
 pub fn run<R: Threads + Wait + Sync, S: Source, K: Sink, G: Gate>(
     rt: &R,
     alloc: Global,

@@ -2,7 +2,7 @@
 use Rattle.std.specs.Prelude.{ℕ, ◌^◌, ◌<◌, ◌≤◌, ◌&&◌, ◌==◌, nat_lt, nat_le, Bool, List, length, map}
 use Rattle.std.specs.List.{All, list_any, filter, range_with_len}
 use Rattle.std.specs.List.Sorted.{IsNonDecreasingBy}
-use Rattle.migration_model.specs.Trace.{GuestWrite, GuestTrace}
+use Rattle.migration_model.specs.Trace.{GuestWrite, GuestTrace, last_by}
 
 -- when a write was, and to which page
 pub record GuestTouch : Type 0 where
@@ -21,6 +21,10 @@ touch_of write = touch_with write.tick write.page
 -- the touches of all writes of a trace, in order
 abbrev pub touches_of : GuestTrace → List GuestTouch
 touches_of trace = map touch_of trace.writes
+
+-- the tick of the last touch, or 0 if there is none
+abbrev pub last_tick_of : List GuestTouch → ℕ
+last_tick_of touches = last_by (λ touch. touch.tick) touches
 
 -- a touch that a guest of `pages` pages may have
 pub record IsTouch (pages : ℕ) (touch : GuestTouch) : Type 0 where

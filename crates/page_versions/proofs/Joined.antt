@@ -1,5 +1,6 @@
 -- Copies of the writes of pages that follow one another.
-use Rattle.std.proofs.Common.{◌≡◌, ◌<◌, ◌≤◌, ℕ, zero, suc, ◌+◌, ◌-◌, [], List, ◌∷◌, ◌++◌, get_or, length, map, ap, arith}
+use Rattle.std.proofs.Common.{◌≡◌, ◌<◌, ◌≤◌, ℕ, zero, suc, ◌+◌, ◌-◌, [], List, ◌∷◌, ◌++◌, get_or, length, map, ap}
+use Rattle.std.proofs.Common.{arith}
 use Rattle.std.proofs.Common.{◌∙◌, sym}
 use Rattle.std.specs.List.{range_with_len}
 use Rattle.std.proofs.lemmas.List.{map-append}
@@ -40,7 +41,8 @@ pub copies_more : (trace : GuestTrace) (from page : ℕ) → from ≤ page
     → copies_of trace from (page + 1 - from) ≡ copies_of trace from (page - from) ++ copies_at trace page ∷ []
 copies_more trace from page low =
     let more : page + 1 - from ≡ (page - from) + 1 = omega (arith, low) in
-    ap (copies_of trace from) more ∙ map-range_with_len_more (copies_at trace) from (page - from) page (omega (arith, low))
+    ap (copies_of trace from) more ∙ map-range_with_len_more (copies_at trace) from (page - from) page
+    (omega (arith, low))
 
 pub copies_len : (trace : GuestTrace) (from count : ℕ) → length (copies_of trace from count) ≡ count
 copies_len trace from count = length-map-range_with_len (copies_at trace) from count

@@ -14,7 +14,8 @@ use std::thread::Threads;
 /// copy than its pages take to make.
 const MOST_WRITES: u64 = 256;
 
-/// What the pages of a trace are made from: its index, and copies of its writes if these are short and go to many pages.
+/// What the pages of a trace are made from: its index, and copies of its writes if these are short and go to many
+/// pages.
 #[derive(Debug, Drop)]
 pub struct TracePages {
     /// Where the trace writes each page.

@@ -189,7 +189,8 @@ HaveCome-more trace t stop texts old mid pieces spells has takes ended =
     }
 
 have_come : (trace : List ℕ) (t : GuestTrace) (stop : ℕ) (texts : List (List ℕ)) (streams : List (List (List ℕ)))
-    (old last : BetweenPieces) → Spells trace t → HaveCome t stop texts old → TakesStreams trace t.pages old streams last
+    (old last : BetweenPieces) → Spells trace t → HaveCome t stop texts old
+    → TakesStreams trace t.pages old streams last
     → HaveCome t stop (texts ++ map joined streams) last
 have_come trace t stop texts [] old last spells has takes =
     subst (λ (ts : List (List ℕ)). HaveCome t stop ts last) (sym (append-nil texts))
@@ -286,7 +287,8 @@ streams_wrong trace t stop streams last mid pieces piece more others new number 
       found,
       record {
         streams = has.streams;
-        number = sym (length-map has.streams (λ fs. flat_map frame_text fs)) ∙ ap length (sym has.are.texts_are) ∙ count;
+        number = sym (length-map has.streams (λ fs. flat_map frame_text fs)) ∙ ap length (sym has.are.texts_are)
+            ∙ count;
         bytes = bytes;
         more = others;
         parts = ap (λ (ts : List (List ℕ)). ts ++ bytes ∷ others) has.are.texts_are;

@@ -1,5 +1,6 @@
--- What C sees of streams that are checked in pieces. The caller holds what is known: for each page a state with its last
--- stamp in the stream that comes now, and behind all of these one with its greatest in all streams. This project's own.
+-- What C sees of streams that are checked in pieces. The caller holds what is known: for each page a state with its
+-- last stamp in the stream that comes now, and behind all of these one with its greatest in all streams. This
+-- project's own.
 use Rattle.std.specs.Prelude.{◌≡◌, ◌≢◌, ℕ, ◌+◌, ◌*◌, ◌^◌, ◌-◌, ◌==◌, min, if◌then◌else◌, List, length, map, take, drop}
 use Rattle.std.specs.Prelude.{Option, Some, None}
 use Rattle.migration_model.specs.Final.{shape_of_trace}
@@ -78,8 +79,8 @@ RefusesStates trace states refusals.Memory = OfStates trace states (λ t. Unit {
 RefusesStates trace states (refusals.Frame found) = ⊥
 RefusesStates trace states (refusals.Page found) = ⊥
 
--- no piece is taken, since there is nothing to check against, and nothing changes. Or a frame is wrong, and those before
--- it are taken. The beginning of a frame is not wrong.
+-- no piece is taken, since there is nothing to check against, and nothing changes. Or a frame is wrong, and those
+-- before it are taken. The beginning of a frame is not wrong.
 abbrev pub RefusesPiece : List ℕ → ℕ → List ℕ → List PageState → List PageState → PieceRefusal → Type 0
 RefusesPiece trace stop piece old new (refusals.Trace e) = Refuses trace e × (new ≡ old)
 RefusesPiece trace stop piece old new refusals.States =

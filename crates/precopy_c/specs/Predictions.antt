@@ -3,9 +3,9 @@ use Rattle.std.specs.Prelude.{◌≡◌, ◌≢◌, ℕ, List, Option}
 use Rattle.c_layout.specs.Refusals.{number_of_misfit, number_of_trace, number_of_units, record_after}
 use Rattle.migration_model.specs.Rounds.{IsPlan, MigrationPlan}
 use Rattle.migration_model.specs.Sweeps.{outcome_of}
-use Rattle.migration_model.specs.Touches.{GuestTouches, touches_in}
+use Rattle.migration_model.specs.Touches.{GuestTouches, touches_in, last_tick_of}
 use Rattle.migration_model.specs.Trace.{GuestTrace, Spells}
-use Rattle.predictions.specs.Predictions.{last_tick_of, prediction_of}
+use Rattle.predictions.specs.Predictions.{prediction_of}
 use Rattle.predictions.specs.Questions.{AcceptsQuestion, Fits, IsMisfit, RefusesQuestion, answer_of, error_numbers}
 use Rattle.predictions.specs.Questions.{scale_in, terms_of}
 use Rattle.predictions.specs.declared.answer.Answer.{Answer}

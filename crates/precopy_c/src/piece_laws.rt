@@ -28,8 +28,8 @@ pub fn pieces_are_as_one()
 {}
 
 /// Streams that come in pieces are right if they are right when all come at once, and if they are not, C is told the
-/// same: the same wrong frame, with its stream, its number in it and its byte, or the same page at the end. If bytes are
-/// left where a stream ends, its last frame is cut off.
+/// same: the same wrong frame, with its stream, its number in it and its byte, or the same page at the end. If bytes
+/// are left where a stream ends, its last frame is cut off.
 pub fn streams_in_pieces_are_as_all()
     ensures right { (trace : List ℕ) (t : GuestTrace) (stop : ℕ) (streams : List (List (List ℕ)))
         (end : BetweenPieces) → Spells trace t → TakesStreams trace t.pages (nothing_came t.pages stop) streams end

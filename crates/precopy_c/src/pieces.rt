@@ -298,8 +298,8 @@ fn take_piece(
 
 /// Checks the next bytes of a stream, of a guest that is stopped after so many writes of the trace as `progress` says:
 /// all whole frames of them. It sets `progress` to how far the stream has come then. What is behind them is the
-/// beginning of a frame, or nothing, and comes again at the front of the next bytes. If a frame is wrong, it returns the
-/// number of what is wrong with it and sets `found`.
+/// beginning of a frame, or nothing, and comes again at the front of the next bytes. If a frame is wrong, it returns
+/// the number of what is wrong with it and sets `found`.
 #[unsafe(no_mangle)]
 pub extern "C" fn precopy_check_piece(
     alloc: Global,

@@ -2,15 +2,16 @@
 
 ghost use Rattle.std.specs.Prelude.{◌≡◌, ◌≢◌, ◌⊎◌, IfErr, IfOk, OnOk};
 ghost use Rattle.migration_model.specs.Sweeps.{outcome_of};
+ghost use Rattle.migration_model.specs.Touches.{last_tick_of};
 ghost use Rattle.migration_model.specs.Trace.{GuestTrace, Spells};
-ghost use Rattle.predictions.specs.Predictions.{last_tick_of, prediction_of};
+ghost use Rattle.predictions.specs.Predictions.{prediction_of};
 ghost use Rattle.predictions.specs.Questions.{Fits, answer_of, scale_in};
 ghost use Rattle.precopy_c.specs.Predictions.{AreNumbersOver, IsAnswerOver, IsAsked, IsPredictionOf, IsToldOf};
 ghost use Rattle.precopy_c.specs.Predictions.{RefusesPrediction, number_of_question};
 
 use crate::inquiries::{Inquiry, inquiry_of};
 use crate::questions::{QuestionRefusal, SizedQuestion};
-use guest_log::Timeline;
+use guest_log::last_tick;
 use predictions::redrawn::Errors;
 use predictions::{Answer, ErrorNumbers, Prediction, Terms};
 use round_planner::{Plan, PlanError, plan};
@@ -22,16 +23,6 @@ use trace_readers::TouchLog;
 struct Told {
     answer: Answer,
     errors: ErrorNumbers,
-}
-
-/// Returns the tick of the last touch, or 0 if there is none.
-fn last_tick(log: &TouchLog) -> u64
-    ensures { result ≡ last_tick_of log.now.touches }
-{
-    match log.touch_count() {
-        0 => 0,
-        count => log.touch(count - 1).tick,
-    }
 }
 
 /// Returns the answer that a plan over a log gives.

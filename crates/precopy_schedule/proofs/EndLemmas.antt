@@ -42,7 +42,8 @@ refused_known old new bytes (errors.Line number) whole is =
     known_whole (λ (b : List ℕ). RefusesBytes b (errors.Line number)) old new bytes whole is.0 is
 
 -- a table that is none, and one whose plans have no answer
-pub table_refused : (bytes : List ℕ) (e : TableError) → length bytes ≤ 2 ^ 28 → RefusesTable bytes e → RefusesBytes bytes e
+pub table_refused : (bytes : List ℕ) (e : TableError) → length bytes ≤ 2 ^ 28 → RefusesTable bytes e
+    → RefusesBytes bytes e
 table_refused bytes errors.Memory few is = tt
 table_refused bytes errors.Read few is = tt
 table_refused bytes errors.Write few is = tt

@@ -38,7 +38,8 @@ module _ (slots : ℕ) (moves : List Move) (placed : List Placement) (move : Mov
       → slice_get (placed ++ p ∷ []) k ≡ Some q → IsNext slots (take k (placed ++ p ∷ [])) m q
   front_next k m q low at there =
       subst (λ (l : List Placement). IsNext slots l m q) (sym (take-append-le k placed (p ∷ []) (omega arith)))
-      (before.next k m q (get_front moves move m k (omega (arith, before.each_once)) at) (get_front placed p q k low there))
+      (before.next k m q (get_front moves move m k (omega (arith, before.each_once)) at)
+      (get_front placed p q k low there))
 
   last_next : (k : ℕ) (m : Move) (q : Placement) → length placed ≡ k → slice_get (moves ++ move ∷ []) k ≡ Some m
       → slice_get (placed ++ p ∷ []) k ≡ Some q → IsNext slots (take k (placed ++ p ∷ [])) m q
@@ -64,7 +65,8 @@ slot_done placed slot k d low same =
     let q = get_or placed k d in
     let seen : (if eqb q.slot slot then q.end else 0) ≤ slot_free placed slot =
     le-greatest (λ (x : Placement). if eqb x.slot slot then x.end else 0) placed k d low in
-    let is : (if eqb q.slot slot then q.end else 0) ≡ q.end = picked (eqb q.slot slot) q.end (eq-eqb q.slot slot same) in
+    let is : (if eqb q.slot slot then q.end else 0) ≡ q.end =
+    picked (eqb q.slot slot) q.end (eq-eqb q.slot slot same) in
     omega (arith, seen, is)
 
 group_done : (placed : List Placement) (group k : ℕ) (d : Placement) → k < length placed

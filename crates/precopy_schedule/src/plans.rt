@@ -3,7 +3,8 @@
 ghost use Rattle.std.specs.Prelude.{◌≡◌, ◌+◌, ◌*◌, ◌<◌, ◌≤◌, IfErr, IfOk, false, length, map, true};
 ghost use Rattle.std.specs.Str.Lines.{lines};
 ghost use Rattle.std.specs.List.{AllZip};
-ghost use Rattle.precopy_schedule.specs.Tables.{HostPlan, IsNoPlan, RefusesLines, RefusesTable, SpellsPlan, SpellsTable};
+ghost use Rattle.precopy_schedule.specs.Tables.{HostPlan, IsNoPlan, RefusesLines, RefusesTable, SpellsPlan};
+ghost use Rattle.precopy_schedule.specs.Tables.{SpellsTable};
 ghost use Rattle.precopy_schedule.specs.Tables.{count_in, is_plan, move_at, option_of, plan_in};
 
 use crate::error::{PlanError, TableError};

@@ -1,5 +1,5 @@
-//! Worked examples of refused amounts: with a tick of 1 ms and a page of 16 bytes, of which each stands for 4, a page in
-//! 1,000 ticks is 64 bytes a second.
+//! Worked examples of refused amounts: with a tick of 1 ms and a page of 16 bytes, of which each stands for 4, a page
+//! in 1,000 ticks is 64 bytes a second.
 
 use crate::tests::told;
 use std::test::Fail;

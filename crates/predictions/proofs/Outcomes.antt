@@ -4,8 +4,7 @@ use Rattle.std.specs.Prelude.{IsTrue}
 use Rattle.predictions.specs.Remedies.Trials.{EndsWell, KeepsLimit, MakesSettings, MigrationTrial, settings_of}
 use Rattle.migration_model.specs.Rates.{MigrationSettings}
 use Rattle.migration_model.specs.Sweeps.{IsOutcome, PlanOutcome, outcome_of}
-use Rattle.migration_model.specs.Touches.{GuestTouch}
-use Rattle.predictions.specs.Predictions.{last_tick_of}
+use Rattle.migration_model.specs.Touches.{GuestTouch, last_tick_of}
 use Rattle.round_planner.proofs.Plans.{one_plan_lem}
 
 one_outcome : (pages : ℕ) (touches : List GuestTouch) (s : MigrationSettings) (a b : PlanOutcome)

@@ -1,5 +1,6 @@
 -- A plan of redrawn pages between its rounds.
-use Rattle.std.proofs.Common.{◌≡◌, ℕ, ◌+◌, ◌-◌, ◌*◌, ◌/◌, ◌%◌, ◌≤◌, List, [], ◌∷◌, ◌++◌, length, refl, sym, ap, ◌∙◌, arith}
+use Rattle.std.proofs.Common.{◌≡◌, ℕ, ◌+◌, ◌-◌, ◌*◌, ◌/◌, ◌%◌, ◌≤◌, List, [], ◌∷◌, ◌++◌, length, refl, sym, ap, ◌∙◌}
+use Rattle.std.proofs.Common.{arith}
 use Rattle.std.proofs.Math.Nat.{div-add-mod, min-le_left, min-le_right, mul-le-mul_left}
 use Rattle.std.proofs.lemmas.List.{length_push}
 use Rattle.migration_model.specs.Rates.{MigrationSettings, AreSettings, StopReason, goes_on, stops, after_round}
@@ -19,7 +20,8 @@ use Rattle.round_planner.proofs.Plans.{Follows, follows_start, follows_more, fol
 use Rattle.predictions.proofs.Drawn.{marked_places}
 
 -- the rounds so far, and the one that may come
-pub record IsUnderWay (pages : ℕ) (touches : List GuestTouch) (drawn : List ℕ) (s : MigrationSettings) (now : RoundNumbers)
+pub record IsUnderWay (pages : ℕ) (touches : List GuestTouch) (drawn : List ℕ) (s : MigrationSettings)
+    (now : RoundNumbers)
     (listed marks : List ℕ) : Type 0 where
   pub coming : NextRound
   pub rounds : List PlannedRound
@@ -82,7 +84,8 @@ goes_further pages touches drawn s now ran step listed marks new_marks fresh dra
       coming = next;
       rounds = before.rounds ++ round ∷ [];
       at = record {
-        can = can_go_on (length drawn) all s before.coming next round r.dirtied (round.to - round.from) step.rate before.are
+        can = can_go_on (length drawn) all s before.coming next round r.dirtied (round.to - round.from) step.rate
+            before.are
             at.can r.run told refl;
         done_is = after.1.0 ∙ ap (λ n. n + 1) at.done_is;
         from_is = after.1.1 ∙ r.to_is;

@@ -5,8 +5,6 @@ use Rattle.predictions.specs.declared.units.limits.Limits.{Limits}
 use Rattle.migration_model.specs.Rates.{StopReason, few_remain, rounds_done, too_fast}
 use Rattle.migration_model.specs.Rounds.{MigrationPlan}
 use Rattle.migration_model.specs.Sweeps.{PlanOutcome, outcome_of}
-use Rattle.migration_model.specs.Touches.{GuestTouch}
-use Rattle.migration_model.specs.Trace.{last_by}
 use Rattle.predictions.specs.declared.verdict.Verdict.{Verdict}
 use Rattle.predictions.specs.declared.verdict.Verdict.TheVariants as verdicts
 
@@ -21,8 +19,8 @@ pub record MigrationCost : Type 0 where
   pub is_kept : Bool
   pub is_late : Bool
 
--- what a migration will be: why it ends, what it costs, how many pages of the trace are sent after the stop, and for how
--- many microseconds the trace goes on after the start
+-- what a migration will be: why it ends, what it costs, how many pages of the trace are sent after the stop, and for
+-- how many microseconds the trace goes on after the start
 pub record GuestPrediction : Type 0 where
   pub reason : StopReason
   pub cost : MigrationCost
@@ -32,10 +30,6 @@ pub record GuestPrediction : Type 0 where
 -- how long the guest does not run: for the pages that are left, and what is reserved
 abbrev pub downtime_of : TraceScale → Limits → ℕ → ℕ
 downtime_of scale limits ticks = micros_of scale ticks + limits.reserve
-
--- the tick of the last touch, or 0 if there is none
-abbrev pub last_tick_of : List GuestTouch → ℕ
-last_tick_of touches = last_by (λ touch. touch.tick) touches
 
 -- what a migration costs that begins at a tick and whose plan has this result, over touches with this last tick
 abbrev pub cost_of : TraceScale → Limits → ℕ → PlanOutcome → ℕ → MigrationCost

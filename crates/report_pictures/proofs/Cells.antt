@@ -40,6 +40,7 @@ pub one_block_more : (n : ℕ) (block old so_far new : List ℕ) → so_far ≡ 
 one_block_more n block old so_far new before made =
     let step : concat (replicate (n + 1) block) ≡ concat (replicate n block) ++ block =
     ap concat (sym (replicate-append-replicate {A = List ℕ} n 1 block))
-    ∙ concat-append (replicate n block) (block ∷ []) ∙ ap (λ (l : List ℕ). concat (replicate n block) ++ l) (append-nil block) in
+    ∙ concat-append (replicate n block) (block ∷ [])
+    ∙ ap (λ (l : List ℕ). concat (replicate n block) ++ l) (append-nil block) in
     made ∙ ap (λ (l : List ℕ). l ++ block) before ∙ append_assoc old (concat (replicate n block)) block
     ∙ ap (λ (l : List ℕ). old ++ l) (sym step)

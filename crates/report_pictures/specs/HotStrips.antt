@@ -1,4 +1,5 @@
--- Where the hot pages of a guest lie: a strip of cells, each of which stands for a part of the pages. This project's own.
+-- Where the hot pages of a guest lie: a strip of cells, each of which stands for a part of the pages. This project's
+-- own.
 use Rattle.std.specs.Prelude.{ℕ, ◌+◌, ◌-◌, ◌*◌, ◌==◌, ◌&&◌, nat_le, nat_lt, max, min, if◌then◌else◌, List, [], ◌∷◌}
 use Rattle.std.specs.Prelude.{◌++◌, codes}
 use Rattle.std.specs.Int.{div_ceil}

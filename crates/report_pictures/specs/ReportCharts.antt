@@ -1,4 +1,5 @@
--- A report as a picture: the working set by window, and the rounds below it on an axis of their own. This project's own.
+-- A report as a picture: the working set by window, and the rounds below it on an axis of their own. This project's
+-- own.
 use Rattle.std.specs.Prelude.{◌≡◌, ℕ, ◌+◌, ◌-◌, max, List, [], ◌++◌, length, codes}
 use Rattle.std.specs.Prelude.{Option, None, Some}
 use Rattle.std.specs.List.{flat_map, fold}
@@ -147,7 +148,8 @@ pub record IsReportChart (pages size writes : ℕ) (settings : MigrationSettings
   pub lower : List ℕ
   pub are_lower : AreLabels (rounds_axis settings plan) scale 610 lower
   pub text_is : text ≡ head ++ (trace_mark pages size writes settings.window
-      ++ (windows_marks (axis_over (rounds_axis settings plan) settings.window sets.windows) settings.window sets.windows
+      ++ (windows_marks (axis_over (rounds_axis settings plan) settings.window sets.windows) settings.window
+      sets.windows
       ++ (place_marks (axis_over (rounds_axis settings plan) settings.window sets.windows) (rounds_axis settings plan)
       (windows_panel sets.windows) plan ++ (upper ++ (rounds_marks (rounds_axis settings plan)
       (pages_panel plan.rounds) (rates_panel plan.rounds) plan ++ (lower ++ (stop_mark plan

@@ -1,5 +1,5 @@
--- A report for a terminal, in ticks and pages: what the trace is, its windows, its hot pages, and the rounds and the end
--- of a plan. Bars stand beside the rows. This project's own.
+-- A report for a terminal, in ticks and pages: what the trace is, its windows, its hot pages, and the rounds and the
+-- end of a plan. Bars stand beside the rows. This project's own.
 use Rattle.std.specs.Prelude.{◌≡◌, ℕ, ◌-◌, List, [], ◌∷◌, ◌++◌, length, codes}
 use Rattle.std.specs.List.{flat_map, enumerate_from}
 use Rattle.migration_model.specs.Rates.{MigrationSettings, word_of}

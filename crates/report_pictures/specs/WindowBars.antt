@@ -1,5 +1,5 @@
--- The bars of windows. Windows that fall in the same units of a picture are drawn as one column, in which the window with
--- the most pages stands for all. This project's own.
+-- The bars of windows. Windows that fall in the same units of a picture are drawn as one column, in which the window
+-- with the most pages stands for all. This project's own.
 use Rattle.std.specs.Prelude.{ℕ, ◌+◌, ◌-◌, nat_lt, max, if◌then◌else◌, List, [], ◌∷◌, ◌++◌, codes, map}
 use Rattle.std.specs.List.{flat_map}
 use Rattle.migration_model.specs.Windows.{WindowRow}

@@ -301,8 +301,8 @@ pub fn report_screen(
     tables: &Tables,
     plan: &Plan,
 ) -> Result<Vec<u8>, AllocError>
-    ensures { IfOk result (λ text. IsScreen style.now shape.now.pages (2 ^ shape.now.shift) shape.now.writes settings.now
-        tables.now plan.now text.items) }
+    ensures { IfOk result (λ text. IsScreen style.now shape.now.pages (2 ^ shape.now.shift) shape.now.writes
+        settings.now tables.now plan.now text.items) }
 {
     let asked = settings.asked();
     let mut text = Vec::new(alloc);

@@ -14,6 +14,9 @@
 //! let outcome = planner.outcome(&trace, &index, &Settings::new(Asked { skip: true, ..asked })?);
 //! ```
 //!
+//! A planner of its own goes from round to round by [`Step`], [`RoundNumbers`], [`RoundSums`] and [`Following`], and
+//! marks and skips pages with [`mark_until`] and [`may_skip`]: the crate `predictions` plans redrawn samples that way.
+//!
 //! Tests make these calls: `worked_plans` of the crate `planning_rows`.
 #![tactic(auto)]
 

@@ -186,7 +186,8 @@ stops_at trace old new bytes rest number offset fault found takes is some wrong 
             takes.begins;
         within = omega (arith, is, offset_is, some, ap length takes.begins.text, length-append front rest);
         wrong = subst (λ (r : List ℕ). IsWrongFront trace old.stop (last_stamps old.last takes.frames) r found.fault)
-            (sym begins.0) (subst (λ (f : FrameFault). IsWrongFront trace old.stop (last_stamps old.last takes.frames) rest f)
+            (sym begins.0) (subst (λ (f : FrameFault). IsWrongFront trace old.stop
+            (last_stamps old.last takes.frames) rest f)
             (sym fault_is) (subst (λ (c : Checked). IsWrongFront trace c.stop c.last rest fault) takes.after wrong));
       };
       after = takes.after;

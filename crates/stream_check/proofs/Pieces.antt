@@ -44,7 +44,8 @@ taken_in_two trace old mid new front more first second a b =
     let there : drop (first.bytes + second.bytes) (front ++ more) ≡ drop second.bytes (rest ++ more) =
     drop_in_two front more first.bytes second.bytes a.within in
     record {
-      takes = subst (λ (r : List ℕ). TakesRight trace old new (front ++ more) (first.frames + second.frames) r) (sym there)
+      takes = subst (λ (r : List ℕ). TakesRight trace old new (front ++ more) (first.frames + second.frames) r)
+          (sym there)
           (Takes-both trace old mid new front rest more (drop second.bytes (rest ++ more)) first.frames second.frames
           a.takes b.takes);
       within = omega (
@@ -72,11 +73,13 @@ stops_behind trace old mid new front more first found a b =
       begins = b.first.begins;
       after = b.after;
     } in
-    let both : TakesRight trace old new (front ++ more) (first.frames + found.number) (drop found.offset (rest ++ more)) =
+    let both : TakesRight trace old new (front ++ more) (first.frames + found.number)
+    (drop found.offset (rest ++ more)) =
     Takes-both trace old mid new front rest more (drop found.offset (rest ++ more)) first.frames found.number a.takes
     front_taken in
     let after : after_frames mid b.first.frames ≡ after_frames old both.frames = sym b.after ∙ both.after in
-    let wrong : IsWrongFront trace old.stop (last_stamps old.last both.frames) (drop found.offset (rest ++ more)) found.fault
+    let wrong : IsWrongFront trace old.stop (last_stamps old.last both.frames) (drop found.offset (rest ++ more))
+    found.fault
     = subst (λ (c : Checked). IsWrongFront trace c.stop c.last (drop found.offset (rest ++ more)) found.fault) after
     b.first.wrong in
     record {

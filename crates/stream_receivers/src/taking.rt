@@ -42,8 +42,8 @@ fn keep_text(part: &mut Part, page: u32, stamp: u32, text: Vec<u8>) -> Result<()
     }
 }
 
-/// Takes one encoded frame into a part. The first bytes of a page stay in the frame's buffer. Later ones are copied over
-/// them, and the buffer in which they came is returned.
+/// Takes one encoded frame into a part. The first bytes of a page stay in the frame's buffer. Later ones are copied
+/// over them, and the buffer in which they came is returned.
 fn accept_text(part: &mut Part, text: Vec<u8>) -> Result<Option<Vec<u8>>, ReceiverError>
     ensures shape { part.new.shape ≡ part.old.shape }
     ensures taken { OnOk result (TakesText part.old part.new text.items) }

@@ -5,10 +5,10 @@ use Rattle.predictions.specs.Remedies.Trials.{MigrationTrial}
 use Rattle.predictions.specs.declared.remedies.finding.Remedies.{Remedies}
 use Rattle.migration_model.specs.Rounds.{IsPlan, MigrationPlan}
 use Rattle.migration_model.specs.Sweeps.{AreLines, SweepLine}
-use Rattle.migration_model.specs.Touches.{GuestTouches}
+use Rattle.migration_model.specs.Touches.{GuestTouches, last_tick_of}
 use Rattle.predictions.specs.Starts.Ranges.{AreRanges, RangesOfStarts, spread_starts}
 use Rattle.predictions.specs.Starts.{cases_from}
-use Rattle.predictions.specs.Predictions.{last_tick_of, prediction_of}
+use Rattle.predictions.specs.Predictions.{prediction_of}
 use Rattle.predictions.specs.Redrawn.Errors.{AreErrors}
 use Rattle.trace_views.specs.declared.outlook.Outlook.{Outlook}
 use Rattle.trace_views.specs.declared.view.AskedPrediction.{AskedPrediction}

@@ -4,9 +4,8 @@ use Rattle.predictions.specs.Units.Scales.{TraceScale}
 use Rattle.migration_model.specs.Rates.{MigrationSettings}
 use Rattle.migration_model.specs.Rounds.{IsPlan, MigrationPlan}
 use Rattle.migration_model.specs.Sweeps.{SweepLine, AreLines}
-use Rattle.migration_model.specs.Touches.{GuestTouches}
+use Rattle.migration_model.specs.Touches.{GuestTouches, last_tick_of}
 use Rattle.migration_model.specs.Windows.{working_sets_of}
-use Rattle.predictions.specs.Predictions.{last_tick_of}
 use Rattle.predictions.specs.declared.verdict.Verdict.{Verdict}
 use Rattle.predictions.specs.declared.verdict.Verdict.TheVariants.{Yes}
 use Rattle.report_pictures.specs.MeasuredScreens.{IsMeasuredScreen}

@@ -1,13 +1,12 @@
 //! What is predicted of a migration over a log of touches.
 
 ghost use Rattle.std.specs.Prelude.{◌≡◌, ◌<◌, ◌^◌, IfErr, IfOk};
-ghost use Rattle.predictions.specs.Predictions.{last_tick_of};
 ghost use Rattle.trace_views.specs.Outlooks.{AreEnough, AreRangesOver, IsOutlook, trial_of};
 
 use crate::error::ViewError;
 use crate::sweeping::planned;
 use crate::view::AskedPrediction;
-use guest_log::Timeline;
+use guest_log::last_tick;
 use predictions::Prediction;
 use predictions::redrawn::Errors;
 use predictions::remedies::{Remedies, Trial};
@@ -28,17 +27,6 @@ pub struct Outlook {
     pub ranges: Option<StartRanges>,
     /// What is enough for its limit, if the trace does not end before the migration does.
     pub remedies: Option<Remedies>,
-}
-
-/// Returns the tick of the last touch, or 0 if there is none.
-pub(crate) fn last_tick(log: &TouchLog) -> u64
-    ensures value { result ≡ last_tick_of log.now.touches }
-    ensures low { result < 2 ^ 40 }
-{
-    match log.touch_count() {
-        0 => 0,
-        count => log.touch(count - 1).tick,
-    }
 }
 
 /// Returns the ranges of what a migration over a log costs from several starts.

@@ -2,17 +2,17 @@
 
 ghost use Rattle.std.specs.Prelude.{◌≡◌, IfErr, IfOk, OnOk};
 ghost use Rattle.migration_model.specs.Windows.{working_sets_of};
-ghost use Rattle.predictions.specs.Predictions.{last_tick_of};
+ghost use Rattle.migration_model.specs.Touches.{last_tick_of};
 ghost use Rattle.predictions.specs.Starts.{AreAccepted};
 ghost use Rattle.report_pictures.specs.StartCharts.{IsStartsChart};
 ghost use Rattle.trace_views.specs.StartViews.{AreStartsOf, IsStartsText, IsStartsView, RefusesStartsView};
 ghost use Rattle.trace_views.specs.StartViews.{kept_from};
 
 use crate::error::ViewError;
-use crate::outlook::last_tick;
 use crate::starts_document::json_starts;
 use crate::sweeping::planned;
 use crate::view::{AskedStarts, StartsForm, ViewText};
+use guest_log::last_tick;
 use predictions::Verdict;
 use predictions::starts::{
     StartCost, best_start, known_starts, start_costs, starts_text, worst_start,

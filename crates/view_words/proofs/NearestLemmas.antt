@@ -29,7 +29,8 @@ pub rate_is : (scale : TraceScale) (n : ℕ) → rate_of scale n ≡ n * byte_pa
 rate_is scale n = ap (λ (x : ℕ). x / page_parts scale) (mul_assoc n scale.tick scale.sampled)
 
 pub byte_pos : (scale : TraceScale) → IsScale scale → 0 < byte_parts scale
-byte_pos scale s = mul-pos {m = scale.tick} {n = scale.sampled} (omega (arith, s.tick_low)) (omega (arith, s.sampled_low))
+byte_pos scale s = mul-pos {m = scale.tick} {n = scale.sampled} (omega (arith, s.tick_low))
+    (omega (arith, s.sampled_low))
 
 pub page_pos : (scale : TraceScale) → IsScale scale → 0 < page_parts scale
 page_pos scale s = mul-pos {m = 1_000 * scale.page} {n = scale.guest} (omega (arith, s.page_low))

@@ -23,7 +23,8 @@ pub stripped : (word name x : List ℕ) → StripsSuffix (FindsTextSuffix name) 
 stripped word name x is = is.1.1 ∙ ap (λ (t : List ℕ). t ++ name) (sym is.2)
 
 -- what is counted in a unit is the decimal number before it
-pub counted_decimal : (word name text : List ℕ) (factor n : ℕ) → word ≡ text ++ name → (is : IsCounted word name factor n)
+pub counted_decimal : (word name text : List ℕ) (factor n : ℕ) → word ≡ text ++ name
+    → (is : IsCounted word name factor n)
     → IsDecimal text is.digits is.places
 counted_decimal word name text factor n is counted =
     let same : counted.text ≡ text = append_cancel_right counted.text text name (sym counted.word_is ∙ is) in

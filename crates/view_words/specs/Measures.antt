@@ -54,7 +54,8 @@ pub record AsksForMeasure (rows : List Row) (settings : MigrationSettings) (scal
 abbrev pub RefusesAs : LimitsRefusal → (RangeRefusal → Type 0) → Type 0
 RefusesAs e Tells = (refusal : RangeRefusal) × (e ≡ refusals.Range refusal) × Tells refusal
 
--- the limits are refused for one of them, or for another setting, with the increment and the others that the options give
+-- the limits are refused for one of them, or for another setting, with the increment and the others that the options
+-- give
 pub record RefusesLimited (rows : List Row) (said : Said) (limits : Limits) (e : LimitsRefusal) : Type 0 where
   pub increment : Option ℕ
   pub says_increment : Says rows (codes "inc") increment

@@ -1,5 +1,5 @@
--- Numbers followed by a unit. A time is counted in microseconds, and a rate in bytes a second. Units of rates are written
--- as in `tc` and `ip` of Linux, without "per second".
+-- Numbers followed by a unit. A time is counted in microseconds, and a rate in bytes a second. Units of rates are
+-- written as in `tc` and `ip` of Linux, without "per second".
 use Rattle.std.specs.Prelude.{◌≡◌, ℕ, ◌<◌, ◌*◌, ◌/◌, ◌^◌, List, [], ◌∷◌, ◌++◌, Any, codes}
 use Rattle.view_words.specs.Decimals.{IsDecimal, IsWhole}
 

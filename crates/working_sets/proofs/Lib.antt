@@ -6,5 +6,6 @@ pub mod Shown
 pub mod Pass
 pub mod Kept
 pub mod Whole
+pub mod Open
 pub mod OtherWords
 pub mod Lent

@@ -3,11 +3,8 @@ use Rattle.std.specs.Prelude.{ℕ, ◌+◌, ◌*◌, ◌/◌, ◌^◌, ◌<◌, 
 use Rattle.std.specs.Prelude.{if◌then◌else◌, List, [], ◌∷◌, ◌++◌, slice_index_or, slice_set, replicate}
 use Rattle.std.specs.List.{filter, range_with_len}
 use Rattle.migration_model.specs.Windows.{WindowRow, WorkingSets}
-
--- of a page: 1 more than the last window that it is in, or 0, and how many windows it is in
-pub record PageMark : Type 0 where
-  pub last : ℕ
-  pub windows : ℕ
+use Rattle.working_sets.specs.declared.counting.OpenWindow.{OpenWindow}
+use Rattle.working_sets.specs.declared.counting.PageSeen.{PageSeen}
 
 -- The length of a window, the tick at which the open window ends, the rows of the windows that are closed, the row so
 -- far of the open one, and the marks of the pages.
@@ -16,13 +13,13 @@ pub record Counting : Type 0 where
   pub end : ℕ
   pub rows : List WindowRow
   pub row : WindowRow
-  pub marks : List PageMark
+  pub marks : List PageSeen
 
 -- the row of a window with no write
 abbrev pub blank : ℕ → WindowRow
 blank number = record { number = number; writes = 0; pages = 0; again = 0; fresh = 0 }
 
-abbrev pub unmarked : PageMark
+abbrev pub unmarked : PageSeen
 unmarked = record { last = 0; windows = 0 }
 
 -- how much a test adds to a count
@@ -44,7 +41,7 @@ counted row last = record {
 }
 
 -- a page's mark after a write in the window of this number
-abbrev pub marked : PageMark → ℕ → PageMark
+abbrev pub marked : PageSeen → ℕ → PageSeen
 marked mark number = record { last = number + 1; windows = mark.windows + one_if (not (mark.last == number + 1)) }
 
 -- the state as it is for a tick: the open window is the one that holds it
@@ -58,7 +55,7 @@ turned s tick =
     }
 
 -- the mark of a page
-abbrev pub mark_of : Counting → ℕ → PageMark
+abbrev pub mark_of : Counting → ℕ → PageSeen
 mark_of s page = slice_index_or s.marks page unmarked
 
 -- the state after a write to the page in the open window
@@ -95,8 +92,35 @@ pub record CanAdd (s : Counting) (tick page : ℕ) : Type 0 where
   pub row : HasRoom s.row
   pub mark : (mark_of s page).windows + 1 < 2 ^ 64
 
+-- ---- by the open window
+
+-- the window that holds a tick, without writes
+abbrev pub window_at : ℕ → ℕ → OpenWindow
+window_at w tick = record { end = (tick / w + 1) * w; row = blank (tick / w) }
+
+-- the open window as it is for a tick, and the closed rows then
+abbrev pub turned_open : ℕ → ℕ → OpenWindow → OpenWindow
+turned_open w tick it = if nat_lt tick it.end then it else window_at w tick
+
+abbrev pub rows_closed : ℕ → OpenWindow → List WindowRow → List WindowRow
+rows_closed tick it rows = if nat_lt tick it.end then rows else with_row rows it.row
+
+-- what must hold for the window of a tick to be opened
+pub record CanOpen (w tick : ℕ) : Type 0 where
+  pub tick_low : tick < 2 ^ 40
+  pub window_some : 1 ≤ w
+  pub window_few : w ≤ 2 ^ 40
+
+-- what a write to a page needs of the open window's row and of the marks
+pub record CanCount (row : WindowRow) (marks : List PageSeen) (page : ℕ) : Type 0 where
+  pub page_low : page < length marks
+  pub room : HasRoom row
+  pub mark : (slice_index_or marks page unmarked).windows + 1 < 2 ^ 64
+
+-- ---- the end
+
 -- the pages whose marks have at least `hot` windows, in ascending order
-abbrev pub hot_of : List PageMark → ℕ → List ℕ
+abbrev pub hot_of : List PageSeen → ℕ → List ℕ
 hot_of marks hot = filter (λ page. nat_le hot (slice_index_or marks page unmarked).windows)
     (range_with_len 0 (length marks))
 

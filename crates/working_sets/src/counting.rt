@@ -1,89 +1,35 @@
 //! One pass over the writes of a trace.
 
-ghost use Rattle.std.specs.Prelude.{◌≡◌, ◌+◌, ◌^◌, ◌<◌, ◌≤◌, IfOk, OnOk, length, nat_le};
-ghost use Rattle.working_sets.specs.Counting.{blank, CanAdd, counted, finished, HasRoom, mark_of, marked, started};
-ghost use Rattle.working_sets.specs.Counting.{turned, with_row, written};
+ghost use Rattle.std.specs.Prelude.{◌≡◌, ◌+◌, ◌^◌, ◌<◌};
+ghost use Rattle.working_sets.specs.Counting.{HasRoom, blank, counted, marked};
 
-use crate::hot::hot_pages;
-use crate::lending::PageSeen;
-use crate::window::{Tables, Window};
-use std::alloc::{AllocError, Global};
-use std::marker::Model;
+use crate::window::Window;
 
-/// In which windows a page was written so far.
+/// In which windows a page was written so far: 16 bytes of room.
 #[derive(Clone, Copy)]
-pub(crate) struct Mark {
+#[repr(C)]
+pub struct PageSeen {
     /// 1 more than the number of the last window that it is in, or 0.
-    last: u64,
+    pub last: u64,
     /// How many windows it is in.
-    windows: u64,
+    pub windows: u64,
 }
 
-impl Model for Mark {
-    ghost use Rattle.working_sets.specs.Counting.{PageMark};
+/// What is kept of a page before any write.
+pub(crate) const UNSEEN: PageSeen = PageSeen {
+    last: 0,
+    windows: 0,
+};
 
-    ghost Value = { PageMark };
-
-    ghost view = { λ m. record { last = m.last; windows = m.windows } };
-
-    ghost inverse = { λ m. record { last = m.last; windows = m.windows } };
-}
-
-impl Mark {
-    ghost use Rattle.std.specs.Prelude.{◌≡◌};
-    ghost use Rattle.working_sets.specs.Lending.{mark_in};
-
-    /// Returns the mark that is kept this way in memory that is lent.
-    pub(crate) fn new(last: u64, windows: u64) -> Mark
-        ensures { result ≡ record { last = last; windows = windows } }
-    {
-        Mark { last, windows }
-    }
-
-    /// Returns how the mark is kept in memory that is lent.
-    pub(crate) fn seen(&self) -> PageSeen
-        ensures { mark_in result ≡ self.now }
-    {
-        PageSeen {
-            last: self.last,
-            windows: self.windows,
-        }
-    }
-
-    /// Returns whether the page is in at least `hot` windows.
-    pub(crate) fn is_hot(&self, hot: u64) -> bool
-        ensures { result ≡ nat_le hot self.now.windows }
-    {
-        hot <= self.windows
-    }
-}
-
-/// The rows of the closed windows and of the open one, as far as the writes have come.
-#[derive(Drop)]
-pub(crate) struct Pass {
-    window: u64,
-    end: u64,
-    rows: Vec<Window>,
-    row: Window,
-    marks: Vec<Mark>,
-}
-
-impl Model for Pass {
-    ghost use Rattle.working_sets.specs.Counting.{Counting};
-
-    ghost Value = { Counting };
-
-    ghost view = { λ p. record {
-      window = p.window;
-      end = p.end;
-      rows = p.rows.items;
-      row = p.row;
-      marks = p.marks.items;
-    } };
+/// The open window: the tick at which it ends, and its row so far.
+#[derive(Clone, Copy)]
+pub(crate) struct OpenWindow {
+    pub(crate) end: u64,
+    pub(crate) row: Window,
 }
 
 /// Returns the row of a window without writes.
-pub(crate) fn blank_row(number: u64) -> Window
+fn blank_row(number: u64) -> Window
     ensures { result ≡ blank number }
 {
     Window {
@@ -96,7 +42,7 @@ pub(crate) fn blank_row(number: u64) -> Window
 }
 
 /// Returns a row after one more write, to a page whose mark has this last window.
-pub(crate) fn row_after(row: Window, last: u64) -> Window
+fn row_after(row: Window, last: u64) -> Window
     requires { HasRoom row }
     ensures { result ≡ counted row last }
 {
@@ -110,100 +56,54 @@ pub(crate) fn row_after(row: Window, last: u64) -> Window
 }
 
 /// Returns a page's mark after a write in this window.
-pub(crate) fn mark_after(mark: Mark, number: u64) -> Mark
+fn mark_after(mark: PageSeen, number: u64) -> PageSeen
     requires number { number + 1 < 2 ^ 64 }
     requires windows { mark.windows + 1 < 2 ^ 64 }
     ensures { result ≡ marked mark number }
 {
-    Mark {
+    PageSeen {
         last: number + 1,
         windows: mark.windows + u64::from(mark.last != number + 1),
     }
 }
 
-/// Appends a row that has a write.
-fn push_row(rows: &mut Vec<Window>, row: Window) -> Result<(), AllocError>
-    ensures { OnOk result (rows.new.items ≡ with_row rows.old.items row) }
-{
-    if row.writes == 0 {
-        return Ok(());
-    }
-    rows.push(row)?;
-    Ok(())
-}
+impl OpenWindow {
+    ghost use Rattle.std.specs.Prelude.{◌≡◌, slice_index_or, slice_set};
+    ghost use Rattle.working_sets.specs.Counting.{CanCount, CanOpen, blank, counted, marked, unmarked, window_at};
 
-impl Pass {
-    /// Returns a pass before any write, over this many pages and windows of this many ticks.
-    pub(crate) fn new(alloc: Global, window: u64, pages: u32) -> Result<Pass, AllocError>
-        ensures { IfOk result (λ pass. pass ≡ started window pages) }
+    /// Returns the first window of this many ticks, without writes.
+    pub(crate) fn first(window: u64) -> OpenWindow
+        ensures { result ≡ record { end = window; row = blank 0 } }
     {
-        let mark = Mark {
-            last: 0,
-            windows: 0,
-        };
-        let marks = Vec::from_elem(alloc, mark, pages as usize)?;
-        Ok(Pass {
-            window,
+        OpenWindow {
             end: window,
-            rows: Vec::new(alloc),
             row: blank_row(0),
-            marks,
-        })
-    }
-
-    /// Closes the open window if this tick is after it, and opens the window of the tick.
-    fn turn(&mut self, tick: u64) -> Result<(), AllocError>
-        requires tick { tick < 2 ^ 40 }
-        requires some { 1 ≤ self.old.window }
-        requires few { self.old.window ≤ 2 ^ 40 }
-        ensures { OnOk result (self.new ≡ turned self.old tick) }
-    {
-        if tick < self.end {
-            return Ok(());
         }
-        push_row(&mut self.rows, self.row)?;
-        let number = tick / self.window;
-        self.end = (number + 1) * self.window;
-        self.row = blank_row(number);
-        Ok(())
     }
 
-    /// Counts a write to the page in the open window.
-    fn count(&mut self, page: u32)
-        requires page { page < length self.old.marks }
-        requires row { HasRoom self.old.row }
-        requires mark { (mark_of self.old page).windows + 1 < 2 ^ 64 }
-        ensures { self.new ≡ written self.old page }
+    /// Returns the window that holds a tick, without writes.
+    pub(crate) fn of(window: u64, tick: u64) -> OpenWindow
+        requires { CanOpen window tick }
+        ensures { result ≡ window_at window tick }
     {
-        let mark = self.marks[page as usize];
-        self.marks[page as usize] = mark_after(mark, self.row.number);
-        self.row = row_after(self.row, mark.last);
+        let number = tick / window;
+        OpenWindow {
+            end: (number + 1) * window,
+            row: blank_row(number),
+        }
     }
 
-    /// Counts the next write: at `tick`, to `page`.
-    pub(crate) fn add(&mut self, tick: u64, page: u32) -> Result<(), AllocError>
-        requires { CanAdd self.old tick page }
-        ensures { OnOk result (self.new ≡ written (turned self.old tick) page) }
+    /// Counts a write to the page.
+    pub(crate) fn count(&mut self, marks: &mut [PageSeen], page: u32)
+        requires { CanCount self.old.row marks.old page }
+        ensures window { self.new ≡ record self.old {
+          row = counted self.old.row (slice_index_or marks.old page unmarked).last;
+        } }
+        ensures marks { marks.new ≡ slice_set marks.old page
+            (marked (slice_index_or marks.old page unmarked) self.old.row.number) }
     {
-        self.turn(tick)?;
-        self.count(page);
-        Ok(())
-    }
-
-    /// Returns the tables of the writes so far, with the pages that are in at least `hot` windows.
-    pub(crate) fn finish(self, alloc: Global, hot: u64) -> Result<Tables, AllocError>
-        requires { length self.marks < 2 ^ 32 }
-        ensures { IfOk result (λ tables. tables ≡ finished self hot) }
-    {
-        let Pass {
-            window: _,
-            end: _,
-            mut rows,
-            row,
-            marks,
-        } = self;
-        push_row(&mut rows, row)?;
-        let hot = hot_pages(alloc, &marks, hot)?;
-        Ok(Tables { windows: rows, hot })
+        let seen = marks[page as usize];
+        marks[page as usize] = mark_after(seen, self.row.number);
+        self.row = row_after(self.row, seen.last);
     }
 }

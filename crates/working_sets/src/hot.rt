@@ -3,7 +3,7 @@
 ghost use Rattle.std.specs.Prelude.{◌≡◌, ◌^◌, ◌<◌, ◌∷◌, ◌++◌, [], IfOk, OnOk, if◌then◌else◌, length};
 ghost use Rattle.working_sets.specs.Counting.{hot_of};
 
-use crate::counting::Mark;
+use crate::counting::PageSeen;
 use std::alloc::{AllocError, Global};
 
 /// Appends a page if `keep` is set.
@@ -17,13 +17,13 @@ fn push_if(pages: &mut Vec<u32>, keep: bool, page: u32) -> Result<(), AllocError
 }
 
 /// Returns the pages that are in at least `hot` windows, in ascending order.
-pub(crate) fn hot_pages(alloc: Global, marks: &[Mark], hot: u64) -> Result<Vec<u32>, AllocError>
+pub(crate) fn hot_pages(alloc: Global, marks: &[PageSeen], hot: u64) -> Result<Vec<u32>, AllocError>
     requires { length marks.now < 2 ^ 32 }
     ensures { IfOk result (λ pages. pages.items ≡ hot_of marks.now hot) }
 {
     let mut pages = Vec::new(alloc);
     for page in 0..marks.len() as u32 {
-        push_if(&mut pages, marks[page as usize].is_hot(hot), page)?;
+        push_if(&mut pages, hot <= marks[page as usize].windows, page)?;
     }
     Ok(pages)
 }

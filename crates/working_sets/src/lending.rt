@@ -1,15 +1,13 @@
 //! The rows of windows, in memory that is lent.
 
-ghost use Rattle.std.specs.Prelude.{◌≡◌, ◌≤◌, ◌<◌, ◌+◌, ◌^◌, ◌↔◌, IsTrue, length, slice_index_or, slice_set};
-ghost use Rattle.migration_model.specs.Trace.{last_by};
+ghost use Rattle.std.specs.Prelude.{◌≡◌, ◌≤◌, ◌<◌, ◌↔◌, IsTrue, length};
 ghost use Rattle.migration_model.specs.Windows.{rows_of};
-ghost use Rattle.working_sets.specs.Counting.{counted, marked};
-ghost use Rattle.working_sets.specs.Lending.{CanCount, CanTurn, count_after, HasRows, mark_in, rows_after};
-ghost use Rattle.working_sets.specs.Lending.{rows_over, rows_turned, turned_open, unseen};
+ghost use Rattle.working_sets.specs.Counting.{CanOpen, turned_open};
+ghost use Rattle.working_sets.specs.Lending.{HasRows, count_after, count_turned, rows_after, rows_over, rows_turned};
 
-use crate::counting::{Mark, blank_row, mark_after, row_after};
+use crate::counting::{OpenWindow, PageSeen, UNSEEN};
 use crate::window::Window;
-use guest_log::Timeline;
+use guest_log::{Timeline, last_tick};
 use rate_limit::Settings;
 
 /// The row of one window, as it is lent: see [`Window`].
@@ -26,24 +24,6 @@ pub struct WindowNumbers {
     pub again: u64,
     /// How many of those pages are written in no earlier window.
     pub fresh: u64,
-}
-
-/// In which windows a page was written so far: 16 bytes of room.
-#[derive(Clone, Copy)]
-#[repr(C)]
-pub struct PageSeen {
-    /// 1 more than the number of the last window that it is in, or 0.
-    pub last: u64,
-    /// How many windows it is in.
-    pub windows: u64,
-}
-
-/// The open window: the tick at which it ends, its row so far, and how many rows are closed.
-#[derive(Clone, Copy)]
-pub(crate) struct OpenWindow {
-    end: u64,
-    row: Window,
-    count: usize,
 }
 
 /// Writes a row that has a write into a slot. Returns the slot of the next row.
@@ -65,46 +45,26 @@ fn put_row(rows: &mut [WindowNumbers], count: usize, row: Window) -> usize
     count + 1
 }
 
-/// Closes the open window if this tick is after it. Returns the window of the tick.
-fn turned(window: u64, tick: u64, at: OpenWindow, rows: &mut [WindowNumbers]) -> OpenWindow
-    requires { CanTurn window tick at (length rows.old) }
-    ensures window { result ≡ turned_open window tick at }
-    ensures rows { rows.new ≡ rows_turned tick at rows.old }
+/// Closes the open window if a tick is after it, and opens the window of the tick. Returns how many rows are closed.
+fn turn(
+    rows: &mut [WindowNumbers],
+    count: usize,
+    at: &mut OpenWindow,
+    window: u64,
+    tick: u64,
+) -> usize
+    requires can { CanOpen window tick }
+    requires slot { 1 ≤ at.old.row.writes → count < length rows.old }
+    ensures window { at.new ≡ turned_open window tick at.old }
+    ensures rows { rows.new ≡ rows_turned tick at.old count rows.old }
+    ensures count { result ≡ count_turned tick at.old count }
 {
     if tick < at.end {
-        return at;
+        return count;
     }
-    let count = put_row(rows, at.count, at.row);
-    let number = tick / window;
-    OpenWindow {
-        end: (number + 1) * window,
-        row: blank_row(number),
-        count,
-    }
-}
-
-/// Counts a write to the page in the open window. Returns the window's row then.
-fn counted(marks: &mut [PageSeen], row: Window, page: u32) -> Window
-    requires { CanCount row marks.old page }
-    ensures row { result ≡ counted row (slice_index_or marks.old page unseen).last }
-    ensures marks { (seen : PageSeen) × (marks.new ≡ slice_set marks.old page seen)
-        × (mark_in seen ≡ marked (mark_in (slice_index_or marks.old page unseen)) row.number) }
-{
-    let seen = marks[page as usize];
-    let mark = mark_after(Mark::new(seen.last, seen.windows), row.number);
-    marks[page as usize] = mark.seen();
-    row_after(row, seen.last)
-}
-
-/// Returns the tick of the last touch, or 0 if there is none.
-fn last_tick<T: Timeline>(timeline: &T) -> u64
-    ensures { result ≡ last_by (λ touch. touch.tick) (T.touches timeline.now) }
-{
-    let count = timeline.touch_count();
-    if count == 0 {
-        return 0;
-    }
-    timeline.touch(count - 1).tick
+    let closed = put_row(rows, count, at.row);
+    *at = OpenWindow::of(window, tick);
+    closed
 }
 
 /// Returns whether this many slots are enough for the rows of the windows of a trace: as many as it has writes, or as
@@ -132,19 +92,13 @@ pub fn window_rows<T: Timeline>(
 {
     let window = settings.asked().window;
     let (marks, _) = marks.split_at_mut(timeline.page_count() as usize);
-    marks.fill(PageSeen {
-        last: 0,
-        windows: 0,
-    });
-    let mut now = OpenWindow {
-        end: window,
-        row: blank_row(0),
-        count: 0,
-    };
+    marks.fill(UNSEEN);
+    let mut at = OpenWindow::first(window);
+    let mut count = 0;
     for index in 0..timeline.touch_count() {
         let touch = timeline.touch(index);
-        now = turned(window, touch.tick, now, rows);
-        now.row = counted(marks, now.row, touch.page);
+        count = turn(rows, count, &mut at, window, touch.tick);
+        at.count(marks, touch.page);
     }
-    put_row(rows, now.count, now.row)
+    put_row(rows, count, at.row)
 }

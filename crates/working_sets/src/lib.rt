@@ -9,8 +9,9 @@ mod lending;
 mod window;
 mod window_tables;
 
+pub use counting::PageSeen;
 pub use error::TablesError;
 pub use laws::each_write_has_its_row;
-pub use lending::{PageSeen, WindowNumbers, has_rows, window_rows};
+pub use lending::{WindowNumbers, has_rows, window_rows};
 pub use window::{Tables, Window};
 pub use window_tables::{par_tables, tables};

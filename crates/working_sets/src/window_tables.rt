@@ -1,15 +1,47 @@
 //! The tables of a trace.
 
-ghost use Rattle.std.specs.Prelude.{◌≡◌, IfErr, IfOk};
+ghost use Rattle.std.specs.Prelude.{◌≡◌, IfErr, IfOk, OnOk};
 ghost use Rattle.migration_model.specs.Windows.{working_sets_of};
+ghost use Rattle.working_sets.specs.Counting.{CanOpen, rows_closed, turned_open, with_row};
 
-use crate::counting::Pass;
+use crate::counting::{OpenWindow, UNSEEN};
 use crate::error::TablesError;
-use crate::window::Tables;
+use crate::hot::hot_pages;
+use crate::window::{Tables, Window};
 use guest_log::Timeline;
 use rate_limit::Settings;
-use std::alloc::Global;
+use std::alloc::{AllocError, Global};
 use std::thread::Threads;
+
+/// Appends a row that has a write.
+fn push_row(rows: &mut Vec<Window>, row: Window) -> Result<(), AllocError>
+    ensures { OnOk result (rows.new.items ≡ with_row rows.old.items row) }
+{
+    if row.writes == 0 {
+        return Ok(());
+    }
+    rows.push(row)?;
+    Ok(())
+}
+
+/// Closes the open window if a tick is after it, and opens the window of the tick.
+fn turn(
+    rows: &mut Vec<Window>,
+    at: &mut OpenWindow,
+    window: u64,
+    tick: u64,
+) -> Result<(), AllocError>
+    requires { CanOpen window tick }
+    ensures window { OnOk result (at.new ≡ turned_open window tick at.old) }
+    ensures rows { OnOk result (rows.new.items ≡ rows_closed tick at.old rows.old.items) }
+{
+    if tick < at.end {
+        return Ok(());
+    }
+    push_row(rows, at.row)?;
+    *at = OpenWindow::of(window, tick);
+    Ok(())
+}
 
 /// Returns the rows of the windows of a trace, and its hot pages. It passes once over the touches, whatever the length
 /// of a window. The error is `Memory`, if memory runs out for the marks of the pages, the rows or the hot pages.
@@ -23,12 +55,17 @@ pub fn tables<T: Timeline>(
     ensures refusal { IfErr result (λ e. e ≡ TablesError.Memory) }
 {
     let asked = settings.asked();
-    let mut pass = Pass::new(alloc, asked.window, timeline.page_count())?;
+    let mut marks = Vec::from_elem(alloc, UNSEEN, timeline.page_count() as usize)?;
+    let mut rows = Vec::new(alloc);
+    let mut at = OpenWindow::first(asked.window);
     for index in 0..timeline.touch_count() {
         let touch = timeline.touch(index);
-        pass.add(touch.tick, touch.page)?;
+        turn(&mut rows, &mut at, asked.window, touch.tick)?;
+        at.count(&mut marks, touch.page);
     }
-    Ok(pass.finish(alloc, asked.hot)?)
+    push_row(&mut rows, at.row)?;
+    let hot = hot_pages(alloc, &marks, asked.hot)?;
+    Ok(Tables { windows: rows, hot })
 }
 
 /// Returns the tables of `tables`, whatever the number of workers, 1 to 16.

@@ -8,8 +8,8 @@ use Rattle.predictions.specs.declared.remedies.change.Change.{Change}
 use Rattle.predictions.specs.declared.remedies.change.Change.TheVariants as changes
 use Rattle.migration_model.specs.Rates.{AreSettings, MigrationSettings}
 use Rattle.migration_model.specs.Sweeps.{IsOutcome, PlanOutcome}
-use Rattle.migration_model.specs.Touches.{GuestTouch}
-use Rattle.predictions.specs.Predictions.{MigrationCost, cost_of, ends_with_few, kept_of, last_tick_of}
+use Rattle.migration_model.specs.Touches.{GuestTouch, last_tick_of}
+use Rattle.predictions.specs.Predictions.{MigrationCost, cost_of, ends_with_few, kept_of}
 use Rattle.predictions.specs.declared.verdict.Verdict.TheVariants as verdicts
 
 -- a migration that is tried: limits over a trace of some scale, the increment if it is given, and other settings

@@ -3,12 +3,11 @@
 ghost use Rattle.std.specs.Prelude.{◌≡◌, ◌↔◌, ◌≤◌, IfSome, IsTrue, None, length};
 ghost use Rattle.predictions.specs.Remedies.Trials.{EndsWell, KeepsLimit, MakesSettings, settings_of};
 ghost use Rattle.page_bitmap.specs.Listing.{word_count};
-ghost use Rattle.predictions.specs.Predictions.{last_tick_of};
 
 use crate::cost::Cost;
 use crate::units::{Limits, Scale};
 use crate::verdict::Verdict;
-use guest_log::Timeline;
+use guest_log::{Timeline, last_tick};
 use rate_limit::{Asked, Reason, Settings};
 use round_planner::{Outcome, RoundRow, plan_rows};
 use std::marker::Model;
@@ -70,16 +69,6 @@ impl Trial {
         let start = self.others.start;
         let cost = Cost::new(&self.scale, &self.limits, start, outcome, last_tick);
         matches!(outcome.reason, Reason::Few) && matches!(cost.kept(), Verdict::Yes)
-    }
-}
-
-/// Returns the tick of the last touch, or 0 if there is none.
-fn last_tick<T: Timeline>(timeline: &T) -> u64
-    ensures { result ≡ last_tick_of (T.touches timeline.now) }
-{
-    match timeline.touch_count() {
-        0 => 0,
-        count => timeline.touch(count - 1).tick,
     }
 }
 

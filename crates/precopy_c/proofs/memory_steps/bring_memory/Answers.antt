@@ -24,7 +24,8 @@ loop-write-preserved-then-place-from c =
       steps = Steps-put version shape.shift shape.pages c.args.from c.args.to at.place at.memory
           c.write_over.new.memory write c.next.new.self
           (brought_on c.args.trace.now c.args.from c.args.to c.args.memory.now)
-          (rw c.in-Some.ensures.steps at at.invariant.steps) c.if-place-to.false (omega (arith, c.if-place-from.true)) fits
+          (rw c.in-Some.ensures.steps at at.invariant.steps) c.if-place-to.false
+          (omega (arith, c.if-place-from.true)) fits
           c.write_over.ensures;
       fit = All-tail (IsGuestWrite version shape.shift shape.pages) write c.next.new.self fit;
     }

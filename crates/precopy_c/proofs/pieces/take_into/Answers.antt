@@ -16,10 +16,12 @@ put_checker-requires c =
 
 pub returns-clause-taken : goal.returns-clause-taken
 returns-clause-taken c =
-    taken_known c.args.held.now c.args.checker c.take-taken.new.self c.put_checker.new.states c.args.piece.now c.take-taken.result
+    taken_known c.args.held.now c.args.checker c.take-taken.new.self c.put_checker.new.states c.args.piece.now
+    c.take-taken.result
     c.requires.shape c.put_checker.ensures c.take-taken.ensures.taken
 
 pub returns-clause-wrong : goal.returns-clause-wrong
 returns-clause-wrong c =
-    stops_known c.args.held.now c.args.checker c.take-taken.new.self c.put_checker.new.states c.args.piece.now c.take-taken.result
+    stops_known c.args.held.now c.args.checker c.take-taken.new.self c.put_checker.new.states c.args.piece.now
+    c.take-taken.result
     c.requires.shape c.put_checker.ensures c.take-taken.ensures.wrong

@@ -55,7 +55,8 @@ loop-write-init c =
     record {
       turns = rw (c.into_iter-write-iterator.ensures.into_iter_gives, c.records-write-items.ensures)
           (Turns-start c.args.trace.now shape.result.shift c.args.page c.args.count c.fill.new.self c.args.content.now
-          c.requires.page shape.ensures.is_trace shape.ensures.shift c.requires.room (c.fill.ensures.after (λ y is. is)));
+          c.requires.page shape.ensures.is_trace shape.ensures.shift c.requires.room
+          (c.fill.ensures.after (λ y is. is)));
       fit = rw (
         c.into_iter-write-iterator.ensures.into_iter_gives,
         c.records-write-items.ensures,

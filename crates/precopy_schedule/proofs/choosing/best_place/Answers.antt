@@ -20,10 +20,12 @@ loop-number-preserved c =
     elim c.if-is_better.branch [
       | then-is_better w ↦
           subst P (sym w.best-is)
-          (IsFirstBest-takes better_order costs i b x y c.loop-number.invariant low (get_or_default costs i no_cost x low)
+          (IsFirstBest-takes better_order costs i b x y c.loop-number.invariant low
+          (get_or_default costs i no_cost x low)
           (get_or_default costs b no_cost y known) (sym c.is_better.ensures ∙ w.if-is_better.true))
       | else-is_better w ↦
           subst P (sym w.best-is)
-          (IsFirstBest-keeps better_order costs i b x y c.loop-number.invariant low (get_or_default costs i no_cost x low)
+          (IsFirstBest-keeps better_order costs i b x y c.loop-number.invariant low
+          (get_or_default costs i no_cost x low)
           (get_or_default costs b no_cost y known) (sym c.is_better.ensures ∙ w.if-is_better.false))
     ]

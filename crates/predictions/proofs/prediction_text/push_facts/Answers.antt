@@ -9,7 +9,8 @@ pub returns : goal.returns
 returns c =
     let C : GuestPrediction → Type 0 = λ p. c.push_downtime.new.text.items ≡ c.args.text.now.items
     ++ facts_text c.args.limit p in
-    let D : Inside → Type 0 = λ i. C (record { reason = reason_of i.reason; cost = i.cost; left = i.left; recorded = i.recorded }) in
+    let D : Inside → Type 0 =
+    λ i. C (record { reason = reason_of i.reason; cost = i.cost; left = i.left; recorded = i.recorded }) in
     subst C c.prediction.view_is
     (subst D c.prediction-inside.view_is (rw (
       c.in_ok-push_downtime.ensures,

@@ -7,4 +7,5 @@ use Rattle.report_pictures.proofs.screen.push_round_rows.Given as goal
 
 abbrev pub invariant-loop-number : goal.invariant-loop-number
 invariant-loop-number l = l.text.items ≡ l.fn.text.items
-    ++ first_texts (λ at. row_text l.style l.widths l.most (round_numbers at.0 at.1) (round_parts at.1)) l.number l.rounds
+    ++ first_texts (λ at. row_text l.style l.widths l.most (round_numbers at.0 at.1) (round_parts at.1)) l.number
+    l.rounds

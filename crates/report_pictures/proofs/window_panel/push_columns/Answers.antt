@@ -14,12 +14,14 @@ loop-window-preserved c =
     elim c.if-next-last.branch [
       | then-next-last w ↦ joined_on c.args.panel.now place c.loop-window.last c.placed-next.result
           c.loop-window.window-index c.args.windows.now c.window-item.result c.loop-window-test.true c.window-item.is
-          c.placed-next.ensures w.if-next-last.true c.if-next-last.last c.loop-window.text.items c.if-next-last.text.items
+          c.placed-next.ensures w.if-next-last.true c.if-next-last.last c.loop-window.text.items
+          c.if-next-last.text.items
           _ (w.last-is ∙ w.merged-last.ensures) (ap items w.text-is) c.loop-window.invariant
       | else-next-last+in_ok-push_column w ↦ apart_on c.args.panel.now place c.loop-window.last c.placed-next.result
           c.loop-window.window-index c.args.windows.now c.window-item.result c.loop-window-test.true c.window-item.is
           c.placed-next.ensures w.if-next-last.false c.if-next-last.last c.loop-window.text.items
-          c.if-next-last.text.items _ w.last-is (ap items w.text-is ∙ w.in_ok-push_column.ensures) c.loop-window.invariant
+          c.if-next-last.text.items _ w.last-is (ap items w.text-is ∙ w.in_ok-push_column.ensures)
+          c.loop-window.invariant
     ]
 
 pub returns : goal.returns

@@ -26,7 +26,8 @@ loop-next-preserved g c =
     let ran = c.counted_round-ran.ensures before.coming before.way.at plain in
     let next = rw c.in-Round.is at c.after.ensures in
     record {
-      coming = round_after (g.T.Timeline.pages c.args.timeline.now) (g.T.Timeline.touches c.args.timeline.now) before.coming ran.round c.in-Round.next.step.rate;
+      coming = round_after (g.T.Timeline.pages c.args.timeline.now) (g.T.Timeline.touches c.args.timeline.now)
+          before.coming ran.round c.in-Round.next.step.rate;
       rounds = before.rounds ++ ran.round ∷ [];
       way = rw next.1 (goes_further _ _ s now before.coming before.rounds c.counted_round-ran.result
           c.in-Round.next.step c.requires.first.in_range before.way ran next.0);

@@ -24,7 +24,8 @@ skip b e others r is same = rw is same
 last_test : (version shift pages before i : ℕ) (bytes : List ℕ) (w : WriteView) (len : ℕ) → shown w ≡ write_in bytes
     → len ≡ length_in bytes → 16 + len ≤ length bytes → before ≤ w.tick → w.tick < 2 ^ 40 → w.page < pages
     → is_empty_write version w.offset len ≡ false
-    → write_refusal version shift pages before i bytes ≡ cond (ltb (2 ^ shift) (w.offset + len)) (Some (OutOfPage i)) None
+    → write_refusal version shift pages before i bytes
+    ≡ cond (ltb (2 ^ shift) (w.offset + len)) (Some (OutOfPage i)) None
 unfolding write_in
 last_test version shift pages before i bytes w len read len_is whole order tick page some =
     let tick_is : w.tick ≡ tick_in bytes = ap (λ (x : GuestWrite). x.tick) read in

@@ -8,7 +8,8 @@ use Rattle.trace_views.proofs.viewing.chart_view.Goals as goal
 
 of_trace : (settings : MigrationSettings) (scale : Option TraceScale) (plan : MigrationPlan) (text : List ℕ)
     (p p' s s' w w' : ℕ) (sets sets' : WorkingSets) → p ≡ p' → s ≡ s' → w ≡ w' → sets ≡ sets'
-    → IsReportChart p (2 ^ s) w settings scale sets plan text → IsReportChart p' (2 ^ s') w' settings scale sets' plan text
+    → IsReportChart p (2 ^ s) w settings scale sets plan text
+    → IsReportChart p' (2 ^ s') w' settings scale sets' plan text
 of_trace settings scale plan text p p' s s' w w' sets sets' pages shift writes tables chart =
     subst (λ (x : ℕ). IsReportChart x (2 ^ s') w' settings scale sets' plan text) pages
     (subst (λ (x : ℕ). IsReportChart p (2 ^ x) w' settings scale sets' plan text) shift

@@ -8,8 +8,10 @@ returns-clause-least c = rw (c.parts-byte.ensures.byte, c.parts-byte.ensures.pag
 
 pub returns-clause-taken : goal.returns-clause-taken
 returns-clause-taken c =
-    rw (c.parts-byte.ensures.byte, c.parts-byte.ensures.page) (least_taken c.args.scale.now c.parts-byte.ensures.in_range)
+    rw (c.parts-byte.ensures.byte, c.parts-byte.ensures.page)
+    (least_taken c.args.scale.now c.parts-byte.ensures.in_range)
 
 pub returns-clause-small : goal.returns-clause-small
 returns-clause-small c =
-    rw (c.parts-byte.ensures.byte, c.parts-byte.ensures.page) (least_small c.args.scale.now c.parts-byte.ensures.in_range)
+    rw (c.parts-byte.ensures.byte, c.parts-byte.ensures.page)
+    (least_small c.args.scale.now c.parts-byte.ensures.in_range)

@@ -12,5 +12,6 @@ returns c =
     let one = rw c.rate.ensures at c.nearest_within.ensures in
     let is = rw c.tick.ensures at one in
     nearest_between (HasDowntime scale limits) limits.reserve most limits.downtime c.nearest_within.result (omega arith)
-    (λ k. downtime_iff scale limits k (omega (arith, c.guest-in_range.ensures.in_range.tick_low)) (omega (arith, c.requires.0)))
+    (λ k. downtime_iff scale limits k (omega (arith, c.guest-in_range.ensures.in_range.tick_low))
+    (omega (arith, c.requires.0)))
     is

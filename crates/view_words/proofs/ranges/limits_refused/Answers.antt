@@ -4,7 +4,8 @@ use Rattle.view_words.proofs.RefusalLemmas.{downtime_left, link_taken, reserve_l
 use Rattle.view_words.proofs.ranges.limits_refused.Goals as goal
 
 pub nearest_first-nearest-requires : goal.nearest_first-nearest-requires
-nearest_first-nearest-requires c = link_taken c.args.scale.now c.args.limits.now c.args.error.now c.requires (λ is. absurd (cc (is, c.in-First.is)))
+nearest_first-nearest-requires c = link_taken c.args.scale.now c.args.limits.now c.args.error.now c.requires
+    (λ is. absurd (cc (is, c.in-First.is)))
 
 pub nearest_downtime-requires : goal.nearest_downtime-requires
 nearest_downtime-requires c =

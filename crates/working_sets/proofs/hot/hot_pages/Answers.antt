@@ -4,6 +4,5 @@ use Rattle.working_sets.proofs.hot.hot_pages.Goals as goal
 
 pub loop-page-preserved : goal.loop-page-preserved
 loop-page-preserved c =
-    hot_more c.args.marks.now c.args.hot c.loop-page.page c.index-marks-page.result c.is_hot.result
-    c.loop-page.pages.items c.push_if.new.pages.items
-    (omega arith) c.index-marks-page.is c.is_hot.ensures c.loop-page.invariant c.in_ok-push_if.ensures
+    hot_more c.args.marks.now c.args.hot c.loop-page.page c.loop-page.pages.items c.push_if.new.pages.items
+    (omega arith) c.loop-page.invariant c.in_ok-push_if.ensures
