@@ -89,8 +89,10 @@ def pack(room, whole, versions):
     """Puts an object into an archive and into a shared library, and each in its place once it is whole."""
     archive, shared = os.path.join(room, "libprecopy.a"), os.path.join(room, NAME)
     compilers.run(tool("ar"), "rcsD", archive, whole)
-    link = [f"-Wl,-soname,{NAME}", f"-Wl,--version-script={versions}", "-Wl,-z,text", "-Wl,-z,defs", "-Wl,-z,now"]
-    compilers.run(tool("cc"), "-shared", *link, "-Wl,--build-id=none", "-Wl,-s", "-o", shared, whole)
+    # A call from one of its functions to another is its own, whatever else is loaded under that name.
+    link = [f"-Wl,-soname,{NAME}", f"-Wl,--version-script={versions}", "-Wl,-Bsymbolic-functions"]
+    link += ["-Wl,-z,text", "-Wl,-z,defs", "-Wl,-z,now", "-Wl,--build-id=none", "-Wl,-s"]
+    compilers.run(tool("cc"), "-shared", *link, "-o", shared, whole)
     made = [os.path.join(FOLDER, os.path.basename(path)) for path in (archive, shared)]
     for path, place in zip((archive, shared), made):
         shutil.copy(path, f"{place}.part")
