@@ -22,12 +22,16 @@ Function = collections.namedtuple("Function", "path name first last")
 
 
 def functions_in(path, text):
-    """Returns the functions of a source that rt fmt has laid out, with their first and last lines from 1 on."""
+    """Returns the functions of a source that rt fmt has laid out, with their first and last lines from 1 on. A function
+    begins with its comment and its attributes."""
     lines, found = text.split("\n"), []
     for number, line in enumerate(lines):
         if head := HEAD.match(line):
             ends = (at for at in range(number, len(lines)) if lines[at] == f"{head[1]}}}")
-            found.append(Function(path, head[2], number + 1, next(ends, number) + 1))
+            first = number
+            while first and lines[first - 1].startswith((f"{head[1]}///", f"{head[1]}#[")):
+                first -= 1
+            found.append(Function(path, head[2], first + 1, next(ends, number) + 1))
     return found
 
 
@@ -64,6 +68,13 @@ def told_of(functions, lines):
         if not NAME_WENT.match(line):
             first[owners[0]] = first[owners[0]] or line
     return first
+
+
+def replaced(text, old, new):
+    """Returns the text with the new one in place of the old, which stands there once also after other edits."""
+    if text.count(old) != 1:
+        raise Unclear(f"this text stands there {text.count(old)} times: {old.strip()}")
+    return text.replace(old, new)
 
 
 def groups_of(edits, function_of_edit):
