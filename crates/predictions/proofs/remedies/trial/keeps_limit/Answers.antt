@@ -8,4 +8,4 @@ returns-in-Some g c =
     c.in-Some.settings c.plan_rows-outcome.result c.last_tick.result c.ends_well.result c.in-Some.ensures.some
     c.in-Some.ensures.made
     (record { plan = planned.plan; is_plan = planned.is_plan; outcome_is = planned.outcome_is })
-    c.last_tick.ensures c.ends_well.ensures
+    c.last_tick.ensures.value c.ends_well.ensures
