@@ -48,7 +48,7 @@ class Edit:
         return texts
 
     def changed_lines(self, top):
-        """Returns the lines that the body changes, by path and number. It changes lines, and neither adds nor removes any."""
+        """Returns the lines that the body changes, by path and number. It changes lines, and adds or removes none."""
         lines = {}
         for path, text in self.put_in(top).items():
             pairs = zip(text_of(top, path).split("\n"), text.split("\n"))
