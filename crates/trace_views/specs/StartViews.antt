@@ -1,14 +1,14 @@
 -- What the same migration costs from each of some starts.
 use Rattle.std.specs.Prelude.{◌≡◌, ℕ, ◌≤◌, List, Option, None, Some}
 use Rattle.migration_model.specs.Sweeps.{SweepLine, AreLines}
-use Rattle.migration_model.specs.Touches.{GuestTouches}
+use Rattle.migration_model.specs.Touches.{GuestTouches, last_tick_of}
 use Rattle.migration_model.specs.Windows.{working_sets_of}
 use Rattle.predictions.specs.Starts.Choices.{IsChosen, is_better_start, is_worse_start, known_of}
 use Rattle.predictions.specs.Starts.Costs.{CostAtStart, costs_at_starts}
 use Rattle.predictions.specs.Starts.{RefusesStarts, cases_from, count_of}
 use Rattle.predictions.specs.Starts.Texts.{starts_text_of}
 use Rattle.predictions.specs.declared.starts.error.StartsError.TheVariants as refusals
-use Rattle.predictions.specs.Predictions.{kept_of, last_tick_of}
+use Rattle.predictions.specs.Predictions.{kept_of}
 use Rattle.predictions.specs.declared.verdict.Verdict.{Verdict}
 use Rattle.predictions.specs.declared.verdict.Verdict.TheVariants.{Unknown}
 use Rattle.report_pictures.specs.StartCharts.{IsStartsChart}
