@@ -7,3 +7,4 @@ pub mod Paces
 pub mod Counted
 pub mod Outcomes
 pub mod MarkedWays
+pub mod ListedWays

@@ -1,9 +1,10 @@
 -- A plan whose rounds are found by marks: the marks, and the rows of its rounds, between its rounds.
-use Rattle.std.proofs.Common.{◌≡◌, ℕ, ◌+◌, ◌-◌, ◌<◌, ◌≤◌, List, [], ◌∷◌, ◌++◌, length, drop, set, map, replicate, refl}
-use Rattle.std.proofs.Common.{sym, ap, subst, ◌∙◌, arith}
+use Rattle.std.proofs.Common.{◌≡◌, ℕ, ◌+◌, ◌-◌, ◌<◌, ◌≤◌, List, [], ◌∷◌, ◌++◌, length, drop, set, map, take}
+use Rattle.std.proofs.Common.{replicate, refl, sym, ap, subst, ◌∙◌, arith}
 use Rattle.std.proofs.lemmas.List.{length-map, length_push, map-append}
 use Rattle.migration_model.specs.Rates.{MigrationSettings, AreSettings, StopReason, stops, after_round, duration_of}
-use Rattle.migration_model.specs.Rounds.{PlannedRound, NextRound, first_round, round_after}
+use Rattle.migration_model.specs.Rounds.{PlannedRound, NextRound, first_round}
+use Rattle.migration_model.specs.Rounds.{round_after}
 use Rattle.migration_model.specs.Sweeps.{PlanOutcome, outcome_with}
 use Rattle.migration_model.specs.Touches.{GuestTouch, pages_written}
 use Rattle.migration_model.proofs.Lists.{over_more}
@@ -43,6 +44,18 @@ pub record IsMarkedWay (pages : ℕ) (touches : List GuestTouch)
   pub marked : IsMarkedAt pages touches s coming now marks room
   pub rows_are : rows ≡ rows_over rounds old
 
+-- marks for the first round
+pub marked_first : (pages : ℕ) (touches : List GuestTouch) (s : MigrationSettings) (now : RoundNumbers)
+    (marks room : List ℕ)
+    → IsFirst pages touches s now → marks ≡ replicate (word_count pages) 0 → length room ≡ pages
+    → IsMarkedAt pages touches s (first_round pages touches s) now marks room
+marked_first pages touches s now marks room first fresh len = record {
+  at = first.at;
+  list = λ later. absurd (omega (arith, later));
+  room_len = len;
+  scan = begun pages touches s.start now.next marks first.at.bound first.at.point fresh;
+}
+
 pub marks_start : (pages : ℕ) (touches : List GuestTouch) (s : MigrationSettings) (now : RoundNumbers)
     (marks room : List ℕ) (rows : List RoundRow)
     → IsFirst pages touches s now → marks ≡ replicate (word_count pages) 0 → length room ≡ pages
@@ -51,12 +64,7 @@ marks_start pages touches s now marks room rows first fresh len = record {
   coming = first_round pages touches s;
   rounds = [];
   way = starts pages touches s now first;
-  marked = record {
-    at = first.at;
-    list = λ later. absurd (omega (arith, later));
-    room_len = len;
-    scan = begun pages touches s.start now.next marks first.at.bound first.at.point fresh;
-  };
+  marked = marked_first pages touches s now marks room first fresh len;
   rows_are = refl;
 }
 
@@ -96,6 +104,31 @@ rows_more pages touches s now coming rounds ran row old rows way r is fits befor
     ∙ row_more rounds r.round now.step.done row old way.count low
     (row_is pages touches s now coming ran row way.at r is)
 
+-- the list for the round that comes after one
+pub listed_next : (pages : ℕ) (touches : List GuestTouch) (s : MigrationSettings) (now : RoundNumbers)
+    (coming : NextRound) (ran : RoundSums) (marks room : List ℕ) → StandsAt pages touches s coming now
+    → (r : RanTo pages touches s coming ran)
+    → IsTurned pages touches now.step.from ran.to ran.dirtied ran.next marks room
+    → pages_written pages touches r.round.from r.round.to ≡ take ran.dirtied room
+listed_next pages touches s now coming ran marks room at r turned =
+    let from : now.step.from ≡ r.round.from = at.from_is ∙ sym r.run.is_round.from_is in
+    sym (λ i. pages_written pages touches (from i) (r.to_is i)) ∙ sym turned.list
+
+-- marks and the list for the round that comes after one
+pub marked_next : (pages : ℕ) (touches : List GuestTouch) (s : MigrationSettings) (now : RoundNumbers)
+    (coming : NextRound) (ran : RoundSums) (step : Step) (marks room : List ℕ) → StandsAt pages touches s coming now
+    → (r : RanTo pages touches s coming ran)
+    → StandsAt pages touches s (round_after pages touches coming r.round step.rate) (numbers_after now ran step)
+    → IsTurned pages touches now.step.from ran.to ran.dirtied ran.next marks room → length room ≡ pages
+    → IsMarkedAt pages touches s (round_after pages touches coming r.round step.rate) (numbers_after now ran step) marks
+    room
+marked_next pages touches s now coming ran step marks room at r next turned len = record {
+  at = next;
+  list = λ later. listed_next pages touches s now coming ran marks room at r turned;
+  room_len = len;
+  scan = subst (λ (tick : ℕ). IsScan pages touches tick tick ran.next marks) r.to_is turned.scan;
+}
+
 pub marks_go_on : (pages : ℕ) (touches : List GuestTouch) (s : MigrationSettings) (now : RoundNumbers) (ran : RoundSums)
     (step : Step) (row : RoundRow)
     (marks room new_marks new_room : List ℕ) (old rows : List RoundRow) → AreSettings s
@@ -106,20 +139,14 @@ pub marks_go_on : (pages : ℕ) (touches : List GuestTouch) (s : MigrationSettin
     → IsMarkedWay pages touches s (numbers_after now ran step) new_marks new_room old (set rows now.step.done row)
 marks_go_on pages touches s now ran step row marks room new_marks new_room old rows are before r after turned len is
     fits =
-    let at = before.way.at in
-    let next = goes_further pages touches s now before.coming before.rounds ran step are before.way r after in
-    let from : now.step.from ≡ r.round.from = at.from_is ∙ sym r.run.is_round.from_is in
+    let coming = before.coming in
+    let next = goes_further pages touches s now coming before.rounds ran step are before.way r after in
     record {
-      coming = round_after pages touches before.coming r.round step.rate;
+      coming = round_after pages touches coming r.round step.rate;
       rounds = before.rounds ++ r.round ∷ [];
       way = next;
-      marked = record {
-        at = next.at;
-        list = λ later. sym (λ i. pages_written pages touches (from i) (r.to_is i)) ∙ sym turned.list;
-        room_len = len;
-        scan = subst (λ (tick : ℕ). IsScan pages touches tick tick ran.next new_marks) r.to_is turned.scan;
-      };
-      rows_are = rows_more pages touches s now before.coming before.rounds ran row old rows before.way r is fits
+      marked = marked_next pages touches s now coming ran step new_marks new_room before.way.at r next.at turned len;
+      rows_are = rows_more pages touches s now coming before.rounds ran row old rows before.way r is fits
           before.rows_are;
     }
 

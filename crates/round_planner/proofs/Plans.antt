@@ -17,7 +17,7 @@ use Rattle.page_bitmap.proofs.Listed.{few_kept, none_kept}
 use Rattle.round_planner.proofs.PageLists.{list_few}
 
 -- the pages sent are one list
-one_sent : (skip : Bool) (touches : List GuestTouch) (from rate : ℕ) (pages a b : List ℕ) → Rises 0 pages
+pub one_sent : (skip : Bool) (touches : List GuestTouch) (from rate : ℕ) (pages a b : List ℕ) → Rises 0 pages
     → IsSent skip touches from rate pages a
     → IsSent skip touches from rate pages b → a ≡ b
 one_sent true touches from rate pages a b rises is_a is_b = sent_is_skim touches from rate pages a rises is_a
@@ -136,7 +136,7 @@ scan_in_round from rate sent ticks enough = omega (
       (omega arith),
 )
 
-pub sent_fits : (pages : ℕ) (touches : List GuestTouch) (s : MigrationSettings) (now : NextRound) (sent : List ℕ)
+sent_fits : (pages : ℕ) (touches : List GuestTouch) (s : MigrationSettings) (now : NextRound) (sent : List ℕ)
     → CanCome pages s now
     → IsSent (s.skip && leb 1 now.done) touches now.from now.rate now.pages sent → length sent ≤ 65_536
 sent_fits pages touches s now sent ready is =
@@ -149,7 +149,7 @@ sent_fits pages touches s now sent ready is =
       list_few pages now.pages ready.list,
     )
 
-pub ticks_few : (sent rate ticks : ℕ) → sent ≤ 65_536 → 1 ≤ rate → ((t : ℕ) → 1_000 * sent ≤ t * rate → ticks ≤ t)
+ticks_few : (sent rate ticks : ℕ) → sent ≤ 65_536 → 1 ≤ rate → ((t : ℕ) → 1_000 * sent ≤ t * rate → ticks ≤ t)
     → ticks ≤ 65_536_000
 ticks_few sent rate ticks few some least =
     let much : 65_536_000 ≤ 65_536_000 * rate = omega (arith, mul-le-mul_left 65_536_000 some) in

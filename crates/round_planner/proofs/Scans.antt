@@ -4,7 +4,7 @@ use Rattle.std.proofs.Common.{List, [], ◌∷◌, ◌++◌, length, get_or, tak
 use Rattle.std.proofs.Common.{arith}
 use Rattle.std.specs.List.{All, AllByRecursion, AllWithin, list_any, filter, range_with_len}
 use Rattle.std.specs.List.Sorted.{IsPartitionPoint}
-use Rattle.std.proofs.lemmas.Bool.{cases_eq, eq-eqb, ne_eqb, ltb-true, ltb-false, lt-ltb, le-ltb, lt-leb}
+use Rattle.std.proofs.lemmas.Bool.{cases_eq, eq-eqb, ne_eqb, ltb-true, lt-ltb, le-ltb, lt-leb}
 use Rattle.std.proofs.lemmas.Bool.{le-leb, and_from, and_left, and_right}
 use Rattle.std.proofs.lemmas.List.{append-nil, length-replicate, take_more}
 use Rattle.std.proofs.lemmas.List.{take-append-drop, get_or-take, get_or-drop, length-take, length-drop, get_or_default}
@@ -136,16 +136,6 @@ pub record IsWalking (pages : ℕ) (touches : List GuestTouch) (from tick n : �
   pub early : AllWithin (λ t. ltb t.tick tick ≡ true) touches 0 n
   pub late : AllWithin (λ t. from ≤ t.tick) touches n (length touches)
   pub met : AreMet pages touches from n marks
-
-pub walk_begins : (pages : ℕ) (touches : List GuestTouch) (from upto tick n : ℕ) (marks : List ℕ) → upto ≤ tick
-    → IsScan pages touches from upto n marks
-    → IsWalking pages touches from tick n marks
-walk_begins pages touches from upto tick n marks le scan = record {
-  order = omega (arith, scan.order);
-  early = λ k d low high. let before = ltb-true _ _ (scan.point.0 k d low high) in lt-ltb _ _ (omega (arith, before));
-  late = λ k d low high. let behind = ltb-false _ _ (scan.point.1 k d low high) in omega (arith, behind, scan.order);
-  met = scan.met;
-}
 
 pub met_more : (touches : List GuestTouch) (from n page : ℕ) → n < length touches
     → is_met touches from (n + 1) page ≡ (is_met touches from n page

@@ -8,6 +8,7 @@ use Rattle.migration_model.specs.Rounds.{NextRound, PlannedRound, IsSent, first_
 use Rattle.migration_model.specs.Touches.{GuestTouch, AreTouches, no_touch, pages_written}
 use Rattle.page_bitmap.specs.Listing.{word_count}
 use Rattle.round_planner.specs.Scanning.{is_met, CanCome, HasRun, IsScan, IsScanWithin}
+use Rattle.round_planner.specs.declared.marked.SentPages.{SentPages}
 use Rattle.round_planner.specs.declared.numbers.RoundNumbers.{RoundNumbers}
 use Rattle.round_planner.specs.declared.numbers.RoundSums.{RoundSums}
 
@@ -34,12 +35,6 @@ pub record IsRoundIndexOf (pages : ℕ) (touches : List GuestTouch) (index : Rou
       → IsLast touches i (slice_index_or touches i no_touch).page (slice_index_or index.earlier i 0)
 
 -- ---- a plan that is made of counts, on its way
-
--- `count` of a round's pages are sent if pages may be skipped
-pub record HasSent (touches : List GuestTouch) (from rate : ℕ) (pages : List ℕ) (count : ℕ) : Type 0 where
-  pub list : List ℕ
-  pub sent : IsSent true touches from rate pages list
-  pub count_is : count ≡ length list
 
 -- a round that may come, only by its numbers
 pub record StandsAt (pages : ℕ) (touches : List GuestTouch)
@@ -105,11 +100,19 @@ pub record IsTurned (pages : ℕ) (touches : List GuestTouch)
   pub list : take count room ≡ pages_written pages touches from tick
   pub scan : IsScan pages touches tick tick next marks
 
--- `count` of a round's pages are sent, and the walk is not past their ticks
+-- a round has sent so many of its pages, and the walk is not past their ticks
 pub record HasSentOf (pages : ℕ) (touches : List GuestTouch)
-    (s : MigrationSettings) (coming : NextRound) (count next : ℕ) (marks : List ℕ) : Type 0 where
+    (s : MigrationSettings) (coming : NextRound) (sent : SentPages) (marks : List ℕ) : Type 0 where
   pub list : List ℕ
-  pub sent : IsSent (s.skip && nat_le 1 coming.done) touches coming.from coming.rate coming.pages list
-  pub count_is : count ≡ length list
+  pub is_sent : IsSent (s.skip && nat_le 1 coming.done) touches coming.from coming.rate coming.pages list
+  pub count_is : sent.count ≡ length list
   pub within : IsScanWithin pages touches coming.from
-      (coming.from + 1_000 * count / coming.rate) next marks
+      (coming.from + 1_000 * sent.count / coming.rate) sent.next marks
+
+-- a round that came, of which these are the numbers, has sent its pages
+pub record CanEnd (pages : ℕ) (touches : List GuestTouch)
+    (s : MigrationSettings) (now : RoundNumbers) (sent : SentPages) (marks room : List ℕ) : Type 0 where
+  pub coming : NextRound
+  pub at : StandsAt pages touches s coming now
+  pub has : HasSentOf pages touches s coming sent marks
+  pub room_len : length room ≡ pages

@@ -14,8 +14,9 @@
 //! let outcome = planner.outcome(&trace, &index, &Settings::new(Asked { skip: true, ..asked })?);
 //! ```
 //!
-//! A planner of its own goes from round to round by [`Step`], [`RoundNumbers`], [`RoundSums`] and [`Following`], and
-//! marks and skips pages with [`mark_until`] and [`may_skip`]: the crate `predictions` plans redrawn samples that way.
+//! A planner of its own goes from round to round by [`Step`], [`RoundNumbers`], [`SentPages`], [`RoundSums`] and
+//! [`Following`], and marks and skips pages with [`mark_until`] and [`may_skip`]: the crate `predictions` plans redrawn
+//! samples that way.
 //!
 //! Tests make these calls: `worked_plans` of the crate `planning_rows`.
 #![tactic(auto)]
@@ -36,7 +37,7 @@ mod tally;
 pub use error::PlanError;
 pub use index::RoundIndex;
 pub use laws::one_plan;
-pub use marked::plan_rows;
+pub use marked::{SentPages, plan_rows};
 pub use numbers::{Following, RoundNumbers, RoundSums};
 pub use parts::{Outcome, Plan, Round, RoundRow};
 pub use planner::Planner;

@@ -1,48 +1,62 @@
 //! A plan whose rounds are found by marks: its sums, and the numbers of its rounds, in memory that is lent.
 
-ghost use Rattle.std.specs.Prelude.{◌≡◌, ◌≤◌, ℕ, List, length};
-ghost use Rattle.migration_model.specs.Rounds.{NextRound, pages_lacking};
+ghost use Rattle.std.specs.Prelude.{◌≡◌, ◌≤◌, ◌&&◌, ℕ, List, Some, length, nat_le, take};
+ghost use Rattle.std.specs.List.{range_with_len};
+ghost use Rattle.migration_model.specs.Rounds.{IsSent, NextRound, pages_lacking};
 ghost use Rattle.migration_model.specs.Touches.{GuestTouch};
 ghost use Rattle.page_bitmap.specs.Listing.{pages_of, word_count};
-ghost use Rattle.round_planner.specs.Indexing.{AreMarksOf, CanMark, HasSentOf, IsFirst, IsMarkedAt, IsTurned};
-ghost use Rattle.round_planner.specs.Indexing.{RanTo};
+ghost use Rattle.round_planner.specs.Indexing.{AreMarksOf, CanEnd, CanMark, HasSentOf, IsFirst, IsMarkedAt, IsTurned};
+ghost use Rattle.round_planner.specs.Indexing.{RanTo, StandsAt};
 ghost use Rattle.round_planner.specs.Rows.{IsPlanned};
 ghost use Rattle.round_planner.specs.Scanning.{IsScan};
 
 use crate::numbers::{Following, RoundNumbers, RoundSums};
 use crate::parts::{Outcome, RoundRow};
 use crate::planning::may_skip;
-use crate::scan::{count_sent, mark_until};
+use crate::scan::{mark_until, skim};
 use guest_log::Timeline;
 use page_bitmap::list_pages;
 use rate_limit::{Settings, duration};
 
-/// Returns how many pages a round sends, and how many touches the walk has passed then.
-fn sent_pages<T: Timeline>(
+/// What a round has sent.
+#[derive(Clone, Copy)]
+pub struct SentPages {
+    /// How many pages.
+    pub count: u32,
+    /// How many touches the walk has passed then.
+    pub next: usize,
+}
+
+/// Sends the pages of a round. If the front of `room` lists its pages, it lists those sent then.
+pub(crate) fn send_pages<T: Timeline>(
     timeline: &T,
     settings: &Settings,
     now: &RoundNumbers,
     marks: &mut [u64],
-    room: &[u32],
-) -> (u32, usize)
-    requires marks { CanMark (T.pages timeline.now) (T.touches timeline.now) settings.now now.now marks.old room.now }
-    ensures { (coming : NextRound) → IsMarkedAt (T.pages timeline.now) (T.touches timeline.now) settings.now
-        coming now.now marks.old room.now
-        → HasSentOf (T.pages timeline.now) (T.touches timeline.now) settings.now coming result.0 result.1 marks.new }
+    room: &mut [u32],
+) -> SentPages
+    requires marks { CanMark (T.pages timeline.now) (T.touches timeline.now) settings.now now.now marks.old room.old }
+    ensures sent { (coming : NextRound) → IsMarkedAt (T.pages timeline.now) (T.touches timeline.now) settings.now
+        coming now.now marks.old room.old
+        → HasSentOf (T.pages timeline.now) (T.touches timeline.now) settings.now coming result marks.new }
+    ensures list { (coming : NextRound) → IsMarkedAt (T.pages timeline.now) (T.touches timeline.now) settings.now
+        coming now.now marks.old room.old → coming.pages ≡ take now.now.listed room.old
+        → IsSent (settings.now.skip && nat_le 1 coming.done) (T.touches timeline.now) coming.from coming.rate
+        coming.pages (take result.count room.new) }
+    ensures few { result.count ≤ now.now.listed }
+    ensures room { length room.new ≡ T.pages timeline.now }
 {
     if !may_skip(settings, now.step.done) {
-        return (now.listed, now.next);
+        return SentPages {
+            count: now.listed,
+            next: now.next,
+        };
     }
-    let (pages, _) = room.split_at(now.listed as usize);
-    let walk = count_sent(
-        timeline,
-        marks,
-        now.next,
-        now.step.from,
-        now.step.rate,
-        pages,
-    );
-    (walk.at.sent, walk.next)
+    let walk = skim(timeline, marks, room, now);
+    SentPages {
+        count: walk.at.sent,
+        next: walk.next,
+    }
 }
 
 /// Lists the marked pages, and clears the marks. Returns how many pages there were.
@@ -60,28 +74,32 @@ fn turn(marks: &mut [u64], room: &mut [u32]) -> u32
     count as u32
 }
 
-/// Runs a round. The pages written meanwhile are listed then, and no page is marked.
-fn marked_round<T: Timeline>(
+/// Ends a round that has sent its pages. The pages written meanwhile are listed then, and no page is marked. The
+/// settings are an argument only for the contract.
+pub(crate) fn end_round<T: Timeline>(
     timeline: &T,
-    settings: &Settings,
+    _settings: &Settings,
     now: &RoundNumbers,
+    sent: SentPages,
     marks: &mut [u64],
     room: &mut [u32],
 ) -> RoundSums
-    requires marks { CanMark (T.pages timeline.now) (T.touches timeline.now) settings.now now.now marks.old room.old }
-    ensures ran { (coming : NextRound) → IsMarkedAt (T.pages timeline.now) (T.touches timeline.now) settings.now
-        coming now.now marks.old room.old
-        → RanTo (T.pages timeline.now) (T.touches timeline.now) settings.now coming result }
+    requires sent { CanEnd (T.pages timeline.now) (T.touches timeline.now) _settings.now now.now sent marks.old
+        room.old }
+    ensures ran { (coming : NextRound) → StandsAt (T.pages timeline.now) (T.touches timeline.now) _settings.now
+        coming now.now
+        → HasSentOf (T.pages timeline.now) (T.touches timeline.now) _settings.now coming sent marks.old
+        → RanTo (T.pages timeline.now) (T.touches timeline.now) _settings.now coming result }
+    ensures sent { result.sent ≡ sent.count }
     ensures room { length room.new ≡ T.pages timeline.now }
     ensures turned { IsTurned (T.pages timeline.now) (T.touches timeline.now) now.now.step.from result.to
         result.dirtied result.next marks.new room.new }
 {
-    let (sent, walked) = sent_pages(timeline, settings, now, marks, room);
-    let to = now.step.from + duration(sent, now.step.rate);
-    let next = mark_until(timeline, marks, walked, to);
+    let to = now.step.from + duration(sent.count, now.step.rate);
+    let next = mark_until(timeline, marks, sent.next, to);
     let dirtied = turn(marks, room);
     RoundSums {
-        sent,
+        sent: sent.count,
         to,
         next,
         dirtied,
@@ -108,7 +126,8 @@ pub(crate) fn marked_rounds<T: Timeline>(
     marks.fill(0);
     let mut now = first;
     loop {
-        let ran = marked_round(timeline, settings, &now, marks, room);
+        let sent = send_pages(timeline, settings, &now, marks, room);
+        let ran = end_round(timeline, settings, &now, sent, marks, room);
         rows[now.step.done as usize] = now.row(&ran);
         match now.after(settings, &ran) {
             Following::Round(next) => now = next,
@@ -117,8 +136,8 @@ pub(crate) fn marked_rounds<T: Timeline>(
     }
 }
 
-/// Returns how many pages are written from a base on and before a tick.
-fn count_since<T: Timeline>(
+/// Lists the pages that are written from a base on and before a tick. Returns how many there are.
+fn list_since<T: Timeline>(
     timeline: &T,
     base: u64,
     tick: u64,
@@ -128,6 +147,8 @@ fn count_since<T: Timeline>(
     requires order { base ≤ tick }
     requires few { T.pages timeline.now ≤ 65_536 }
     requires marks { AreMarksOf (T.pages timeline.now) marks.old room.old }
+    ensures list { take result room.new ≡ pages_lacking (T.pages timeline.now) (T.touches timeline.now) (Some base)
+        tick }
     ensures count { result ≡ length (pages_lacking (T.pages timeline.now) (T.touches timeline.now) (Some base) tick) }
     ensures marks { AreMarksOf (T.pages timeline.now) marks.new room.new }
 {
@@ -137,8 +158,18 @@ fn count_since<T: Timeline>(
     turn(marks, room)
 }
 
-/// Returns the numbers of the first round. The pages of a warm start are found by marks.
-fn first_marked<T: Timeline>(
+/// Lists all pages.
+fn list_all(room: &mut [u32], count: u32)
+    requires { count ≡ length room.old }
+    ensures { room.new ≡ range_with_len 0 count }
+{
+    for page in 0..count {
+        room[page as usize] = page;
+    }
+}
+
+/// Returns the numbers of the first round, whose pages the front of `room` lists.
+pub(crate) fn first_marked<T: Timeline>(
     timeline: &T,
     settings: &Settings,
     marks: &mut [u64],
@@ -146,13 +177,18 @@ fn first_marked<T: Timeline>(
 ) -> RoundNumbers
     requires marks { AreMarksOf (T.pages timeline.now) marks.old room.old }
     ensures first { IsFirst (T.pages timeline.now) (T.touches timeline.now) settings.now result }
+    ensures list { take result.listed room.new ≡ pages_lacking (T.pages timeline.now) (T.touches timeline.now)
+        settings.now.base settings.now.start }
     ensures marks { AreMarksOf (T.pages timeline.now) marks.new room.new }
 {
     let asked = settings.asked();
     let all = timeline.page_count();
     let listed = match asked.base {
-        Some(base) => count_since(timeline, base, asked.start, marks, room),
-        None => all,
+        Some(base) => list_since(timeline, base, asked.start, marks, room),
+        None => {
+            list_all(room, all);
+            all
+        }
     };
     RoundNumbers::first(settings, timeline.before(asked.start), listed)
 }

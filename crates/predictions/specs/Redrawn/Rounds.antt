@@ -1,11 +1,12 @@
 -- The plan of redrawn pages on its way. No contract of a public call cites it.
-use Rattle.std.specs.Prelude.{◌≡◌, ℕ, ◌+◌, ◌*◌, ◌/◌, ◌&&◌, nat_le, List, length, slice_index}
+use Rattle.std.specs.Prelude.{◌≡◌, ℕ, ◌+◌, ◌*◌, ◌/◌, ◌&&◌, nat_le, true, List, length, slice_index}
 use Rattle.std.specs.List.{filter, range_with_len}
 use Rattle.migration_model.specs.Rates.{MigrationSettings}
 use Rattle.migration_model.specs.Rounds.{NextRound, PlannedRound, IsSent}
 use Rattle.migration_model.specs.Touches.{GuestTouch}
 use Rattle.page_bitmap.specs.Pages.{in_words}
 use Rattle.predictions.specs.Redrawn.{redrawn_touches}
+use Rattle.round_planner.specs.declared.marked.SentPages.{SentPages}
 use Rattle.round_planner.specs.declared.numbers.RoundNumbers.{RoundNumbers}
 use Rattle.round_planner.specs.declared.numbers.RoundSums.{RoundSums}
 use Rattle.round_planner.specs.Scanning.{CanCome, HasRun, IsScan, IsScanWithin}
@@ -32,14 +33,20 @@ pub record IsStanding (pages : ℕ) (touches : List GuestTouch) (drawn : List �
   pub coming : NextRound
   pub at : StandsAt pages touches drawn s coming now listed marks
 
--- `count` of a round's pages are sent, and the walk is not past their ticks
-pub record HasSent (pages : ℕ) (touches : List GuestTouch) (drawn : List ℕ)
-    (s : MigrationSettings) (coming : NextRound) (count next : ℕ) (marks : List ℕ) : Type 0 where
+-- `count` of a round's pages are sent if pages may be skipped
+pub record CountsSent (touches : List GuestTouch) (from rate : ℕ) (pages : List ℕ) (count : ℕ) : Type 0 where
   pub list : List ℕ
-  pub sent : IsSent (s.skip && nat_le 1 coming.done) (redrawn_touches drawn touches) coming.from coming.rate
-      coming.pages list
+  pub sent : IsSent true touches from rate pages list
   pub count_is : count ≡ length list
-  pub within : IsScanWithin pages touches coming.from (coming.from + 1_000 * count / coming.rate) next marks
+
+-- a round has sent so many of its pages, and the walk is not past their ticks
+pub record HasSent (pages : ℕ) (touches : List GuestTouch) (drawn : List ℕ)
+    (s : MigrationSettings) (coming : NextRound) (sent : SentPages) (marks : List ℕ) : Type 0 where
+  pub list : List ℕ
+  pub is_sent : IsSent (s.skip && nat_le 1 coming.done) (redrawn_touches drawn touches) coming.from coming.rate
+      coming.pages list
+  pub count_is : sent.count ≡ length list
+  pub within : IsScanWithin pages touches coming.from (coming.from + 1_000 * sent.count / coming.rate) sent.next marks
 
 -- the round that came, by its numbers; the walk is at its end
 pub record HasRunTo (pages : ℕ) (touches : List GuestTouch) (drawn : List ℕ)

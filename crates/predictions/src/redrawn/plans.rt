@@ -16,30 +16,35 @@ use crate::redrawn::walk::{count_in, count_sent};
 use guest_log::Timeline;
 use page_bitmap::add_page;
 use rate_limit::{Settings, duration};
-use round_planner::{Following, Outcome, RoundNumbers, RoundSums, mark_until, may_skip};
+use round_planner::{Following, Outcome, RoundNumbers, RoundSums, SentPages, mark_until, may_skip};
 
-/// Returns how many pages a round sends, and how many touches the walk has passed then.
-fn sent_pages<T: Timeline>(
+/// Sends the pages of a round.
+fn send_pages<T: Timeline>(
     timeline: &T,
     settings: &Settings,
     drawn: &[u32],
     now: &RoundNumbers,
     listed: &[u64],
     marks: &mut [u64],
-) -> (u32, usize)
+) -> SentPages
     requires drawn { AreDrawn (T.pages timeline.now) drawn.now }
     requires now { IsStanding (T.pages timeline.now) (T.touches timeline.now) drawn.now settings.now now.now
         listed.now marks.old }
     ensures { (coming : NextRound) → StandsAt (T.pages timeline.now) (T.touches timeline.now) drawn.now settings.now
         coming now.now listed.now marks.old
-        → HasSent (T.pages timeline.now) (T.touches timeline.now) drawn.now settings.now coming result.0 result.1
-        marks.new }
+        → HasSent (T.pages timeline.now) (T.touches timeline.now) drawn.now settings.now coming result marks.new }
 {
     if !may_skip(settings, now.step.done) {
-        return (now.listed, now.next);
+        return SentPages {
+            count: now.listed,
+            next: now.next,
+        };
     }
     let walk = count_sent(timeline, drawn, listed, marks, now.next, now.step);
-    (walk.sent, walk.next)
+    SentPages {
+        count: walk.sent,
+        next: walk.next,
+    }
 }
 
 /// Runs a round. Then the pages that are written meanwhile are marked.
@@ -59,12 +64,12 @@ fn run_round<T: Timeline>(
         → HasRunTo (T.pages timeline.now) (T.touches timeline.now) drawn.now settings.now coming result marks.new }
     ensures few { result.dirtied ≤ 65_536 }
 {
-    let (sent, walked) = sent_pages(timeline, settings, drawn, now, listed, marks);
-    let to = now.step.from + duration(sent, now.step.rate);
-    let next = mark_until(timeline, marks, walked, to);
+    let sent = send_pages(timeline, settings, drawn, now, listed, marks);
+    let to = now.step.from + duration(sent.count, now.step.rate);
+    let next = mark_until(timeline, marks, sent.next, to);
     let dirtied = count_in(drawn, marks);
     RoundSums {
-        sent,
+        sent: sent.count,
         to,
         next,
         dirtied,

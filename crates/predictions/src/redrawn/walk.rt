@@ -5,8 +5,7 @@ ghost use Rattle.std.specs.List.{count_by};
 ghost use Rattle.migration_model.specs.Touches.{is_written};
 ghost use Rattle.page_bitmap.specs.Pages.{in_words};
 ghost use Rattle.predictions.specs.Redrawn.{AreDrawn, redrawn_touches};
-ghost use Rattle.predictions.specs.Redrawn.Rounds.{places_in};
-ghost use Rattle.round_planner.specs.Indexing.{HasSent};
+ghost use Rattle.predictions.specs.Redrawn.Rounds.{CountsSent, places_in};
 ghost use Rattle.round_planner.specs.Scanning.{IsScan, IsScanWithin};
 
 use guest_log::Timeline;
@@ -82,7 +81,7 @@ pub(crate) fn count_sent<T: Timeline>(
     requires scan { IsScan (T.pages timeline.now) (T.touches timeline.now) step.from step.from next marks.old }
     requires rate { 1 ≤ step.rate }
     requires from { step.from < 2 ^ 42 }
-    ensures sent { HasSent (redrawn_touches drawn.now (T.touches timeline.now)) step.from step.rate
+    ensures sent { CountsSent (redrawn_touches drawn.now (T.touches timeline.now)) step.from step.rate
         (places_in drawn.now listed.now) result.sent }
     ensures scan { IsScanWithin (T.pages timeline.now) (T.touches timeline.now) step.from
         (step.from + 1_000 * result.sent / step.rate) result.next marks.new }

@@ -16,28 +16,29 @@ loop-next-init g c =
 pub returns-in-Stop-clause-planned : goal.returns-in-Stop-clause-planned
 returns-in-Stop-clause-planned g c =
     let now = c.loop-next.now in
-    let round = c.marked_round-ran.ensures in
     let before = c.loop-next.invariant.way in
+    let round = c.end_round-ran.ensures in
+    let ran = round.ran before.coming before.way.at (c.send_pages-sent.ensures.sent before.coming before.marked) in
     let row = c.row.ensures in
     let end = rw c.in-Stop.is at c.after.ensures in
-    marks_end _ _ c.args.settings.now now c.marked_round-ran.result c.row.result end.0 c.in-Stop.outcome
+    marks_end _ _ c.args.settings.now now c.end_round-ran.result c.row.result end.0 c.in-Stop.outcome
     c.loop-next.marks c.loop-next.room c.args.rows.now c.loop-next.rows
-    before (round.ran before.coming before.marked) end.1.0 end.1.1
+    before ran end.1.0 end.1.1
     (record { from = row.from; to = row.to; rate = row.rate; list = row.pages; sent = row.sent; dirtied = row.dirtied })
     c.requires.rows
 
 pub loop-next-preserved : goal.loop-next-preserved
 loop-next-preserved g c =
     let now = c.loop-next.now in
-    let ran = c.marked_round-ran.result in
-    let round = c.marked_round-ran.ensures in
     let before = c.loop-next.invariant.way in
+    let round = c.end_round-ran.ensures in
+    let ran = round.ran before.coming before.way.at (c.send_pages-sent.ensures.sent before.coming before.marked) in
     let row = c.row.ensures in
     let next = rw c.in-Round.is at c.after.ensures in
     record {
-      way = rw next.1 (marks_go_on _ _ c.args.settings.now now ran c.in-Round.next.step c.row.result c.loop-next.marks
-          c.loop-next.room c.marked_round-ran.new.marks c.marked_round-ran.new.room
-          c.args.rows.now c.loop-next.rows c.requires.first.in_range before (round.ran before.coming before.marked)
+      way = rw next.1 (marks_go_on _ _ c.args.settings.now now c.end_round-ran.result c.in-Round.next.step
+          c.row.result c.loop-next.marks c.loop-next.room c.end_round-ran.new.marks c.end_round-ran.new.room
+          c.args.rows.now c.loop-next.rows c.requires.first.in_range before ran
           next.0 round.turned round.room
           (record {
             from = row.from;

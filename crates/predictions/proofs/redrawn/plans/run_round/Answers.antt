@@ -10,7 +10,7 @@ use Rattle.predictions.proofs.redrawn.plans.run_round.Goals as goal
 
 pub mark_until-next-requires : goal.mark_until-next-requires
 mark_until-next-requires g c =
-    let has = c.sent_pages-sent.ensures c.requires.now.coming c.requires.now.at in
+    let has = c.send_pages-sent.ensures c.requires.now.coming c.requires.now.at in
     record { marks_len = has.within.scan.met.len; next_high = has.within.scan.bound }
 
 pub returns-clause-ran : goal.returns-clause-ran
@@ -20,13 +20,13 @@ returns-clause-ran g c coming at =
     let drawn = c.args.drawn.now in
     let all = redrawn_touches drawn touches in
     let ticks = c.duration.result in
-    let has = c.sent_pages-sent.ensures coming at in
+    let has = c.send_pages-sent.ensures coming at in
     let to = coming.from + ticks in
     let to_is : c.args.now.now.step.from + ticks ≡ to = ap (λ a. a + ticks) at.from_is in
     let next = c.mark_until-next.result in
     let marks = c.mark_until-next.new.marks in
     let scan =
-    walked_on pages touches coming.from coming.rate c.sent_pages-sent.result.0 ticks to _ _ _ _ refl
+    walked_on pages touches coming.from coming.rate c.send_pages-sent.result.count ticks to _ _ _ _ refl
     (rw (at.rate_is) at c.duration.ensures.enough) has.within (rw to_is at c.mark_until-next.ensures.walked) in
     let dirtied = pages_written (length drawn) all coming.from to in
     let round : PlannedRound = record {
@@ -42,7 +42,7 @@ returns-clause-ran g c coming at =
     record {
       round = round;
       dirtied = dirtied;
-      run = ran (length drawn) all c.args.settings.now coming round dirtied ticks at.can has.sent refl refl refl refl
+      run = ran (length drawn) all c.args.settings.now coming round dirtied ticks at.can has.is_sent refl refl refl refl
           ticks_are (rw (has.count_is, at.rate_is) at c.duration.ensures.enough)
           (rw (has.count_is, at.rate_is) at c.duration.ensures.least) refl refl;
       to_is = to_is;

@@ -1,9 +1,9 @@
 use Rattle.std.proofs.Common.{◌≡◌, ◌∙◌, ◌&&◌, true, false, leb, refl, sym, ap, subst, arith}
 use Rattle.migration_model.specs.Rounds.{IsSent}
 use Rattle.predictions.specs.Redrawn.{redrawn_touches}
-use Rattle.round_planner.specs.Indexing.{HasSent}
+use Rattle.predictions.specs.Redrawn.Rounds.{CountsSent}
 use Rattle.round_planner.proofs.Skims.{all_is_sent}
-use Rattle.predictions.proofs.redrawn.plans.sent_pages.Goals as goal
+use Rattle.predictions.proofs.redrawn.plans.send_pages.Goals as goal
 
 pub returns-then-not-may_skip : goal.returns-then-not-may_skip
 returns-then-not-may_skip g c coming at =
@@ -14,7 +14,7 @@ returns-then-not-may_skip g c coming at =
     ∙ sym c.may_skip.ensures ∙ c.if-not-may_skip.true in
     record {
       list = coming.pages;
-      sent = subst (λ b. IsSent b all coming.from coming.rate coming.pages coming.pages) (sym plain)
+      is_sent = subst (λ b. IsSent b all coming.from coming.rate coming.pages coming.pages) (sym plain)
           (all_is_sent all coming.from coming.rate coming.pages coming.pages refl);
       count_is = at.listed_is;
       within = record {
@@ -31,11 +31,11 @@ returns g c coming at =
     let s = c.args.settings.now in
     let later : (s.skip && leb 1 coming.done) ≡ true = ap (λ n. s.skip && leb 1 n) (sym at.done_is)
     ∙ sym c.may_skip.ensures ∙ c.if-not-may_skip.false in
-    let has : HasSent all coming.from coming.rate coming.pages c.count_sent-walk.result.sent =
+    let has : CountsSent all coming.from coming.rate coming.pages c.count_sent-walk.result.sent =
     rw (at.pages_are) (rw (at.from_is, at.rate_is) at c.count_sent-walk.ensures.sent) in
     record {
       list = has.list;
-      sent = subst (λ b. IsSent b all coming.from coming.rate coming.pages has.list) (sym later) has.sent;
+      is_sent = subst (λ b. IsSent b all coming.from coming.rate coming.pages has.list) (sym later) has.sent;
       count_is = has.count_is;
       within = rw (at.from_is, at.rate_is) at c.count_sent-walk.ensures.scan;
     }

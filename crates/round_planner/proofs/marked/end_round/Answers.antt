@@ -5,65 +5,62 @@ use Rattle.migration_model.specs.Touches.{pages_written}
 use Rattle.round_planner.specs.Indexing.{IsTurned}
 use Rattle.round_planner.proofs.Plans.{ran}
 use Rattle.round_planner.proofs.Scans.{marked_few, marked_pages, walked_on}
-use Rattle.round_planner.proofs.marked.marked_round.Goals as goal
+use Rattle.round_planner.proofs.marked.end_round.Goals as goal
 
 pub mark_until-next-requires : goal.mark_until-next-requires
 mark_until-next-requires g c =
-    let has = c.sent_pages-sent.ensures c.requires.marks.coming c.requires.marks.is in
-    record { marks_len = has.within.scan.met.len; next_high = has.within.scan.bound }
+    let within = c.requires.sent.has.within in
+    record { marks_len = within.scan.met.len; next_high = within.scan.bound }
 
 pub turn-dirtied-requires-clause-marks : goal.turn-dirtied-requires-clause-marks
 turn-dirtied-requires-clause-marks g c = omega (
   arith,
   c.mark_until-next.ensures.room.marks_len,
-  c.requires.marks.is.at.can.list.few,
+  c.requires.sent.at.can.list.few,
 )
 
 pub turn-dirtied-requires-clause-room : goal.turn-dirtied-requires-clause-room
 turn-dirtied-requires-clause-room g c =
-    let coming = c.requires.marks.coming in
-    let is = c.requires.marks.is in
-    let has = c.sent_pages-sent.ensures coming is in
+    let can = c.requires.sent in
+    let coming = can.coming in
     let scan =
     walked_on (g.T.Timeline.pages c.args.timeline.now) (g.T.Timeline.touches c.args.timeline.now) coming.from
-    coming.rate c.sent_pages-sent.result.0 c.duration.result
-    (c.args.now.now.step.from + c.duration.result) _ _ _ _ (ap (λ t. t + c.duration.result) is.at.from_is)
-    (rw (is.at.rate_is) at c.duration.ensures.enough) has.within c.mark_until-next.ensures.walked in
-    omega (arith, marked_few _ _ coming.from _ _ _ scan, is.room_len)
+    coming.rate c.args.sent.count c.duration.result
+    (c.args.now.now.step.from + c.duration.result) _ _ _ _ (ap (λ t. t + c.duration.result) can.at.from_is)
+    (rw (can.at.rate_is) at c.duration.ensures.enough) can.has.within c.mark_until-next.ensures.walked in
+    omega (arith, marked_few _ _ coming.from _ _ _ scan, can.room_len)
 
 pub returns-clause-room : goal.returns-clause-room
-returns-clause-room g c = omega (arith, c.turn-dirtied.ensures.room, c.requires.marks.is.room_len)
+returns-clause-room g c = omega (arith, c.turn-dirtied.ensures.room, c.requires.sent.room_len)
 
 pub returns-clause-turned : goal.returns-clause-turned
 returns-clause-turned g c =
     let pages = g.T.Timeline.pages c.args.timeline.now in
     let touches = g.T.Timeline.touches c.args.timeline.now in
-    let coming = c.requires.marks.coming in
-    let at = c.requires.marks.is.at in
-    let has = c.sent_pages-sent.ensures coming c.requires.marks.is in
+    let can = c.requires.sent in
+    let coming = can.coming in
+    let at = can.at in
     let to = c.args.now.now.step.from + c.duration.result in
     let next = c.mark_until-next.result in
     let scan =
-    walked_on pages touches coming.from coming.rate c.sent_pages-sent.result.0 c.duration.result to _ _ _ _
+    walked_on pages touches coming.from coming.rate c.args.sent.count c.duration.result to _ _ _ _
     (ap (λ t. t + c.duration.result) at.from_is)
-    (rw (at.rate_is) at c.duration.ensures.enough) has.within c.mark_until-next.ensures.walked in
+    (rw (at.rate_is) at c.duration.ensures.enough) can.has.within c.mark_until-next.ensures.walked in
     subst (λ (from : ℕ). IsTurned pages touches from to c.turn-dirtied.result next c.turn-dirtied.new.marks
     c.turn-dirtied.new.room) (sym at.from_is)
     (c.turn-dirtied.ensures.turned pages coming.from to next touches scan)
 
 pub returns-clause-ran : goal.returns-clause-ran
-returns-clause-ran g c coming is =
+returns-clause-ran g c coming at has =
     let pages = g.T.Timeline.pages c.args.timeline.now in
     let touches = g.T.Timeline.touches c.args.timeline.now in
-    let at = is.at in
     let ticks = c.duration.result in
-    let has = c.sent_pages-sent.ensures coming is in
     let to = coming.from + ticks in
     let to_is : c.args.now.now.step.from + ticks ≡ to = ap (λ a. a + ticks) at.from_is in
     let next = c.mark_until-next.result in
     let marks = c.mark_until-next.new.marks in
     let scan =
-    walked_on pages touches coming.from coming.rate c.sent_pages-sent.result.0 ticks to _ _ _ _ refl
+    walked_on pages touches coming.from coming.rate c.args.sent.count ticks to _ _ _ _ refl
     (rw (at.rate_is) at c.duration.ensures.enough) has.within (rw to_is at c.mark_until-next.ensures.walked) in
     let dirtied = pages_written pages touches coming.from to in
     let round : PlannedRound = record {
@@ -71,8 +68,7 @@ returns-clause-ran g c coming is =
       to = to;
       rate = coming.rate;
       pages = coming.pages;
-      sent =
-          has.list;
+      sent = has.list;
       dirtied = length dirtied;
     } in
     let ticks_are : ticks ≡ duration_of (length has.list) coming.rate = c.duration.ensures.value
@@ -80,7 +76,7 @@ returns-clause-ran g c coming is =
     record {
       round = round;
       dirtied = dirtied;
-      run = ran pages touches c.args.settings.now coming round dirtied ticks at.can has.sent refl refl refl refl
+      run = ran pages touches c.args._settings.now coming round dirtied ticks at.can has.is_sent refl refl refl refl
           ticks_are (rw (has.count_is, at.rate_is) at c.duration.ensures.enough)
           (rw (has.count_is, at.rate_is) at c.duration.ensures.least) refl refl;
       to_is = to_is;
