@@ -150,8 +150,7 @@ fn no_more_than_1024_texts_wait(rt: HostRuntime) -> Result<(), Fail> {
 fn send_each(alloc: Global, outs: Vec<Vec<LaneOut>>) -> Result<(), Fail> {
     let mut byte = 0u8;
     for row in outs {
-        for out in row {
-            let mut out = out;
+        for mut out in row {
             byte = byte.wrapping_add(1);
             if !send_byte(alloc, &mut out, byte) {
                 return Err(Fail::from("no room"));
@@ -165,8 +164,7 @@ fn send_each(alloc: Global, outs: Vec<Vec<LaneOut>>) -> Result<(), Fail> {
 fn take_each(alloc: Global, ins: Vec<Vec<LaneIn>>) -> Result<Vec<u8>, AllocError> {
     let mut bytes = Vec::new(alloc);
     for row in ins {
-        for end in row {
-            let mut end = end;
+        for mut end in row {
             bytes.push(first_byte(end.take()))?;
         }
     }

@@ -259,7 +259,7 @@ fn put_checker(checker: &StreamChecker, states: &mut [PageState])
 fn take_into(
     held: &HeldTrace,
     index: &PageIndex,
-    checker: StreamChecker,
+    mut checker: StreamChecker,
     piece: &[u8],
     states: &mut [PageState],
 ) -> Result<Taken, WrongFrame>
@@ -270,7 +270,6 @@ fn take_into(
     ensures wrong { IfErr result (StopsAt held.now checker (checked_in held.now checker.stop states.new) piece.now) }
     ensures whole { IfErr result (λ found. found.fault.cause ≢ Refused Short) }
 {
-    let mut checker = checker;
     let taken = checker.take(held, index, piece);
     put_checker(&checker, states);
     taken

@@ -124,7 +124,7 @@ fn in_order<T: Timeline>(
     timeline: &T,
     index: &RoundIndex,
     cases: &[Settings],
-    taken: Vec<Option<Line>>,
+    mut taken: Vec<Option<Line>>,
 ) -> Result<Vec<Line>, SweepError>
     requires index { IsRoundIndexOf (T.pages timeline.now) (T.touches timeline.now) index.now }
     requires taken { AreTaken (T.pages timeline.now) (T.touches timeline.now) cases.now taken.items }
@@ -132,7 +132,6 @@ fn in_order<T: Timeline>(
         cases.now lines.items) }
     ensures refusal { IfErr result (λ e. e ≡ SweepError.Memory) }
 {
-    let mut taken = taken;
     let mut planner = Planner::new(alloc, timeline).or(Err(SweepError::Memory))?;
     let mut lines = Vec::with_capacity(alloc, cases.len())?;
     for (number, case) in cases.iter().enumerate() {

@@ -1,10 +1,13 @@
 -- A pass over a timeline whose rows and marks are in memory that is lent.
 use Rattle.std.proofs.Common.{◌≡◌, ℕ, ◌+◌, ◌/◌, ◌<◌, ◌≤◌, inl, inr, Bool, true, false, cond, ltb, leb, List, []}
-use Rattle.std.proofs.Common.{◌∷◌, ◌++◌, length, set, drop, map, replicate, refl, sym, ap, ◌∙◌, arith}
+use Rattle.std.proofs.Common.{◌∷◌, ◌++◌, length, set, drop, map, replicate, refl, sym, ap, ◌∙◌, arith, Option, None}
+use Rattle.std.proofs.Common.{Some, IfSome}
+use Rattle.std.specs.Prelude.{⊤}
 use Rattle.std.specs.List.{filter, range_with_len}
 use Rattle.std.specs.List.Sorted.{IsNonDecreasingBy}
 use Rattle.std.proofs.lemmas.Bool.{le-leb, leb-true}
 use Rattle.std.proofs.lemmas.Nat.{le-div}
+use Rattle.std.proofs.lemmas.Option.{MatchOption-at_some}
 use Rattle.std.proofs.lemmas.List.{append-nil, append_assoc, length-map, length-set, length_push, map-append}
 use Rattle.std.proofs.lemmas.List.FromFn.{length-range_with_len}
 use Rattle.std.proofs.lemmas.List.Sums.{count_by-le-length, length-filter}
@@ -14,13 +17,12 @@ use Rattle.migration_model.specs.Touches.{GuestTouch, AreTouches}
 use Rattle.migration_model.specs.Windows.{WindowRow, WorkingSets, rows_of, row_of, windows_of, working_sets_of}
 use Rattle.migration_model.proofs.Order.{in_order-front, last_by-le, last_by-push}
 use Rattle.migration_model.proofs.Lists.{over_more}
-use Rattle.working_sets.specs.Counting.{blank, finished, one_if, rows_closed, started, unmarked, with_row}
-use Rattle.working_sets.specs.Lending.{HasRows, count_after, count_turned, numbers_of, rows_after, rows_over}
-use Rattle.working_sets.specs.Lending.{rows_turned}
+use Rattle.working_sets.specs.Counting.{blank, finished, one_if, row_closed, started, unmarked, with_row}
+use Rattle.working_sets.specs.Lending.{HasRows, count_after, numbers_of, rows_after, rows_over}
 use Rattle.working_sets.specs.declared.counting.OpenWindow.{OpenWindow}
 use Rattle.working_sets.specs.declared.counting.PageSeen.{PageSeen}
 use Rattle.working_sets.specs.declared.lending.WindowNumbers.{WindowNumbers}
-use Rattle.working_sets.proofs.Open.{state_of}
+use Rattle.working_sets.proofs.Open.{state_of, with_closed}
 use Rattle.working_sets.proofs.Shown.{has_write, quotient_low}
 use Rattle.working_sets.proofs.Whole.{PassesTo, start_of_pass, end_of_pass}
 
@@ -62,11 +64,19 @@ pub closed_after : (closed : List WindowRow) (old rows : List WindowNumbers) (co
 closed_after closed old rows count row low are = put_either (leb 1 row.writes) closed old rows count row
     (λ is. low (leb-true 1 row.writes is)) are
 
--- the same after a turn
+-- the buffer and the slot of the next row, after the row that a turn closes, if any
+abbrev pub rows_closed : List WindowNumbers → ℕ → Option WindowRow → List WindowNumbers
+rows_closed rows count None = rows
+rows_closed rows count (Some row) = rows_after rows count row
+
+abbrev pub count_closed : ℕ → Option WindowRow → ℕ
+count_closed count None = count
+count_closed count (Some row) = count_after count row
+
 turned_either : (b : Bool) (closed : List WindowRow) (old rows : List WindowNumbers) (count : ℕ) (row : WindowRow)
     → (1 ≤ row.writes → count < length rows) → AreClosed closed old rows count
-    → AreClosed (cond b closed (with_row closed row)) old (cond b rows (rows_after rows count row))
-    (cond b count (count_after count row))
+    → AreClosed (with_closed closed (cond b None (Some row))) old (rows_closed rows count (cond b None (Some row)))
+    (count_closed count (cond b None (Some row)))
 turned_either true closed old rows count row low are = are
 turned_either false closed old rows count row low are = closed_after closed old rows count row low are
 
@@ -163,6 +173,17 @@ slot_low pages touches s index w at count marks old rows fits are w_is p low has
       omega (arith, closed, windows, p.are.count_is, p.are.len, ap (windows_of touches) w_is)
 ]
 
+slot_either : (b : Bool) (row : WindowRow) (X : Type 0) → (1 ≤ row.writes → X)
+    → IfSome (cond b None (Some row)) (λ r. 1 ≤ r.writes → X)
+slot_either true row X slot = tt
+slot_either false row X slot = slot
+
+-- what holds if the open window has a write holds if the row that is closed has one
+pub slot_closed : (tick : ℕ) (at : OpenWindow) (row : WindowRow) (X : Type 0) → (1 ≤ at.row.writes → X)
+    → row_closed tick at ≡ Some row → 1 ≤ row.writes → X
+slot_closed tick at row X slot is = MatchOption-at_some ⊤ (λ r. 1 ≤ r.writes → X) row is
+    (slot_either (ltb tick at.end) at.row X slot)
+
 -- ---- one more touch
 
 with_len : (b : Bool) (closed : List WindowRow) (row : WindowRow)
@@ -171,7 +192,7 @@ with_len true closed row = length_push closed row
 with_len false closed row = omega arith
 
 few_turned : (b : Bool) (closed : List WindowRow) (row : WindowRow) (index : ℕ)
-    → length closed + one_if (leb 1 row.writes) ≤ index → length (cond b closed (with_row closed row)) ≤ index
+    → length closed + one_if (leb 1 row.writes) ≤ index → length (with_closed closed (cond b None (Some row))) ≤ index
 few_turned true closed row index few = omega (arith, few)
 few_turned false closed row index few = omega (arith, few, with_len (leb 1 row.writes) closed row)
 
@@ -183,13 +204,13 @@ one_if_few false = omega arith
 pub lent_step : (pages : ℕ) (touches : List GuestTouch) (s : MigrationSettings) (index w tick : ℕ) (at new : OpenWindow)
     (count next : ℕ) (marks seen : List PageSeen) (old rows after : List WindowNumbers)
     → (p : LentPasses pages touches s index w at count marks old rows) → (1 ≤ at.row.writes → count < length rows)
-    → PassesTo pages touches s (index + 1) (state_of w new (rows_closed tick at p.closed) seen)
-    → after ≡ rows_turned tick at count rows → next ≡ count_turned tick at count
+    → PassesTo pages touches s (index + 1) (state_of w new (with_closed p.closed (row_closed tick at)) seen)
+    → after ≡ rows_closed rows count (row_closed tick at) → next ≡ count_closed count (row_closed tick at)
     → LentPasses pages touches s (index + 1) w new next seen old after
 lent_step pages touches s index w tick at new count next marks seen old rows after p slot passes after_is next_is =
     let few = few_turned (ltb tick at.end) p.closed at.row index p.few in
     record {
-      closed = rows_closed tick at p.closed;
+      closed = with_closed p.closed (row_closed tick at);
       passes = passes;
       are = rw (after_is, next_is) (turned_either (ltb tick at.end) p.closed old rows count at.row slot p.are);
       few = omega (arith, few, one_if_few (leb 1 new.row.writes));

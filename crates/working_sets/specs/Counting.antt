@@ -1,6 +1,7 @@
 -- The state of one pass over writes, and its steps. No contract of a public call mentions it.
 use Rattle.std.specs.Prelude.{ℕ, ◌+◌, ◌*◌, ◌/◌, ◌^◌, ◌<◌, ◌≤◌, ◌&&◌, length, ◌==◌, nat_lt, nat_le, not, Bool, cond}
 use Rattle.std.specs.Prelude.{if◌then◌else◌, List, [], ◌∷◌, ◌++◌, slice_index_or, slice_set, replicate}
+use Rattle.std.specs.Prelude.{Option, Some, None}
 use Rattle.std.specs.List.{filter, range_with_len}
 use Rattle.migration_model.specs.Windows.{WindowRow, WorkingSets}
 use Rattle.working_sets.specs.declared.counting.OpenWindow.{OpenWindow}
@@ -98,12 +99,13 @@ pub record CanAdd (s : Counting) (tick page : ℕ) : Type 0 where
 abbrev pub window_at : ℕ → ℕ → OpenWindow
 window_at w tick = record { end = (tick / w + 1) * w; row = blank (tick / w) }
 
--- the open window as it is for a tick, and the closed rows then
+-- the open window as it is for a tick
 abbrev pub turned_open : ℕ → ℕ → OpenWindow → OpenWindow
 turned_open w tick it = if nat_lt tick it.end then it else window_at w tick
 
-abbrev pub rows_closed : ℕ → OpenWindow → List WindowRow → List WindowRow
-rows_closed tick it rows = if nat_lt tick it.end then rows else with_row rows it.row
+-- the row that is closed then: that of the open window, if the tick is after it
+abbrev pub row_closed : ℕ → OpenWindow → Option WindowRow
+row_closed tick it = if nat_lt tick it.end then None else Some it.row
 
 -- what must hold for the window of a tick to be opened
 pub record CanOpen (w tick : ℕ) : Type 0 where

@@ -1,9 +1,8 @@
 -- Rows of windows in memory that is lent. The contracts of public calls cite only the first part.
-use Rattle.std.specs.Prelude.{ℕ, ◌+◌, ◌≤◌, ◌⊎◌, nat_lt, nat_le, if◌then◌else◌, List, ◌++◌}
+use Rattle.std.specs.Prelude.{ℕ, ◌+◌, ◌≤◌, ◌⊎◌, nat_le, if◌then◌else◌, List, ◌++◌}
 use Rattle.std.specs.Prelude.{length, drop, map, slice_set}
 use Rattle.migration_model.specs.Touches.{GuestTouch}
 use Rattle.migration_model.specs.Windows.{WindowRow, windows_of}
-use Rattle.working_sets.specs.declared.counting.OpenWindow.{OpenWindow}
 use Rattle.working_sets.specs.declared.lending.WindowNumbers.{WindowNumbers}
 
 -- the row of a window, as it is lent
@@ -32,10 +31,3 @@ count_after count row = if nat_le 1 row.writes then count + 1 else count
 
 abbrev pub rows_after : List WindowNumbers → ℕ → WindowRow → List WindowNumbers
 rows_after rows count row = if nat_le 1 row.writes then slice_set rows count (numbers_of row) else rows
-
--- the same after a turn to a tick
-abbrev pub count_turned : ℕ → OpenWindow → ℕ → ℕ
-count_turned tick it count = if nat_lt tick it.end then count else count_after count it.row
-
-abbrev pub rows_turned : ℕ → OpenWindow → ℕ → List WindowNumbers → List WindowNumbers
-rows_turned tick it count rows = if nat_lt tick it.end then rows else rows_after rows count it.row

@@ -69,7 +69,8 @@ fn mark_after(mark: PageSeen, number: u64) -> PageSeen
 
 impl OpenWindow {
     ghost use Rattle.std.specs.Prelude.{◌≡◌, slice_index_or, slice_set};
-    ghost use Rattle.working_sets.specs.Counting.{CanCount, CanOpen, blank, counted, marked, unmarked, window_at};
+    ghost use Rattle.working_sets.specs.Counting.{CanCount, CanOpen, blank, counted, marked, row_closed, turned_open};
+    ghost use Rattle.working_sets.specs.Counting.{unmarked, window_at};
 
     /// Returns the first window of this many ticks, without writes.
     pub(crate) fn first(window: u64) -> OpenWindow
@@ -91,6 +92,20 @@ impl OpenWindow {
             end: (number + 1) * window,
             row: blank_row(number),
         }
+    }
+
+    /// Closes the open window if a tick is after it, and opens the window of the tick. Returns the row that is closed.
+    pub(crate) fn turn(&mut self, window: u64, tick: u64) -> Option<Window>
+        requires { CanOpen window tick }
+        ensures window { self.new ≡ turned_open window tick self.old }
+        ensures closed { result ≡ row_closed tick self.old }
+    {
+        if tick < self.end {
+            return None;
+        }
+        let closed = self.row;
+        *self = OpenWindow::of(window, tick);
+        Some(closed)
     }
 
     /// Counts a write to the page.

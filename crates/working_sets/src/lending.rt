@@ -2,8 +2,7 @@
 
 ghost use Rattle.std.specs.Prelude.{◌≡◌, ◌≤◌, ◌<◌, ◌↔◌, IsTrue, length};
 ghost use Rattle.migration_model.specs.Windows.{rows_of};
-ghost use Rattle.working_sets.specs.Counting.{CanOpen, turned_open};
-ghost use Rattle.working_sets.specs.Lending.{HasRows, count_after, count_turned, rows_after, rows_over, rows_turned};
+ghost use Rattle.working_sets.specs.Lending.{HasRows, count_after, rows_after, rows_over};
 
 use crate::counting::{OpenWindow, PageSeen, UNSEEN};
 use crate::window::Window;
@@ -45,28 +44,6 @@ fn put_row(rows: &mut [WindowNumbers], count: usize, row: Window) -> usize
     count + 1
 }
 
-/// Closes the open window if a tick is after it, and opens the window of the tick. Returns how many rows are closed.
-fn turn(
-    rows: &mut [WindowNumbers],
-    count: usize,
-    at: &mut OpenWindow,
-    window: u64,
-    tick: u64,
-) -> usize
-    requires can { CanOpen window tick }
-    requires slot { 1 ≤ at.old.row.writes → count < length rows.old }
-    ensures window { at.new ≡ turned_open window tick at.old }
-    ensures rows { rows.new ≡ rows_turned tick at.old count rows.old }
-    ensures count { result ≡ count_turned tick at.old count }
-{
-    if tick < at.end {
-        return count;
-    }
-    let closed = put_row(rows, count, at.row);
-    *at = OpenWindow::of(window, tick);
-    closed
-}
-
 /// Returns whether this many slots are enough for the rows of the windows of a trace: as many as it has writes, or as
 /// many as windows begin up to the last write.
 pub fn has_rows<T: Timeline>(timeline: &T, settings: &Settings, slots: usize) -> bool
@@ -97,7 +74,9 @@ pub fn window_rows<T: Timeline>(
     let mut count = 0;
     for index in 0..timeline.touch_count() {
         let touch = timeline.touch(index);
-        count = turn(rows, count, &mut at, window, touch.tick);
+        if let Some(row) = at.turn(window, touch.tick) {
+            count = put_row(rows, count, row);
+        }
         at.count(marks, touch.page);
     }
     put_row(rows, count, at.row)

@@ -2,7 +2,7 @@
 
 ghost use Rattle.std.specs.Prelude.{◌≡◌, IfErr, IfOk, OnOk};
 ghost use Rattle.migration_model.specs.Windows.{working_sets_of};
-ghost use Rattle.working_sets.specs.Counting.{CanOpen, rows_closed, turned_open, with_row};
+ghost use Rattle.working_sets.specs.Counting.{with_row};
 
 use crate::counting::{OpenWindow, UNSEEN};
 use crate::error::TablesError;
@@ -24,25 +24,6 @@ fn push_row(rows: &mut Vec<Window>, row: Window) -> Result<(), AllocError>
     Ok(())
 }
 
-/// Closes the open window if a tick is after it, and opens the window of the tick.
-fn turn(
-    rows: &mut Vec<Window>,
-    at: &mut OpenWindow,
-    window: u64,
-    tick: u64,
-) -> Result<(), AllocError>
-    requires { CanOpen window tick }
-    ensures window { OnOk result (at.new ≡ turned_open window tick at.old) }
-    ensures rows { OnOk result (rows.new.items ≡ rows_closed tick at.old rows.old.items) }
-{
-    if tick < at.end {
-        return Ok(());
-    }
-    push_row(rows, at.row)?;
-    *at = OpenWindow::of(window, tick);
-    Ok(())
-}
-
 /// Returns the rows of the windows of a trace, and its hot pages. It passes once over the touches, whatever the length
 /// of a window. The error is `Memory`, if memory runs out for the marks of the pages, the rows or the hot pages.
 pub fn tables<T: Timeline>(
@@ -60,7 +41,9 @@ pub fn tables<T: Timeline>(
     let mut at = OpenWindow::first(asked.window);
     for index in 0..timeline.touch_count() {
         let touch = timeline.touch(index);
-        turn(&mut rows, &mut at, asked.window, touch.tick)?;
+        if let Some(row) = at.turn(asked.window, touch.tick) {
+            push_row(&mut rows, row)?;
+        }
         at.count(&mut marks, touch.page);
     }
     push_row(&mut rows, at.row)?;

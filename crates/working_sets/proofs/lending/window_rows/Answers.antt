@@ -1,10 +1,12 @@
-use Rattle.std.proofs.Common.{rules, ◌≡◌, ◌∙◌, ap, arith, length, refl, replicate}
+use Rattle.std.proofs.Common.{rules, ◌≡◌, ◌<◌, ◌∙◌, ap, arith, length, refl, replicate, sym}
 use Rattle.migration_model.specs.Rates.{MigrationSettings}
 use Rattle.migration_model.specs.Touches.{no_touch}
 use Rattle.working_sets.specs.Counting.{unmarked}
-use Rattle.working_sets.proofs.Lent.{lent_end, lent_start, lent_step, slot_low}
-use Rattle.working_sets.proofs.Open.{can_pass, pass_next}
+use Rattle.working_sets.proofs.Lent.{count_closed, lent_end, lent_start, lent_step, rows_closed}
+use Rattle.working_sets.proofs.Lent.{slot_closed, slot_low}
+use Rattle.working_sets.proofs.Open.{can_pass, none_closed, pass_next}
 use Rattle.working_sets.proofs.lending.window_rows.Goals as goal
+use Rattle.working_sets.proofs.lending.window_rows.Goals.{in-Some, in_default}
 
 pub loop-index-init : goal.loop-index-init
 loop-index-init g c =
@@ -16,33 +18,25 @@ loop-index-init g c =
     (ap (λ (x : MigrationSettings). x.window) (c.behind-settings.view_is ∙ c.asked.ensures.value)) c.first-at.ensures
     (filled ∙ ap (λ n. replicate n unmarked) len)
 
-pub turn-count-requires-clause-can : goal.turn-count-requires-clause-can
-turn-count-requires-clause-can g c =
+pub put_row-count-requires : goal.put_row-count-requires
+put_row-count-requires g c =
     let at = c.loop-index in
-    let pass = can_pass _ _ c.args.settings.now at.index _ _ _ _ no_touch at.at at.invariant.closed at.marks
-    c.touch_count-index-end.ensures.fits (omega (arith, c.page_count.ensures.pages, c.page_count.ensures.few))
-    c.asked.ensures.in_range at.invariant.passes
-    (omega (arith, c.loop-index-test.true, c.touch_count-index-end.ensures.count)) c.touch-touch.ensures
-    (ap (λ t. t.tick) c.touch.view_is) (ap (λ t. t.page) c.touch.view_is) in
-    pass.opens
-
-pub turn-count-requires-clause-slot : goal.turn-count-requires-clause-slot
-turn-count-requires-clause-slot g c =
-    let at = c.loop-index in
-    slot_low _ _ c.args.settings.now at.index _ at.at at.count at.marks c.args.rows.now at.rows
+    let slot = slot_low _ _ c.args.settings.now at.index _ at.at at.count at.marks c.args.rows.now at.rows
     c.touch_count-index-end.ensures.fits c.asked.ensures.in_range
     (ap (λ (x : MigrationSettings). x.window) (c.behind-settings.view_is ∙ c.asked.ensures.value)) at.invariant
-    (omega (arith, at.auto.index-end, c.touch_count-index-end.ensures.count)) c.requires.rows
+    (omega (arith, at.auto.index-end, c.touch_count-index-end.ensures.count)) c.requires.rows in
+    slot_closed c.touch.inside.tick at.at c.in-Some.row (at.count < length at.rows) slot
+    (sym c.turn.ensures.closed ∙ c.in-Some.is)
 
 pub count-requires : goal.count-requires
 count-requires g c =
     let at = c.loop-index in
-    let pass = can_pass _ _ c.args.settings.now at.index _ _ _ _ no_touch at.at at.invariant.closed at.marks
+    let can = can_pass _ _ c.args.settings.now at.index _ _ _ _ no_touch at.at at.invariant.closed at.marks
     c.touch_count-index-end.ensures.fits (omega (arith, c.page_count.ensures.pages, c.page_count.ensures.few))
     c.asked.ensures.in_range at.invariant.passes
     (omega (arith, c.loop-index-test.true, c.touch_count-index-end.ensures.count)) c.touch-touch.ensures
     (ap (λ t. t.tick) c.touch.view_is) (ap (λ t. t.page) c.touch.view_is) in
-    rw c.turn-count.ensures.window pass.counts
+    rw c.turn.ensures.window can
 
 pub loop-index-preserved : goal.loop-index-preserved
 loop-index-preserved g c =
@@ -50,16 +44,27 @@ loop-index-preserved g c =
     let fits = c.touch_count-index-end.ensures.fits in
     let tick = ap (λ t. t.tick) c.touch.view_is in
     let w_is = ap (λ (x : MigrationSettings). x.window) (c.behind-settings.view_is ∙ c.asked.ensures.value) in
-    let next = pass_next _ _ c.args.settings.now at.index _ _ _ _ no_touch at.at c.turn-count.new.at c.count.new.self
+    let next = pass_next _ _ c.args.settings.now at.index _ _ _ _ no_touch at.at c.turn.new.self c.count.new.self
     at.invariant.closed _ at.marks c.count.new.marks fits at.invariant.passes
     (omega (arith, c.loop-index-test.true, c.touch_count-index-end.ensures.count)) c.touch-touch.ensures tick
-    (ap (λ t. t.page) c.touch.view_is) c.turn-count.ensures.window refl c.count.ensures.window c.count.ensures.marks in
+    (ap (λ t. t.page) c.touch.view_is) c.turn.ensures.window refl c.count.ensures.window c.count.ensures.marks in
     let slot = slot_low _ _ c.args.settings.now at.index _ at.at at.count at.marks c.args.rows.now at.rows fits
     c.asked.ensures.in_range w_is at.invariant
     (omega (arith, at.auto.index-end, c.touch_count-index-end.ensures.count)) c.requires.rows in
-    lent_step _ _ c.args.settings.now at.index _ _ at.at c.count.new.self at.count c.turn-count.result at.marks
-    c.count.new.marks c.args.rows.now at.rows c.turn-count.new.rows at.invariant slot next c.turn-count.ensures.rows
-    c.turn-count.ensures.count
+    let rows_are : c.match-turn.rows ≡ rows_closed at.rows at.count c.turn.result = elim c.match-turn.branch [
+      | in-Some w ↦ w.rows-is ∙ w.put_row-count.ensures.rows ∙ ap (rows_closed at.rows at.count) (sym w.in-Some.is)
+      | in_default w ↦ w.rows-is
+          ∙ ap (rows_closed at.rows at.count) (sym (none_closed c.turn.result w.in_default.not-Some))
+    ] in
+    let count_is : c.match-turn.count ≡ count_closed at.count c.turn.result = elim c.match-turn.branch [
+      | in-Some w ↦ w.count-is ∙ w.put_row-count.ensures.count ∙ ap (count_closed at.count) (sym w.in-Some.is)
+      | in_default w ↦ w.count-is
+          ∙ ap (count_closed at.count) (sym (none_closed c.turn.result w.in_default.not-Some))
+    ] in
+    lent_step _ _ c.args.settings.now at.index _ _ at.at c.count.new.self at.count c.match-turn.count at.marks
+    c.count.new.marks c.args.rows.now at.rows c.match-turn.rows at.invariant slot next
+    (rows_are ∙ ap (rows_closed at.rows at.count) c.turn.ensures.closed)
+    (count_is ∙ ap (count_closed at.count) c.turn.ensures.closed)
 
 pub put_row-requires : goal.put_row-requires
 put_row-requires g c =
