@@ -160,37 +160,45 @@ nothing_written : (pages : ℕ) (touches : List GuestTouch) (from to : ℕ) → 
 nothing_written pages touches from to is =
     none_kept (is_written touches from to) 0 pages (λ page low high. never_written touches from to page is)
 
--- a round as it ran
-pub ran : (pages : ℕ) (touches : List GuestTouch) (s : MigrationSettings) (now : NextRound) (round : PlannedRound)
-    (dirtied : List ℕ) (ticks : ℕ) → CanCome pages s now
-    → IsSent (s.skip && leb 1 now.done) touches now.from now.rate now.pages round.sent
-    → round.from ≡ now.from → round.rate ≡ now.rate → round.pages ≡ now.pages → round.to ≡ round.from + ticks
-    → ticks ≡ duration_of (length round.sent) round.rate
-    → 1_000 * length round.sent ≤ ticks * round.rate → ((t : ℕ) → 1_000 * length round.sent ≤ t * round.rate
-    → ticks ≤ t)
-    → dirtied ≡ pages_written pages touches round.from round.to → round.dirtied ≡ length dirtied
-    → HasRun pages touches s now round dirtied
-ran pages touches s now round dirtied ticks ready sent from rate list to ticks_are enough least dirtied_are count =
-    let skip = s.skip && leb 1 now.done in
-    let few : length round.sent ≤ 65_536 = sent_fits pages touches s now round.sent ready sent in
-    let low : 1 ≤ round.rate = omega (arith, rate, ready.rate_low) in
+-- the round that comes, if it sends these pages in so many ticks
+abbrev pub round_of : ℕ → List GuestTouch → NextRound → List ℕ → ℕ → PlannedRound
+round_of pages touches now sent ticks =
+    record {
+      from = now.from;
+      to = now.from + ticks;
+      rate = now.rate;
+      pages = now.pages;
+      sent = sent;
+      dirtied = length (pages_written pages touches now.from (now.from + ticks));
+    }
+
+pub ran : (pages : ℕ) (touches : List GuestTouch) (s : MigrationSettings) (now : NextRound) (sent : List ℕ)
+    (count rate ticks : ℕ) → CanCome pages s now
+    → IsSent (s.skip && leb 1 now.done) touches now.from now.rate now.pages sent → count ≡ length sent
+    → rate ≡ now.rate → ticks ≡ duration_of count rate → 1_000 * count ≤ ticks * rate
+    → ((t : ℕ) → 1_000 * count ≤ t * rate → ticks ≤ t)
+    → HasRun pages touches s now (round_of pages touches now sent ticks)
+    (pages_written pages touches now.from (now.from + ticks))
+ran pages touches s now sent count rate ticks ready is_sent count_is rate_is ticks_are enough least =
+    let few : length sent ≤ 65_536 = sent_fits pages touches s now sent ready is_sent in
+    let short : ticks ≤ 65_536_000 = ticks_few count rate ticks (omega (arith, few, count_is))
+    (omega (arith, rate_is, ready.rate_low)) least in
     record {
       is_round = record {
-        from_is = from;
-        rate_is = rate;
-        pages_are = list;
-        sent = rw (from, rate, list) sent;
-        to_is = to ∙ ap (λ t. round.from + t) ticks_are;
-        dirtied_is = count ∙ ap length dirtied_are;
+        from_is = refl;
+        rate_is = refl;
+        pages_are = refl;
+        sent = is_sent;
+        to_is = ap (λ t. now.from + t) (ticks_are ∙ (λ i. duration_of (count_is i) (rate_is i)));
+        dirtied_is = refl;
       };
-      dirtied_are = dirtied_are;
-      order = omega (arith, to);
+      dirtied_are = refl;
+      order = omega arith;
       timed = elim (cases_lt 0 ticks) [
-        | inl more ↦ inl (omega (arith, to, more))
-        | inr none ↦ inr (count ∙ ap length (dirtied_are ∙ nothing_written pages touches round.from round.to
-            (omega (arith, to, none))))
+        | inl more ↦ inl (omega (arith, more))
+        | inr none ↦ inr (ap length (nothing_written pages touches now.from (now.from + ticks) (omega (arith, none))))
       ];
-      short = omega (arith, to, ticks_few (length round.sent) round.rate ticks few low least);
+      short = omega (arith, short);
       few = few;
       small = ready.list.few;
     }

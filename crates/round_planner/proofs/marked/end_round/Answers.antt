@@ -1,9 +1,7 @@
 use Rattle.std.proofs.Common.{◌≡◌, ◌∙◌, ◌+◌, ℕ, length, refl, sym, ap, subst, arith}
-use Rattle.migration_model.specs.Rates.{duration_of}
-use Rattle.migration_model.specs.Rounds.{PlannedRound}
 use Rattle.migration_model.specs.Touches.{pages_written}
 use Rattle.round_planner.specs.Indexing.{IsTurned}
-use Rattle.round_planner.proofs.Plans.{ran}
+use Rattle.round_planner.proofs.Plans.{ran, round_of}
 use Rattle.round_planner.proofs.Scans.{marked_few, marked_pages, walked_on}
 use Rattle.round_planner.proofs.marked.end_round.Goals as goal
 
@@ -62,23 +60,12 @@ returns-clause-ran g c coming at has =
     let scan =
     walked_on pages touches coming.from coming.rate c.args.sent.count ticks to _ _ _ _ refl
     (rw (at.rate_is) at c.duration.ensures.enough) has.within (rw to_is at c.mark_until-next.ensures.walked) in
-    let dirtied = pages_written pages touches coming.from to in
-    let round : PlannedRound = record {
-      from = coming.from;
-      to = to;
-      rate = coming.rate;
-      pages = coming.pages;
-      sent = has.list;
-      dirtied = length dirtied;
-    } in
-    let ticks_are : ticks ≡ duration_of (length has.list) coming.rate = c.duration.ensures.value
-    ∙ (λ i. duration_of (has.count_is i) (at.rate_is i)) in
     record {
-      round = round;
-      dirtied = dirtied;
-      run = ran pages touches c.args._settings.now coming round dirtied ticks at.can has.is_sent refl refl refl refl
-          ticks_are (rw (has.count_is, at.rate_is) at c.duration.ensures.enough)
-          (rw (has.count_is, at.rate_is) at c.duration.ensures.least) refl refl;
+      round = round_of pages touches coming has.list ticks;
+      dirtied = pages_written pages touches coming.from to;
+      run = ran pages touches c.args._settings.now coming has.list c.args.sent.count c.args.now.now.step.rate ticks
+          at.can has.is_sent has.count_is at.rate_is c.duration.ensures.value c.duration.ensures.enough
+          c.duration.ensures.least;
       to_is = to_is;
       sent_is = has.count_is;
       dirtied_is = c.turn-dirtied.ensures.count ∙ ap length (marked_pages pages touches coming.from to next marks scan);

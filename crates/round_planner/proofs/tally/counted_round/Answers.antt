@@ -1,10 +1,9 @@
-use Rattle.std.proofs.Common.{◌≡◌, ◌∙◌, ◌+◌, length, refl, sym, ap, subst, arith}
-use Rattle.migration_model.specs.Rates.{duration_of}
-use Rattle.migration_model.specs.Rounds.{PlannedRound, IsSent}
+use Rattle.std.proofs.Common.{◌≡◌, ◌∙◌, ◌+◌, refl, sym, ap, subst, arith}
+use Rattle.migration_model.specs.Rounds.{IsSent}
 use Rattle.migration_model.specs.Touches.{no_touch, pages_written}
 use Rattle.round_planner.specs.Indexing.{IsPoint}
 use Rattle.round_planner.proofs.Columns.{pages_counted, points_rise}
-use Rattle.round_planner.proofs.Plans.{ran}
+use Rattle.round_planner.proofs.Plans.{ran, round_of}
 use Rattle.round_planner.proofs.Skims.{all_is_sent}
 use Rattle.round_planner.proofs.tally.counted_round.Goals as goal
 
@@ -27,18 +26,6 @@ returns g c coming at plain =
     let ticks = c.duration.result in
     let to = coming.from + ticks in
     let to_is : c.args.now.now.step.from + ticks ≡ to = ap (λ a. a + ticks) at.from_is in
-    let dirtied = pages_written pages touches coming.from to in
-    let round : PlannedRound = record {
-      from = coming.from;
-      to = to;
-      rate = coming.rate;
-      pages = coming.pages;
-      sent =
-          coming.pages;
-      dirtied = length dirtied;
-    } in
-    let ticks_are : ticks ≡ duration_of (length coming.pages) coming.rate = c.duration.ensures.value
-    ∙ (λ i. duration_of (at.listed_is i) (at.rate_is i)) in
     let point : IsPoint touches to c.before-next.result = subst (λ t. IsPoint touches t c.before-next.result) to_is
     c.before-next.ensures.point in
     let sent = subst (λ b. IsSent b touches coming.from coming.rate coming.pages coming.pages) (sym plain)
@@ -46,11 +33,10 @@ returns g c coming at plain =
     let order = points_rise touches coming.from to c.args.now.now.next c.before-next.result (omega arith) at.bound
     at.point point in
     record {
-      round = round;
-      dirtied = dirtied;
-      run = ran pages touches s coming round dirtied ticks at.can sent refl refl refl refl ticks_are
-          (rw (at.listed_is, at.rate_is) at c.duration.ensures.enough)
-          (rw (at.listed_is, at.rate_is) at c.duration.ensures.least) refl refl;
+      round = round_of pages touches coming coming.pages ticks;
+      dirtied = pages_written pages touches coming.from to;
+      run = ran pages touches s coming coming.pages c.args.now.now.listed c.args.now.now.step.rate ticks at.can sent
+          at.listed_is at.rate_is c.duration.ensures.value c.duration.ensures.enough c.duration.ensures.least;
       to_is = to_is;
       sent_is = at.listed_is;
       dirtied_is = c.first_touches-dirtied.ensures ∙ sym (pages_counted pages touches c.args.index.now.earlier
