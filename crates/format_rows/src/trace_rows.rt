@@ -8,7 +8,7 @@ use trace_codec::{
     Shape, TestSource, Timeline, TraceError, WriteLog, checked_write, decode, read_header,
 };
 use trace_readers::HeldTrace;
-use worked_guest::{NO_WRITES, REFUSED, TRACE, changed};
+use worked_guest::{Change, NO_WRITES, TRACE, refused};
 
 /// Returns the shape, and ticks, pages, offsets and bytes in order.
 fn told<L: WriteLog>(
@@ -140,23 +140,17 @@ fn read_refusal(
 }
 
 /// Returns why the changed trace is refused, as a whole, and when each read gives at most 20 bytes.
-fn refusals(
-    alloc: Global,
-    len: usize,
-    place: usize,
-    patch: &[u8],
-    more: &[u8],
-) -> Result<[Option<TraceError>; 2], AllocError> {
-    let parsed = HeldTrace::parse(alloc, changed(alloc, len, place, patch, more)?).err();
-    let read = read_refusal(alloc, changed(alloc, len, place, patch, more)?, 20, None);
+fn refusals(alloc: Global, change: &Change) -> Result<[Option<TraceError>; 2], AllocError> {
+    let parsed = HeldTrace::parse(alloc, change.bytes(alloc)?).err();
+    let read = read_refusal(alloc, change.bytes(alloc)?, 20, None);
     Ok([parsed, read])
 }
 
 #[test]
 fn refuses_the_first_cause(rt: HostRuntime) -> Result<(), Fail> {
     let alloc = rt.alloc();
-    for ((len, place, patch, more), cause) in REFUSED {
-        let causes = refusals(alloc, len, place, patch, more)?;
+    for (change, cause) in refused() {
+        let causes = refusals(alloc, &change)?;
         assert_eq!(rt; causes, [Some(cause); 2]);
     }
     let fault = read_refusal(alloc, Vec::from_slice(alloc, &TRACE)?, 20, Some(6));

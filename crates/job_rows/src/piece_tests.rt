@@ -8,7 +8,7 @@ use std::alloc::{AllocError, Global};
 use std::test::Fail;
 use trace_codec::{Source, TestSource, Timeline, TraceError};
 use trace_readers::TouchLog;
-use worked_guest::{REFUSED, changed};
+use worked_guest::{changed, refused};
 
 /// A source of endless bytes, which leaves the buffer as it is.
 #[derive(Drop)]
@@ -81,10 +81,9 @@ fn logs_bytes_that_stand_whole(rt: HostRuntime) -> Result<(), Fail> {
 #[test]
 fn refuses_the_first_cause_in_pieces(rt: HostRuntime) -> Result<(), Fail> {
     let alloc = rt.alloc();
-    for ((len, place, patch, more), cause) in REFUSED {
+    for (change, cause) in refused() {
         for greatest in [1, 20, 102, 1000] {
-            let bytes = changed(alloc, len, place, patch, more)?;
-            let log = log_of(alloc, bytes, greatest, None);
+            let log = log_of(alloc, change.bytes(alloc)?, greatest, None);
             assert!(rt; matches!(log, Err(error) if error == cause));
         }
     }

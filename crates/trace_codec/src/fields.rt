@@ -1,6 +1,6 @@
 //! The numbers at the front of some bytes, and the refusals of headers.
 
-ghost use Rattle.std.specs.Prelude.{◌≡◌, ◌≤◌, ◌+◌, length, drop, slice_index, IfOk, IfErr, OnOk, Some, None};
+ghost use Rattle.std.specs.Prelude.{◌≡◌, ◌≤◌, length, drop, slice_index, IfOk, IfErr, OnOk, Some, None};
 ghost use Rattle.std.specs.Int.{w16, w32, w64};
 ghost use Rattle.migration_model.specs.Numbers.{number_in};
 ghost use Rattle.trace_codec.specs.Reading.{IsCut};

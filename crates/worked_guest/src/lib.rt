@@ -4,7 +4,7 @@
 mod changes;
 mod settings;
 
-pub use changes::{Change, REFUSED, changed};
+pub use changes::{Change, changed, refused};
 pub use settings::{REPORT, asked};
 
 /// The trace of a guest of 4 pages of 16 bytes, which writes pages 0 and 1 at ticks 0 and 5, page 1 at tick 1200, and
