@@ -1,6 +1,6 @@
 //! Worked examples: streams of frames of a guest of 4 pages of 16 bytes, with 5 writes.
 
-ghost use Rattle.std.specs.Prelude.{◌≡◌, OnOk};
+ghost use Rattle.std.specs.Prelude.{OnOk};
 ghost use Rattle.std.specs.List.{All};
 ghost use Rattle.migration_model.specs.Frames.{IsFrame};
 ghost use Rattle.page_message.specs.Shapes.{shape_of};

@@ -1,6 +1,6 @@
 //! Sweeps: the sums of many plans of one trace, and the best of them.
 
-ghost use Rattle.std.specs.Prelude.{◌≡◌, ◌≢◌, ◌<◌, ◌≤◌, ◌⊎◌, ℕ, List, IfErr, IfOk, IsOk, OnOk, length, map};
+ghost use Rattle.std.specs.Prelude.{◌≡◌, ◌≢◌, ◌<◌, ◌≤◌, ◌⊎◌, List, IfErr, IfOk, IsOk, OnOk, length, map};
 ghost use Rattle.std.specs.List.{All};
 ghost use Rattle.migration_model.specs.Sweeps.{SweepLine, best_of};
 ghost use Rattle.migration_model.specs.Trace.{GuestTrace, Spells};

@@ -1,7 +1,6 @@
 //! The axis of ticks that several panels share.
 
 ghost use Rattle.std.specs.Prelude.{◌≡◌, ◌≤◌, ◌-◌, ◌++◌, ℕ, List, OnOk};
-ghost use Rattle.predictions.specs.Units.Scales.{micros_of};
 ghost use Rattle.report_pictures.specs.Axes.{IsStep, place_of, share_of};
 ghost use Rattle.report_pictures.specs.Labels.{AreLabels, label_at, label_mark, label_words, time_label, title_of};
 ghost use Rattle.report_pictures.specs.ReportCharts.{rounds_axis};

@@ -1,13 +1,12 @@
 //! What a migration costs from each start as a picture: the working set by window, and curves below it on the same
 //! axis.
 
-ghost use Rattle.std.specs.Prelude.{◌≡◌, ◌≤◌, ◌++◌, Some, IfOk, OnOk};
-ghost use Rattle.report_pictures.specs.Labels.{place_on};
+ghost use Rattle.std.specs.Prelude.{◌≡◌, ◌++◌, Some, IfOk, OnOk};
 ghost use Rattle.report_pictures.specs.Panels.{IsPanel};
 ghost use Rattle.report_pictures.specs.StartCharts.{IsStartsChart, belongs, chosen_line, chosen_marks, chosen_words};
 ghost use Rattle.report_pictures.specs.StartCharts.{cost_words, curve_head, curve_marks, curve_panel, curve_text};
-ghost use Rattle.report_pictures.specs.StartCharts.{curves_marks, limit_keys, limit_marks, point_if, point_text};
-ghost use Rattle.report_pictures.specs.StartCharts.{points_of, shown_of, start_mark, start_words, starts_axis};
+ghost use Rattle.report_pictures.specs.StartCharts.{curves_marks, limit_keys, limit_marks, point_text};
+ghost use Rattle.report_pictures.specs.StartCharts.{shown_of, start_mark, start_words, starts_axis};
 ghost use Rattle.report_pictures.specs.StartCharts.{title_words};
 
 use crate::axis::{Axis, LEFT, SPAN};

@@ -1,9 +1,9 @@
 //! Windows and rounds in times and bytes of the guest, a line each.
 
-ghost use Rattle.std.specs.Prelude.{◌≡◌, ◌++◌, ◌∷◌, [], IfOk, OnOk, length};
+ghost use Rattle.std.specs.Prelude.{◌≡◌, ◌++◌, ◌∷◌, [], IfOk, OnOk};
 ghost use Rattle.std.specs.Fmt.{decimal};
 ghost use Rattle.std.specs.List.{enumerate_from, flat_map};
-ghost use Rattle.report_pictures.specs.MeasuredScreens.{first_tick, left_words, moment_width, moment_words};
+ghost use Rattle.report_pictures.specs.MeasuredScreens.{left_words, moment_width, moment_words};
 ghost use Rattle.report_pictures.specs.MeasuredScreens.{moments_width, named_moment, named_size, named_time};
 ghost use Rattle.report_pictures.specs.MeasuredScreens.{reason_words, round_line, round_lines, round_words};
 ghost use Rattle.report_pictures.specs.MeasuredScreens.{sample_words, scale_words, share_words, size_width, size_words};

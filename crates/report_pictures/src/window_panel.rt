@@ -1,6 +1,6 @@
 //! The panel of the working set: the pages of each window.
 
-ghost use Rattle.std.specs.Prelude.{◌≡◌, ◌≤◌, ◌++◌, OnOk, map};
+ghost use Rattle.std.specs.Prelude.{◌≡◌, ◌++◌, OnOk, map};
 ghost use Rattle.report_pictures.specs.Panels.{IsPanel, parted_of};
 ghost use Rattle.report_pictures.specs.ReportCharts.{windows_frame, windows_keys, windows_marks, windows_panel};
 ghost use Rattle.report_pictures.specs.WindowBars.{column_marks, column_of, columns_from, columns_marks, joined};

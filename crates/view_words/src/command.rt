@@ -1,11 +1,10 @@
 //! The command line: words in, a view or a refusal out.
 
-ghost use Rattle.std.specs.Prelude.{◌≡◌, ◌⊎◌, ◌++◌, ◌∷◌, [], IfErr, IfNone, IfOk, IfSome, IsErrAnd, None};
+ghost use Rattle.std.specs.Prelude.{◌≡◌, ◌⊎◌, ◌++◌, ◌∷◌, [], IfErr, IfNone, IfOk, IfSome, None};
 ghost use Rattle.std.specs.Prelude.{Ok, Some};
 ghost use Rattle.std.specs.Prelude.{codes, map, string_bytes, true};
 ghost use Rattle.clap.specs.Words.{app_of, found_of, rows_of};
 ghost use Rattle.job_words.specs.Commands.{AddsRules, IsLeaf, case_rule, flag_rule, report_rules, sweep_rules};
-ghost use Rattle.view_words.specs.Measures.{AsksForScale};
 ghost use Rattle.view_words.specs.Units.{scale_rules, unit_rules};
 ghost use Rattle.view_words.specs.Styles.{IsWidthRefused};
 ghost use Rattle.view_words.specs.Views.{IsOutOfMemory};

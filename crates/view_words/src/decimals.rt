@@ -1,6 +1,6 @@
 //! Decimal numbers.
 
-ghost use Rattle.std.specs.Prelude.{◌≡◌, ◌<◌, ◌≤◌, ◌*◌, ◌/◌, ◌^◌, IfNone, IfSome, length, ℕ};
+ghost use Rattle.std.specs.Prelude.{◌<◌, ◌≤◌, ◌*◌, ◌/◌, ◌^◌, IfNone, IfSome, length, ℕ};
 ghost use Rattle.std.specs.Option.{SomeIff};
 ghost use Rattle.view_words.specs.Decimals.{ArePlaced, IsDecimal, IsDigits, IsWhole};
 

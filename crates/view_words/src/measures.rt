@@ -2,10 +2,10 @@
 
 ghost use Rattle.std.specs.Prelude.{◌≡◌, IfErr, IfOk, Some, false, true};
 ghost use Rattle.clap.specs.Words.{found_of, rows_of};
-ghost use Rattle.view_words.specs.Measures.{AreUnsaid, AsksForLimited, AsksForMeasure, AsksForScale, AsksForSettings};
+ghost use Rattle.view_words.specs.Measures.{AreUnsaid, AsksForMeasure, AsksForScale, AsksForSettings};
 ghost use Rattle.view_words.specs.Measures.{IsMixed, RefusesScaleWords};
-ghost use Rattle.view_words.specs.Measures.{RefusesMeasure, RefusesSaid, RefusesSettings};
-ghost use Rattle.view_words.specs.Units.{IsSaid, scale_in};
+ghost use Rattle.view_words.specs.Measures.{RefusesMeasure, RefusesSettings};
+ghost use Rattle.view_words.specs.Units.{scale_in};
 
 use crate::limits::{LimitsRefusal, Said, is_measured, limits_of, said_of, scale_of};
 use crate::ranges::limits_refused;

@@ -9,9 +9,7 @@ ghost use Rattle.view_words.specs.Styles.{AsksForStyle, IsWidthRefused};
 
 use crate::limits::with_units;
 use clap::{ArgMatches, Command};
-use job_words::{
-    flag, is_flag, number, number_given, number_or, sweep_options, with_report, with_sweep,
-};
+use job_words::{flag, is_flag, number, number_or, sweep_options, with_report, with_sweep};
 use rate_limit::{Asked, Settings, SettingsError};
 use report_pictures::Style;
 use std::alloc::{AllocError, Global};
