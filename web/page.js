@@ -16,6 +16,7 @@ import { serve } from "./planner-worker.js";
 import { fixWidths, watchWidths } from "./plot.js";
 import { hasWideMemory, Planner, Refusal } from "./planner.js";
 import { predictionOf } from "./predictions.js";
+import { nextTask } from "./slices.js";
 import { StartsView } from "./starts-view.js";
 import { fragmentOf, MOST_KEPT, presetOf, stateIn, withoutPreset } from "./state.js";
 import { TraceDesk } from "./trace-desk.js";
@@ -295,6 +296,9 @@ class Page {
     }
     this.shown = { trace, settings, found, kept };
     this.draw();
+    // The table of windows has a task of its own, so that none takes long.
+    await nextTask();
+    this.windows.fill();
     performance.clearMeasures("plan");
     performance.clearMeasures("replan");
     performance.measure("plan", { start: begun, end: planned });

@@ -3,6 +3,11 @@
 /** How long a slice is, in milliseconds. */
 const SLICE = 20;
 
+/** Lets others go first. */
+export function nextTask() {
+  return new Promise((resume) => setTimeout(resume));
+}
+
 export class Slice {
   constructor() {
     this.until = performance.now() + SLICE;
@@ -14,7 +19,7 @@ export class Slice {
 
   /** Lets others go first, and begins another slice. */
   async next() {
-    await new Promise((resume) => setTimeout(resume));
+    await nextTask();
     this.until = performance.now() + SLICE;
   }
 }

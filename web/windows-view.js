@@ -76,7 +76,7 @@ export class WindowsView {
     return this.held;
   }
 
-  /** Draws the windows that were counted, and on them a prediction if there is one. */
+  /** Draws the windows that were counted, and on them a prediction if there is one. The table is filled apart. */
   draw(settings, prediction) {
     if (!this.counted.windows) {
       return;
@@ -88,7 +88,6 @@ export class WindowsView {
     byId("zoom-plan").disabled = !prediction;
     byId("base-key").hidden = settings.base === null;
     this.axis = axis;
-    this.fill();
   }
 
   lookAt({ axis, panel, drawn }, windows, settings) {
