@@ -12,7 +12,7 @@ use std::test::Fail;
 use std::thread::Threads;
 use trace_codec::{TestSource, TraceError, read_trace};
 use trace_readers::{HeldTrace, IncomingTrace, TouchLog};
-use worked_guest::{MEMORY, asked};
+use worked_guest::{ASKED, MEMORY};
 
 /// How many jobs there are.
 const JOBS: usize = 5;
@@ -23,7 +23,7 @@ fn settings() -> Result<Settings, Fail> {
         workers: 2,
         streams: 2,
         replayers: 2,
-        ..asked()
+        ..ASKED
     })?)
 }
 

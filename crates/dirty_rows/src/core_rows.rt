@@ -199,7 +199,7 @@ fn no_such_opening(rt: HostRuntime) -> Result<(), Fail> {
 
 #[test]
 fn names_of_refusals(rt: HostRuntime) -> Result<(), Fail> {
-    let names = [
+    const NAMES: [(CoreRefusal, &str); 6] = [
         (CoreRefusal::NotOwner, "C1"),
         (CoreRefusal::Pending, "C2"),
         (CoreRefusal::NothingPending, "C3"),
@@ -207,7 +207,7 @@ fn names_of_refusals(rt: HostRuntime) -> Result<(), Fail> {
         (CoreRefusal::OldPlace, "C5"),
         (CoreRefusal::Memory, "C6"),
     ];
-    for (refusal, name) in &names {
+    for (refusal, name) in &NAMES {
         let text = refusal.to_string(rt.alloc())?;
         assert_eq!(rt; text.as_str(), *name);
     }

@@ -2,6 +2,15 @@
 
 ghost use Rattle.std.specs.Prelude.{◌≡◌, false};
 
+mod image;
+mod incoming;
+mod live;
+mod piece;
+mod released;
+mod sweep;
+mod version;
+mod warm;
+
 use image_build::{Image, replay, replay_before, replay_bytes, replay_view};
 use live_engine::OpenGate;
 use migration_jobs::{Job, Remains, RunError, TestSink, run};
@@ -10,21 +19,21 @@ use std::sync::Wait;
 use std::test::Fail;
 use std::thread::Threads;
 use trace_codec::{TestSource, Trace, TraceError, TraceView, decode, encode, read_trace};
-use worked_guest::{MEMORY, MEMORY_AT_2000, TRACE, changed};
+use worked_guest::{MEMORY, MEMORY_AT_2000, NO_WRITES, TRACE, changed};
 
-pub(crate) fn sink(alloc: Global) -> TestSink
+fn sink(alloc: Global) -> TestSink
     ensures { result.has_failed ≡ false }
 {
     TestSink::new(Vec::new(alloc), usize::MAX, None, false)
 }
 
 /// Returns the whole trace.
-pub(crate) fn whole(alloc: Global) -> Result<Vec<u8>, AllocError> {
+fn whole(alloc: Global) -> Result<Vec<u8>, AllocError> {
     Vec::from_slice(alloc, &TRACE)
 }
 
 /// Returns what `run` returns for a job over a source, and the sink afterwards.
-pub(crate) fn ran<R: Threads + Wait + Sync>(
+fn ran<R: Threads + Wait + Sync>(
     rt: &R,
     alloc: Global,
     job: &Job,
@@ -39,6 +48,32 @@ pub(crate) fn ran<R: Threads + Wait + Sync>(
     (answer, sink)
 }
 
+/// Returns whether a job over these bytes, of which at most 7 come in one read, succeeds and writes this.
+fn writes<R: Threads + Wait + Sync>(
+    rt: &R,
+    alloc: Global,
+    job: &Job,
+    bytes: &[u8],
+    output: &[u8],
+) -> Result<bool, AllocError> {
+    let source = TestSource::new(Vec::from_slice(alloc, bytes)?, 7, None);
+    let (answer, sink) = ran(rt, alloc, job, source, sink(alloc));
+    Ok(answer == Ok(()) && sink.bytes() == output)
+}
+
+/// Returns whether a job over these bytes is refused for this cause, and writes nothing.
+fn refuses<R: Threads + Wait + Sync>(
+    rt: &R,
+    alloc: Global,
+    job: &Job,
+    bytes: Vec<u8>,
+    cause: TraceError,
+) -> bool {
+    let source = TestSource::new(bytes, usize::MAX, None);
+    let (answer, sink) = ran(rt, alloc, job, source, sink(alloc));
+    answer == Err(RunError::Trace(cause)) && sink.bytes().is_empty()
+}
+
 /// Returns the memory of the trace after all writes and before tick 2000, and the number of its writes.
 fn replayed(alloc: Global) -> Result<(Image, Image, u32), Fail> {
     let trace = decode(alloc, &TRACE)?;
@@ -50,7 +85,7 @@ fn replayed(alloc: Global) -> Result<(Image, Image, u32), Fail> {
 fn replays_memory(rt: HostRuntime) -> Result<(), Fail> {
     let (memory, before, writes) = replayed(rt.alloc())?;
     assert!(rt; memory.bytes() == MEMORY.as_slice() && before.bytes() == MEMORY_AT_2000.as_slice());
-    assert_eq!(rt; writes, 5);
+    assert!(rt; writes == 5);
     Ok(())
 }
 
@@ -66,10 +101,7 @@ fn writes_memory(rt: HostRuntime) -> Result<(), Fail> {
 
 #[test]
 fn writes_nothing_of_an_empty_trace(rt: HostRuntime) -> Result<(), Fail> {
-    let alloc = rt.alloc();
-    let source = TestSource::new(changed(alloc, 16, 12, &[0], &[])?, 16, None);
-    let (answer, sink) = ran(&rt, alloc, &Job::Image, source, sink(alloc));
-    assert!(rt; answer == Ok(()) && sink.bytes() == [0; 64].as_slice());
+    assert!(rt; writes(&rt, rt.alloc(), &Job::Image, &NO_WRITES, &[0; 64])?);
     Ok(())
 }
 
@@ -111,7 +143,7 @@ fn refusal(
 #[test]
 fn refuses_headers(rt: HostRuntime) -> Result<(), Fail> {
     let alloc = rt.alloc();
-    let changes: [(usize, usize, &[u8], TraceError); 14] = [
+    const CHANGES: [(usize, usize, &[u8], TraceError); 14] = [
         (0, 0, &[], TraceError::ShortHeader),
         (15, 0, &[], TraceError::ShortHeader),
         (102, 0, &[0x51], TraceError::BadMagic),
@@ -127,10 +159,9 @@ fn refuses_headers(rt: HostRuntime) -> Result<(), Fail> {
         (102, 0, &[0x51, 0x43, 0x57, 0x54, 2], TraceError::BadMagic),
         (102, 12, &[0, 0, 16, 0], TraceError::ShortRecord(5)),
     ];
-    for (len, place, patch, error) in changes {
-        assert_eq!(rt;
-            refusal(alloc, len, place, patch, &[])?,
-            Some(error),
+    for &(len, place, patch, error) in &CHANGES {
+        assert!(rt;
+            refusal(alloc, len, place, patch, &[])? == Some(error),
             "{len} bytes, at {place}"
         );
     }
@@ -141,7 +172,7 @@ fn refuses_headers(rt: HostRuntime) -> Result<(), Fail> {
 fn refuses_records(rt: HostRuntime) -> Result<(), Fail> {
     let alloc = rt.alloc();
     // First the trace without its last byte, and with one byte more.
-    let changes: [(usize, usize, &[u8], &[u8], TraceError); 9] = [
+    const CHANGES: [(usize, usize, &[u8], &[u8], TraceError); 9] = [
         (101, 0, &[], &[], TraceError::ShortRecord(4)),
         (102, 0, &[], &[0], TraceError::TrailingBytes),
         (102, 99, &[255, 255], &[], TraceError::ShortRecord(4)),
@@ -158,10 +189,9 @@ fn refuses_records(rt: HostRuntime) -> Result<(), Fail> {
         (102, 45, &[16, 0], &[], TraceError::OutOfPage(1)),
         (102, 31, &[9], &[], TraceError::ShortRecord(0)),
     ];
-    for (len, place, patch, more, error) in changes {
-        assert_eq!(rt;
-            refusal(alloc, len, place, patch, more)?,
-            Some(error),
+    for &(len, place, patch, more, error) in &CHANGES {
+        assert!(rt;
+            refusal(alloc, len, place, patch, more)? == Some(error),
             "{len} bytes, at {place}"
         );
     }
@@ -185,7 +215,7 @@ fn reads_to_the_end(rt: HostRuntime) -> Result<(), Fail> {
     let trace = read_in_pieces(alloc, 1, None)?;
     let found = (trace.shift, trace.pages, trace.writes.len());
     let failed = read_in_pieces(alloc, 50, Some(2)).err();
-    assert_eq!(rt; (found, failed), ((4, 4, 5), Some(TraceError::ReadFault)));
+    assert!(rt; (found, failed) == ((4, 4, 5), Some(TraceError::ReadFault)));
     Ok(())
 }
 
@@ -215,7 +245,7 @@ fn tells_that_a_flush_failed(rt: HostRuntime) -> Result<(), Fail> {
     let source = TestSource::new(whole(alloc)?, 102, None);
     let sink = TestSink::new(Vec::new(alloc), 64, None, true);
     let (answer, _) = ran(&rt, alloc, &Job::Image, source, sink);
-    assert_eq!(rt; answer, Err(RunError::Write));
+    assert!(rt; answer == Err(RunError::Write));
     Ok(())
 }
 
@@ -233,7 +263,7 @@ fn refusal_of_writes(
 #[test]
 fn traces_from_writes(rt: HostRuntime) -> Result<(), Fail> {
     let alloc = rt.alloc();
-    assert_eq!(rt;
+    assert!(rt;
         (
             refusal_of_writes(alloc, 1, 4, 4)?,
             refusal_of_writes(alloc, 2, 4, 3)?,
@@ -241,8 +271,7 @@ fn traces_from_writes(rt: HostRuntime) -> Result<(), Fail> {
             Trace::new(1, 13, 4, Vec::new(alloc)).err(),
             Trace::new(1, 4, 0, Vec::new(alloc)).err(),
             Trace::new(1, 4, 1, Vec::new(alloc)).err()
-        ),
-        (
+        ) == (
             None,
             Some(TraceError::PageOutOfRange(3)),
             Some(TraceError::BadVersion),
@@ -259,7 +288,7 @@ fn encodes_what_it_decodes(rt: HostRuntime) -> Result<(), Fail> {
     let alloc = rt.alloc();
     let trace = decode(alloc, &TRACE)?;
     let bytes = encode(alloc, &trace)?;
-    assert_eq!(rt; bytes.as_slice(), TRACE.as_slice());
+    assert!(rt; bytes.as_slice() == TRACE.as_slice());
     Ok(())
 }
 
@@ -286,23 +315,27 @@ fn pages_of_an_image(rt: HostRuntime) -> Result<(), Fail> {
     if !image.fits(&shape) || shape.pages != 4 {
         return Err(Fail::from("an image of 4 pages"));
     }
-    assert_eq!(rt; image.page(3), &MEMORY[48..]);
+    assert!(rt; image.page(3) == &MEMORY[48..]);
     Ok(())
 }
 
 #[test]
-fn views_and_traces(rt: HostRuntime) -> Result<(), Fail> {
-    let alloc = rt.alloc();
+fn views_show_each_page(rt: HostRuntime) -> Result<(), Fail> {
     let view = TraceView::parse(&TRACE)?;
-    let mut pages = Vec::new(alloc);
+    let mut pages = Vec::new(rt.alloc());
     for write in view.records() {
         pages.push(write.page)?;
     }
-    let trace = view.to_trace(alloc)?;
-    let write = trace.writes.get(3).ok_or("a fourth write")?;
-    let is_fourth = write.tick == 2500
-        && write.offset == 2
-        && write.bytes.as_slice() == [4, 5].as_slice();
-    assert!(rt; is_fourth && pages.as_slice() == [0, 1, 1, 3, 1].as_slice());
+    assert!(rt; pages.as_slice() == [0, 1, 1, 3, 1].as_slice());
+    Ok(())
+}
+
+#[test]
+fn views_become_traces(rt: HostRuntime) -> Result<(), Fail> {
+    let trace = TraceView::parse(&TRACE)?.to_trace(rt.alloc())?;
+    let is_fourth = trace.writes.get(3).is_some_and(|write| {
+        write.tick == 2500 && write.offset == 2 && write.bytes.as_slice() == [4, 5].as_slice()
+    });
+    assert!(rt; is_fourth);
     Ok(())
 }

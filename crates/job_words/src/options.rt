@@ -11,25 +11,6 @@ use clap::{Arg, ArgAction, ArgMatches, Command};
 use rate_limit::{Asked, Settings, SettingsError};
 use std::alloc::{AllocError, Global};
 
-/// The values of options that are not given, and of those that a command does not take. The threshold is 256 KiB if a
-/// page has 4,096 bytes, as in Clark and others (2005), section 5.3; the others are this project's own.
-const DEFAULTS: Asked = Asked {
-    min: 1000,
-    max: 5000,
-    increment: 500,
-    threshold: 64,
-    rounds: 30,
-    start: 0,
-    window: 1000,
-    hot: 2,
-    workers: 1,
-    streams: 1,
-    replayers: 1,
-    lane: 1024,
-    skip: false,
-    base: None,
-};
-
 /// An option that takes a whole number: its name, and its help.
 pub type Number<'a> = (&'a str, &'a str);
 
@@ -196,10 +177,10 @@ pub fn sweep_options(matches: &ArgMatches) -> Asked
     ensures { AsksForSweep (rows_of (found_of matches.now)) result }
 {
     Asked {
-        start: number_or(matches, "start", DEFAULTS.start),
-        workers: number_or(matches, "workers", DEFAULTS.workers),
+        start: number_or(matches, "start", Asked::DEFAULTS.start),
+        workers: number_or(matches, "workers", Asked::DEFAULTS.workers),
         base: number_given(matches, "base"),
-        ..DEFAULTS
+        ..Asked::DEFAULTS
     }
 }
 
@@ -208,18 +189,18 @@ fn asked_of(matches: &ArgMatches) -> Asked
     ensures { AsksFor (rows_of (found_of matches.now)) result }
 {
     Asked {
-        min: number_or(matches, "min", DEFAULTS.min),
-        max: number_or(matches, "max", DEFAULTS.max),
-        increment: number_or(matches, "inc", DEFAULTS.increment),
-        threshold: number_or(matches, "threshold", DEFAULTS.threshold),
-        rounds: number_or(matches, "rounds", DEFAULTS.rounds),
-        start: number_or(matches, "start", DEFAULTS.start),
-        window: number_or(matches, "window", DEFAULTS.window),
-        hot: number_or(matches, "hot", DEFAULTS.hot),
-        workers: number_or(matches, "workers", DEFAULTS.workers),
-        streams: number_or(matches, "streams", DEFAULTS.streams),
-        replayers: number_or(matches, "replayers", DEFAULTS.replayers),
-        lane: number_or(matches, "lane", DEFAULTS.lane),
+        min: number_or(matches, "min", Asked::DEFAULTS.min),
+        max: number_or(matches, "max", Asked::DEFAULTS.max),
+        increment: number_or(matches, "inc", Asked::DEFAULTS.increment),
+        threshold: number_or(matches, "threshold", Asked::DEFAULTS.threshold),
+        rounds: number_or(matches, "rounds", Asked::DEFAULTS.rounds),
+        start: number_or(matches, "start", Asked::DEFAULTS.start),
+        window: number_or(matches, "window", Asked::DEFAULTS.window),
+        hot: number_or(matches, "hot", Asked::DEFAULTS.hot),
+        workers: number_or(matches, "workers", Asked::DEFAULTS.workers),
+        streams: number_or(matches, "streams", Asked::DEFAULTS.streams),
+        replayers: number_or(matches, "replayers", Asked::DEFAULTS.replayers),
+        lane: number_or(matches, "lane", Asked::DEFAULTS.lane),
         skip: is_flag(matches, "skip"),
         base: number_given(matches, "base"),
     }

@@ -5,14 +5,14 @@ use crate::tests::{first_sent, has_images, run, run_sixteen, times};
 use live_engine::Live;
 use rate_limit::Asked;
 use std::test::Fail;
-use worked_guest::{MEMORY, asked};
+use worked_guest::{ASKED, MEMORY};
 
 /// Returns the settings of the worked example, with this many streams and lanes of this many frames.
 fn asked_with(streams: u64, lane: u64) -> Asked {
     Asked {
         streams,
         lane,
-        ..asked()
+        ..ASKED
     }
 }
 
@@ -70,7 +70,7 @@ fn each_stream_has_a_lane_of_its_own(rt: HostRuntime) -> Result<(), Fail> {
 #[test]
 fn frames_are_taken_beside_the_rounds(rt: HostRuntime) -> Result<(), Fail> {
     let gate = TakenBeside(Counts::new());
-    let live = run(&rt, rt.alloc(), asked(), &gate)?;
+    let live = run(&rt, rt.alloc(), ASKED, &gate)?;
     let is_taken = times(&gate.0.taken) >= 1;
     assert_eq!(rt;
         (times(&gate.0.late), is_taken, has_both_images(&live)),

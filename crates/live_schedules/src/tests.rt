@@ -15,7 +15,7 @@ use std::sync::atomic::{AtomicU64, Ordering};
 use std::test::Fail;
 use std::thread::Threads;
 use trace_codec::{Trace, Write, decode};
-use worked_guest::{MEMORY, MEMORY_AT_2000, TRACE, asked};
+use worked_guest::{ASKED, MEMORY, MEMORY_AT_2000, TRACE};
 
 /// Returns the worked guest.
 fn guest(alloc: Global) -> Result<Trace, Fail> {
@@ -70,7 +70,7 @@ pub(crate) fn times(count: &AtomicU64) -> u64 {
 
 #[test]
 fn a_live_run_ends_where_the_plan_does(rt: HostRuntime) -> Result<(), Fail> {
-    let live = run(&rt, rt.alloc(), asked(), &OpenGate)?;
+    let live = run(&rt, rt.alloc(), ASKED, &OpenGate)?;
     let is_right = has_images(&live, &MEMORY, &MEMORY);
     assert_eq!(rt; (live.stop, live.rounds.len(), is_right), (3667, 3, true));
     Ok(())
@@ -83,7 +83,7 @@ fn many_threads_and_streams_make_the_same_memory(rt: HostRuntime) -> Result<(), 
         workers: 3,
         streams: 2,
         replayers: 4,
-        ..asked()
+        ..ASKED
     };
     let live = run(&rt, rt.alloc(), many, &OpenGate)?;
     assert_eq!(rt;
@@ -98,7 +98,7 @@ fn the_guest_resumes_from_where_it_stopped(rt: HostRuntime) -> Result<(), Fail> 
     let early = Asked {
         max: 2,
         rounds: 1,
-        ..asked()
+        ..ASKED
     };
     let live = run(&rt, rt.alloc(), early, &OpenGate)?;
     assert_eq!(rt;
@@ -131,7 +131,7 @@ fn the_guest_resumes_in_the_memory_in_which_it_stopped(rt: HostRuntime) -> Resul
     let settings = Settings::new(Asked {
         max: 2,
         rounds: 1,
-        ..asked()
+        ..ASKED
     })?;
     let stopped = migrate(&rt, alloc, &trace, &settings, &OpenGate)?;
     let at_stop = stopped.memory.image(alloc)?;
@@ -163,7 +163,7 @@ fn a_last_word_of_one_page_is_copied(rt: HostRuntime) -> Result<(), Fail> {
         max: 10,
         rounds: 1,
         workers: 2,
-        ..asked()
+        ..ASKED
     })?;
     let live = live_run(&rt, alloc, &trace, &settings, &OpenGate)?;
     let image = replay(alloc, &trace)?;
@@ -186,7 +186,7 @@ fn total_sent(live: &Live) -> u64 {
 #[test]
 fn replayers_and_copiers_meet(rt: HostRuntime) -> Result<(), Fail> {
     let gate = Meeting(Counts::new());
-    let live = run(&rt, rt.alloc(), asked(), &gate)?;
+    let live = run(&rt, rt.alloc(), ASKED, &gate)?;
     let Counts {
         late,
         stored,
@@ -220,7 +220,7 @@ fn has_rounds(live: &Live, first: &[(u32, u32)]) -> bool {
 #[test]
 fn a_store_is_read_before_its_mark(rt: HostRuntime) -> Result<(), Fail> {
     let gate = MarkedLate(Counts::new());
-    let live = run(&rt, rt.alloc(), asked(), &gate)?;
+    let live = run(&rt, rt.alloc(), ASKED, &gate)?;
     let is_right = has_rounds(&live, &[(0, 1), (1, 0), (2, 0), (3, 0)]);
     assert_eq!(rt; (times(&gate.0.late), is_right), (0, true));
     Ok(())
@@ -229,7 +229,7 @@ fn a_store_is_read_before_its_mark(rt: HostRuntime) -> Result<(), Fail> {
 #[test]
 fn all_stores_of_a_round_are_read(rt: HostRuntime) -> Result<(), Fail> {
     let gate = MarkedEarly(Counts::new());
-    let live = run(&rt, rt.alloc(), asked(), &gate)?;
+    let live = run(&rt, rt.alloc(), ASKED, &gate)?;
     let is_right = has_rounds(&live, &[(0, 1), (1, 3), (2, 0), (3, 0)]);
     assert_eq!(rt; (times(&gate.0.late), is_right), (0, true));
     Ok(())
@@ -252,7 +252,7 @@ fn a_page_that_is_marked_again_is_skipped(rt: HostRuntime) -> Result<(), Fail> {
     let gate = MarkedInTurn(Counts::new());
     let skipping = Asked {
         skip: true,
-        ..asked()
+        ..ASKED
     };
     let live = run(&rt, rt.alloc(), skipping, &gate)?;
     let rounds = [
@@ -311,7 +311,7 @@ fn run_busy(
         replayers: team,
         lane,
         skip,
-        ..asked()
+        ..ASKED
     })?;
     let live = live_run(rt, alloc, &trace, &settings, &OpenGate)?;
     let at_stop = replay_before(alloc, &trace, live.stop)?;
@@ -386,7 +386,7 @@ fn three_streams_of_many_pages_make_the_same_memory(rt: HostRuntime) -> Result<(
     let trace = wide_guest(alloc)?;
     let settings = Settings::new(Asked {
         streams: 3,
-        ..asked()
+        ..ASKED
     })?;
     let live = live_run(&rt, alloc, &trace, &settings, &OpenGate)?;
     let image = replay(alloc, &trace)?;

@@ -4,7 +4,7 @@ use crate::tests::{has_images, run};
 use live_engine::{Live, OpenGate};
 use rate_limit::Asked;
 use std::test::Fail;
-use worked_guest::{MEMORY, MEMORY_AT_1200, MEMORY_AT_2000, asked};
+use worked_guest::{ASKED, MEMORY, MEMORY_AT_1200, MEMORY_AT_2000};
 
 /// The memory before tick 5.
 static MEMORY_AT_5: [u8; 64] = [
@@ -34,20 +34,20 @@ fn sent_first(live: &Live, pages: &[u32]) -> bool {
 fn a_warm_start_sends_what_was_written_since_the_base(rt: HostRuntime) -> Result<(), Fail> {
     let alloc = rt.alloc();
     // The base, the start, the stop, the pages of the first round, and the memory at the stop.
-    let rows: [(u64, u64, u64, &[u32], &[u8; 64]); 4] = [
+    const ROWS: [(u64, u64, u64, &[u32], &[u8; 64]); 4] = [
         (0, 1000, 2500, &[0, 1], &MEMORY_AT_2000),
         (6, 1200, 1200, &[], &MEMORY_AT_1200),
         (1200, 1201, 1701, &[1], &MEMORY_AT_2000),
         (5, 5, 5, &[], &MEMORY_AT_5),
     ];
     let mut right = true;
-    for (base, start, stop, pages, at_stop) in rows {
+    for &(base, start, stop, pages, at_stop) in &ROWS {
         for workers in [1, 3] {
             let warm = Asked {
                 start,
                 workers,
                 base: Some(base),
-                ..asked()
+                ..ASKED
             };
             let live = run(&rt, alloc, warm, &OpenGate)?;
             let memory = has_images(&live, at_stop, &MEMORY);

@@ -2,18 +2,4 @@
 #![tactic(auto)]
 
 #[cfg(test)]
-mod cache_rows;
-#[cfg(test)]
-mod copy_rows;
-#[cfg(test)]
-mod fixtures;
-#[cfg(test)]
-mod image_rows;
-#[cfg(test)]
-mod packed_rows;
-#[cfg(test)]
-mod released_rows;
-#[cfg(test)]
-mod resent_rows;
-#[cfg(test)]
-mod version_rows;
+mod rows;

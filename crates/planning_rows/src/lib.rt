@@ -2,16 +2,4 @@
 #![tactic(auto)]
 
 #[cfg(test)]
-mod plan_rows;
-#[cfg(test)]
-mod quantity_rows;
-#[cfg(test)]
-mod rate_rows;
-#[cfg(test)]
-mod redrawn_rows;
-#[cfg(test)]
-mod remedy_rows;
-#[cfg(test)]
-mod table_rows;
-#[cfg(test)]
-mod text_rows;
+mod rows;

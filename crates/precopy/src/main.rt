@@ -1,13 +1,7 @@
 //! `precopy`: what a pre-copy migration of a recorded guest would do.
 #![tactic(auto)]
 
-#[cfg(test)]
-mod live_tests;
-#[cfg(test)]
-mod report_tests;
 mod starting;
-#[cfg(test)]
-mod sweep_tests;
 #[cfg(test)]
 mod tests;
 

@@ -2,6 +2,10 @@
 
 ghost use Rattle.std.specs.Prelude.{◌≡◌, false};
 
+mod live;
+mod report;
+mod sweep;
+
 use crate::starting::start;
 use migration_jobs::TestSink;
 use std::alloc::{AllocError, Global};
@@ -18,19 +22,19 @@ fn words(alloc: Global, command: &str) -> Result<Vec<String>, AllocError> {
     Ok(words)
 }
 
-pub(crate) fn sink(alloc: Global) -> TestSink
+fn sink(alloc: Global) -> TestSink
     ensures { result.has_failed ≡ false }
 {
     TestSink::new(Vec::new(alloc), usize::MAX, None, false)
 }
 
 /// The whole trace.
-pub(crate) fn whole(alloc: Global) -> Result<Vec<u8>, AllocError> {
+fn whole(alloc: Global) -> Result<Vec<u8>, AllocError> {
     Vec::from_slice(alloc, &TRACE)
 }
 
 /// What a command with these words does over some bytes: its status, its output and its faults.
-pub(crate) fn told<R: Threads + Wait + Sync>(
+fn told<R: Threads + Wait + Sync>(
     rt: &R,
     alloc: Global,
     command: &str,

@@ -27,7 +27,7 @@ use guest_log::Shape;
 use page_versions::{IndexError, PageIndex};
 use std::alloc::{AllocError, AllocFailed, Global};
 use stream_check::{StreamChecker, Taken, WrongFrame, WrongPage};
-use trace_codec::{TraceError, TraceView};
+use trace_codec::{TraceError, TraceView, WriteLog};
 use trace_readers::HeldTrace;
 
 /// How far streams have come that are checked in pieces: C's `struct precopy_progress`.

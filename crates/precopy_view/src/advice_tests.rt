@@ -4,7 +4,7 @@ use rate_limit::{Asked, Reason, Settings};
 use std::test::Fail;
 use sweep_report::Line;
 use trace_views::{Advice, Budget, advise};
-use worked_guest::asked;
+use worked_guest::ASKED;
 
 /// A case with this downtime and this many pages sent.
 fn case(down: u64, total: u64) -> Result<Line, Fail> {
@@ -14,7 +14,7 @@ fn case(down: u64, total: u64) -> Result<Line, Fail> {
         increment: 500,
         threshold: 64,
         rounds: 30,
-        ..asked()
+        ..ASKED
     })?;
     Ok(Line {
         settings,

@@ -64,6 +64,27 @@ pub struct Asked {
     pub base: Option<u64>,
 }
 
+impl Asked {
+    /// What a command takes where no option says otherwise. The threshold is 256 KiB if a page has 4,096 bytes, as in
+    /// Clark and others (2005), section 5.3; the others are this project's own.
+    pub const DEFAULTS: Asked = Asked {
+        min: 1000,
+        max: 5000,
+        increment: 500,
+        threshold: 64,
+        rounds: 30,
+        start: 0,
+        window: 1000,
+        hot: 2,
+        workers: 1,
+        streams: 1,
+        replayers: 1,
+        lane: 1024,
+        skip: false,
+        base: None,
+    };
+}
+
 impl Model for Asked {
     ghost Value = { MigrationSettings };
 

@@ -3,7 +3,7 @@
 ghost use Rattle.std.specs.Prelude.{◌≡◌, ◌↔◌, ◌+◌, ◌<◌, ◌≤◌, Err, IfErr, IfOk, List, MatchResult, Some, false, length};
 ghost use Rattle.std.specs.Prelude.{refl, slice_index_or, true, ℕ};
 ghost use Rattle.migration_model.specs.Touches.{touches_of};
-ghost use Rattle.migration_model.specs.Trace.{GuestTrace, IsTrace, Spells};
+ghost use Rattle.migration_model.specs.Trace.{GuestTrace, Spells};
 ghost use Rattle.migration_model.specs.TraceReading.{length_in, write_in};
 ghost use Rattle.trace_codec.specs.Refusals.{RefusesUnlessMemory};
 ghost use Rattle.trace_codec.specs.Source.{IsOutside, SourceRefuses, SourceSpells};
@@ -87,23 +87,6 @@ impl HeldTrace {
         HeldTrace::of_text(alloc, text)
     }
 
-    /// Returns the version of the trace's format.
-    pub fn version(&self) -> u8
-        ensures { result ≡ self.now.version }
-    {
-        self.header.version
-    }
-
-    /// Returns the sizes of the trace.
-    pub fn shape(&self) -> Shape
-        ensures shift { result.shift ≡ self.now.shift }
-        ensures pages { result.pages ≡ self.now.pages }
-        ensures writes { result.writes ≡ length self.now.writes }
-        ensures is_trace { IsTrace self.now }
-    {
-        self.header.shape
-    }
-
     /// Returns the bytes from the record of write `index` on.
     fn record(&self, index: usize) -> &[u8]
         requires { index < length self.now.writes }
@@ -155,11 +138,11 @@ impl WriteLog for HeldTrace {
     ghost trace = { λ t. t };
 
     fn version(&self) -> u8 {
-        self.version()
+        self.header.version
     }
 
     fn shape(&self) -> Shape {
-        self.shape()
+        self.header.shape
     }
 
     fn write(&self, index: usize) -> WriteView<'_> {

@@ -9,6 +9,7 @@ ghost use Rattle.trace_views.specs.Json.{units_object, window_object, window_uni
 
 use crate::document::Document;
 use crate::error::ViewError;
+use crate::sweep_document::write_page_scale;
 use guest_log::Shape;
 use predictions::units::Scale;
 use rate_limit::Settings;
@@ -39,9 +40,7 @@ fn write_scale(
     out.begin_object()?;
     out.seconds_member(alloc, "tick_seconds", scale.tick() as u128)?;
     out.seconds_member(alloc, "window_seconds", scale.micros(length))?;
-    out.number_member("page_bytes", scale.page())?;
-    out.number_member("sampled_pages", scale.sampled())?;
-    out.number_member("guest_pages", scale.guest())?;
+    write_page_scale(out, scale)?;
     out.end_object()?;
     Ok(())
 }

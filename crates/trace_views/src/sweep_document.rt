@@ -3,7 +3,8 @@
 ghost use Rattle.std.specs.Prelude.{◌≡◌, ◌++◌, IfErr, IfOk, OnOk, Some};
 ghost use Rattle.std.specs.List.{flat_map};
 ghost use Rattle.trace_views.specs.Json.{best_member, case_object, case_objects, line_of, outcome_members};
-ghost use Rattle.trace_views.specs.Json.{outcome_units, scale_member, scale_object, settings_members, sweep_object};
+ghost use Rattle.trace_views.specs.Json.{outcome_units, page_members, scale_member, scale_object};
+ghost use Rattle.trace_views.specs.Json.{settings_members, sweep_object};
 
 use crate::document::Document;
 use crate::error::ViewError;
@@ -102,6 +103,16 @@ fn write_cases(
     Ok(())
 }
 
+/// Writes what pages stand for as members.
+pub(crate) fn write_page_scale(out: &mut Document, scale: &Scale) -> Result<(), AllocError>
+    ensures { OnOk result (out.new ≡ out.old ++ flat_map (λ m. m) (page_members scale.now)) }
+{
+    out.number_member("page_bytes", scale.page())?;
+    out.number_member("sampled_pages", scale.sampled())?;
+    out.number_member("guest_pages", scale.guest())?;
+    Ok(())
+}
+
 /// Writes what ticks and pages stand for.
 pub(crate) fn write_scale(
     alloc: Global,
@@ -112,9 +123,7 @@ pub(crate) fn write_scale(
 {
     out.begin_object()?;
     out.seconds_member(alloc, "tick_seconds", scale.tick() as u128)?;
-    out.number_member("page_bytes", scale.page())?;
-    out.number_member("sampled_pages", scale.sampled())?;
-    out.number_member("guest_pages", scale.guest())?;
+    write_page_scale(out, scale)?;
     out.end_object()?;
     Ok(())
 }

@@ -5,7 +5,7 @@ mod changes;
 mod settings;
 
 pub use changes::{Change, changed, refused};
-pub use settings::{REPORT, asked};
+pub use settings::{ASKED, REPORT};
 
 /// The trace of a guest of 4 pages of 16 bytes, which writes pages 0 and 1 at ticks 0 and 5, page 1 at tick 1200, and
 /// pages 3 and 1 at tick 2500.
@@ -17,9 +17,6 @@ pub static TRACE: [u8; 102] = [
     0xc4, 9, 0, 0, 0, 0, 0, 0, 3, 0, 0, 0, 2, 0, 2, 0, 4, 5, // write 4
     0xc4, 9, 0, 0, 0, 0, 0, 0, 1, 0, 0, 0, 0, 0, 1, 0, 0, // write 5
 ];
-
-/// The tick and the page of each write of this guest.
-pub static TOUCHES: [(u64, u32); 5] = [(0, 0), (5, 1), (1200, 1), (2500, 3), (2500, 1)];
 
 /// The trace of a guest like this that writes nothing.
 pub static NO_WRITES: [u8; 16] = [0x50, 0x43, 0x57, 0x54, 1, 4, 0, 0, 4, 0, 0, 0, 0, 0, 0, 0];

@@ -5,12 +5,7 @@ pub returns : goal.returns
 returns c =
     rw (
       c.in_ok-end_object.ensures,
-      c.in_ok-number_member-3.ensures,
-      c.guest.ensures.value,
-      c.in_ok-number_member-2.ensures,
-      c.sampled.ensures,
-      c.in_ok-number_member.ensures,
-      c.page.ensures,
+      c.in_ok-write_page_scale.ensures,
       c.in_ok-seconds_member.ensures,
       c.tick.ensures,
       c.in_ok-begin_object.ensures,

@@ -1,0 +1,9 @@
+//! Worked examples of settings, working sets, plans, reports, sweeps, times and sizes.
+
+mod plan;
+mod quantity;
+mod rate;
+mod redrawn;
+mod remedy;
+mod table;
+mod text;

@@ -1,0 +1,112 @@
+//! Worked examples: refusals in their order, rates and stop tests, and printed names.
+
+use rate_limit::{Asked, Next, Reason, Settings, SettingsError, dirty_rate, duration, next};
+use std::test::Fail;
+use worked_guest::ASKED;
+
+/// Settings of a warm start, with `workers` workers.
+fn warm(base: u64, start: u64, workers: u64) -> Asked {
+    Asked {
+        base: Some(base),
+        start,
+        workers,
+        ..ASKED
+    }
+}
+
+fn refusal(asked: Asked) -> Option<SettingsError> {
+    Settings::new(asked).err()
+}
+
+#[test]
+fn first_setting_out_of_range_is_named(rt: HostRuntime) {
+    let good = ASKED;
+    let rows = [
+        (good, None),
+        (Asked { min: 0, ..good }, Some(SettingsError::MinRate)),
+        (Asked { max: 1, ..good }, Some(SettingsError::MaxRate)),
+        (Asked { rounds: 65, ..good }, Some(SettingsError::Rounds)),
+        (
+            Asked {
+                workers: 17,
+                ..good
+            },
+            Some(SettingsError::Parallelism),
+        ),
+        (
+            Asked {
+                min: 0,
+                workers: 17,
+                ..good
+            },
+            Some(SettingsError::MinRate),
+        ),
+        (warm(5, 5, 1), None),
+        (warm(6, 5, 1), Some(SettingsError::BaseTick)),
+        (warm(6, 5, 17), Some(SettingsError::Parallelism)),
+    ];
+    for (asked, cause) in rows {
+        assert!(rt; refusal(asked) == cause);
+    }
+}
+
+#[test]
+fn refusals_have_their_names(rt: HostRuntime) -> Result<(), Fail> {
+    const NAMES: [(SettingsError, &str); 10] = [
+        (SettingsError::MinRate, "S1"),
+        (SettingsError::MaxRate, "S2"),
+        (SettingsError::Increment, "S3"),
+        (SettingsError::Threshold, "S4"),
+        (SettingsError::Rounds, "S5"),
+        (SettingsError::WindowLength, "S6"),
+        (SettingsError::HotWindows, "S7"),
+        (SettingsError::StartTick, "S8"),
+        (SettingsError::Parallelism, "S9"),
+        (SettingsError::BaseTick, "S10"),
+    ];
+    for &(error, name) in &NAMES {
+        let text = format!(in rt.alloc(); "{error}")?;
+        assert!(rt; text.as_str() == name);
+    }
+    Ok(())
+}
+
+#[test]
+fn durations_and_rates_are_rounded_up(rt: HostRuntime) {
+    let durations = [duration(2, 3), duration(65_536, 1), duration(1, u64::MAX)];
+    assert!(rt; durations == [667, 65_536_000, 1]);
+    let rates = [dirty_rate(1, 2000), dirty_rate(2, 500), dirty_rate(0, 7)];
+    assert!(rt; rates == [1, 4, 0]);
+}
+
+#[test]
+fn stop_tests_come_in_order(rt: HostRuntime) -> Result<(), Fail> {
+    let settings = Settings::new(ASKED)?;
+    assert!(rt; *settings.asked() == ASKED);
+    let steady = Settings::new(Asked {
+        min: 10,
+        max: 10,
+        increment: 0,
+        ..ASKED
+    })?;
+    let answers = [
+        next(&settings, 0, 1000, 8),
+        next(&settings, 4, 1000, 8),
+        next(&settings, 3, 1000, 8),
+        next(&settings, 3, 1000, 7),
+        next(&steady, 1, 1000, 1),
+        next(&settings, 0, 0, 1),
+    ];
+    assert!(rt;
+        answers
+            == [
+                Next::Stop(Reason::Few),
+                Next::Stop(Reason::Fast),
+                Next::Stop(Reason::Rounds),
+                Next::Go(4),
+                Next::Go(10),
+                Next::Stop(Reason::Few)
+            ]
+    );
+    Ok(())
+}

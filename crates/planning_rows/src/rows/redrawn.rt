@@ -1,0 +1,250 @@
+//! Plans of redrawn pages and standard errors. The results come from `bench/redrawn.py`, which shares no code with the
+//! crate.
+
+use super::plan::{Told, guest, told};
+use guest_log::Timeline;
+use page_bitmap::word_count;
+use predictions::redrawn::{Errors, are_drawn, has_errors, redrawn_outcome, sample_errors};
+use predictions::units::Scale;
+use rate_limit::{Asked, Reason, Settings};
+use std::alloc::Global;
+use std::test::Fail;
+use trace_codec::Trace;
+use worked_guest::ASKED;
+
+/// When each of six pages is written.
+pub(crate) const WRITES: [(u64, u32); 18] = [
+    (0, 0),
+    (100, 1),
+    (300, 2),
+    (420, 0),
+    (500, 3),
+    (700, 1),
+    (900, 2),
+    (1200, 0),
+    (1300, 4),
+    (1500, 2),
+    (1700, 2),
+    (2100, 0),
+    (2300, 1),
+    (2600, 2),
+    (3000, 5),
+    (3200, 0),
+    (3600, 2),
+    (4000, 0),
+];
+
+/// Settings of a plan that converges.
+const SLOW: Asked = Asked { max: 20, ..ASKED };
+
+/// Settings of a plan whose rounds are over before it converges.
+const THREE: Asked = Asked {
+    min: 3,
+    max: 9,
+    increment: 2,
+    rounds: 3,
+    ..ASKED
+};
+
+/// Settings of a plan that skips pages.
+const SKIPPING: Asked = Asked {
+    min: 4,
+    max: 50,
+    increment: 3,
+    rounds: 4,
+    skip: true,
+    ..ASKED
+};
+
+/// Settings of a warm start.
+const WARM: Asked = Asked {
+    start: 900,
+    base: Some(300),
+    ..SLOW
+};
+
+/// Returns the sums of the plan of some pages of a trace, if it has these.
+fn redrawn(
+    alloc: Global,
+    trace: &Trace,
+    asked: Asked,
+    drawn: &[u32],
+) -> Result<Option<Told>, Fail> {
+    let pages = trace.page_count();
+    if !are_drawn(drawn, pages) {
+        return Ok(None);
+    }
+    let settings = Settings::new(asked)?;
+    let mut listed = Vec::from_elem(alloc, u64::MAX, word_count(pages as usize))?;
+    let mut marks = Vec::from_elem(alloc, u64::MAX, word_count(pages as usize))?;
+    let outcome = redrawn_outcome(trace, &settings, drawn, &mut listed, &mut marks);
+    Ok(Some(told(&outcome)))
+}
+
+#[test]
+fn plans_of_redrawn_pages(rt: HostRuntime) -> Result<(), Fail> {
+    let alloc = rt.alloc();
+    let trace = guest(alloc, 6, &WRITES)?;
+    let cases: [(Asked, &[u32], Told); 11] = [
+        (SLOW, &[0, 1, 2, 3, 4, 5], (3, Reason::Few, 5667, 0, 14)),
+        (SLOW, &[2, 0, 2, 1, 2, 4], (3, Reason::Few, 6334, 0, 16)),
+        (SLOW, &[3, 3], (2, Reason::Few, 1667, 0, 4)),
+        (SLOW, &[], (1, Reason::Few, 0, 0, 0)),
+        (
+            THREE,
+            &[2, 0, 2, 1, 2, 4],
+            (3, Reason::Rounds, 3915, 445, 21),
+        ),
+        (
+            THREE,
+            &[2, 2, 0, 0, 2, 2, 0],
+            (3, Reason::Rounds, 4734, 334, 24),
+        ),
+        (
+            SKIPPING,
+            &[0, 1, 2, 3, 4, 5],
+            (4, Reason::Rounds, 2397, 20, 13),
+        ),
+        (
+            SKIPPING,
+            &[2, 0, 2, 1, 2, 4],
+            (4, Reason::Rounds, 2629, 60, 18),
+        ),
+        (
+            SKIPPING,
+            &[2, 2, 0, 0, 2, 2, 0],
+            (4, Reason::Few, 3126, 0, 19),
+        ),
+        (WARM, &[2, 0, 2, 1, 2, 4], (3, Reason::Few, 5900, 0, 15)),
+        (WARM, &[5, 5, 5, 5, 5, 5], (1, Reason::Few, 900, 0, 0)),
+    ];
+    for (asked, drawn, expected) in cases {
+        assert!(rt; redrawn(alloc, &trace, asked, drawn)? == Some(expected));
+    }
+    assert!(rt; redrawn(alloc, &trace, SLOW, &[1, 6])?.is_none());
+    Ok(())
+}
+
+/// Standard errors of bytes, and in microseconds of time and downtime.
+type Numbers = (u128, u128, u128);
+
+fn numbers(errors: Errors) -> Numbers {
+    (errors.bytes, errors.time, errors.downtime)
+}
+
+/// Returns the standard errors of the plan of a trace.
+fn errors(
+    alloc: Global,
+    trace: &Trace,
+    asked: Asked,
+    scale: &Scale,
+) -> Result<Option<Numbers>, Fail> {
+    let settings = Settings::new(asked)?;
+    Ok(Errors::of_trace(alloc, trace, &settings, scale)?.map(numbers))
+}
+
+/// Returns the same, in memory that is lent and not empty.
+fn lent_errors(
+    alloc: Global,
+    trace: &Trace,
+    asked: Asked,
+    scale: &Scale,
+) -> Result<Option<Numbers>, Fail> {
+    if !has_errors(scale) {
+        return Ok(None);
+    }
+    let settings = Settings::new(asked)?;
+    let words = word_count(trace.page_count() as usize);
+    let mut room = Vec::from_elem(alloc, u32::MAX, scale.sampled() as usize)?;
+    let mut listed = Vec::from_elem(alloc, u64::MAX, words)?;
+    let mut marks = Vec::from_elem(alloc, u64::MAX, words)?;
+    let errors = sample_errors(trace, &settings, scale, &mut room, &mut listed, &mut marks);
+    Ok(Some(numbers(errors)))
+}
+
+/// What a tick is in microseconds, a page in bytes, and how many pages of a guest of how many are in the trace.
+type Units = (u64, u64, u64, u64);
+
+#[test]
+fn errors_of_samples(rt: HostRuntime) -> Result<(), Fail> {
+    const SOME: Units = (1000, 4096, 6, 1000);
+    const MOST: Units = (1, 16, 9, 10);
+    const FEW: Units = (1_000_000, 4096, 6, 1 << 32);
+    const ALL: Units = (1000, 4096, 6, 6);
+    let cases: [(Asked, Units, Option<Numbers>); 8] = [
+        (SLOW, SOME, Some((749_568, 381_629, 0))),
+        (SLOW, MOST, Some((32, 440, 0))),
+        (THREE, SOME, Some((1_552_384, 267_566, 121_628))),
+        (THREE, MOST, Some((32, 320, 31))),
+        (
+            THREE,
+            FEW,
+            Some((6_677_594_955_776, 268_371_596, 121_993_734)),
+        ),
+        (SKIPPING, SOME, Some((1_687_552, 270_665, 15_138))),
+        (WARM, SOME, Some((679_936, 651_847, 0))),
+        (SLOW, ALL, None),
+    ];
+    let alloc = rt.alloc();
+    let trace = guest(alloc, 6, &WRITES)?;
+    for (asked, (tick, page, sampled, pages), expected) in cases {
+        let scale = Scale::new(tick, page, sampled, pages)?;
+        let owned = errors(alloc, &trace, asked, &scale)?;
+        let lent = lent_errors(alloc, &trace, asked, &scale)?;
+        assert!(rt; [owned, lent] == [expected; 2]);
+    }
+    Ok(())
+}
+
+/// Returns 5,000 writes to some of 200 pages, by a generator of Park and Miller.
+fn many(alloc: Global) -> Result<Vec<(u64, u32)>, Fail> {
+    let mut writes = Vec::with_capacity(alloc, 5000)?;
+    let mut state = 1u64;
+    let mut tick = 0u64;
+    for _ in 0..5000 {
+        state = state.wrapping_mul(48_271) % 2_147_483_647;
+        tick = tick.wrapping_add(state % 7);
+        let place = (state / 7 % 200) as u32;
+        writes.push((tick, place * place / 200))?;
+    }
+    Ok(writes)
+}
+
+#[test]
+fn errors_of_a_larger_sample(rt: HostRuntime) -> Result<(), Fail> {
+    const RISING: Asked = Asked {
+        min: 40,
+        max: 200,
+        increment: 16,
+        threshold: 20,
+        rounds: 30,
+        ..ASKED
+    };
+    const LATE: Asked = Asked {
+        start: 1000,
+        skip: true,
+        ..RISING
+    };
+    const FIVE: Asked = Asked {
+        min: 60,
+        max: 90,
+        increment: 3,
+        rounds: 5,
+        start: 3000,
+        base: Some(1000),
+        ..RISING
+    };
+    let cases: [(Asked, Numbers); 3] = [
+        (RISING, (35_467_264, 216_776, 0)),
+        (LATE, (47_628_288, 160_295, 76_654)),
+        (FIVE, (83_152_896, 636_125, 105_881)),
+    ];
+    let alloc = rt.alloc();
+    let writes = many(alloc)?;
+    let trace = guest(alloc, 200, &writes)?;
+    let scale = Scale::new(1000, 4096, 210, 100_000)?;
+    for (asked, expected) in cases {
+        assert!(rt; errors(alloc, &trace, asked, &scale)? == Some(expected));
+    }
+    Ok(())
+}

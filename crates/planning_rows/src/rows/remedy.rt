@@ -1,0 +1,179 @@
+//! What keeps limits. The results come from `bench/remedies.py`, which shares no code with the crate.
+
+use super::plan::guest;
+use super::redrawn::WRITES;
+use guest_log::Timeline;
+use page_bitmap::word_count;
+use predictions::remedies::{Remedies, Trial, push_remedies, remedies_of};
+use predictions::units::{Limits, Scale};
+use rate_limit::Asked;
+use round_planner::RoundRow;
+use std::alloc::Global;
+use std::test::Fail;
+use trace_codec::Trace;
+use worked_guest::ASKED;
+
+/// A row of a buffer, with numbers that no round has.
+const OLD_ROW: RoundRow = RoundRow {
+    from: 9,
+    to: 8,
+    rate: 7,
+    pages: 6,
+    sent: 5,
+    dirtied: 4,
+};
+
+/// What is tried: ticks of so many microseconds, of so many pages of a guest 6 in the trace, the link and the first
+/// round, the downtime and the reserve, the increment, and the other settings.
+type Tried = (u64, u64, (u64, Option<u64>), (u64, u64), Option<u64>, Asked);
+
+/// What is found: whether the limit is kept, and the link, the downtime and the speed that keep it.
+type Found = (bool, Option<u64>, Option<u64>, Option<u64>);
+
+/// Returns a trial.
+fn trial(tried: &Tried) -> Result<Trial, Fail> {
+    let (tick, guest, (link, first), (downtime, reserve), increment, others) = *tried;
+    Ok(Trial {
+        scale: Scale::new(tick, 16, 6, guest)?,
+        limits: Limits {
+            link,
+            first,
+            downtime,
+            reserve,
+        },
+        increment,
+        others,
+    })
+}
+
+/// Returns what keeps the limit of a trial, in memory that is lent and not empty.
+fn lent(alloc: Global, trace: &Trace, trial: &Trial) -> Result<Remedies, Fail> {
+    let pages = trace.page_count() as usize;
+    let mut marks = Vec::from_elem(alloc, u64::MAX, word_count(pages))?;
+    let mut list = Vec::from_elem(alloc, u32::MAX, pages)?;
+    let mut rows = Vec::from_elem(alloc, OLD_ROW, 64)?;
+    Ok(remedies_of(trace, trial, &mut marks, &mut list, &mut rows))
+}
+
+/// Settings of a migration from tick 900 of a guest of which the destination has the memory before tick 0.
+const WARM: Asked = Asked {
+    start: 900,
+    base: Some(0),
+    ..ASKED
+};
+
+/// Settings of a migration of three rounds that skips pages.
+const SKIPPING: Asked = Asked {
+    rounds: 3,
+    skip: true,
+    ..ASKED
+};
+
+#[test]
+fn remedies_of_migrations(rt: HostRuntime) -> Result<(), Fail> {
+    const LONG: Asked = Asked { rounds: 30, ..WARM };
+    const SHORT: Asked = Asked { rounds: 3, ..WARM };
+    const AT_ONCE: Asked = Asked { start: 0, ..SHORT };
+    const LATE: Asked = Asked {
+        start: 900,
+        ..SKIPPING
+    };
+    const MANY: Asked = Asked {
+        rounds: 30,
+        ..SKIPPING
+    };
+    let cases: [(Tried, Found); 9] = [
+        // the rate is too high after a round; it is not from 11 Kbit a second on
+        (
+            (1000, 60, (650, None), (206_011, 10_000), Some(2), LONG),
+            (false, Some(11), Some(761_274), Some(50)),
+        ),
+        // the stop comes after the last tick
+        (
+            (333, 60, (1175, None), (28_963, 0), None, SKIPPING),
+            (false, Some(39), Some(832_686), Some(15)),
+        ),
+        (
+            (333, 60, (700, None), (452_653, 10_000), Some(2), SHORT),
+            (false, Some(12), None, Some(15)),
+        ),
+        // the first round has so little of the link that more of it or a longer downtime does not help
+        (
+            (333, 6, (950, Some(50)), (225_318, 0), None, SKIPPING),
+            (false, None, None, Some(50)),
+        ),
+        (
+            (333, 6, (50, Some(50)), (217_634, 10_000), Some(2), LATE),
+            (false, None, None, None),
+        ),
+        (
+            (100, 6, (1400, None), (174_571, 10_000), Some(2), MANY),
+            (true, Some(6), Some(22_502), None),
+        ),
+        // a 64th of either is enough
+        (
+            (
+                1000,
+                60,
+                (412_500, None),
+                (1_428_099, 10_000),
+                Some(2),
+                AT_ONCE,
+            ),
+            (true, Some(51), Some(22_314), None),
+        ),
+        // no settings
+        (
+            (1000, 60, (0, None), (0, 0), None, ASKED),
+            (false, None, None, None),
+        ),
+        (
+            (1000, 60, (u64::MAX, None), (100_000, 0), None, ASKED),
+            (false, None, None, None),
+        ),
+    ];
+    let alloc = rt.alloc();
+    let trace = guest(alloc, 6, &WRITES)?;
+    for (tried, (is_kept, link, downtime, speed)) in cases {
+        let trial = trial(&tried)?;
+        let expected = Remedies {
+            is_kept,
+            link,
+            downtime,
+            speed,
+        };
+        let owned = Remedies::of_trace(alloc, &trace, &trial)?;
+        assert!(rt; [owned, lent(alloc, &trace, &trial)?] == [expected; 2]);
+    }
+    Ok(())
+}
+
+/// The lines on the first of these, on a limit that is kept, and on one that nothing keeps.
+#[test]
+fn lines_of_remedies(rt: HostRuntime) -> Result<(), Fail> {
+    let alloc = rt.alloc();
+    const CASES: [(Found, &str); 3] = [
+        (
+            (false, Some(11), Some(761_274), Some(50)),
+            "enough: --link 11Kbit\nenough: --downtime 761274us\n\
+             enough: the guest slowed to 50 per cent of its speed\n",
+        ),
+        (
+            (true, Some(6), Some(22_502), None),
+            "enough: --link 6Kbit\nenough: --downtime 22502us\n",
+        ),
+        ((false, None, None, None), ""),
+    ];
+    for &((is_kept, link, downtime, speed), expected) in &CASES {
+        let mut text = Vec::new(alloc);
+        let remedies = Remedies {
+            is_kept,
+            link,
+            downtime,
+            speed,
+        };
+        push_remedies(&mut text, &remedies)?;
+        assert!(rt; text.as_slice() == expected.as_bytes(), "{expected}");
+    }
+    Ok(())
+}

@@ -1,0 +1,112 @@
+//! Worked examples.
+
+use rate_limit::{Asked, Settings, SettingsError};
+use std::alloc::Global;
+use std::test::Fail;
+use std::thread::Threads;
+use trace_codec::decode;
+use trace_readers::TouchLog;
+use worked_guest::{ASKED, NO_WRITES, TRACE};
+use working_sets::{Tables, Window, par_tables, tables};
+
+/// A guest of 1 page with a write at tick 0 and one at the greatest tick, 2^40 - 1.
+const FAR_APART: [u8; 50] = [
+    0x50, 0x43, 0x57, 0x54, 1, 4, 0, 0, 1, 0, 0, 0, 2, 0, 0, 0, // header
+    0, 0, 0, 0, 0, 0, 0, 0, 0, 0, 0, 0, 0, 0, 1, 0, 1, // write 1
+    0xff, 0xff, 0xff, 0xff, 0xff, 0, 0, 0, 0, 0, 0, 0, 0, 0, 1, 0, 1, // write 2
+];
+
+fn settings(window: u64, hot: u64) -> Result<Settings, SettingsError> {
+    Settings::new(Asked {
+        window,
+        hot,
+        ..ASKED
+    })
+}
+
+fn row(number: u64, writes: u32, pages: u32, again: u32, fresh: u32) -> Window {
+    Window {
+        number,
+        writes,
+        pages,
+        again,
+        fresh,
+    }
+}
+
+/// Returns the tables of a trace, and of only its touches.
+fn both(alloc: Global, bytes: &[u8], window: u64, hot: u64) -> Result<(Tables, Tables), Fail> {
+    let settings = settings(window, hot)?;
+    let trace = decode(alloc, bytes)?;
+    let owned = tables(alloc, &trace, &settings)?;
+    let log = TouchLog::parse(alloc, bytes)?;
+    let touched = tables(alloc, &log, &settings)?;
+    Ok((owned, touched))
+}
+
+/// Returns the windows and the hot pages.
+fn parts(tables: &Tables) -> (&[Window], &[u32]) {
+    (tables.windows.as_slice(), tables.hot.as_slice())
+}
+
+#[test]
+fn windows_of_a_thousand_ticks(rt: HostRuntime) -> Result<(), Fail> {
+    let rows = [row(0, 2, 2, 0, 2), row(1, 1, 1, 1, 0), row(2, 2, 2, 1, 1)];
+    let (owned, touched) = both(rt.alloc(), &TRACE, 1000, 2)?;
+    let wanted = (rows.as_slice(), [1].as_slice());
+    assert!(rt; [parts(&owned), parts(&touched)] == [wanted; 2]);
+    Ok(())
+}
+
+#[test]
+fn one_long_window(rt: HostRuntime) -> Result<(), Fail> {
+    let rows = [row(0, 5, 3, 0, 3)];
+    let (owned, touched) = both(rt.alloc(), &TRACE, 5000, 1)?;
+    let wanted = (rows.as_slice(), [0, 1, 3].as_slice());
+    assert!(rt; [parts(&owned), parts(&touched)] == [wanted; 2]);
+    Ok(())
+}
+
+/// Returns whether tables made by `workers` workers are the same as those made by none.
+fn are_same_by<R: Threads + Sync>(
+    rt: &R,
+    alloc: Global,
+    settings: &Settings,
+    workers: usize,
+) -> Result<bool, Fail> {
+    let log = TouchLog::parse(alloc, &TRACE)?;
+    let alone = tables(alloc, &log, settings)?;
+    let by_workers = par_tables(rt, alloc, &log, settings, workers)?;
+    Ok(parts(&by_workers) == parts(&alone))
+}
+
+#[test]
+fn any_number_of_workers(rt: HostRuntime) -> Result<(), Fail> {
+    for (window, hot) in [(5000, 1), (1000, 2)] {
+        let settings = settings(window, hot)?;
+        for workers in [1, 2, 16] {
+            assert!(rt;
+                are_same_by(&rt, rt.alloc(), &settings, workers)?,
+                "{workers}"
+            );
+        }
+    }
+    Ok(())
+}
+
+#[test]
+fn no_writes_no_rows(rt: HostRuntime) -> Result<(), Fail> {
+    let (owned, touched) = both(rt.alloc(), &NO_WRITES, 1000, 2)?;
+    let lengths = [&owned, &touched].map(|tables| (tables.windows.len(), tables.hot.len()));
+    assert!(rt; lengths == [(0, 0); 2]);
+    Ok(())
+}
+
+#[test]
+fn one_tick_windows_have_rows_only_where_writes_are(rt: HostRuntime) -> Result<(), Fail> {
+    let rows = [row(0, 1, 1, 0, 1), row(1_099_511_627_775, 1, 1, 0, 0)];
+    let (owned, touched) = both(rt.alloc(), &FAR_APART, 1, 2)?;
+    let wanted = (rows.as_slice(), [0].as_slice());
+    assert!(rt; [parts(&owned), parts(&touched)] == [wanted; 2]);
+    Ok(())
+}
