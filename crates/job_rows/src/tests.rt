@@ -11,6 +11,7 @@ mod sweep;
 mod version;
 mod warm;
 
+use self::image::not_zero;
 use image_build::{Image, replay, replay_before, replay_bytes, replay_view};
 use live_engine::OpenGate;
 use migration_jobs::{Job, Remains, RunError, TestSink, run};
@@ -105,24 +106,13 @@ fn writes_nothing_of_an_empty_trace(rt: HostRuntime) -> Result<(), Fail> {
     Ok(())
 }
 
-/// Where the bytes that are not 0 are, and their values.
-fn set_bytes(alloc: Global, memory: &[u8]) -> Result<Vec<(usize, u8)>, AllocError> {
-    let mut set = Vec::new(alloc);
-    for (offset, byte) in memory.iter().enumerate() {
-        if *byte != 0 {
-            set.push((offset, *byte))?;
-        }
-    }
-    Ok(set)
-}
-
 /// The same writes in a guest of 16,384 pages of 4,096 bytes.
 #[test]
 fn writes_large_memory(rt: HostRuntime) -> Result<(), Fail> {
     let alloc = rt.alloc();
     let source = TestSource::new(changed(alloc, 102, 5, &[12, 0, 0, 0, 0x40], &[])?, 50, None);
     let (answer, sink) = ran(&rt, alloc, &Job::Image, source, sink(alloc));
-    let set = set_bytes(alloc, sink.bytes())?;
+    let set = not_zero(alloc, sink.bytes())?;
     assert!(rt; answer == Ok(()) && sink.bytes().len() == 1 << 26);
     assert!(rt; set.as_slice() == [(0, 1), (4_111, 2), (12_290, 4), (12_291, 5)].as_slice());
     Ok(())

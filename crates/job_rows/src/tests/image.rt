@@ -49,7 +49,7 @@ fn wide_released(alloc: Global) -> Result<Vec<u8>, AllocError> {
 }
 
 /// Returns the offsets of the bytes that are not 0, with these bytes.
-fn not_zero(alloc: Global, memory: &[u8]) -> Result<Vec<(usize, u8)>, AllocError> {
+pub(crate) fn not_zero(alloc: Global, memory: &[u8]) -> Result<Vec<(usize, u8)>, AllocError> {
     let mut found = Vec::new(alloc);
     for (offset, byte) in memory.iter().enumerate() {
         if *byte != 0 {
@@ -59,17 +59,18 @@ fn not_zero(alloc: Global, memory: &[u8]) -> Result<Vec<(usize, u8)>, AllocError
     Ok(found)
 }
 
-/// Returns whether an image of these bytes, which come at most `greatest` in one read, has only these bytes that are
-/// not 0.
+/// Returns whether an image of these bytes, of which at most `greatest` come in one read and go in one write, has only
+/// these bytes that are not 0.
 fn is_written<R: Threads + Wait + Sync>(
     rt: &R,
     alloc: Global,
     bytes: Vec<u8>,
-    greatest: usize,
+    greatest: [usize; 2],
     expected: &[(usize, u8)],
 ) -> Result<bool, AllocError> {
-    let source = TestSource::new(bytes, greatest.max(1), None);
-    let sink = TestSink::new(Vec::new(alloc), 1_000_000, None, false);
+    let [read, written] = greatest;
+    let source = TestSource::new(bytes, read.max(1), None);
+    let sink = TestSink::new(Vec::new(alloc), written, None, false);
     let (answer, sink) = ran(rt, alloc, &Job::Image, source, sink);
     let found = not_zero(alloc, sink.bytes())?;
     Ok(answer == Ok(()) && sink.bytes().len() == SIZE && found.as_slice() == expected)
@@ -88,7 +89,7 @@ fn writes_large_memory(rt: HostRuntime) -> Result<(), Fail> {
         (33_558_527, 3),
     ];
     let bytes = wide(rt.alloc())?;
-    assert!(rt; is_written(&rt, rt.alloc(), bytes, 33, &EXPECTED)?);
+    assert!(rt; is_written(&rt, rt.alloc(), bytes, [33, 1_000_000], &EXPECTED)?);
     Ok(())
 }
 
@@ -96,7 +97,7 @@ fn writes_large_memory(rt: HostRuntime) -> Result<(), Fail> {
 fn writes_large_memory_with_a_released_page(rt: HostRuntime) -> Result<(), Fail> {
     const EXPECTED: [(usize, u8); 5] = [(0, 1), (1, 6), (2, 7), (20_480_016, 4), (20_480_017, 9)];
     let bytes = wide_released(rt.alloc())?;
-    assert!(rt; is_written(&rt, rt.alloc(), bytes, usize::MAX, &EXPECTED)?);
+    assert!(rt; is_written(&rt, rt.alloc(), bytes, [usize::MAX; 2], &EXPECTED)?);
     Ok(())
 }
 

@@ -250,6 +250,7 @@ fn a_page_of_the_last_word(rt: HostRuntime) -> Result<(), Fail> {
     let guest: Guest<'_> = (65, &[(10, 64)]);
     let numbers = [0, 6500, 10, 65, 65, 1, 6500, 1, 100, 66];
     assert!(rt; is_planned(&rt, rt.alloc(), guest, asked, Reason::Rounds, &numbers)?);
+    assert!(rt; has_pages(&rt, rt.alloc(), guest, asked, &[&[64]])?);
     Ok(())
 }
 
@@ -382,7 +383,7 @@ fn has_pages<R: Threads + Sync>(
 
 #[test]
 fn pages_of_worked_plans(rt: HostRuntime) -> Result<(), Fail> {
-    let cases: [(Guest<'_>, Asked, &[&[u32]]); 7] = [
+    let cases: [(Guest<'_>, Asked, &[&[u32]]); 8] = [
         (
             (4, &TOUCHES),
             asked_with(4, 1, 0, false),
@@ -402,6 +403,11 @@ fn pages_of_worked_plans(rt: HostRuntime) -> Result<(), Fail> {
             (4, &EARLIER),
             asked_with(4, 1, 0, true),
             &[&[0, 1, 2, 3], &[0, 1], &[1, 3]],
+        ),
+        (
+            (4, &TOUCHES),
+            asked_with(4, 2, 0, false),
+            &[&[0, 1, 2, 3], &[0, 1], &[1, 3], &[]],
         ),
         (
             (4, &TOUCHES),
