@@ -65,12 +65,13 @@ def is_for_saver(job, run, whole):
 
 def is_for_makers(job, run):
     """Whether what was refused first, with all after it, is room to start a thread that makes memory: then all other
-    threads were started, and none after it."""
+    threads were started, and none after it. But makers start makers, two at the same time at most: the other one may
+    have its room already, and be started after the refusal."""
     first = run.refused
     if not job.makers or not first or first.moves or not first.callers:
         return False
-    rest = job.needed_first + job.savers - job.makers
-    return not first.callers[0].startswith("rattle_") and run.counts["threads"] == run.started >= rest
+    rest, after = job.needed_first + job.savers - job.makers, run.counts["threads"] - run.started
+    return not first.callers[0].startswith("rattle_") and run.started >= rest and after in (0, 1)
 
 
 # What starts the threads of a live run, as the compiler leaves it: the receivers, and those of a round. Each list of
