@@ -20,34 +20,32 @@ fn refusal(asked: Asked) -> Option<SettingsError> {
 
 #[test]
 fn first_setting_out_of_range_is_named(rt: HostRuntime) {
-    let good = ASKED;
-    let rows = [
-        (good, None),
-        (Asked { min: 0, ..good }, Some(SettingsError::MinRate)),
-        (Asked { max: 1, ..good }, Some(SettingsError::MaxRate)),
-        (Asked { rounds: 65, ..good }, Some(SettingsError::Rounds)),
-        (
-            Asked {
-                workers: 17,
-                ..good
-            },
-            Some(SettingsError::Parallelism),
-        ),
-        (
-            Asked {
-                min: 0,
-                workers: 17,
-                ..good
-            },
-            Some(SettingsError::MinRate),
-        ),
-        (warm(5, 5, 1), None),
-        (warm(6, 5, 1), Some(SettingsError::BaseTick)),
-        (warm(6, 5, 17), Some(SettingsError::Parallelism)),
+    // the rates, the rounds, the workers, and the cause
+    const ROWS: [(u64, u64, u64, u64, Option<SettingsError>); 6] = [
+        (2, 4, 8, 1, None),
+        (0, 4, 8, 1, Some(SettingsError::MinRate)),
+        (2, 1, 8, 1, Some(SettingsError::MaxRate)),
+        (2, 4, 65, 1, Some(SettingsError::Rounds)),
+        (2, 4, 8, 17, Some(SettingsError::Parallelism)),
+        (0, 4, 8, 17, Some(SettingsError::MinRate)),
     ];
-    for (asked, cause) in rows {
+    for &(min, max, rounds, workers, cause) in &ROWS {
+        let asked = Asked {
+            min,
+            max,
+            rounds,
+            workers,
+            ..ASKED
+        };
         assert!(rt; refusal(asked) == cause);
     }
+    let of_bases = [warm(5, 5, 1), warm(6, 5, 1), warm(6, 5, 17)].map(refusal);
+    let causes = [
+        None,
+        Some(SettingsError::BaseTick),
+        Some(SettingsError::Parallelism),
+    ];
+    assert!(rt; of_bases == causes);
 }
 
 #[test]

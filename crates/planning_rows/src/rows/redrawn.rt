@@ -34,94 +34,89 @@ pub(crate) const WRITES: [(u64, u32); 18] = [
     (4000, 0),
 ];
 
-/// Settings of a plan that converges.
-const SLOW: Asked = Asked { max: 20, ..ASKED };
+/// Settings of a plan.
+#[derive(Clone, Copy)]
+enum Case {
+    /// It converges.
+    Slow,
+    /// Its rounds are over before it converges.
+    Three,
+    /// It skips pages.
+    Skipping,
+    /// A warm start.
+    Warm,
+}
 
-/// Settings of a plan whose rounds are over before it converges.
-const THREE: Asked = Asked {
-    min: 3,
-    max: 9,
-    increment: 2,
-    rounds: 3,
-    ..ASKED
-};
+impl Case {
+    fn asked(self) -> Asked {
+        let slow = Asked { max: 20, ..ASKED };
+        match self {
+            Case::Slow => slow,
+            Case::Three => Asked {
+                min: 3,
+                max: 9,
+                increment: 2,
+                rounds: 3,
+                ..ASKED
+            },
+            Case::Skipping => Asked {
+                min: 4,
+                max: 50,
+                increment: 3,
+                rounds: 4,
+                skip: true,
+                ..ASKED
+            },
+            Case::Warm => Asked {
+                start: 900,
+                base: Some(300),
+                ..slow
+            },
+        }
+    }
+}
 
-/// Settings of a plan that skips pages.
-const SKIPPING: Asked = Asked {
-    min: 4,
-    max: 50,
-    increment: 3,
-    rounds: 4,
-    skip: true,
-    ..ASKED
-};
-
-/// Settings of a warm start.
-const WARM: Asked = Asked {
-    start: 900,
-    base: Some(300),
-    ..SLOW
-};
-
-/// Returns the sums of the plan of some pages of a trace, if it has these.
-fn redrawn(
-    alloc: Global,
-    trace: &Trace,
-    asked: Asked,
-    drawn: &[u32],
-) -> Result<Option<Told>, Fail> {
+/// Returns the sums of the plan of some pages of a trace, if it has these. Each digit is a page.
+fn redrawn(alloc: Global, trace: &Trace, case: Case, digits: &str) -> Result<Option<Told>, Fail> {
     let pages = trace.page_count();
-    if !are_drawn(drawn, pages) {
+    let mut drawn = Vec::new(alloc);
+    for digit in digits.bytes() {
+        drawn.push(digit.saturating_sub(b'0') as u32)?;
+    }
+    if !are_drawn(&drawn, pages) {
         return Ok(None);
     }
-    let settings = Settings::new(asked)?;
+    let settings = Settings::new(case.asked())?;
     let mut listed = Vec::from_elem(alloc, u64::MAX, word_count(pages as usize))?;
     let mut marks = Vec::from_elem(alloc, u64::MAX, word_count(pages as usize))?;
-    let outcome = redrawn_outcome(trace, &settings, drawn, &mut listed, &mut marks);
+    let outcome = redrawn_outcome(trace, &settings, &drawn, &mut listed, &mut marks);
     Ok(Some(told(&outcome)))
 }
 
 #[test]
 fn plans_of_redrawn_pages(rt: HostRuntime) -> Result<(), Fail> {
+    const CASES: [(Case, &str, Told); 11] = [
+        (Case::Slow, "012345", (3, Reason::Few, 5667, 0, 14)),
+        (Case::Slow, "202124", (3, Reason::Few, 6334, 0, 16)),
+        (Case::Slow, "33", (2, Reason::Few, 1667, 0, 4)),
+        (Case::Slow, "", (1, Reason::Few, 0, 0, 0)),
+        (Case::Three, "202124", (3, Reason::Rounds, 3915, 445, 21)),
+        (Case::Three, "2200220", (3, Reason::Rounds, 4734, 334, 24)),
+        (Case::Skipping, "012345", (4, Reason::Rounds, 2397, 20, 13)),
+        (Case::Skipping, "202124", (4, Reason::Rounds, 2629, 60, 18)),
+        (Case::Skipping, "2200220", (4, Reason::Few, 3126, 0, 19)),
+        (Case::Warm, "202124", (3, Reason::Few, 5900, 0, 15)),
+        (Case::Warm, "555555", (1, Reason::Few, 900, 0, 0)),
+    ];
     let alloc = rt.alloc();
     let trace = guest(alloc, 6, &WRITES)?;
-    let cases: [(Asked, &[u32], Told); 11] = [
-        (SLOW, &[0, 1, 2, 3, 4, 5], (3, Reason::Few, 5667, 0, 14)),
-        (SLOW, &[2, 0, 2, 1, 2, 4], (3, Reason::Few, 6334, 0, 16)),
-        (SLOW, &[3, 3], (2, Reason::Few, 1667, 0, 4)),
-        (SLOW, &[], (1, Reason::Few, 0, 0, 0)),
-        (
-            THREE,
-            &[2, 0, 2, 1, 2, 4],
-            (3, Reason::Rounds, 3915, 445, 21),
-        ),
-        (
-            THREE,
-            &[2, 2, 0, 0, 2, 2, 0],
-            (3, Reason::Rounds, 4734, 334, 24),
-        ),
-        (
-            SKIPPING,
-            &[0, 1, 2, 3, 4, 5],
-            (4, Reason::Rounds, 2397, 20, 13),
-        ),
-        (
-            SKIPPING,
-            &[2, 0, 2, 1, 2, 4],
-            (4, Reason::Rounds, 2629, 60, 18),
-        ),
-        (
-            SKIPPING,
-            &[2, 2, 0, 0, 2, 2, 0],
-            (4, Reason::Few, 3126, 0, 19),
-        ),
-        (WARM, &[2, 0, 2, 1, 2, 4], (3, Reason::Few, 5900, 0, 15)),
-        (WARM, &[5, 5, 5, 5, 5, 5], (1, Reason::Few, 900, 0, 0)),
-    ];
-    for (asked, drawn, expected) in cases {
-        assert!(rt; redrawn(alloc, &trace, asked, drawn)? == Some(expected));
+    for &(case, drawn, expected) in &CASES {
+        assert!(rt;
+            redrawn(alloc, &trace, case, drawn)? == Some(expected),
+            "{drawn}"
+        );
     }
-    assert!(rt; redrawn(alloc, &trace, SLOW, &[1, 6])?.is_none());
+    assert!(rt; redrawn(alloc, &trace, Case::Slow, "16")?.is_none());
     Ok(())
 }
 
@@ -165,33 +160,43 @@ fn lent_errors(
 /// What a tick is in microseconds, a page in bytes, and how many pages of a guest of how many are in the trace.
 type Units = (u64, u64, u64, u64);
 
+/// Returns the standard errors by both calls.
+fn both_errors(
+    alloc: Global,
+    trace: &Trace,
+    asked: Asked,
+    (tick, page, sampled, pages): Units,
+) -> Result<[Option<Numbers>; 2], Fail> {
+    let scale = Scale::new(tick, page, sampled, pages)?;
+    let owned = errors(alloc, trace, asked, &scale)?;
+    let lent = lent_errors(alloc, trace, asked, &scale)?;
+    Ok([owned, lent])
+}
+
 #[test]
 fn errors_of_samples(rt: HostRuntime) -> Result<(), Fail> {
     const SOME: Units = (1000, 4096, 6, 1000);
     const MOST: Units = (1, 16, 9, 10);
     const FEW: Units = (1_000_000, 4096, 6, 1 << 32);
     const ALL: Units = (1000, 4096, 6, 6);
-    let cases: [(Asked, Units, Option<Numbers>); 8] = [
-        (SLOW, SOME, Some((749_568, 381_629, 0))),
-        (SLOW, MOST, Some((32, 440, 0))),
-        (THREE, SOME, Some((1_552_384, 267_566, 121_628))),
-        (THREE, MOST, Some((32, 320, 31))),
+    const CASES: [(Case, Units, Option<Numbers>); 8] = [
+        (Case::Slow, SOME, Some((749_568, 381_629, 0))),
+        (Case::Slow, MOST, Some((32, 440, 0))),
+        (Case::Three, SOME, Some((1_552_384, 267_566, 121_628))),
+        (Case::Three, MOST, Some((32, 320, 31))),
         (
-            THREE,
+            Case::Three,
             FEW,
             Some((6_677_594_955_776, 268_371_596, 121_993_734)),
         ),
-        (SKIPPING, SOME, Some((1_687_552, 270_665, 15_138))),
-        (WARM, SOME, Some((679_936, 651_847, 0))),
-        (SLOW, ALL, None),
+        (Case::Skipping, SOME, Some((1_687_552, 270_665, 15_138))),
+        (Case::Warm, SOME, Some((679_936, 651_847, 0))),
+        (Case::Slow, ALL, None),
     ];
     let alloc = rt.alloc();
     let trace = guest(alloc, 6, &WRITES)?;
-    for (asked, (tick, page, sampled, pages), expected) in cases {
-        let scale = Scale::new(tick, page, sampled, pages)?;
-        let owned = errors(alloc, &trace, asked, &scale)?;
-        let lent = lent_errors(alloc, &trace, asked, &scale)?;
-        assert!(rt; [owned, lent] == [expected; 2]);
+    for &(case, units, expected) in &CASES {
+        assert!(rt; both_errors(alloc, &trace, case.asked(), units)? == [expected; 2]);
     }
     Ok(())
 }
@@ -212,7 +217,7 @@ fn many(alloc: Global) -> Result<Vec<(u64, u32)>, Fail> {
 
 #[test]
 fn errors_of_a_larger_sample(rt: HostRuntime) -> Result<(), Fail> {
-    const RISING: Asked = Asked {
+    let rising = Asked {
         min: 40,
         max: 200,
         increment: 16,
@@ -220,31 +225,34 @@ fn errors_of_a_larger_sample(rt: HostRuntime) -> Result<(), Fail> {
         rounds: 30,
         ..ASKED
     };
-    const LATE: Asked = Asked {
+    let late = Asked {
         start: 1000,
         skip: true,
-        ..RISING
+        ..rising
     };
-    const FIVE: Asked = Asked {
+    let five = Asked {
         min: 60,
         max: 90,
         increment: 3,
         rounds: 5,
         start: 3000,
         base: Some(1000),
-        ..RISING
+        ..rising
     };
-    let cases: [(Asked, Numbers); 3] = [
-        (RISING, (35_467_264, 216_776, 0)),
-        (LATE, (47_628_288, 160_295, 76_654)),
-        (FIVE, (83_152_896, 636_125, 105_881)),
-    ];
     let alloc = rt.alloc();
     let writes = many(alloc)?;
     let trace = guest(alloc, 200, &writes)?;
     let scale = Scale::new(1000, 4096, 210, 100_000)?;
-    for (asked, expected) in cases {
-        assert!(rt; errors(alloc, &trace, asked, &scale)? == Some(expected));
-    }
+    let found = [
+        errors(alloc, &trace, rising, &scale)?,
+        errors(alloc, &trace, late, &scale)?,
+        errors(alloc, &trace, five, &scale)?,
+    ];
+    let expected = [
+        (35_467_264, 216_776, 0),
+        (47_628_288, 160_295, 76_654),
+        (83_152_896, 636_125, 105_881),
+    ];
+    assert!(rt; found == expected.map(Some));
     Ok(())
 }

@@ -25,10 +25,66 @@ const OLD_ROW: RoundRow = RoundRow {
 
 /// What is tried: ticks of so many microseconds, of so many pages of a guest 6 in the trace, the link and the first
 /// round, the downtime and the reserve, the increment, and the other settings.
-type Tried = (u64, u64, (u64, Option<u64>), (u64, u64), Option<u64>, Asked);
+type Tried = (
+    u64,
+    u64,
+    (u64, Option<u64>),
+    (u64, u64),
+    Option<u64>,
+    Others,
+);
 
 /// What is found: whether the limit is kept, and the link, the downtime and the speed that keep it.
 type Found = (bool, Option<u64>, Option<u64>, Option<u64>);
+
+/// The settings that limits do not make.
+#[derive(Clone, Copy)]
+enum Others {
+    Worked,
+    /// A warm start of 30 rounds, or of three.
+    Long,
+    Short,
+    /// Three rounds from the first tick on, over the memory before it.
+    AtOnce,
+    /// Three rounds that skip pages, at once or late, or 30.
+    Skipping,
+    Late,
+    Many,
+}
+
+impl Others {
+    fn asked(self) -> Asked {
+        let short = Asked {
+            rounds: 3,
+            start: 900,
+            base: Some(0),
+            ..ASKED
+        };
+        let skipping = Asked {
+            rounds: 3,
+            skip: true,
+            ..ASKED
+        };
+        match self {
+            Others::Worked => ASKED,
+            Others::Long => Asked {
+                rounds: 30,
+                ..short
+            },
+            Others::Short => short,
+            Others::AtOnce => Asked { start: 0, ..short },
+            Others::Skipping => skipping,
+            Others::Late => Asked {
+                start: 900,
+                ..skipping
+            },
+            Others::Many => Asked {
+                rounds: 30,
+                ..skipping
+            },
+        }
+    }
+}
 
 /// Returns a trial.
 fn trial(tried: &Tried) -> Result<Trial, Fail> {
@@ -42,7 +98,7 @@ fn trial(tried: &Tried) -> Result<Trial, Fail> {
             reserve,
         },
         increment,
-        others,
+        others: others.asked(),
     })
 }
 
@@ -55,59 +111,84 @@ fn lent(alloc: Global, trace: &Trace, trial: &Trial) -> Result<Remedies, Fail> {
     Ok(remedies_of(trace, trial, &mut marks, &mut list, &mut rows))
 }
 
-/// Settings of a migration from tick 900 of a guest of which the destination has the memory before tick 0.
-const WARM: Asked = Asked {
-    start: 900,
-    base: Some(0),
-    ..ASKED
-};
+/// Returns what keeps the limit of a trial, by both calls.
+fn both_remedies(alloc: Global, trace: &Trace, trial: &Trial) -> Result<[Remedies; 2], Fail> {
+    let owned = Remedies::of_trace(alloc, trace, trial)?;
+    Ok([owned, lent(alloc, trace, trial)?])
+}
 
-/// Settings of a migration of three rounds that skips pages.
-const SKIPPING: Asked = Asked {
-    rounds: 3,
-    skip: true,
-    ..ASKED
-};
+fn remedies((is_kept, link, downtime, speed): Found) -> Remedies {
+    Remedies {
+        is_kept,
+        link,
+        downtime,
+        speed,
+    }
+}
 
 #[test]
 fn remedies_of_migrations(rt: HostRuntime) -> Result<(), Fail> {
-    const LONG: Asked = Asked { rounds: 30, ..WARM };
-    const SHORT: Asked = Asked { rounds: 3, ..WARM };
-    const AT_ONCE: Asked = Asked { start: 0, ..SHORT };
-    const LATE: Asked = Asked {
-        start: 900,
-        ..SKIPPING
-    };
-    const MANY: Asked = Asked {
-        rounds: 30,
-        ..SKIPPING
-    };
-    let cases: [(Tried, Found); 9] = [
+    const CASES: [(Tried, Found); 9] = [
         // the rate is too high after a round; it is not from 11 Kbit a second on
         (
-            (1000, 60, (650, None), (206_011, 10_000), Some(2), LONG),
+            (
+                1000,
+                60,
+                (650, None),
+                (206_011, 10_000),
+                Some(2),
+                Others::Long,
+            ),
             (false, Some(11), Some(761_274), Some(50)),
         ),
         // the stop comes after the last tick
         (
-            (333, 60, (1175, None), (28_963, 0), None, SKIPPING),
+            (333, 60, (1175, None), (28_963, 0), None, Others::Skipping),
             (false, Some(39), Some(832_686), Some(15)),
         ),
         (
-            (333, 60, (700, None), (452_653, 10_000), Some(2), SHORT),
+            (
+                333,
+                60,
+                (700, None),
+                (452_653, 10_000),
+                Some(2),
+                Others::Short,
+            ),
             (false, Some(12), None, Some(15)),
         ),
         // the first round has so little of the link that more of it or a longer downtime does not help
         (
-            (333, 6, (950, Some(50)), (225_318, 0), None, SKIPPING),
+            (
+                333,
+                6,
+                (950, Some(50)),
+                (225_318, 0),
+                None,
+                Others::Skipping,
+            ),
             (false, None, None, Some(50)),
         ),
         (
-            (333, 6, (50, Some(50)), (217_634, 10_000), Some(2), LATE),
+            (
+                333,
+                6,
+                (50, Some(50)),
+                (217_634, 10_000),
+                Some(2),
+                Others::Late,
+            ),
             (false, None, None, None),
         ),
         (
-            (100, 6, (1400, None), (174_571, 10_000), Some(2), MANY),
+            (
+                100,
+                6,
+                (1400, None),
+                (174_571, 10_000),
+                Some(2),
+                Others::Many,
+            ),
             (true, Some(6), Some(22_502), None),
         ),
         // a 64th of either is enough
@@ -118,32 +199,31 @@ fn remedies_of_migrations(rt: HostRuntime) -> Result<(), Fail> {
                 (412_500, None),
                 (1_428_099, 10_000),
                 Some(2),
-                AT_ONCE,
+                Others::AtOnce,
             ),
             (true, Some(51), Some(22_314), None),
         ),
         // no settings
         (
-            (1000, 60, (0, None), (0, 0), None, ASKED),
+            (1000, 60, (0, None), (0, 0), None, Others::Worked),
             (false, None, None, None),
         ),
         (
-            (1000, 60, (u64::MAX, None), (100_000, 0), None, ASKED),
+            (
+                1000,
+                60,
+                (u64::MAX, None),
+                (100_000, 0),
+                None,
+                Others::Worked,
+            ),
             (false, None, None, None),
         ),
     ];
     let alloc = rt.alloc();
     let trace = guest(alloc, 6, &WRITES)?;
-    for (tried, (is_kept, link, downtime, speed)) in cases {
-        let trial = trial(&tried)?;
-        let expected = Remedies {
-            is_kept,
-            link,
-            downtime,
-            speed,
-        };
-        let owned = Remedies::of_trace(alloc, &trace, &trial)?;
-        assert!(rt; [owned, lent(alloc, &trace, &trial)?] == [expected; 2]);
+    for (tried, found) in &CASES {
+        assert!(rt; both_remedies(alloc, &trace, &trial(tried)?)? == [remedies(*found); 2]);
     }
     Ok(())
 }
@@ -164,15 +244,9 @@ fn lines_of_remedies(rt: HostRuntime) -> Result<(), Fail> {
         ),
         ((false, None, None, None), ""),
     ];
-    for &((is_kept, link, downtime, speed), expected) in &CASES {
+    for &(found, expected) in &CASES {
         let mut text = Vec::new(alloc);
-        let remedies = Remedies {
-            is_kept,
-            link,
-            downtime,
-            speed,
-        };
-        push_remedies(&mut text, &remedies)?;
+        push_remedies(&mut text, &remedies(found))?;
         assert!(rt; text.as_slice() == expected.as_bytes(), "{expected}");
     }
     Ok(())

@@ -30,8 +30,14 @@ fn one_round(alloc: Global) -> Result<Plan, Fail> {
     })
 }
 
-/// Returns the report over these windows and hot pages, with `hot` windows for a hot page.
-fn text(alloc: Global, windows: &[Window], pages: &[u32], hot: u64) -> Result<Vec<u8>, Fail> {
+/// Returns whether this is the report over these windows and hot pages, with `hot` windows for a hot page.
+fn is_report(
+    alloc: Global,
+    windows: &[Window],
+    pages: &[u32],
+    hot: u64,
+    expected: &str,
+) -> Result<bool, Fail> {
     let settings = Settings::new(Asked { hot, ..ASKED })?;
     let trace = TraceView::parse(&NO_WRITES)?;
     let tables = Tables {
@@ -39,7 +45,8 @@ fn text(alloc: Global, windows: &[Window], pages: &[u32], hot: u64) -> Result<Ve
         hot: Vec::from_slice(alloc, pages)?,
     };
     let plan = one_round(alloc)?;
-    Ok(report_text(alloc, &trace.shape(), &settings, &tables, &plan)?)
+    let report = report_text(alloc, &trace.shape(), &settings, &tables, &plan)?;
+    Ok(report.as_slice() == expected.as_bytes())
 }
 
 const WINDOW: Window = Window {
@@ -52,35 +59,21 @@ const WINDOW: Window = Window {
 
 #[test]
 fn a_line_for_each_window_and_hot_page(rt: HostRuntime) -> Result<(), Fail> {
-    let cases: [(&[Window], &[u32], u64, &str); 2] = [
-        (
-            &[],
-            &[],
-            2,
-            "trace pages 4 size 16 writes 0
+    let expected = "trace pages 4 size 16 writes 0
 hot 2 pages 0
 round 0 from 1099511627775 to 1099577163775 rate 1000000 pages 3 sent 2 dirtied 65536
 stop fast at 1099577163775 pages 1 down 65536000 total 3
-",
-        ),
-        (
-            &[WINDOW],
-            &[0, 65_535],
-            1_048_576,
-            "trace pages 4 size 16 writes 0
+";
+    assert!(rt; is_report(rt.alloc(), &[], &[], 2, expected)?);
+    let expected = "trace pages 4 size 16 writes 0
 window 1099511627775 writes 1048576 pages 65536 again 10 fresh 0
 hot 1048576 pages 2
 page 0
 page 65535
 round 0 from 1099511627775 to 1099577163775 rate 1000000 pages 3 sent 2 dirtied 65536
 stop fast at 1099577163775 pages 1 down 65536000 total 3
-",
-        ),
-    ];
-    for &(windows, pages, hot, wanted) in &cases {
-        let report = text(rt.alloc(), windows, pages, hot)?;
-        assert!(rt; report.as_slice() == wanted.as_bytes());
-    }
+";
+    assert!(rt; is_report(rt.alloc(), &[WINDOW], &[0, 65_535], 1_048_576, expected)?);
     Ok(())
 }
 
@@ -150,19 +143,10 @@ best 0
 
 #[test]
 fn warm_starts_are_told(rt: HostRuntime) -> Result<(), Fail> {
-    let alloc = rt.alloc();
-    let report = reported(alloc, &warm(6, 1200)?)?;
-    let cases = [warm(0, 1000)?];
-    let alone = swept(&rt, alloc, &cases, 1)?;
-    let by_three = swept(&rt, alloc, &cases, 3)?;
-    let wanted =
-        "case 0 min 2 max 4 inc 1 threshold 1 limit 8 skip 0 rounds 2 stop few at 2500 down 0 total 3
-best 0
-";
+    let report = reported(rt.alloc(), &warm(6, 1200)?)?;
     assert!(rt;
-        (report.as_slice(), alone.as_slice(), by_three.as_slice())
-            == (
-                "trace pages 4 size 16 writes 5
+        report.as_slice()
+            == "trace pages 4 size 16 writes 5
 window 0 writes 2 pages 2 again 0 fresh 2
 window 1 writes 1 pages 1 again 1 fresh 0
 window 2 writes 2 pages 2 again 1 fresh 1
@@ -171,11 +155,24 @@ page 1
 round 0 from 1200 to 1200 rate 2 pages 0 sent 0 dirtied 0
 stop few at 1200 pages 0 down 0 total 0
 "
-                    .as_bytes(),
-                wanted.as_bytes(),
-                wanted.as_bytes()
-            )
+                .as_bytes()
     );
+    Ok(())
+}
+
+#[test]
+fn sweeps_of_warm_starts_are_told(rt: HostRuntime) -> Result<(), Fail> {
+    let cases = [warm(0, 1000)?];
+    for workers in [1, 3] {
+        let text = swept(&rt, rt.alloc(), &cases, workers)?;
+        assert!(rt;
+            text.as_slice()
+                == "case 0 min 2 max 4 inc 1 threshold 1 limit 8 skip 0 rounds 2 stop few at 2500 down 0 total 3
+best 0
+"
+                    .as_bytes()
+        );
+    }
     Ok(())
 }
 
@@ -278,8 +275,9 @@ fn many_cases_side_by_side(rt: HostRuntime) -> Result<(), Fail> {
     let guest = busy_guest(alloc)?;
     let cases = many_cases(alloc)?;
     let alone = swept_as_planned(&rt, alloc, &guest, &cases, 1)?;
-    let by_two = swept_as_planned(&rt, alloc, &guest, &cases, 2)?;
-    let by_16 = swept_as_planned(&rt, alloc, &guest, &cases, 16)?;
-    assert!(rt; alone.is_some() && by_two == alone && by_16 == alone);
+    assert!(rt; alone.is_some());
+    for workers in [2, 16] {
+        assert!(rt; swept_as_planned(&rt, alloc, &guest, &cases, workers)? == alone);
+    }
     Ok(())
 }
