@@ -26,7 +26,7 @@
 //! let closed = table.close(vec![in alloc; guest]?, vec![in alloc; copier]?);
 //! ```
 //!
-//! Tests make these calls, in one thread and in two: `word_rows` of the crate `dirty_rows`.
+//! Tests make these calls, in one thread and in two: `rows::word` of the crate `memory_rows`.
 #![tactic(auto)]
 
 mod closed;

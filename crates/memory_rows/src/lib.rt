@@ -1,4 +1,4 @@
-//! Worked examples of versions, caches, images and the final copy: only for tests.
+//! Worked examples of the dirty log, versions, caches, images and the final copy: only for tests.
 #![tactic(auto)]
 
 #[cfg(test)]

@@ -1,4 +1,4 @@
-//! Worked openings with their events and answers.
+//! Worked openings of the dirty core, with their events and answers.
 
 use dirty_core::{Answer, Core, CoreRefusal, Event, Opening, run, step};
 use std::alloc::Global;

@@ -1,5 +1,5 @@
 use Rattle.dirty_words.proofs.Pairing.{UnmarkedWasRead-pair}
-use Rattle.dirty_rows.proofs.word_rows.close_pair.Goals as goal
+use Rattle.memory_rows.proofs.rows.word.close_pair.Goals as goal
 
 pub returns : goal.returns
 returns c = UnmarkedWasRead-pair c.args.table.start _ _ c.args.guest c.args.copier c.close.result c.requires.one_guest

@@ -1,4 +1,4 @@
-//! Worked tables, on one thread and on two.
+//! Worked tables of dirty words, on one thread and on two.
 
 ghost use Rattle.std.specs.Prelude.{◌≡◌, [], ◌∷◌, IsTrue, IfSome};
 ghost use Rattle.dirty_words.specs.Facts.{after_store};

@@ -2,7 +2,7 @@ use Rattle.std.proofs.Common.{◌≡◌, [], ap, ◌∙◌}
 use Rattle.dirty_core.specs.Machine.{Visits}
 use Rattle.dirty_words.specs.Pairs.{with_read}
 use Rattle.dirty_words.proofs.Pairing.{UnmarkedIsRead-pair}
-use Rattle.dirty_rows.proofs.word_rows.round_of_one_page.Goals as goal
+use Rattle.memory_rows.proofs.rows.word.round_of_one_page.Goals as goal
 
 pub returns : goal.returns
 returns c =

@@ -2,7 +2,7 @@ use Rattle.std.proofs.Common.{List, sym, subst}
 use Rattle.dirty_words.specs.Seats.{GuestView, CopyView}
 use Rattle.dirty_words.specs.Closing.{AllGuests, AllCopiers}
 use Rattle.dirty_words.proofs.Pairing.{AllGuests-first, AllCopiers-first}
-use Rattle.dirty_rows.proofs.word_rows.opened_and_closed.Goals as goal
+use Rattle.memory_rows.proofs.rows.word.opened_and_closed.Goals as goal
 
 pub close-requires-clause-guests : goal.close-requires-clause-guests
 close-requires-clause-guests c =
