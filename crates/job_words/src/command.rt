@@ -115,36 +115,22 @@ pub fn leaf_command<'a>(alloc: Global, name: &'a str, about: &'a str) -> Command
 fn commands<'a>(alloc: Global) -> Result<Command<'a>, AllocError>
     ensures { IfOk result (λ line. app_of line ≡ precopy_line) }
 {
-    let image = leaf_command(
-        alloc,
-        "image",
-        "Writes the memory after all writes of the trace on standard input",
-    );
-    let report = leaf_command(
-        alloc,
-        "report",
-        "Writes the working sets of the trace on standard input",
-    );
-    let live = leaf_command(
-        alloc,
-        "live",
-        "Performs a migration over the trace on standard input, and writes the memory that it leaves",
-    );
-    let sweep = leaf_command(
-        alloc,
-        "sweep",
-        "Plans many cases over the trace on standard input, and writes their sums and the best one",
-    );
+    let image = "Writes the memory after all writes of the trace on standard input";
+    let report = "Writes the working sets of the trace on standard input";
+    let live =
+        "Performs a migration over the trace on standard input, and writes the memory that it leaves";
+    let sweep =
+        "Plans many cases over the trace on standard input, and writes their sums and the best one";
     leaf_command(
         alloc,
         "precopy",
         "Predicts and performs pre-copy migrations over a trace of guest writes",
     )
     .subcommand_required(true)
-    .subcommand(image)?
-    .subcommand(with_report(alloc, report)?)?
-    .subcommand(with_live(alloc, live)?)?
-    .subcommand(with_cases(alloc, sweep)?)
+    .subcommand(leaf_command(alloc, "image", image))?
+    .subcommand(with_report(alloc, leaf_command(alloc, "report", report))?)?
+    .subcommand(with_live(alloc, leaf_command(alloc, "live", live))?)?
+    .subcommand(with_cases(alloc, leaf_command(alloc, "sweep", sweep))?)
 }
 
 /// Returns the error for a `clap` refusal, with `clap`'s text.

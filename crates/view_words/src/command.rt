@@ -107,14 +107,10 @@ fn with_scaled_cases<'a>(alloc: Global, command: Command<'a>) -> Result<Command<
 fn json_commands<'a>(alloc: Global) -> Result<Command<'a>, AllocError>
     ensures { IfOk result (λ line. app_of line ≡ json_line) }
 {
-    let report = leaf_command(alloc, "report", "Writes what `precopy report` writes");
-    let sweep = leaf_command(alloc, "sweep", "Writes what `precopy sweep` writes");
-    let predict = leaf_command(
-        alloc,
-        "predict",
-        "Writes what `precopy-view predict` writes",
-    );
-    let when = leaf_command(alloc, "when", "Writes what `precopy-view when` writes");
+    let report = "Writes what `precopy report` writes";
+    let sweep = "Writes what `precopy sweep` writes";
+    let predict = "Writes what `precopy-view predict` writes";
+    let when = "Writes what `precopy-view when` writes";
     leaf_command(
         alloc,
         "json",
@@ -122,10 +118,10 @@ fn json_commands<'a>(alloc: Global) -> Result<Command<'a>, AllocError>
     )
     .bin_name("precopy-view json")?
     .subcommand_required(true)
-    .subcommand(with_either(alloc, report)?)?
-    .subcommand(with_scaled_cases(alloc, sweep)?)?
-    .subcommand(with_either(alloc, predict)?)?
-    .subcommand(with_starts(alloc, when)?)
+    .subcommand(with_either(alloc, leaf_command(alloc, "report", report))?)?
+    .subcommand(with_scaled_cases(alloc, leaf_command(alloc, "sweep", sweep))?)?
+    .subcommand(with_either(alloc, leaf_command(alloc, "predict", predict))?)?
+    .subcommand(with_starts(alloc, leaf_command(alloc, "when", when))?)
 }
 
 /// Returns the command of starts, for people.
@@ -156,27 +152,11 @@ fn json_command<'a>(alloc: Global) -> Command<'a>
 fn commands<'a>(alloc: Global) -> Result<Command<'a>, AllocError>
     ensures { IfOk result (λ line. app_of line ≡ view_line) }
 {
-    let predict = leaf_command(
-        alloc,
-        "predict",
-        "Predicts a migration, in time and bytes; status 3 if it misses its limit, 4 if the trace is too short",
-    );
-    let json = json_command(alloc);
-    let advise = leaf_command(
-        alloc,
-        "advise",
-        "Writes which settings keep a downtime, over the trace on standard input",
-    );
-    let show = leaf_command(
-        alloc,
-        "show",
-        "Writes what `precopy report` writes as tables with bars, for a terminal",
-    );
-    let chart = leaf_command(
-        alloc,
-        "chart",
-        "Writes what `precopy report` writes as a picture, in SVG",
-    );
+    let predict =
+        "Predicts a migration, in time and bytes; status 3 if it misses its limit, 4 if the trace is too short";
+    let advise = "Writes which settings keep a downtime, over the trace on standard input";
+    let show = "Writes what `precopy report` writes as tables with bars, for a terminal";
+    let chart = "Writes what `precopy report` writes as a picture, in SVG";
     leaf_command(
         alloc,
         "precopy-view",
@@ -185,12 +165,12 @@ fn commands<'a>(alloc: Global) -> Result<Command<'a>, AllocError>
     .version(VERSION)
     .after_help(PAGE)
     .subcommand_required(true)
-    .subcommand(with_either(alloc, predict)?)?
+    .subcommand(with_either(alloc, leaf_command(alloc, "predict", predict))?)?
     .subcommand(when_command(alloc)?)?
-    .subcommand(json)?
-    .subcommand(with_budget(alloc, advise)?)?
-    .subcommand(with_style(alloc, show)?)?
-    .subcommand(with_either(alloc, chart)?)
+    .subcommand(json_command(alloc))?
+    .subcommand(with_budget(alloc, leaf_command(alloc, "advise", advise))?)?
+    .subcommand(with_style(alloc, leaf_command(alloc, "show", show))?)?
+    .subcommand(with_either(alloc, leaf_command(alloc, "chart", chart))?)
 }
 
 /// Returns the error for words that the command line does not have, with its text.
