@@ -1,12 +1,12 @@
 //! The program over words, a source and two sinks.
 
-ghost use Rattle.std.specs.Prelude.{◌≡◌, ◌≤◌, ◌⊎◌, List, ℕ, false, map, string_bytes, true};
+ghost use Rattle.std.specs.Prelude.{◌≡◌, ◌≤◌, ◌⊎◌, List, ℕ, map, string_bytes, true};
 ghost use Rattle.std.specs.Io.KnownBytes.{Appends};
 ghost use Rattle.job_words.specs.Commands.{AreRefusedWords, AskForHelp, WordsAsk};
 ghost use Rattle.migration_jobs.specs.Output.{IsOutput};
 ghost use Rattle.migration_jobs.specs.Sink.{AppendsPart};
 ghost use Rattle.precopy.specs.Ends.{HasFailed, TellsRefusal};
-ghost use Rattle.program_edge.specs.Ends.{IsTold, TellsRun, memory_line};
+ghost use Rattle.program_edge.specs.Ends.{IsTold, NoneHasFailed, TellsRun, memory_line};
 
 use job_words::job_of;
 use live_engine::OpenGate;
@@ -26,9 +26,7 @@ fn run_job<R: Threads + Wait + Sync, S: Source, K: Sink, E: Sink>(
     sink: &mut K,
     faults: &mut E,
 ) -> u8
-    requires unread { S.has_failed source.old ≡ false }
-    requires unwritten { K.has_failed sink.old ≡ false }
-    requires untold { E.has_failed faults.old ≡ false }
+    requires { NoneHasFailed (S.has_failed source.old) (K.has_failed sink.old) (E.has_failed faults.old) }
     ensures status { result ≤ 1 }
     ensures flushed { result ≡ 0 → K.is_flushed sink.new ≡ true }
     ensures written { result ≡ 0 → (output : List ℕ) × IsOutput (S.remaining source.old) job.now output
@@ -57,9 +55,7 @@ pub fn start<R: Threads + Wait + Sync, S: Source, K: Sink, E: Sink>(
     sink: &mut K,
     faults: &mut E,
 ) -> u8
-    requires unread { S.has_failed source.old ≡ false }
-    requires unwritten { K.has_failed sink.old ≡ false }
-    requires untold { E.has_failed faults.old ≡ false }
+    requires { NoneHasFailed (S.has_failed source.old) (K.has_failed sink.old) (E.has_failed faults.old) }
     ensures status { result ≤ 2 }
     // Nothing that was written is held back.
     ensures flushed { result ≡ 0 → K.is_flushed sink.new ≡ true }

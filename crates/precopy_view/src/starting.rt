@@ -4,7 +4,7 @@ ghost use Rattle.std.specs.Prelude.{◌≡◌, ◌≢◌, ◌≤◌, ◌↔◌, 
 ghost use Rattle.std.specs.Prelude.{string_bytes, true};
 ghost use Rattle.std.specs.Io.KnownBytes.{Appends};
 ghost use Rattle.migration_jobs.specs.Sink.{AppendsPart};
-ghost use Rattle.program_edge.specs.Ends.{IsTold, TellsRun, memory_line};
+ghost use Rattle.program_edge.specs.Ends.{IsTold, NoneHasFailed, TellsRun, memory_line};
 ghost use Rattle.precopy_view.specs.Ends.{FailsAs, IsHelp, IsRefusal, TellsRefusal, TellsShow};
 ghost use Rattle.precopy_view.specs.Written.{HasFailed, MakesView, RefusesAskedView, WritesView, WritesViewPart};
 ghost use Rattle.trace_codec.specs.declared.error.TraceError.TheVariants.{ReadFault};
@@ -80,9 +80,7 @@ fn show<R: Threads + Sync, S: Source, K: Sink, E: Sink>(
     sink: &mut K,
     faults: &mut E,
 ) -> u8
-    requires unread { S.has_failed source.old ≡ false }
-    requires unwritten { K.has_failed sink.old ≡ false }
-    requires untold { E.has_failed faults.old ≡ false }
+    requires { NoneHasFailed (S.has_failed source.old) (K.has_failed sink.old) (E.has_failed faults.old) }
     ensures status { (result ≡ 0) ⊎ ((result ≡ 1) ⊎ ((result ≡ 3) ⊎ (result ≡ 4))) }
     ensures flushed { (result ≡ 0) ⊎ (3 ≤ result) → K.is_flushed sink.new ≡ true }
     ensures written { result ≡ 0 → WritesView (S.remaining source.old) asked.now Verdict.Yes (K.contents sink.old)
@@ -117,9 +115,7 @@ pub fn start<R: Threads + Sync, S: Source, K: Sink, E: Sink>(
     sink: &mut K,
     faults: &mut E,
 ) -> u8
-    requires unread { S.has_failed source.old ≡ false }
-    requires unwritten { K.has_failed sink.old ≡ false }
-    requires untold { E.has_failed faults.old ≡ false }
+    requires { NoneHasFailed (S.has_failed source.old) (K.has_failed sink.old) (E.has_failed faults.old) }
     ensures status { result ≤ 4 }
     // Nothing that was written is held back.
     ensures flushed { (result ≡ 0) ⊎ (3 ≤ result) → K.is_flushed sink.new ≡ true }

@@ -1,5 +1,5 @@
 -- How a program ends whose words make nothing that it can run, and what it tells of that and of a failed run.
-use Rattle.std.specs.Prelude.{◌≡◌, ◌⊎◌, ◌++◌, ◌∷◌, [], ℕ, Bool, true, List, Option, IfSome, None, Some, codes}
+use Rattle.std.specs.Prelude.{◌≡◌, ◌⊎◌, ◌++◌, ◌∷◌, [], ℕ, Bool, false, true, List, Option, IfSome, None, Some, codes}
 use Rattle.std.specs.Prelude.{string_bytes}
 use Rattle.std.specs.Io.KnownBytes.{Appends}
 use Rattle.job_words.specs.declared.command.WordsError.{WordsError}
@@ -9,6 +9,12 @@ use Rattle.migration_jobs.specs.declared.error.RunError.{RunError}
 use Rattle.migration_jobs.specs.declared.error.RunError.TheVariants as runs
 use Rattle.program_edge.specs.declared.program.Program.{Program}
 use Rattle.program_edge.specs.declared.program.Program.TheVariants as programs
+
+-- neither the source of a program nor one of its sinks has failed
+pub record NoneHasFailed (source sink faults : Bool) : Type 0 where
+  pub unread : source ≡ false
+  pub unwritten : sink ≡ false
+  pub untold : faults ≡ false
 
 -- the text of a request for help
 abbrev pub IsHelpText : WordsError → List ℕ → Type 0
