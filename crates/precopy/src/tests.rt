@@ -13,14 +13,7 @@ use std::sync::Wait;
 use std::test::Fail;
 use std::thread::Threads;
 use trace_codec::TestSource;
-use worked_guest::{TRACE, changed};
-
-fn words(alloc: Global, command: &str) -> Result<Vec<String>, AllocError> {
-    let mut words = Vec::new(alloc);
-    words.push("precopy".to_string(alloc)?)?;
-    words.push(command.to_string(alloc)?)?;
-    Ok(words)
-}
+use worked_guest::{MEMORY, TRACE, changed};
 
 fn sink(alloc: Global) -> TestSink
     ensures { result.has_failed ≡ false }
@@ -33,16 +26,22 @@ fn whole(alloc: Global) -> Result<Vec<u8>, AllocError> {
     Vec::from_slice(alloc, &TRACE)
 }
 
-/// What a command with these words does over some bytes: its status, its output and its faults.
+/// Returns the first `len` bytes of the trace, or all of them with a 0 behind.
+fn cut(alloc: Global, len: usize) -> Result<Vec<u8>, Fail> {
+    let behind: &[u8] = if len > TRACE.len() { &[0] } else { &[] };
+    Ok(changed(alloc, len.min(TRACE.len()), 0, &[], behind)?)
+}
+
+/// What the program does with a line of words over some bytes: its status, its output and its faults.
 fn told<R: Threads + Wait + Sync>(
     rt: &R,
     alloc: Global,
-    command: &str,
     bytes: Vec<u8>,
-    more: &[&str],
+    line: &str,
 ) -> Result<(u8, TestSink, TestSink), AllocError> {
-    let mut words = words(alloc, command)?;
-    for word in more {
+    let mut words = Vec::new(alloc);
+    words.push("precopy".to_string(alloc)?)?;
+    for word in line.split(' ') {
         words.push(word.to_string(alloc)?)?;
     }
     let mut source = TestSource::new(bytes, 102, None);
@@ -52,33 +51,84 @@ fn told<R: Threads + Wait + Sync>(
     Ok((status, output, faults))
 }
 
+/// Returns whether a line of words writes this over some bytes, and tells no fault.
+fn writes<R: Threads + Wait + Sync>(
+    rt: &R,
+    alloc: Global,
+    bytes: Vec<u8>,
+    line: &str,
+    expected: &[u8],
+) -> Result<bool, AllocError> {
+    let (status, output, faults) = told(rt, alloc, bytes, line)?;
+    Ok(status == 0 && output.bytes() == expected && faults.bytes().is_empty())
+}
+
+/// Returns whether a line of words over some bytes writes nothing, and has this status and fault.
+fn fails<R: Threads + Wait + Sync>(
+    rt: &R,
+    alloc: Global,
+    bytes: Vec<u8>,
+    line: &str,
+    expected: u8,
+    fault: &str,
+) -> Result<bool, AllocError> {
+    let (status, output, faults) = told(rt, alloc, bytes, line)?;
+    let is_told = faults.bytes() == fault.as_bytes();
+    Ok(status == expected && output.bytes().is_empty() && is_told)
+}
+
+/// Returns whether a line of words is refused before a trace is read: over no bytes, which would be `E1`.
+fn refuses<R: Threads + Wait + Sync>(
+    rt: &R,
+    alloc: Global,
+    line: &str,
+    fault: &str,
+) -> Result<bool, AllocError> {
+    fails(rt, alloc, Vec::new(alloc), line, 2, fault)
+}
+
+/// Returns whether a line of words is not taken, which `clap` tells.
+fn is_not_taken<R: Threads + Wait + Sync>(
+    rt: &R,
+    alloc: Global,
+    line: &str,
+) -> Result<bool, AllocError> {
+    let (status, output, faults) = told(rt, alloc, Vec::new(alloc), line)?;
+    let is_told = !faults.bytes().is_empty() && !faults.bytes().starts_with(b"precopy: ");
+    Ok(status == 2 && output.bytes().is_empty() && is_told)
+}
+
+#[test]
+fn writes_an_image(rt: HostRuntime) -> Result<(), Fail> {
+    assert!(rt; writes(&rt, rt.alloc(), whole(rt.alloc())?, "image", &MEMORY)?);
+    Ok(())
+}
+
 #[test]
 fn says_why_it_ends(rt: HostRuntime) -> Result<(), Fail> {
-    let alloc = rt.alloc();
-    let cases: [(&str, usize, &[u8], u8, &str); 4] = [
-        ("image", 102, &[], 0, ""),
-        ("image", 102, &[0], 1, "precopy: trace E14\n"),
-        ("image", 101, &[], 1, "precopy: trace E8 record 4\n"),
-        ("--help", 102, &[], 0, ""),
+    const CASES: [(usize, &str); 2] = [
+        (103, "precopy: trace E14\n"),
+        (101, "precopy: trace E8 record 4\n"),
     ];
-    for (command, len, more, expected, line) in cases {
-        let bytes = changed(alloc, len, 0, &[], more)?;
-        let (status, output, faults) = told(&rt, alloc, command, bytes, &[])?;
-        let is_written = !output.bytes().is_empty();
-        let is_told = faults.bytes() == line.as_bytes();
-        assert_eq!(rt;
-            (status, is_written, is_told),
-            (expected, expected == 0, true),
-            "{command}"
+    let alloc = rt.alloc();
+    for &(len, fault) in &CASES {
+        assert!(rt;
+            fails(&rt, alloc, cut(alloc, len)?, "image", 1, fault)?,
+            "{fault}"
         );
     }
     Ok(())
 }
 
 #[test]
+fn shows_help(rt: HostRuntime) -> Result<(), Fail> {
+    let (status, output, faults) = told(&rt, rt.alloc(), whole(rt.alloc())?, "--help")?;
+    assert!(rt; status == 0 && !output.bytes().is_empty() && faults.bytes().is_empty());
+    Ok(())
+}
+
+#[test]
 fn unknown_words_are_told(rt: HostRuntime) -> Result<(), Fail> {
-    let alloc = rt.alloc();
-    let (status, output, faults) = told(&rt, alloc, "memory", whole(alloc)?, &[])?;
-    assert!(rt; status == 2 && output.bytes().is_empty() && !faults.bytes().is_empty());
+    assert!(rt; is_not_taken(&rt, rt.alloc(), "memory")?);
     Ok(())
 }

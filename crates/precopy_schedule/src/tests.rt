@@ -45,34 +45,35 @@ start 5 end 7 slot 0\n";
     Ok(())
 }
 
+/// Returns whether a table is refused with this fault.
+fn fails(alloc: Global, table: &[u8], fault: &str) -> Result<bool, AllocError> {
+    let (status, output, faults) = told(alloc, table)?;
+    Ok(status == 1 && output.bytes().is_empty() && faults.bytes() == fault.as_bytes())
+}
+
 #[test]
 fn names_the_line_that_is_no_plan(rt: HostRuntime) -> Result<(), Fail> {
-    for wrong in [
-        "0 0\n",
-        "65537 0\n",
-        "1\n",
-        "1 0 2\n",
-        "1 0 2 3 4 5 x\n",
-        "1  0\n",
-        "\n",
-    ] {
-        let mut table = "1 0\n".to_string(rt.alloc())?;
-        table.push_str(wrong)?;
-        let (status, output, faults) = told(rt.alloc(), table.as_bytes())?;
-        let line =
-            "precopy-schedule: line 2 is no plan: slots, a deadline, and five numbers for each guest\n";
-        assert!(rt; status == 1 && output.bytes().is_empty() && faults.bytes() == line.as_bytes());
+    const TABLES: [&str; 7] = [
+        "1 0\n0 0\n",
+        "1 0\n65537 0\n",
+        "1 0\n1\n",
+        "1 0\n1 0 2\n",
+        "1 0\n1 0 2 3 4 5 x\n",
+        "1 0\n1  0\n",
+        "1 0\n\n",
+    ];
+    let fault =
+        "precopy-schedule: line 2 is no plan: slots, a deadline, and five numbers for each guest\n";
+    for table in TABLES {
+        assert!(rt; fails(rt.alloc(), table.as_bytes(), fault)?, "{table}");
     }
     Ok(())
 }
 
 #[test]
 fn refuses_no_text_and_no_plans(rt: HostRuntime) -> Result<(), Fail> {
-    let (status, output, faults) = told(rt.alloc(), &[49, 32, 255])?;
-    assert!(rt; status == 1 && output.bytes().is_empty());
-    assert!(rt; faults.bytes() == "precopy-schedule: the table is no text\n".as_bytes());
-    let (status, output, faults) = told(rt.alloc(), &[])?;
-    assert!(rt; status == 1 && output.bytes().is_empty());
-    assert!(rt; faults.bytes() == "precopy-schedule: there is no plan\n".as_bytes());
+    let no_text = "precopy-schedule: the table is no text\n";
+    assert!(rt; fails(rt.alloc(), &[49, 32, 255], no_text)?);
+    assert!(rt; fails(rt.alloc(), &[], "precopy-schedule: there is no plan\n")?);
     Ok(())
 }

@@ -1,6 +1,7 @@
 //! The advice for cases whose downtime and pages sent are given.
 
 use rate_limit::{Asked, Reason, Settings};
+use std::alloc::Global;
 use std::test::Fail;
 use sweep_report::Line;
 use trace_views::{Advice, Budget, advise};
@@ -26,43 +27,51 @@ fn case(down: u64, total: u64) -> Result<Line, Fail> {
     })
 }
 
+/// Cases with these downtimes and pages sent.
+fn cases(alloc: Global, costs: &[(u64, u64)]) -> Result<Vec<Line>, Fail> {
+    let mut cases = Vec::new(alloc);
+    for (down, total) in costs {
+        cases.push(case(*down, *total)?)?;
+    }
+    Ok(cases)
+}
+
+/// Returns the advice for a budget, if there are cases.
+fn advised(cases: &[Line], down: u64, total: Option<u64>) -> Option<Advice> {
+    if cases.is_empty() {
+        return None;
+    }
+    Some(advise(cases, &Budget { down, total }))
+}
+
 #[test]
 fn takes_the_cheapest_case_within_a_budget(rt: HostRuntime) -> Result<(), Fail> {
-    let mut lines = Vec::new(rt.alloc());
-    for (down, total) in [(500, 6), (0, 8), (250, 7), (250, 7), (200, 7)] {
-        lines.push(case(down, total)?)?;
-    }
-    assert_eq!(rt; lines.len(), 5);
-    let budgets = [
-        (500, None, Advice::Fits(0)),
-        (300, None, Advice::Fits(4)),
-        (100, Some(8), Advice::Fits(1)),
-        (
-            300,
-            Some(6),
-            Advice::OverTotal {
-                nearest: 1,
-                cheapest: 4,
-            },
-        ),
+    let costs = [(500, 6), (0, 8), (250, 7), (250, 7), (200, 7)];
+    let cases = cases(rt.alloc(), &costs)?;
+    let found = [
+        advised(&cases, 500, None),
+        advised(&cases, 300, None),
+        advised(&cases, 100, Some(8)),
+        advised(&cases, 300, Some(6)),
     ];
-    for (down, total, expected) in budgets {
-        assert_eq!(rt; advise(&lines, &Budget { down, total }), expected);
-    }
+    let over_total = Advice::OverTotal {
+        nearest: 1,
+        cheapest: 4,
+    };
+    let expected = [
+        Advice::Fits(0),
+        Advice::Fits(4),
+        Advice::Fits(1),
+        over_total,
+    ];
+    assert!(rt; found == expected.map(Some));
     Ok(())
 }
 
 #[test]
 fn takes_the_least_downtime_where_no_case_keeps_it(rt: HostRuntime) -> Result<(), Fail> {
-    let mut lines = Vec::new(rt.alloc());
-    for (down, total) in [(500, 6), (300, 8), (300, 7), (300, 7)] {
-        lines.push(case(down, total)?)?;
-    }
-    assert_eq!(rt; lines.len(), 4);
-    let budget = Budget {
-        down: 299,
-        total: Some(9),
-    };
-    assert_eq!(rt; advise(&lines, &budget), Advice::OverDown(2));
+    let costs = [(500, 6), (300, 8), (300, 7), (300, 7)];
+    let cases = cases(rt.alloc(), &costs)?;
+    assert!(rt; advised(&cases, 299, Some(9)) == Some(Advice::OverDown(2)));
     Ok(())
 }

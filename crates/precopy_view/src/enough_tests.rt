@@ -1,11 +1,11 @@
 //! Worked examples of limits that are not kept. The amounts that are enough come from `bench/remedies.py`, which shares
 //! no code with the crates.
 
-use crate::tests::told;
+use crate::tests::ends_with;
 use std::test::Fail;
 
 /// The first round leaves 2 pages, and the next one would have to send them faster than the link does.
-static OTHER: &str = "enough: one of these, changed alone
+const OTHER: &str = "enough: one of these, changed alone
 enough: --link 12Kbit
 enough: --downtime 135156us
 enough: the guest slowed to 55 per cent of its speed
@@ -16,13 +16,13 @@ libvirt: takes whole MiB a second, and the link has less than one
 libvirt: virsh migrate-setmaxdowntime DOMAIN 90
 ";
 
-static OTHER_DOCUMENT: &str = "\"enough\":{\"answer\":\"other\",\"link_bytes\":1500,\
+const OTHER_DOCUMENT: &str = "\"enough\":{\"answer\":\"other\",\"link_bytes\":1500,\
 \"down_seconds\":0.135156,\"guest_percent\":55},\
 \"hosts\":{\"bandwidth_bytes\":1024,\"down_milliseconds\":90}}\n";
 
 /// The only round leaves 2 pages, also if the guest is slowed. In 64 ms the link does not send them, and over one that
 /// is 64 times as fast they take 2 ms.
-static NOTHING: &str = "enough: nothing that was tried
+const NOTHING: &str = "enough: nothing that was tried
 precopy live --min 2 --max 16 --inc 1 --threshold 1 --rounds 1 --start 0
 QEMU: migrate_set_parameter max-bandwidth 1024B
 QEMU: migrate_set_parameter downtime-limit 1
@@ -30,43 +30,33 @@ libvirt: takes whole MiB a second, and the link has less than one
 libvirt: virsh migrate-setmaxdowntime DOMAIN 1
 ";
 
-static NOTHING_DOCUMENT: &str = "\"enough\":{\"answer\":\"nothing\"},\
+const NOTHING_DOCUMENT: &str = "\"enough\":{\"answer\":\"nothing\"},\
 \"hosts\":{\"bandwidth_bytes\":1024,\"down_milliseconds\":1}}\n";
 
 #[test]
 fn a_missed_limit_is_told_what_is_enough(rt: HostRuntime) -> Result<(), Fail> {
-    let (link, page, sampled) = ("--link=1KiB", "--page=16", "--sampled=4/16");
-    let other = [
-        "--first=0.512KB",
-        "--inc=20",
-        "--downtime=100ms",
-        "--reserve=10ms",
+    const CASES: [(&str, &str); 4] = [
+        (
+            "predict --link=1KiB --page=16 --sampled=4/16 --first=0.512KB --inc=20 --downtime=100ms --reserve=10ms",
+            OTHER,
+        ),
+        (
+            "json predict --link=1KiB --page=16 --sampled=4/16 --first=0.512KB --inc=20 --downtime=100ms \
+             --reserve=10ms",
+            OTHER_DOCUMENT,
+        ),
+        (
+            "predict --link=1KiB --page=16 --sampled=4/16 --first=0.128KB --rounds=1 --downtime=1ms --reserve=0us",
+            NOTHING,
+        ),
+        (
+            "json predict --link=1KiB --page=16 --sampled=4/16 --first=0.128KB --rounds=1 --downtime=1ms \
+             --reserve=0us",
+            NOTHING_DOCUMENT,
+        ),
     ];
-    let nothing = [
-        "--first=0.128KB",
-        "--rounds=1",
-        "--downtime=1ms",
-        "--reserve=0us",
-    ];
-    let cases = [
-        (other, OTHER, OTHER_DOCUMENT),
-        (nothing, NOTHING, NOTHING_DOCUMENT),
-    ];
-    for ([first, second, third, fourth], lines, document) in cases {
-        let words = ["predict", link, page, sampled, first, second, third, fourth];
-        let (status, output, _) = told(&rt, rt.alloc(), 102, &words)?;
-        assert!(rt;
-            status == 3 && output.bytes().ends_with(lines.as_bytes()),
-            "{lines}"
-        );
-        let words = [
-            "json", "predict", link, page, sampled, first, second, third, fourth,
-        ];
-        let (status, output, _) = told(&rt, rt.alloc(), 102, &words)?;
-        assert!(rt;
-            status == 3 && output.bytes().ends_with(document.as_bytes()),
-            "{document}"
-        );
+    for &(line, end) in &CASES {
+        assert!(rt; ends_with(&rt, rt.alloc(), line, 3, end)?, "{end}");
     }
     Ok(())
 }

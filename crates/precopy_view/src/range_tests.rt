@@ -1,7 +1,7 @@
 //! Worked examples of the ranges over starts. The numbers come from the plans of `bench/redrawn.py`, and what is enough
 //! from `bench/remedies.py`. Neither shares code with the crates.
 
-use crate::tests::answer;
+use crate::tests::writes;
 use std::test::Fail;
 
 /// From 1200 to 2500 there is a start at each 65th tick. From the first the destination has all, from the last the
@@ -28,8 +28,7 @@ libvirt: virsh migrate-setmaxdowntime DOMAIN 190
 fn starts_of_a_warm_start_come_after_its_copy(rt: HostRuntime) -> Result<(), Fail> {
     let line =
         "predict --link=1KiB --downtime=200ms --reserve=10ms --page=16 --sampled=4/16 --base=1200 --start=1250";
-    let (status, output) = answer(&rt, rt.alloc(), line)?;
-    assert!(rt; status == 0 && output.bytes() == WARM.as_bytes());
+    assert!(rt; writes(&rt, rt.alloc(), line, 0, WARM)?);
     Ok(())
 }
 
@@ -48,8 +47,7 @@ libvirt: virsh migrate-setmaxdowntime DOMAIN 190
 #[test]
 fn no_range_is_told_of_no_known_start(rt: HostRuntime) -> Result<(), Fail> {
     let line = "predict --link=1Kbit --downtime=200ms --reserve=10ms --page=16 --sampled=4/16";
-    let (status, output) = answer(&rt, rt.alloc(), line)?;
-    assert!(rt; status == 4 && output.bytes() == NONE_KNOWN.as_bytes());
+    assert!(rt; writes(&rt, rt.alloc(), line, 4, NONE_KNOWN)?);
     Ok(())
 }
 
@@ -78,7 +76,6 @@ libvirt: virsh migrate-setmaxdowntime DOMAIN 50
 fn starts_that_miss_the_limit_are_counted(rt: HostRuntime) -> Result<(), Fail> {
     let line =
         "predict --link=1KiB --downtime=200ms --reserve=150ms --page=16 --sampled=4/16 --rounds=1";
-    let (status, output) = answer(&rt, rt.alloc(), line)?;
-    assert!(rt; status == 3 && output.bytes() == MISSED.as_bytes());
+    assert!(rt; writes(&rt, rt.alloc(), line, 3, MISSED)?);
     Ok(())
 }

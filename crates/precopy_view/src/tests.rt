@@ -16,17 +16,19 @@ fn sink(alloc: Global) -> TestSink
     TestSink::new(Vec::new(alloc), usize::MAX, None, false)
 }
 
-/// What the program does with these words over the trace's first `len` bytes: its status, output and faults.
-pub(crate) fn told<R: Threads + Sync>(
+/// What the program does with a line of words over the trace's first `len` bytes: its status, output and faults.
+fn told<R: Threads + Sync>(
     rt: &R,
     alloc: Global,
     len: usize,
-    more: &[&str],
+    line: &str,
 ) -> Result<(u8, TestSink, TestSink), AllocError> {
     let mut words = Vec::new(alloc);
     words.push("precopy-view".to_string(alloc)?)?;
-    for word in more {
-        words.push(word.to_string(alloc)?)?;
+    for word in line.split(' ') {
+        if !word.is_empty() {
+            words.push(word.to_string(alloc)?)?;
+        }
     }
     let mut bytes = Vec::new(alloc);
     for byte in TRACE.iter().take(len) {
@@ -39,18 +41,59 @@ pub(crate) fn told<R: Threads + Sync>(
     Ok((status, output, faults))
 }
 
-/// What the program does with a line of words over the whole trace: its status and its output.
-pub(crate) fn answer<R: Threads + Sync>(
+/// Returns whether a line of words over the whole trace has this status and this output.
+pub(crate) fn writes<R: Threads + Sync>(
     rt: &R,
     alloc: Global,
     line: &str,
-) -> Result<(u8, TestSink), AllocError> {
-    let mut words = Vec::new(alloc);
-    for word in line.split(' ') {
-        words.push(word)?;
-    }
-    let (status, output, _) = told(rt, alloc, TRACE.len(), &words)?;
-    Ok((status, output))
+    expected: u8,
+    text: &str,
+) -> Result<bool, AllocError> {
+    let (status, output, _) = told(rt, alloc, TRACE.len(), line)?;
+    Ok(status == expected && output.bytes() == text.as_bytes())
+}
+
+/// Returns whether the output has this status and this end.
+pub(crate) fn ends_with<R: Threads + Sync>(
+    rt: &R,
+    alloc: Global,
+    line: &str,
+    expected: u8,
+    end: &str,
+) -> Result<bool, AllocError> {
+    let (status, output, _) = told(rt, alloc, TRACE.len(), line)?;
+    Ok(status == expected && output.bytes().ends_with(end.as_bytes()))
+}
+
+/// Returns whether a line of words over the whole trace draws a picture.
+pub(crate) fn draws<R: Threads + Sync>(
+    rt: &R,
+    alloc: Global,
+    line: &str,
+) -> Result<bool, AllocError> {
+    let (status, output, _) = told(rt, alloc, TRACE.len(), line)?;
+    let picture = output.bytes();
+    Ok(status == 0 && picture.starts_with(b"<svg ") && picture.ends_with(b"</svg>\n"))
+}
+
+/// Returns whether a line of words over the trace's first `len` bytes writes nothing, and has this status and fault.
+pub(crate) fn fails<R: Threads + Sync>(
+    rt: &R,
+    alloc: Global,
+    len: usize,
+    line: &str,
+    expected: u8,
+    fault: &str,
+) -> Result<bool, AllocError> {
+    let (status, output, faults) = told(rt, alloc, len, line)?;
+    let is_told = faults.bytes() == fault.as_bytes();
+    Ok(status == expected && output.bytes().is_empty() && is_told)
+}
+
+/// Returns whether a line of words is not taken, which `clap` tells.
+fn is_not_taken<R: Threads + Sync>(rt: &R, alloc: Global, line: &str) -> Result<bool, AllocError> {
+    let (status, output, faults) = told(rt, alloc, TRACE.len(), line)?;
+    Ok(status == 2 && output.bytes().is_empty() && !faults.bytes().is_empty())
 }
 
 /// The rounds of the worked report as a document.
@@ -67,8 +110,7 @@ static REPORT: &str = "{\"trace\":{\"pages\":4,\"size\":16,\"writes\":5},\"windo
 #[test]
 fn writes_a_report_document(rt: HostRuntime) -> Result<(), Fail> {
     let line = "json report --min=2 --max=4 --inc=1 --threshold=1 --rounds=8";
-    let (status, output) = answer(&rt, rt.alloc(), line)?;
-    assert!(rt; status == 0 && output.bytes() == REPORT.as_bytes());
+    assert!(rt; writes(&rt, rt.alloc(), line, 0, REPORT)?);
     Ok(())
 }
 
@@ -84,8 +126,7 @@ static SWEEP: &str = "{\"cases\":[\
 #[test]
 fn writes_a_sweep_document(rt: HostRuntime) -> Result<(), Fail> {
     let line = "json sweep 2,4,1,1,8,0 2,2,1,1,8,0 2,4,1,3,8,0";
-    let (status, output) = answer(&rt, rt.alloc(), line)?;
-    assert!(rt; status == 0 && output.bytes() == SWEEP.as_bytes());
+    assert!(rt; writes(&rt, rt.alloc(), line, 0, SWEEP)?);
     Ok(())
 }
 
@@ -106,8 +147,7 @@ precopy live --min 4 --max 4 --inc 0 --threshold 1 --rounds 8 --start 0 --skip
 #[test]
 fn advises_a_case(rt: HostRuntime) -> Result<(), Fail> {
     let line = "advise --down=0 --max=4";
-    let (status, output) = answer(&rt, rt.alloc(), line)?;
-    assert!(rt; status == 0 && output.bytes() == ADVICE.as_bytes());
+    assert!(rt; writes(&rt, rt.alloc(), line, 0, ADVICE)?);
     Ok(())
 }
 
@@ -139,54 +179,44 @@ sent in all: 8 pages
 #[test]
 fn shows_tables(rt: HostRuntime) -> Result<(), Fail> {
     let line = "show --min=2 --max=4 --inc=1 --threshold=1 --rounds=8 --width=72";
-    let (status, output) = answer(&rt, rt.alloc(), line)?;
-    assert!(rt; status == 0 && output.bytes() == SCREEN.as_bytes());
+    assert!(rt; writes(&rt, rt.alloc(), line, 0, SCREEN)?);
     Ok(())
 }
 
 #[test]
 fn draws_a_picture(rt: HostRuntime) -> Result<(), Fail> {
-    let (status, output) = answer(&rt, rt.alloc(), "chart")?;
-    let picture = output.bytes();
-    assert!(rt; status == 0 && picture.starts_with(b"<svg ") && picture.ends_with(b"</svg>\n"));
+    assert!(rt; draws(&rt, rt.alloc(), "chart")?);
     Ok(())
 }
 
 #[test]
 fn says_why_it_ends(rt: HostRuntime) -> Result<(), Fail> {
-    let alloc = rt.alloc();
-    let cases: [(&[&str], usize, u8, &str); 5] = [
+    const CASES: [(usize, &str, u8, &str); 5] = [
         (
-            &["json", "report"],
             101,
+            "json report",
             1,
             "precopy-view: trace E8 record 4: it ends within this record\n",
         ),
         (
-            &["advise", "--down", "1"],
             15,
+            "advise --down 1",
             1,
             "precopy-view: trace E1: it has fewer than the 16 bytes of a header\n",
         ),
+        (15, "json report --min=0", 2, "precopy-view: settings S1\n"),
+        (15, "json sweep 2,4", 2, "precopy-view: case 0\n"),
         (
-            &["json", "report", "--min=0"],
             15,
-            2,
-            "precopy-view: settings S1\n",
-        ),
-        (&["json", "sweep", "2,4"], 15, 2, "precopy-view: case 0\n"),
-        (
-            &["advise", "--down=1", "--max=0"],
-            15,
+            "advise --down=1 --max=0",
             2,
             "precopy-view: settings S1\n",
         ),
     ];
-    for (words, len, expected, line) in cases {
-        let (status, output, faults) = told(&rt, alloc, len, words)?;
+    for &(len, line, status, fault) in &CASES {
         assert!(rt;
-            status == expected && output.bytes().is_empty() && faults.bytes() == line.as_bytes(),
-            "{line}"
+            fails(&rt, rt.alloc(), len, line, status, fault)?,
+            "{fault}"
         );
     }
     Ok(())
@@ -194,17 +224,9 @@ fn says_why_it_ends(rt: HostRuntime) -> Result<(), Fail> {
 
 #[test]
 fn unknown_words_are_told(rt: HostRuntime) -> Result<(), Fail> {
-    let alloc = rt.alloc();
-    let cases: [&[&str]; 5] = [
-        &[],
-        &["json"],
-        &["advise"],
-        &["report"],
-        &["show", "--width=71"],
-    ];
-    for words in cases {
-        let (status, output, faults) = told(&rt, alloc, 102, words)?;
-        assert!(rt; status == 2 && output.bytes().is_empty() && !faults.bytes().is_empty());
+    const LINES: [&str; 5] = ["", "json", "advise", "report", "show --width=71"];
+    for line in LINES {
+        assert!(rt; is_not_taken(&rt, rt.alloc(), line)?, "{line}");
     }
     Ok(())
 }
@@ -234,8 +256,7 @@ libvirt: virsh migrate-setmaxdowntime DOMAIN 190
 #[test]
 fn predicts_a_migration(rt: HostRuntime) -> Result<(), Fail> {
     let line = "predict --link=1KiB --downtime=200ms --reserve=10ms --page=16 --sampled=4/16";
-    let (status, output) = answer(&rt, rt.alloc(), line)?;
-    assert!(rt; status == 0 && output.bytes() == PREDICTION.as_bytes());
+    assert!(rt; writes(&rt, rt.alloc(), line, 0, PREDICTION)?);
     Ok(())
 }
 
@@ -256,71 +277,60 @@ libvirt: virsh migrate-setmaxdowntime DOMAIN 190
 fn a_trace_that_ends_first_has_a_status(rt: HostRuntime) -> Result<(), Fail> {
     let line =
         "predict --link=1.0249KB --downtime=0.2s --reserve=0.01s --page=16 --sampled=4/16 --start=2400";
-    let (status, output) = answer(&rt, rt.alloc(), line)?;
-    assert!(rt; status == 4 && output.bytes() == UNKNOWN.as_bytes());
+    assert!(rt; writes(&rt, rt.alloc(), line, 4, UNKNOWN)?);
     Ok(())
 }
 
 #[test]
 fn refuses_limits(rt: HostRuntime) -> Result<(), Fail> {
-    let alloc = rt.alloc();
-    let cases: [(&[&str], &str); 6] = [
+    const CASES: [(&str, &str); 6] = [
         (
-            &["predict", "--link=10", "--downtime=1s"],
+            "predict --link=10 --downtime=1s",
             "precopy-view: --link: a number and its unit, Kbit, Mbit, Gbit, KB, MB, GB, KiB, MiB or GiB, per second, \
              as in 10Gbit\n",
         ),
         (
-            &["predict", "--link=1KiB"],
+            "predict --link=1KiB",
             "precopy-view: --link and --downtime go together, and --first and --reserve need them\n",
         ),
         (
-            &["predict"],
+            "predict",
             "precopy-view: --link and --downtime are needed, as in --link 10Gbit --downtime 300ms\n",
         ),
         (
-            &["show", "--link=1GB", "--downtime=1s", "--max=5"],
+            "show --link=1GB --downtime=1s --max=5",
             "precopy-view: --min, --max and --threshold cannot be used with --link and --downtime\n",
         ),
         (
-            &["chart", "--tick=1"],
+            "chart --tick=1",
             "precopy-view: --tick: a number and its unit, us, ms, s, m or h, as in 1ms\n",
         ),
         (
-            &["json", "report", "--link=10Gbit", "--downtime=1s"],
+            "json report --link=10Gbit --downtime=1s",
             "precopy-view: --downtime 1s: more than 65,535 pages go over the link; the most is \
              214999us\n",
         ),
     ];
-    for (words, line) in cases {
-        let (status, output, faults) = told(&rt, alloc, 102, words)?;
-        assert!(rt;
-            status == 2 && output.bytes().is_empty() && faults.bytes() == line.as_bytes(),
-            "{line}"
-        );
+    for &(line, fault) in &CASES {
+        assert!(rt; fails(&rt, rt.alloc(), 102, line, 2, fault)?, "{fault}");
     }
     Ok(())
 }
 
 #[test]
 fn refuses_a_trace_of_another_scale(rt: HostRuntime) -> Result<(), Fail> {
-    let alloc = rt.alloc();
-    let cases: [(&[&str], &str); 2] = [
+    const CASES: [(&str, &str); 2] = [
         (
-            &["show", "--tick=1ms"],
+            "show --tick=1ms",
             "precopy-view: a page of the trace has 16 bytes; say so by --page\n",
         ),
         (
-            &["show", "--page=16", "--sampled=3/9"],
+            "show --page=16 --sampled=3/9",
             "precopy-view: the trace has 4 pages, more than --sampled says\n",
         ),
     ];
-    for (words, line) in cases {
-        let (status, output, faults) = told(&rt, alloc, 102, words)?;
-        assert!(rt;
-            status == 1 && output.bytes().is_empty() && faults.bytes() == line.as_bytes(),
-            "{line}"
-        );
+    for &(line, fault) in &CASES {
+        assert!(rt; fails(&rt, rt.alloc(), 102, line, 1, fault)?, "{fault}");
     }
     Ok(())
 }

@@ -1,6 +1,6 @@
 //! Worked examples of times and bytes: of reports, and of starts.
 
-use crate::tests::{answer, told};
+use crate::tests::{draws, ends_with, fails, writes};
 use std::test::Fail;
 
 // The limits below: a link of 64 pages of the guest in 1,000 ticks, and a guest of which one page in four was recorded.
@@ -31,8 +31,7 @@ sent in all: 384 bytes
 fn shows_times_and_bytes(rt: HostRuntime) -> Result<(), Fail> {
     let line =
         "show --width=82 --link=1KiB --downtime=200ms --reserve=10ms --page=16 --sampled=4/16";
-    let (status, output) = answer(&rt, rt.alloc(), line)?;
-    assert!(rt; status == 0 && output.bytes() == SCREEN.as_bytes());
+    assert!(rt; writes(&rt, rt.alloc(), line, 0, SCREEN)?);
     Ok(())
 }
 
@@ -55,8 +54,7 @@ precopy live --min 16 --max 16 --inc 0 --threshold 2 --rounds 2 --start 0
 #[test]
 fn advises_for_a_downtime_in_time(rt: HostRuntime) -> Result<(), Fail> {
     let line = "advise --link=1KiB --downtime=200ms --page=16 --sampled=4/16";
-    let (status, output) = answer(&rt, rt.alloc(), line)?;
-    assert!(rt; status == 0 && output.bytes() == ADVICE.as_bytes());
+    assert!(rt; writes(&rt, rt.alloc(), line, 0, ADVICE)?);
     Ok(())
 }
 
@@ -69,34 +67,28 @@ static SWEEP: &str = "{\"units\":{\"tick_seconds\":0.001000,\"page_bytes\":16,\"
 #[test]
 fn writes_a_sweep_in_times_and_bytes(rt: HostRuntime) -> Result<(), Fail> {
     let line = "json sweep --page=16 --sampled=4/16 2,4,1,1,8,0";
-    let (status, output) = answer(&rt, rt.alloc(), line)?;
-    assert!(rt; status == 0 && output.bytes() == SWEEP.as_bytes());
+    assert!(rt; writes(&rt, rt.alloc(), line, 0, SWEEP)?);
     Ok(())
 }
 
 #[test]
 fn refuses_two_budgets_and_none(rt: HostRuntime) -> Result<(), Fail> {
-    let alloc = rt.alloc();
-    let cases: [(&[&str], &str); 3] = [
+    const CASES: [(&str, &str); 3] = [
         (
-            &["advise", "--max=4"],
+            "advise --max=4",
             "precopy-view: --down is needed, or --link and --downtime, as in --link 10Gbit --downtime 300ms\n",
         ),
         (
-            &["advise", "--down=3", "--link=1KiB", "--downtime=1s"],
+            "advise --down=3 --link=1KiB --downtime=1s",
             "precopy-view: --down cannot be used with --link and --downtime\n",
         ),
         (
-            &["json", "sweep", "--tick=0s", "2,4,1,1,8,0"],
+            "json sweep --tick=0s 2,4,1,1,8,0",
             "precopy-view: --tick 0us: a tick is 1us to 1s; the nearest is 1us\n",
         ),
     ];
-    for (words, line) in cases {
-        let (status, output, faults) = told(&rt, alloc, 102, words)?;
-        assert!(rt;
-            status == 2 && output.bytes().is_empty() && faults.bytes() == line.as_bytes(),
-            "{line}"
-        );
+    for &(line, fault) in &CASES {
+        assert!(rt; fails(&rt, rt.alloc(), 102, line, 2, fault)?, "{fault}");
     }
     Ok(())
 }
@@ -117,8 +109,7 @@ static REPORT: &str = "{\"trace\":{\"pages\":4,\"size\":16,\"writes\":5},\
 #[test]
 fn writes_times_and_bytes(rt: HostRuntime) -> Result<(), Fail> {
     let line = "json report --link=1KiB --downtime=200ms --reserve=10ms --page=16 --sampled=4/16";
-    let (status, output) = answer(&rt, rt.alloc(), line)?;
-    assert!(rt; status == 0 && output.bytes() == REPORT.as_bytes());
+    assert!(rt; writes(&rt, rt.alloc(), line, 0, REPORT)?);
     Ok(())
 }
 
@@ -151,24 +142,12 @@ static UNKNOWN: &str =
 
 #[test]
 fn predicts_as_a_document(rt: HostRuntime) -> Result<(), Fail> {
-    let cases = [("--start=0", 0, PREDICTED), ("--start=2400", 4, UNKNOWN)];
-    for (start, expected, document) in cases {
-        let words = [
-            "json",
-            "predict",
-            "--link=1KiB",
-            "--downtime=200ms",
-            "--reserve=10ms",
-            "--page=16",
-            "--sampled=4/16",
-            start,
-        ];
-        let (status, output, _) = told(&rt, rt.alloc(), 102, &words)?;
-        assert!(rt;
-            status == expected && output.bytes() == document.as_bytes(),
-            "{start}"
-        );
-    }
+    let line =
+        "json predict --link=1KiB --downtime=200ms --reserve=10ms --page=16 --sampled=4/16 --start=0";
+    assert!(rt; writes(&rt, rt.alloc(), line, 0, PREDICTED)?);
+    let line =
+        "json predict --link=1KiB --downtime=200ms --reserve=10ms --page=16 --sampled=4/16 --start=2400";
+    assert!(rt; writes(&rt, rt.alloc(), line, 4, UNKNOWN)?);
     Ok(())
 }
 
@@ -188,8 +167,7 @@ worst: 0.000 s, --start 0: time 385 ms, sent 384 bytes, downtime 135 ms, kept
 fn tells_when_to_migrate(rt: HostRuntime) -> Result<(), Fail> {
     let line =
         "when --link=1KiB --downtime=200ms --reserve=10ms --page=16 --sampled=4/16 --every=800 --to=2400";
-    let (status, output) = answer(&rt, rt.alloc(), line)?;
-    assert!(rt; status == 0 && output.bytes() == STARTS.as_bytes());
+    assert!(rt; writes(&rt, rt.alloc(), line, 0, STARTS)?);
     Ok(())
 }
 
@@ -208,8 +186,7 @@ static DOCUMENT: &str = "{\"limit_seconds\":0.100000,\"starts\":[\
 fn a_limit_that_no_start_keeps_has_a_status(rt: HostRuntime) -> Result<(), Fail> {
     let line =
         "json when --link=1KiB --downtime=100ms --reserve=10ms --page=16 --sampled=4/16 --rounds=1 --every=2400";
-    let (status, output) = answer(&rt, rt.alloc(), line)?;
-    assert!(rt; status == 3 && output.bytes() == DOCUMENT.as_bytes());
+    assert!(rt; writes(&rt, rt.alloc(), line, 3, DOCUMENT)?);
     Ok(())
 }
 
@@ -217,60 +194,39 @@ fn a_limit_that_no_start_keeps_has_a_status(rt: HostRuntime) -> Result<(), Fail>
 fn no_known_start_has_a_status(rt: HostRuntime) -> Result<(), Fail> {
     let line =
         "when --link=1KiB --downtime=200ms --reserve=10ms --page=16 --sampled=4/16 --from=2400";
-    let (status, output) = answer(&rt, rt.alloc(), line)?;
-    assert!(rt;
-        status == 4
-            && output.bytes().ends_with(
-                b"worst: none, since no migration ends within the trace; record longer\n",
-            )
-    );
+    let end = "worst: none, since no migration ends within the trace; record longer\n";
+    assert!(rt; ends_with(&rt, rt.alloc(), line, 4, end)?);
     Ok(())
 }
 
 #[test]
 fn draws_starts(rt: HostRuntime) -> Result<(), Fail> {
     let line = "when --chart --link=1KiB --downtime=200ms --reserve=10ms --page=16 --sampled=4/16";
-    let (status, output) = answer(&rt, rt.alloc(), line)?;
-    let picture = output.bytes();
-    assert!(rt; status == 0 && picture.starts_with(b"<svg ") && picture.ends_with(b"</svg>\n"));
+    assert!(rt; draws(&rt, rt.alloc(), line)?);
     Ok(())
 }
 
 #[test]
 fn refuses_starts(rt: HostRuntime) -> Result<(), Fail> {
-    let cases = [
+    const CASES: [(&str, u8, &str); 3] = [
         (
-            ["--every=0", "--to=4"],
+            "when --link=1KiB --downtime=200ms --reserve=10ms --page=16 --sampled=4/16 --every=0 --to=4",
             2,
             "error: --every is at least 1, and --to is not before --from and below 2^40\n",
         ),
         (
-            ["--from=5", "--to=4"],
+            "when --link=1KiB --downtime=200ms --reserve=10ms --page=16 --sampled=4/16 --from=5 --to=4",
             2,
             "error: --every is at least 1, and --to is not before --from and below 2^40\n",
         ),
         (
-            ["--every=1", "--to=4096"],
+            "when --link=1KiB --downtime=200ms --reserve=10ms --page=16 --sampled=4/16 --every=1 --to=4096",
             1,
             "precopy-view: --every: more than 4,096 starts; take a greater one\n",
         ),
     ];
-    for ([first, second], expected, line) in cases {
-        let words = [
-            "when",
-            "--link=1KiB",
-            "--downtime=200ms",
-            "--reserve=10ms",
-            "--page=16",
-            "--sampled=4/16",
-            first,
-            second,
-        ];
-        let (status, output, faults) = told(&rt, rt.alloc(), 102, &words)?;
-        assert!(rt;
-            status == expected && output.bytes().is_empty() && faults.bytes() == line.as_bytes(),
-            "{line}"
-        );
+    for &(line, status, fault) in &CASES {
+        assert!(rt; fails(&rt, rt.alloc(), 102, line, status, fault)?, "{line}");
     }
     Ok(())
 }

@@ -11,7 +11,7 @@ use std::test::Fail;
 use std::thread;
 use std::thread::Threads;
 use trace_codec::{TestSource, TraceError};
-use worked_guest::{ASKED, MEMORY, MEMORY_AT_2000};
+use worked_guest::{ASKED, MEMORY, MEMORY_AT_2000, TRACE};
 
 /// Returns what a live run over some bytes writes.
 pub(crate) fn shown<R: Threads + Wait + Sync, G: Gate>(
@@ -30,39 +30,61 @@ pub(crate) fn shown<R: Threads + Wait + Sync, G: Gate>(
     Ok(output)
 }
 
+/// Returns whether live runs over some bytes leave these memories, at the stop and at the end.
+pub(crate) fn leaves<R: Threads + Wait + Sync>(
+    rt: &R,
+    alloc: Global,
+    bytes: &[u8],
+    asked: Asked,
+    at_stop: &[u8],
+    at_end: &[u8],
+) -> Result<bool, Fail> {
+    let stopped = shown(
+        rt,
+        alloc,
+        Vec::from_slice(alloc, bytes)?,
+        asked,
+        Show::Stop,
+        &OpenGate,
+    )?;
+    let ended = shown(
+        rt,
+        alloc,
+        Vec::from_slice(alloc, bytes)?,
+        asked,
+        Show::End,
+        &OpenGate,
+    )?;
+    Ok(stopped.bytes() == at_stop && ended.bytes() == at_end)
+}
+
+/// Settings of more than one thread of each kind.
+pub(crate) const MANY: Asked = Asked {
+    workers: 3,
+    streams: 2,
+    replayers: 4,
+    ..ASKED
+};
+
+/// Settings of a run that stops after its first round.
+pub(crate) const ONE_ROUND: Asked = Asked {
+    max: 2,
+    rounds: 1,
+    ..ASKED
+};
+
 #[test]
 fn writes_memory_of_a_live_run(rt: HostRuntime) -> Result<(), Fail> {
-    const MANY: Asked = Asked {
-        max: 2,
-        workers: 3,
-        streams: 2,
-        replayers: 4,
-        ..ASKED
-    };
-    const ONE_ROUND: Asked = Asked {
-        max: 2,
-        rounds: 1,
-        ..ASKED
-    };
-    const CASES: [(Asked, &[u8]); 4] = [
-        (ASKED, &MEMORY),
-        (MANY, &MEMORY),
-        (ONE_ROUND, &MEMORY_AT_2000),
-        (
-            Asked {
-                skip: true,
-                ..ASKED
-            },
-            &MEMORY,
-        ),
-    ];
     let alloc = rt.alloc();
-    for &(asked, at_stop) in &CASES {
-        for (show, memory) in [(Show::Stop, at_stop), (Show::End, MEMORY.as_slice())] {
-            let output = shown(&rt, alloc, whole(alloc)?, asked, show, &OpenGate)?;
-            assert!(rt; output.bytes() == memory);
-        }
-    }
+    let early = Asked { max: 2, ..MANY };
+    let skipping = Asked {
+        skip: true,
+        ..ASKED
+    };
+    assert!(rt; leaves(&rt, alloc, &TRACE, ASKED, &MEMORY, &MEMORY)?);
+    assert!(rt; leaves(&rt, alloc, &TRACE, early, &MEMORY, &MEMORY)?);
+    assert!(rt; leaves(&rt, alloc, &TRACE, ONE_ROUND, &MEMORY_AT_2000, &MEMORY)?);
+    assert!(rt; leaves(&rt, alloc, &TRACE, skipping, &MEMORY, &MEMORY)?);
     Ok(())
 }
 

@@ -2,12 +2,12 @@
 
 ghost use Rattle.std.specs.Prelude.{◌≡◌, ◌≤◌, IfOk, false};
 
-use super::live::shown;
+use super::live::{MANY, ONE_ROUND, leaves};
 use super::writes;
 use image_build::{replay, replay_before, replay_bytes, replay_view};
 use live_engine::{OpenGate, migrate};
-use migration_jobs::{Job, Show};
-use rate_limit::{Asked, Settings};
+use migration_jobs::Job;
+use rate_limit::Settings;
 use std::alloc::{AllocError, Global};
 use std::test::Fail;
 use trace_codec::{TestSource, Trace, TraceError, TraceView, WriteLog, decode, encode, read_trace};
@@ -184,30 +184,11 @@ fn jobs_take_a_release_for_a_write(rt: HostRuntime) -> Result<(), Fail> {
 
 #[test]
 fn live_runs_leave_a_released_page_zeros(rt: HostRuntime) -> Result<(), Fail> {
-    const MANY: Asked = Asked {
-        workers: 3,
-        streams: 2,
-        replayers: 4,
-        ..ASKED
-    };
-    const EARLY: Asked = Asked {
-        max: 2,
-        rounds: 1,
-        ..ASKED
-    };
-    const CASES: [(Asked, Show, &[u8]); 5] = [
-        (ASKED, Show::Stop, &MEMORY_RELEASED),
-        (ASKED, Show::End, &MEMORY_RELEASED),
-        (MANY, Show::Stop, &MEMORY_RELEASED),
-        (EARLY, Show::Stop, &MEMORY_AT_2000),
-        (EARLY, Show::End, &MEMORY_RELEASED),
-    ];
     let alloc = rt.alloc();
-    for &(asked, show, memory) in &CASES {
-        let bytes = Vec::from_slice(alloc, &RELEASED)?;
-        let output = shown(&rt, alloc, bytes, asked, show, &OpenGate)?;
-        assert!(rt; output.bytes() == memory);
-    }
+    let zeros = &MEMORY_RELEASED;
+    assert!(rt; leaves(&rt, alloc, &RELEASED, ASKED, zeros, zeros)?);
+    assert!(rt; leaves(&rt, alloc, &RELEASED, MANY, zeros, zeros)?);
+    assert!(rt; leaves(&rt, alloc, &RELEASED, ONE_ROUND, &MEMORY_AT_2000, zeros)?);
     Ok(())
 }
 

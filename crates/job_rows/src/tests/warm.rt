@@ -1,9 +1,8 @@
 //! Warm starts: the destination begins with the guest's memory before a base tick.
 
-use super::live::shown;
-use super::{whole, writes};
-use live_engine::OpenGate;
-use migration_jobs::{Job, Show};
+use super::live::leaves;
+use super::writes;
+use migration_jobs::Job;
 use rate_limit::{Asked, Settings};
 use std::alloc::Global;
 use std::test::Fail;
@@ -21,23 +20,18 @@ fn warm(base: u64, start: u64) -> Asked {
 #[test]
 fn writes_memory_of_a_warm_start(rt: HostRuntime) -> Result<(), Fail> {
     let alloc = rt.alloc();
-    const ROWS: [(u64, u64, u64, Show, &[u8]); 5] = [
-        (0, 1000, 1, Show::Stop, &MEMORY_AT_2000),
-        (0, 1000, 3, Show::Stop, &MEMORY_AT_2000),
-        (6, 1200, 1, Show::Stop, &MEMORY_AT_1200),
-        (6, 1200, 3, Show::Stop, &MEMORY_AT_1200),
-        (6, 1200, 3, Show::End, &MEMORY),
-    ];
-    let mut right = true;
-    for &(base, start, workers, show, memory) in &ROWS {
-        let asked = Asked {
+    for workers in [1, 3] {
+        let early = Asked {
             workers,
-            ..warm(base, start)
+            ..warm(0, 1000)
         };
-        let output = shown(&rt, alloc, whole(alloc)?, asked, show, &OpenGate)?;
-        right &= output.bytes() == memory;
+        let late = Asked {
+            workers,
+            ..warm(6, 1200)
+        };
+        assert!(rt; leaves(&rt, alloc, &TRACE, early, &MEMORY_AT_2000, &MEMORY)?);
+        assert!(rt; leaves(&rt, alloc, &TRACE, late, &MEMORY_AT_1200, &MEMORY)?);
     }
-    assert!(rt; right);
     Ok(())
 }
 

@@ -1,43 +1,9 @@
 //! Reports from the command line, with lines worked out by hand.
 
-use super::{told, whole};
-use migration_jobs::TestSink;
+use super::{refuses, whole, writes};
 use std::alloc::{AllocError, Global};
-use std::sync::Wait;
 use std::test::Fail;
-use std::thread::Threads;
 use worked_guest::{REPORT, changed};
-
-/// The slow rates of the worked rounds.
-const SLOW: [&str; 5] = [
-    "--min=2",
-    "--max=4",
-    "--inc=1",
-    "--threshold=1",
-    "--rounds=8",
-];
-
-/// Returns these options, and one more.
-const fn slow_and(option: &'static str) -> [&'static str; 6] {
-    [
-        "--min=2",
-        "--max=4",
-        "--inc=1",
-        "--threshold=1",
-        "--rounds=8",
-        option,
-    ]
-}
-
-/// Returns what the program does for a report over a changed trace: its status, its output and its faults.
-fn report<R: Threads + Wait + Sync>(
-    rt: &R,
-    alloc: Global,
-    bytes: Vec<u8>,
-    options: &[&str],
-) -> Result<(u8, TestSink, TestSink), AllocError> {
-    told(rt, alloc, "report", bytes, options)
-}
 
 /// The report with windows of 5,000 ticks, with a page that is hot in one of them.
 static LONG_WINDOW: &str = "trace pages 4 size 16 writes 5
@@ -59,26 +25,37 @@ stop few at 2000 pages 0 down 0 total 4
 
 #[test]
 fn reports_working_sets(rt: HostRuntime) -> Result<(), Fail> {
+    const SLOW: [&str; 3] = [
+        "report --min=2 --max=4 --inc=1 --threshold=1 --rounds=8",
+        "report --min=2 --max=4 --inc=1 --threshold=1 --rounds=8 --workers=2",
+        "report --min=2 --max=4 --inc=1 --threshold=1 --rounds=8 --workers=16",
+    ];
+    const LONG: [&str; 3] = [
+        "report --window=5000 --hot 1 --workers=1",
+        "report --window=5000 --hot 1 --workers=2",
+        "report --window=5000 --hot 1 --workers=16",
+    ];
     let alloc = rt.alloc();
-    let slow: [&[&str]; 3] = [&SLOW, &slow_and("--workers=2"), &slow_and("--workers=16")];
-    for options in slow {
-        let (status, output, _) = report(&rt, alloc, whole(alloc)?, options)?;
-        assert!(rt; status == 0 && output.bytes() == REPORT.as_bytes());
+    for line in SLOW {
+        assert!(rt;
+            writes(&rt, alloc, whole(alloc)?, line, REPORT.as_bytes())?,
+            "{line}"
+        );
     }
-    for workers in ["--workers=1", "--workers=2", "--workers=16"] {
-        let options = ["--window=5000", "--hot", "1", workers];
-        let (_, output, _) = report(&rt, alloc, whole(alloc)?, &options)?;
-        assert!(rt; output.bytes() == LONG_WINDOW.as_bytes(), "{workers}");
+    for line in LONG {
+        assert!(rt;
+            writes(&rt, alloc, whole(alloc)?, line, LONG_WINDOW.as_bytes())?,
+            "{line}"
+        );
     }
     Ok(())
 }
 
 #[test]
 fn reports_a_trace_without_writes(rt: HostRuntime) -> Result<(), Fail> {
-    let alloc = rt.alloc();
-    let bytes = changed(alloc, 16, 12, &[0], &[])?;
-    let (_, output, _) = report(&rt, alloc, bytes, &SLOW)?;
-    assert!(rt; output.bytes() == NO_WRITES.as_bytes());
+    let bytes = changed(rt.alloc(), 16, 12, &[0], &[])?;
+    let line = "report --min=2 --max=4 --inc=1 --threshold=1 --rounds=8";
+    assert!(rt; writes(&rt, rt.alloc(), bytes, line, NO_WRITES.as_bytes())?);
     Ok(())
 }
 
@@ -107,29 +84,23 @@ fn earlier(alloc: Global) -> Result<Vec<u8>, AllocError> {
 
 #[test]
 fn reports_skipped_pages(rt: HostRuntime) -> Result<(), Fail> {
-    let alloc = rt.alloc();
-    let (status, output, _) = report(&rt, alloc, earlier(alloc)?, &slow_and("--skip"))?;
-    assert!(rt; status == 0 && output.bytes() == SKIPPING.as_bytes());
+    let bytes = earlier(rt.alloc())?;
+    let line = "report --min=2 --max=4 --inc=1 --threshold=1 --rounds=8 --skip";
+    assert!(rt; writes(&rt, rt.alloc(), bytes, line, SKIPPING.as_bytes())?);
     Ok(())
 }
 
 #[test]
 fn refuses_settings_before_the_trace(rt: HostRuntime) -> Result<(), Fail> {
-    let alloc = rt.alloc();
-    let cases: [(&str, &str); 5] = [
-        ("--min=0", "precopy: settings S1\n"),
-        ("--max=500", "precopy: settings S2\n"),
-        ("--rounds=65", "precopy: settings S5\n"),
-        ("--hot=0", "precopy: settings S7\n"),
-        ("--workers=17", "precopy: settings S9\n"),
+    const CASES: [(&str, &str); 5] = [
+        ("report --min=0", "precopy: settings S1\n"),
+        ("report --max=500", "precopy: settings S2\n"),
+        ("report --rounds=65", "precopy: settings S5\n"),
+        ("report --hot=0", "precopy: settings S7\n"),
+        ("report --workers=17", "precopy: settings S9\n"),
     ];
-    for (option, line) in cases {
-        // No trace at all: E1 if it was read.
-        let (status, output, faults) = report(&rt, alloc, Vec::new(alloc), &[option])?;
-        assert!(rt;
-            status == 2 && faults.bytes() == line.as_bytes() && output.bytes().is_empty(),
-            "{option}"
-        );
+    for &(line, fault) in &CASES {
+        assert!(rt; refuses(&rt, rt.alloc(), line, fault)?, "{line}");
     }
     Ok(())
 }
