@@ -396,26 +396,6 @@ def cause_of_no_writes():
     return causes[0].partition(": ")[2] if causes else None
 
 
-NEED_WRITES = {
-    exact_private,
-    exact_shared,
-    exact_huge,
-    exact_of_few,
-    mapped_anew,
-    killed_recorder,
-    killed_recorder_while_opening,
-    killed_process,
-    process_ends_during_a_look,
-    signals,
-    memory_runs_out,
-    causes_stood_in,
-    other_userfaultfd,
-    traced_already,
-    stopped_process,
-    filtered_process,
-    larger_than_a_trace,
-    most_writes_drawn,
-}
 CASES = [
     exact_private,
     exact_shared,
@@ -440,3 +420,4 @@ CASES = [
     most_writes_drawn,
     bad_words,
 ]
+NEED_WRITES = {*CASES} - {exact_by_values, a_sparse_file, a_file_that_ends, bad_words}
