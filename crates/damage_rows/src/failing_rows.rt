@@ -3,8 +3,9 @@
 ghost use Rattle.std.specs.Prelude.{◌≡◌, IfOk, false};
 
 use crate::input_rows::trace_of;
+use byte_sinks::TestSink;
 use live_engine::OpenGate;
-use migration_jobs::{Job, Remains, RunError, Show, TestSink, run};
+use migration_jobs::{Job, Remains, RunError, Show, run};
 use rate_limit::{Asked, Settings};
 use std::alloc::{AllocError, Global};
 use std::sync::Wait;

@@ -12,9 +12,10 @@ mod version;
 mod warm;
 
 use self::image::not_zero;
+use byte_sinks::TestSink;
 use image_build::{Image, replay, replay_before, replay_bytes, replay_view};
 use live_engine::OpenGate;
-use migration_jobs::{Job, Remains, RunError, TestSink, run};
+use migration_jobs::{Job, Remains, RunError, run};
 use std::alloc::{AllocError, Global};
 use std::sync::Wait;
 use std::test::Fail;

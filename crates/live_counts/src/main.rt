@@ -3,9 +3,10 @@
 #![tactic(auto)]
 
 use anyhow::{Result, bail};
+use byte_sinks::FromWrite;
 use job_words::{job_of, words};
 use live_engine::{Gate, Point};
-use migration_jobs::{FromWrite, Job, Remains, run};
+use migration_jobs::{Job, Remains, run};
 use std::sync::atomic::{AtomicU64, Ordering};
 use trace_codec::FromRead;
 

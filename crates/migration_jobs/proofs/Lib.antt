@@ -1,5 +1,2 @@
-pub mod Sinks
 pub mod Runs
 pub mod Memories
-pub mod Pieces
-pub mod Cuts

@@ -1,10 +1,9 @@
 -- Memory that is as large as a trace says.
-use Rattle.std.proofs.Common.{◌≡◌, ℕ, suc, ◌-◌, ◌*◌, ◌^◌, ◌+◌, ◌<◌, ◌≤◌, length, take, drop, replicate, refl, sym, ap}
-use Rattle.std.proofs.Common.{subst, ◌∙◌, arith}
-use Rattle.std.proofs.Math.Nat.{mul-le-mul_right}
-use Rattle.std.proofs.lemmas.List.{length-take-le, length-drop, length-replicate}
+use Rattle.std.proofs.Common.{◌≡◌, ℕ, ◌*◌, ◌^◌, ◌<◌, length, replicate, refl, sym}
+use Rattle.std.proofs.Common.{subst}
+use Rattle.std.proofs.lemmas.List.{length-replicate}
 use Rattle.migration_model.specs.Trace.{GuestTrace, IsTrace}
-use Rattle.migration_model.specs.Memory.{GuestMemory, IsMemory, image_of, page_of}
+use Rattle.migration_model.specs.Memory.{GuestMemory, IsMemory, image_of}
 use Rattle.migration_model.specs.Versions.{page_at}
 use Rattle.migration_model.proofs.Pages.{length-applied, zero_page}
 use Rattle.migration_jobs.specs.Shown.{memory_shown}
@@ -33,17 +32,6 @@ shown_large shows.End trace memory is large = image_large trace is
 pub large_memory : (trace : GuestTrace) (memory : GuestMemory) → IsTrace trace → IsAsLarge trace memory
     → IsMemory memory.shift memory.pages memory.bytes
 large_memory trace memory is large = record { size = rw (large.shift, large.pages) is.size; len = large.len }
-
--- a page of memory has the size of a page
-pub length-page : (memory : GuestMemory) (page : ℕ) → length memory.bytes ≡ memory.pages * 2 ^ memory.shift
-    → page < memory.pages
-    → length (page_of memory page) ≡ 2 ^ memory.shift
-length-page memory page len low =
-    let n = 2 ^ memory.shift in
-    let end : suc page * n ≤ memory.pages * n = mul-le-mul_right n low in
-    let width : page * n + n - page * n ≡ n = omega arith in
-    ap (λ (k : ℕ). length (take k (drop (page * n) memory.bytes))) width
-    ∙ length-take-le n (drop (page * n) memory.bytes) (omega (arith, end, len, length-drop (page * n) memory.bytes))
 
 -- before any write, a page is zeros
 pub page_at_first : (trace : GuestTrace) (page : ℕ) → page < trace.pages → page_at trace page 0

@@ -1,5 +1,4 @@
-pub mod Sink
 pub mod Output
+pub mod Errors
 pub mod Shown
 pub mod Bytes
-pub mod Pieces

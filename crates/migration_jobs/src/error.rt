@@ -1,8 +1,10 @@
 //! Why a run ended without its output.
 
 ghost use Rattle.std.specs.Prelude.{◌≡◌};
+ghost use Rattle.migration_jobs.specs.Errors.{error_of_sink};
 ghost use Rattle.migration_jobs.specs.declared.error.RunError.TheVariants.{Live, Trace};
 
+use byte_sinks::SinkError;
 use live_engine::LiveError;
 use thiserror::Error;
 use trace_codec::TraceError;
@@ -41,5 +43,16 @@ impl From<LiveError> for RunError {
 
     fn from(error: LiveError) -> RunError {
         RunError::Live(error)
+    }
+}
+
+impl From<SinkError> for RunError {
+    ghost from_gives = { λ error e. e ≡ error_of_sink error };
+
+    fn from(error: SinkError) -> RunError {
+        match error {
+            SinkError::Memory => RunError::Memory,
+            SinkError::Write => RunError::Write,
+        }
     }
 }

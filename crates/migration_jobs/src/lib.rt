@@ -4,21 +4,14 @@
 mod error;
 mod imaging;
 mod live;
-mod making;
 mod output;
-mod paged_memory;
 mod remains;
 mod replayed;
 mod running;
 mod shown;
-mod sink;
-mod test_sink;
 mod written_memory;
 
 pub use error::RunError;
 pub use job_kinds::{Job, Show};
-pub use output::write_out;
 pub use remains::Remains;
 pub use running::run;
-pub use sink::{FromWrite, Sink};
-pub use test_sink::TestSink;

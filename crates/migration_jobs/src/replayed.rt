@@ -4,7 +4,7 @@ ghost use Rattle.std.specs.Prelude.{◌≡◌, IfOk};
 ghost use Rattle.migration_model.specs.Memory.{GuestMemory, image_of};
 ghost use Rattle.page_versions.specs.Index.{IsIndexOf};
 
-use crate::paged_memory::PagedMemory;
+use byte_sinks::PagedMemory;
 use page_versions::{IndexError, PageIndex, PageProgress};
 use std::alloc::Global;
 use std::marker::Model;

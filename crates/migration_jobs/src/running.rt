@@ -8,7 +8,7 @@ ghost use Rattle.migration_model.specs.Touches.{touches_in};
 ghost use Rattle.migration_model.specs.Windows.{working_sets_of};
 ghost use Rattle.trace_codec.specs.declared.error.TraceError.TheVariants.{ReadFault};
 ghost use Rattle.trace_codec.specs.Source.{SourceSpells};
-ghost use Rattle.migration_jobs.specs.Sink.{AppendsPart};
+ghost use Rattle.byte_sinks.specs.Sink.{AppendsPart};
 ghost use Rattle.migration_jobs.specs.Output.{IsOtherJob, IsOutput, IsOutsideRun, IsRefusalOf, RefusesOutput};
 ghost use Rattle.migration_jobs.specs.Output.{RefusesRun};
 ghost use Rattle.sweep_report.specs.Reports.{IsReport, IsSweep};
@@ -19,7 +19,7 @@ use crate::imaging::image_output;
 use crate::live::live_output;
 use crate::output::{Output, write_output};
 use crate::remains::Remains;
-use crate::sink::Sink;
+use byte_sinks::Sink;
 use job_kinds::Job;
 use live_engine::Gate;
 use rate_limit::Settings;
@@ -222,5 +222,5 @@ pub fn run<R: Threads + Wait + Sync, S: Source, K: Sink, G: Gate>(
     let output = read_output(rt, alloc, job, source, gate)?;
     let answer = write_output(rt, alloc, sink, &output, workers_of(job));
     remains.end(output);
-    answer
+    Ok(answer?)
 }

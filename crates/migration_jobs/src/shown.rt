@@ -6,7 +6,7 @@ ghost use Rattle.live_engine.specs.Runs.{IsStoppedAt};
 ghost use Rattle.migration_model.specs.Memory.{GuestMemory};
 ghost use Rattle.migration_jobs.specs.Shown.{memory_shown};
 
-use crate::paged_memory::PagedMemory;
+use byte_sinks::PagedMemory;
 use job_kinds::Show;
 use live_engine::StoppedGuest;
 use std::marker::Model;

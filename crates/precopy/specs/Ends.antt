@@ -1,14 +1,14 @@
 -- How the program ends if it has not done what the words ask for.
-use Rattle.std.specs.Prelude.{◌≡◌, ◌≢◌, ◌↔◌, ℕ, Bool, List, Option, true}
+use Rattle.std.specs.Prelude.{◌≡◌, ◌≢◌, ◌↔◌, ℕ, Bool, List, Option, codes, true}
 use Rattle.std.specs.Io.KnownBytes.{Keeps}
+use Rattle.byte_sinks.specs.Sink.{AppendsPart}
 use Rattle.job_kinds.specs.declared.job.Job.{Job}
 use Rattle.migration_jobs.specs.Output.{IsOutput, IsRefusalOf, RefusesRun}
-use Rattle.migration_jobs.specs.Sink.{AppendsPart}
 use Rattle.migration_jobs.specs.declared.error.RunError.{RunError}
 use Rattle.migration_jobs.specs.declared.error.RunError.TheVariants as errors
 use Rattle.job_words.specs.Commands.{IsWordsRefusal, WordsFail}
 use Rattle.job_words.specs.declared.command.WordsError.{WordsError}
-use Rattle.program_edge.specs.Ends.{TellsWords}
+use Rattle.program_edge.specs.Ends.{IsTold, TellsLine, TellsWords, line_of, memory_line, write_line}
 use Rattle.program_edge.specs.declared.program.Program.TheVariants.{Precopy}
 use Rattle.trace_codec.specs.declared.error.TraceError.TheVariants.{ReadFault}
 
@@ -24,6 +24,14 @@ pub record HasFailed (known : Option (List ℕ)) (job : Job) (unread unwritten :
   pub part : error ≡ errors.Write → (output : List ℕ) × IsOutput known job output × AppendsPart old new output
   pub kept : error ≢ errors.Write → Keeps old new
   pub told : tells error
+
+-- the fault line of a failed run was told
+abbrev pub TellsRun : RunError → Option (List ℕ) → Option (List ℕ) → Bool → Type 0
+TellsRun (errors.Trace e) old new has_failed = TellsLine Precopy old new has_failed
+TellsRun errors.Memory old new has_failed = IsTold (memory_line Precopy) old new has_failed
+TellsRun errors.Thread old new has_failed = IsTold (line_of Precopy (codes "thread")) old new has_failed
+TellsRun (errors.Live e) old new has_failed = TellsLine Precopy old new has_failed
+TellsRun errors.Write old new has_failed = IsTold (write_line Precopy) old new has_failed
 
 -- words are refused, and that was told
 pub record TellsRefusal (words : List (List ℕ)) (old new : Option (List ℕ)) (has_failed : Bool) : Type 0 where

@@ -1,13 +1,14 @@
 //! `precopy`: what a pre-copy migration of a recorded guest would do.
 #![tactic(auto)]
 
+mod faults;
 mod starting;
 #[cfg(test)]
 mod tests;
 
 use crate::starting::start;
+use byte_sinks::FromWrite;
 use job_words::words;
-use migration_jobs::FromWrite;
 use program_edge::{Program, refuse};
 use std::process::ExitCode;
 use trace_codec::FromRead;

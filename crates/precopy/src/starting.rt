@@ -2,16 +2,18 @@
 
 ghost use Rattle.std.specs.Prelude.{◌≡◌, ◌≤◌, ◌⊎◌, List, ℕ, map, string_bytes, true};
 ghost use Rattle.std.specs.Io.KnownBytes.{Appends};
+ghost use Rattle.byte_sinks.specs.Sink.{AppendsPart};
 ghost use Rattle.job_words.specs.Commands.{AreRefusedWords, AskForHelp, WordsAsk};
 ghost use Rattle.migration_jobs.specs.Output.{IsOutput};
-ghost use Rattle.migration_jobs.specs.Sink.{AppendsPart};
-ghost use Rattle.precopy.specs.Ends.{HasFailed, TellsRefusal};
-ghost use Rattle.program_edge.specs.Ends.{IsTold, NoneHasFailed, TellsRun, memory_line};
+ghost use Rattle.precopy.specs.Ends.{HasFailed, TellsRefusal, TellsRun};
+ghost use Rattle.program_edge.specs.Ends.{IsTold, NoneHasFailed, memory_line, write_line};
 
+use crate::faults::run_fault;
+use byte_sinks::Sink;
 use job_words::job_of;
 use live_engine::OpenGate;
-use migration_jobs::{Job, Remains, RunError, Sink, run};
-use program_edge::{Program, refuse, run_fault};
+use migration_jobs::{Job, Remains, run};
+use program_edge::{Program, refuse};
 use std::alloc::Global;
 use std::sync::Wait;
 use std::thread::Threads;
@@ -33,12 +35,12 @@ fn run_job<R: Threads + Wait + Sync, S: Source, K: Sink, E: Sink>(
         × Appends (K.contents sink.old) (K.contents sink.new) output }
     ensures failed { result ≡ 1 → HasFailed (S.remaining source.old) job.now (S.has_failed source.new)
         (K.has_failed sink.new) (K.contents sink.old) (K.contents sink.new)
-        (λ e. TellsRun Program.Precopy e (E.contents faults.old) (E.contents faults.new) (E.has_failed faults.new)) }
+        (λ e. TellsRun e (E.contents faults.old) (E.contents faults.new) (E.has_failed faults.new)) }
     ensures untold { result ≡ 0 → faults.new ≡ faults.old }
 {
     match run(rt, alloc, job, source, sink, &OpenGate, Remains::Left) {
         Ok(()) => 0,
-        Err(error) => run_fault(Program::Precopy, &error, faults),
+        Err(error) => run_fault(&error, faults),
     }
 }
 
@@ -70,9 +72,9 @@ pub fn start<R: Threads + Wait + Sync, S: Source, K: Sink, E: Sink>(
     ensures failed { result ≡ 1 → ((job : Job) × WordsAsk (map string_bytes words.items) job
         × HasFailed (S.remaining source.old) job (S.has_failed source.new) (K.has_failed sink.new)
         (K.contents sink.old) (K.contents sink.new)
-        (λ e. TellsRun Program.Precopy e (E.contents faults.old) (E.contents faults.new) (E.has_failed faults.new)))
+        (λ e. TellsRun e (E.contents faults.old) (E.contents faults.new) (E.has_failed faults.new)))
         ⊎ ((source.new ≡ source.old) × ((AskForHelp (map string_bytes words.items) × (K.has_failed sink.new ≡ true)
-        × TellsRun Program.Precopy RunError.Write (E.contents faults.old) (E.contents faults.new)
+        × IsTold (write_line Program.Precopy) (E.contents faults.old) (E.contents faults.new)
         (E.has_failed faults.new) × (text : List ℕ) × AppendsPart (K.contents sink.old) (K.contents sink.new) text)
         ⊎ ((sink.new ≡ sink.old) × IsTold (memory_line Program.Precopy) (E.contents faults.old)
         (E.contents faults.new) (E.has_failed faults.new)))) }

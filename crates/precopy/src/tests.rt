@@ -7,7 +7,7 @@ mod report;
 mod sweep;
 
 use crate::starting::start;
-use migration_jobs::TestSink;
+use byte_sinks::TestSink;
 use std::alloc::{AllocError, Global};
 use std::sync::Wait;
 use std::test::Fail;

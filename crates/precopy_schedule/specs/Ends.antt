@@ -2,7 +2,7 @@
 use Rattle.std.specs.Prelude.{◌≡◌, ◌≢◌, ◌⊎◌, ◌^◌, ◌<◌, ◌≤◌, ◌++◌, ◌∷◌, [], ℕ, Bool, true, List, length, ⊤, Option}
 use Rattle.std.specs.Prelude.{IfSome, codes}
 use Rattle.std.specs.Io.KnownBytes.{Appends}
-use Rattle.migration_jobs.specs.Sink.{AppendsPart}
+use Rattle.byte_sinks.specs.Sink.{AppendsPart}
 use Rattle.precopy_schedule.specs.Answers.{IsAnswerText}
 use Rattle.precopy_schedule.specs.Tables.{HostPlan, RefusesTable, SpellsTable}
 use Rattle.precopy_schedule.specs.declared.error.TableError.{TableError}

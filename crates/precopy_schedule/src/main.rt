@@ -17,7 +17,7 @@ mod texts;
 mod words;
 
 use crate::starting::start;
-use migration_jobs::FromWrite;
+use byte_sinks::FromWrite;
 use std::process::ExitCode;
 use trace_codec::FromRead;
 

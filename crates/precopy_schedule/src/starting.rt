@@ -9,7 +9,7 @@ use crate::error::TableError;
 use crate::plans::plans_of;
 use crate::texts::told;
 use arrayvec::ArrayString;
-use migration_jobs::{Sink, write_out};
+use byte_sinks::{Sink, write_out};
 use std::alloc::Global;
 use std::fmt::Write;
 use trace_codec::{MAX_LENGTH, Source, TraceError, read_bytes};

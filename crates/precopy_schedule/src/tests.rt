@@ -3,7 +3,7 @@
 ghost use Rattle.std.specs.Prelude.{◌≡◌, false};
 
 use crate::starting::start;
-use migration_jobs::TestSink;
+use byte_sinks::TestSink;
 use std::alloc::{AllocError, Global};
 use std::test::Fail;
 use trace_codec::TestSource;

@@ -1,9 +1,11 @@
 -- How words that make no view end, and what is told of that and of a failed view.
 use Rattle.std.specs.Prelude.{ℕ, Bool, List, Option, ⊤}
+use Rattle.byte_sinks.specs.declared.error.SinkError.{SinkError}
+use Rattle.byte_sinks.specs.declared.error.SinkError.TheVariants as sinks
 use Rattle.job_words.specs.Commands.{IsWordsRefusal}
 use Rattle.precopy_view.specs.declared.faults.ShowError.{ShowError}
 use Rattle.precopy_view.specs.declared.faults.ShowError.TheVariants as shows
-use Rattle.program_edge.specs.Ends.{IsHelpText, TellsLine, TellsRun, TellsWords}
+use Rattle.program_edge.specs.Ends.{IsHelpText, IsTold, TellsLine, TellsWords, memory_line, write_line}
 use Rattle.program_edge.specs.declared.program.Program.TheVariants.{PrecopyView}
 use Rattle.view_words.specs.Views.{WordsFail}
 use Rattle.view_words.specs.declared.command.ViewWordsError.{ViewWordsError}
@@ -41,7 +43,14 @@ pub record TellsRefusal (words : List (List ℕ)) (old new : Option (List ℕ)) 
 
 -- the fault line of a view that failed was told
 abbrev pub TellsShow : ShowError → Option (List ℕ) → Option (List ℕ) → Bool → Type 0
-TellsShow (shows.Run e) old new has_failed = TellsRun PrecopyView e old new has_failed
+TellsShow (shows.Trace e) old new has_failed = TellsLine PrecopyView old new has_failed
+TellsShow shows.Memory old new has_failed = IsTold (memory_line PrecopyView) old new has_failed
+TellsShow shows.Write old new has_failed = IsTold (write_line PrecopyView) old new has_failed
 TellsShow (shows.PageSize size) old new has_failed = TellsLine PrecopyView old new has_failed
 TellsShow (shows.TooManyPages pages) old new has_failed = TellsLine PrecopyView old new has_failed
 TellsShow (shows.View e) old new has_failed = TellsLine PrecopyView old new has_failed
+
+-- why a view was not written
+abbrev pub error_of_sink : SinkError → ShowError
+error_of_sink sinks.Memory = shows.Memory
+error_of_sink sinks.Write = shows.Write

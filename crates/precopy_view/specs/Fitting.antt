@@ -15,7 +15,9 @@ abbrev pub IsMisfitOf : TraceScale → ℕ → ℕ → ShowError → Type 0
 IsMisfitOf scale shift pages (errors.PageSize size) = (size ≡ 2 ^ shift) × (size ≢ scale.page)
 IsMisfitOf scale shift pages (errors.TooManyPages count) =
     (count ≡ pages) × (scale.sampled < scale.guest) × (scale.sampled < pages)
-IsMisfitOf scale shift pages (errors.Run e) = ⊥
+IsMisfitOf scale shift pages (errors.Trace e) = ⊥
+IsMisfitOf scale shift pages errors.Memory = ⊥
+IsMisfitOf scale shift pages errors.Write = ⊥
 IsMisfitOf scale shift pages (errors.View e) = ⊥
 
 abbrev pub IsMisfit : Option TraceScale → ℕ → ℕ → ShowError → Type 0

@@ -1,9 +1,7 @@
 -- What the program writes, and why it does not.
 use Rattle.std.specs.Prelude.{◌≡◌, ◌≢◌, ◌↔◌, ℕ, Bool, List, Option, ⊤, true}
 use Rattle.std.specs.Io.KnownBytes.{Appends}
-use Rattle.migration_jobs.specs.Sink.{AppendsPart}
-use Rattle.migration_jobs.specs.declared.error.RunError.{RunError}
-use Rattle.migration_jobs.specs.declared.error.RunError.TheVariants as runs
+use Rattle.byte_sinks.specs.Sink.{AppendsPart}
 use Rattle.migration_model.specs.Touches.{GuestTouches}
 use Rattle.predictions.specs.declared.verdict.Verdict.{Verdict}
 use Rattle.precopy_view.specs.Fitting.{FitsScale, IsMisfit}
@@ -49,18 +47,12 @@ pub record RefusesMaking (known : Option (List ℕ)) (asked : AskedView) (e : Vi
   pub fits : FitsScale asked.scale log.shift log.pages
   pub refused : RefusesView log asked.view e
 
--- reading a trace and writing a view is not refused for a thread, nor as a live run
-abbrev pub RefusesReading : Option (List ℕ) → RunError → Type 0
-RefusesReading known (runs.Trace e) = SourceRefuses known e
-RefusesReading known runs.Memory = ⊤
-RefusesReading known runs.Write = ⊤
-RefusesReading known runs.Thread = ⊥
-RefusesReading known (runs.Live e) = ⊥
-
 -- A trace is refused only for a cause in what the source held or outside of it, for its scale, or for what the view
 -- asks of it.
 abbrev pub RefusesAskedView : Option (List ℕ) → AskedView → ShowError → Type 0
-RefusesAskedView known asked (errors.Run e) = RefusesReading known e
+RefusesAskedView known asked (errors.Trace e) = SourceRefuses known e
+RefusesAskedView known asked errors.Memory = ⊤
+RefusesAskedView known asked errors.Write = ⊤
 RefusesAskedView known asked (errors.PageSize size) = RefusesScale known asked (errors.PageSize size)
 RefusesAskedView known asked (errors.TooManyPages pages) = RefusesScale known asked (errors.TooManyPages pages)
 RefusesAskedView known asked (errors.View e) = RefusesMaking known asked e
@@ -71,8 +63,8 @@ pub record HasFailed (known : Option (List ℕ)) (asked : AskedView) (unread unw
     (old new : Option (List ℕ)) (is_kept : Type 0) (tells : ShowError → Type 0) : Type 0 where
   pub error : ShowError
   pub cause : RefusesAskedView known asked error
-  pub read_failed : (error ≡ errors.Run (runs.Trace ReadFault)) ↔ (unread ≡ true)
-  pub write_failed : (error ≡ errors.Run runs.Write) ↔ (unwritten ≡ true)
-  pub part : error ≡ errors.Run runs.Write → WritesViewPart known asked old new
-  pub kept : error ≢ errors.Run runs.Write → is_kept
+  pub read_failed : (error ≡ errors.Trace ReadFault) ↔ (unread ≡ true)
+  pub write_failed : (error ≡ errors.Write) ↔ (unwritten ≡ true)
+  pub part : error ≡ errors.Write → WritesViewPart known asked old new
+  pub kept : error ≢ errors.Write → is_kept
   pub told : tells error

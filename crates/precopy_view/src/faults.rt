@@ -2,16 +2,15 @@
 
 ghost use Rattle.std.specs.Prelude.{◌≡◌, ◌≤◌, ◌⊎◌, IfErr, List, OnOk, ℕ, false, true};
 ghost use Rattle.std.specs.Io.KnownBytes.{Appends};
-ghost use Rattle.migration_jobs.specs.Sink.{AppendsPart};
-ghost use Rattle.program_edge.specs.Ends.{IsTold, TellsRun, memory_line};
-ghost use Rattle.precopy_view.specs.Ends.{IsHelpOf, IsRefusal, TellsShow, TellsViewWords};
+ghost use Rattle.byte_sinks.specs.Sink.{AppendsPart};
+ghost use Rattle.program_edge.specs.Ends.{IsTold, TellsLine, memory_line, write_line};
+ghost use Rattle.precopy_view.specs.Ends.{IsHelpOf, IsRefusal, TellsShow, TellsViewWords, error_of_sink};
 ghost use Rattle.precopy_view.specs.Fitting.{FitsScale, IsMisfit};
-ghost use Rattle.precopy_view.specs.declared.faults.ShowError.TheVariants.{Run};
-ghost use Rattle.migration_jobs.specs.declared.error.RunError.TheVariants.{Trace};
+ghost use Rattle.precopy_view.specs.declared.faults.ShowError.TheVariants.{Trace};
 
-use migration_jobs::{RunError, Sink};
+use byte_sinks::{Sink, SinkError};
 use predictions::units::Scale;
-use program_edge::{Program, run_fault, tell_line};
+use program_edge::{Program, known_fault, tell_line};
 use thiserror::Error;
 use trace_codec::TraceError;
 use trace_readers::TouchLog;
@@ -21,9 +20,15 @@ use view_words::ViewWordsError;
 /// Why a view was not shown. It follows `precopy-view: ` in a fault line.
 #[derive(Clone, Copy, Debug, PartialEq, Eq, Error)]
 pub enum ShowError {
-    /// The run failed as one of `precopy`.
-    #[error("{0}")]
-    Run(RunError),
+    /// The trace was refused.
+    #[error("trace {0}")]
+    Trace(TraceError),
+    /// Memory ran out.
+    #[error("memory")]
+    Memory,
+    /// The writer failed, took none of some bytes, or failed to flush.
+    #[error("write")]
+    Write,
     /// The pages of the trace have a size other than the words say: this many bytes.
     #[error("a page of the trace has {0} bytes; say so by --page")]
     PageSize(u64),
@@ -35,19 +40,22 @@ pub enum ShowError {
     View(ViewError),
 }
 
-impl From<RunError> for ShowError {
-    ghost from_gives = { λ error e. e ≡ Run error };
+impl From<TraceError> for ShowError {
+    ghost from_gives = { λ error e. e ≡ Trace error };
 
-    fn from(error: RunError) -> ShowError {
-        ShowError::Run(error)
+    fn from(error: TraceError) -> ShowError {
+        ShowError::Trace(error)
     }
 }
 
-impl From<TraceError> for ShowError {
-    ghost from_gives = { λ error e. e ≡ Run (Trace error) };
+impl From<SinkError> for ShowError {
+    ghost from_gives = { λ error e. e ≡ error_of_sink error };
 
-    fn from(error: TraceError) -> ShowError {
-        ShowError::Run(RunError::Trace(error))
+    fn from(error: SinkError) -> ShowError {
+        match error {
+            SinkError::Memory => ShowError::Memory,
+            SinkError::Write => ShowError::Write,
+        }
     }
 }
 
@@ -99,20 +107,15 @@ fn cause_of(error: &TraceError) -> &'static str {
 #[error("trace {0}: {1}")]
 struct ExplainedTrace(TraceError, &'static str);
 
-/// Writes the fault line of a failed run, with what is wrong with a refused trace, and returns its status, 1.
-fn explained_fault<E: Sink>(faults: &mut E, error: &RunError) -> u8
+/// Writes the fault line of a refused trace, with what is wrong with it, and returns the program's status, 1.
+fn trace_fault<E: Sink>(faults: &mut E, error: TraceError) -> u8
     requires { E.has_failed faults.old ≡ false }
     ensures status { result ≡ 1 }
-    ensures told { TellsRun Program.PrecopyView error.now (E.contents faults.old) (E.contents faults.new)
+    ensures told { TellsLine Program.PrecopyView (E.contents faults.old) (E.contents faults.new)
         (E.has_failed faults.new) }
 {
-    match error {
-        RunError::Trace(trace) => {
-            let explained = ExplainedTrace(*trace, cause_of(trace));
-            program_edge::fault(Program::PrecopyView, &explained, faults)
-        }
-        _ => run_fault(Program::PrecopyView, error, faults),
-    }
+    let explained = ExplainedTrace(error, cause_of(&error));
+    program_edge::fault(Program::PrecopyView, &explained, faults)
 }
 
 /// Writes the fault line of an error, and returns the error's status, 1. It allocates nothing.
@@ -122,7 +125,9 @@ pub(crate) fn fault<E: Sink>(faults: &mut E, error: &ShowError) -> u8
     ensures told { TellsShow error.now (E.contents faults.old) (E.contents faults.new) (E.has_failed faults.new) }
 {
     match error {
-        ShowError::Run(run) => explained_fault(faults, run),
+        ShowError::Trace(trace) => trace_fault(faults, *trace),
+        ShowError::Memory => known_fault(Program::PrecopyView, "memory", faults),
+        ShowError::Write => known_fault(Program::PrecopyView, "write", faults),
         ShowError::PageSize(_) => program_edge::fault(Program::PrecopyView, error, faults),
         ShowError::TooManyPages(_) => program_edge::fault(Program::PrecopyView, error, faults),
         ShowError::View(_) => program_edge::fault(Program::PrecopyView, error, faults),
@@ -144,7 +149,7 @@ pub fn refuse<K: Sink, E: Sink>(error: ViewWordsError, sink: &mut K, faults: &mu
     ensures untold { result ≡ 0 → faults.new ≡ faults.old }
     // Help that could not be written, or memory that ran out.
     ensures failed { result ≡ 1 → ((text : List ℕ) × IsHelpOf error text × (K.has_failed sink.new ≡ true)
-        × TellsRun Program.PrecopyView RunError.Write (E.contents faults.old) (E.contents faults.new)
+        × IsTold (write_line Program.PrecopyView) (E.contents faults.old) (E.contents faults.new)
         (E.has_failed faults.new) × AppendsPart (K.contents sink.old) (K.contents sink.new) text)
         ⊎ ((sink.new ≡ sink.old) × IsTold (memory_line Program.PrecopyView) (E.contents faults.old)
         (E.contents faults.new) (E.has_failed faults.new)) }

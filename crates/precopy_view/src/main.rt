@@ -18,7 +18,7 @@ mod units_tests;
 
 use crate::faults::refuse;
 use crate::starting::start;
-use migration_jobs::FromWrite;
+use byte_sinks::FromWrite;
 use std::process::ExitCode;
 use trace_codec::FromRead;
 use view_words::{ViewWordsError, words};

@@ -3,15 +3,15 @@
 ghost use Rattle.std.specs.Prelude.{◌≡◌, ◌≢◌, ◌≤◌, ◌↔◌, ◌⊎◌, Err, IfErr, IfOk, List, OnOk, ℕ, false, map};
 ghost use Rattle.std.specs.Prelude.{string_bytes, true};
 ghost use Rattle.std.specs.Io.KnownBytes.{Appends};
-ghost use Rattle.migration_jobs.specs.Sink.{AppendsPart};
-ghost use Rattle.program_edge.specs.Ends.{IsTold, NoneHasFailed, TellsRun, memory_line};
+ghost use Rattle.byte_sinks.specs.Sink.{AppendsPart};
+ghost use Rattle.program_edge.specs.Ends.{IsTold, NoneHasFailed, memory_line, write_line};
 ghost use Rattle.precopy_view.specs.Ends.{FailsAs, IsHelp, IsRefusal, TellsRefusal, TellsShow};
 ghost use Rattle.precopy_view.specs.Written.{HasFailed, MakesView, RefusesAskedView, WritesView, WritesViewPart};
 ghost use Rattle.trace_codec.specs.declared.error.TraceError.TheVariants.{ReadFault};
 ghost use Rattle.view_words.specs.Views.{WordsAsk};
 
 use crate::faults::{ShowError, check_scale, fault, refuse};
-use migration_jobs::{RunError, Sink, write_out};
+use byte_sinks::{Sink, write_out};
 use predictions::Verdict;
 use program_edge::Program;
 use std::alloc::Global;
@@ -31,15 +31,15 @@ fn text_of<R: Threads + Sync, S: Source>(
     requires { S.has_failed source.old ≡ false }
     ensures made { IfOk result (λ v. MakesView (S.remaining source.old) asked.now v.text.items v.kept) }
     ensures refused { IfErr result (RefusesAskedView (S.remaining source.old) asked.now) }
-    ensures unwritten { IfErr result (λ e. e ≢ ShowError.Run RunError.Write) }
-    ensures read_failed { (result ≡ Err (ShowError.Run (RunError.Trace ReadFault)))
+    ensures unwritten { IfErr result (λ e. e ≢ ShowError.Write) }
+    ensures read_failed { (result ≡ Err (ShowError.Trace ReadFault))
         ↔ (S.has_failed source.new ≡ true) }
 {
     let log = TouchLog::read(alloc, source)?;
     check_scale(&asked.scale, &log)?;
     match view_text(rt, alloc, &asked.view, &log) {
         Ok(shown) => Ok(shown),
-        Err(ViewError::Memory) => Err(ShowError::Run(RunError::Memory)),
+        Err(ViewError::Memory) => Err(ShowError::Memory),
         Err(error) => Err(ShowError::View(error)),
     }
 }
@@ -59,12 +59,12 @@ fn run_view<R: Threads + Sync, S: Source, K: Sink>(
         (K.contents sink.new)) }
     ensures flushed { OnOk result (K.is_flushed sink.new ≡ true) }
     ensures refused { IfErr result (RefusesAskedView (S.remaining source.old) asked.now) }
-    ensures part { result ≡ Err (ShowError.Run RunError.Write) → WritesViewPart (S.remaining source.old) asked.now
+    ensures part { result ≡ Err ShowError.Write → WritesViewPart (S.remaining source.old) asked.now
         (K.contents sink.old) (K.contents sink.new) }
-    ensures kept { IfErr result (λ e. e ≢ ShowError.Run RunError.Write → sink.new ≡ sink.old) }
-    ensures read_failed { (result ≡ Err (ShowError.Run (RunError.Trace ReadFault)))
+    ensures kept { IfErr result (λ e. e ≢ ShowError.Write → sink.new ≡ sink.old) }
+    ensures read_failed { (result ≡ Err (ShowError.Trace ReadFault))
         ↔ (S.has_failed source.new ≡ true) }
-    ensures write_failed { (result ≡ Err (ShowError.Run RunError.Write)) ↔ (K.has_failed sink.new ≡ true) }
+    ensures write_failed { (result ≡ Err ShowError.Write) ↔ (K.has_failed sink.new ≡ true) }
 {
     let shown = text_of(rt, alloc, asked, source)?;
     write_out(sink, &shown.text)?;
@@ -141,7 +141,7 @@ pub fn start<R: Threads + Sync, S: Source, K: Sink, E: Sink>(
         (K.contents sink.old) (K.contents sink.new) (sink.new ≡ sink.old)
         (λ e. TellsShow e (E.contents faults.old) (E.contents faults.new) (E.has_failed faults.new)))
         ⊎ ((source.new ≡ source.old) × ((FailsAs IsHelp (map string_bytes words.items)
-        × (K.has_failed sink.new ≡ true) × TellsRun Program.PrecopyView RunError.Write (E.contents faults.old)
+        × (K.has_failed sink.new ≡ true) × IsTold (write_line Program.PrecopyView) (E.contents faults.old)
         (E.contents faults.new) (E.has_failed faults.new)
         × (text : List ℕ) × AppendsPart (K.contents sink.old) (K.contents sink.new) text)
         ⊎ ((sink.new ≡ sink.old) × IsTold (memory_line Program.PrecopyView) (E.contents faults.old)

@@ -1,12 +1,9 @@
--- How a program ends whose words make nothing that it can run, and what it tells of that and of a failed run.
-use Rattle.std.specs.Prelude.{◌≡◌, ◌⊎◌, ◌++◌, ◌∷◌, [], ℕ, Bool, false, true, List, Option, IfSome, None, Some, codes}
-use Rattle.std.specs.Prelude.{string_bytes}
+-- How a program ends whose words make nothing that it can run, and what it tells of that and of an error.
+use Rattle.std.specs.Prelude.{◌≡◌, ◌⊎◌, ◌++◌, ◌∷◌, [], ℕ, Bool, false, true, List, Option, codes, string_bytes}
 use Rattle.std.specs.Io.KnownBytes.{Appends}
+use Rattle.byte_sinks.specs.Sink.{AppendsPart}
 use Rattle.job_words.specs.declared.command.WordsError.{WordsError}
 use Rattle.job_words.specs.declared.command.WordsError.TheVariants as errors
-use Rattle.migration_jobs.specs.Sink.{AppendsPart}
-use Rattle.migration_jobs.specs.declared.error.RunError.{RunError}
-use Rattle.migration_jobs.specs.declared.error.RunError.TheVariants as runs
 use Rattle.program_edge.specs.declared.program.Program.{Program}
 use Rattle.program_edge.specs.declared.program.Program.TheVariants as programs
 
@@ -36,34 +33,22 @@ name_of programs.PrecopyView = codes "precopy-view"
 abbrev pub line_of : Program → List ℕ → List ℕ
 line_of program cause = name_of program ++ (codes ": " ++ (cause ++ 10 ∷ []))
 
--- the line of a want of memory while the words are read
+-- the lines of a want of memory and of a failed write
 abbrev pub memory_line : Program → List ℕ
 memory_line program = line_of program (codes "memory")
+
+abbrev pub write_line : Program → List ℕ
+write_line program = line_of program (codes "write")
 
 -- a fault line of a program was told; nothing is said of its cause
 pub record TellsLine (program : Program) (old new : Option (List ℕ)) (has_failed : Bool) : Type 0 where
   pub cause : List ℕ
   pub told : IsTold (line_of program cause) old new has_failed
 
--- the cause of a failed run in words, if they are known here
-abbrev pub known_cause : RunError → Option (List ℕ)
-known_cause (runs.Trace e) = None
-known_cause runs.Memory = Some (codes "memory")
-known_cause runs.Thread = Some (codes "thread")
-known_cause (runs.Live e) = None
-known_cause runs.Write = Some (codes "write")
-
--- the fault line of a failed run was told
-pub record TellsRun (program : Program) (error : RunError) (old new : Option (List ℕ)) (has_failed : Bool)
-    : Type 0 where
-  pub cause : List ℕ
-  pub known : IfSome (known_cause error) (λ words. cause ≡ words)
-  pub told : IsTold (line_of program cause) old new has_failed
-
 -- What was told of an error of words: that help could not be written, a want of memory, the text on words that are not
 -- taken, or the fault line of a refusal.
 abbrev pub TellsWords : Program → WordsError → Option (List ℕ) → Option (List ℕ) → Bool → Type 0
-TellsWords program (errors.Help text) old new has_failed = TellsRun program runs.Write old new has_failed
+TellsWords program (errors.Help text) old new has_failed = IsTold (write_line program) old new has_failed
 TellsWords program errors.Memory old new has_failed = IsTold (memory_line program) old new has_failed
 TellsWords program (errors.Usage text) old new has_failed = IsTold (string_bytes text) old new has_failed
 TellsWords program (errors.Refused refusal) old new has_failed = TellsLine program old new has_failed

@@ -5,4 +5,4 @@ mod program;
 mod telling;
 
 pub use program::Program;
-pub use telling::{fault, refuse, run_fault, tell_line};
+pub use telling::{fault, known_fault, refuse, tell_line};

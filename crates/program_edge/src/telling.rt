@@ -2,14 +2,14 @@
 
 ghost use Rattle.std.specs.Prelude.{◌≡◌, ◌≤◌, ◌⊎◌, ◌↔◌, List, codes, length, ℕ, false, true};
 ghost use Rattle.std.specs.Io.KnownBytes.{Appends};
+ghost use Rattle.byte_sinks.specs.Sink.{AppendsPart};
 ghost use Rattle.job_words.specs.Commands.{IsWordsRefusal};
-ghost use Rattle.migration_jobs.specs.Sink.{AppendsPart};
-ghost use Rattle.program_edge.specs.Ends.{IsHelpText, IsTold, TellsLine, TellsRun, TellsWords, line_of, memory_line};
+ghost use Rattle.program_edge.specs.Ends.{IsHelpText, IsTold, TellsLine, TellsWords, line_of, memory_line, write_line};
 
 use crate::program::Program;
 use arrayvec::ArrayString;
+use byte_sinks::{Sink, write_out};
 use job_words::WordsError;
-use migration_jobs::{RunError, Sink, write_out};
 use std::fmt::{Display, Write};
 
 /// Writes a text of faults. If that fails, nobody can be told.
@@ -64,30 +64,16 @@ pub fn fault<E: Sink, D: Display>(program: Program, error: &D, faults: &mut E) -
     1
 }
 
-/// Writes the fault line of a failed run, and returns its status, 1.
-pub fn run_fault<E: Sink>(program: Program, error: &RunError, faults: &mut E) -> u8
-    requires { E.has_failed faults.old ≡ false }
+/// Writes the fault line of an error whose text is known, at most 128 bytes, and returns the error's status, 1. It
+/// allocates nothing.
+pub fn known_fault<E: Sink>(program: Program, cause: &str, faults: &mut E) -> u8
+    requires untold { E.has_failed faults.old ≡ false }
+    requires short { length cause.now ≤ 128 }
     ensures status { result ≡ 1 }
-    ensures told { TellsRun program error.now (E.contents faults.old) (E.contents faults.new)
+    ensures told { IsTold (line_of program cause.now) (E.contents faults.old) (E.contents faults.new)
         (E.has_failed faults.new) }
 {
-    match error {
-        RunError::Memory => tell_cause(program, "memory", faults),
-        RunError::Thread => tell_cause(program, "thread", faults),
-        RunError::Write => tell_cause(program, "write", faults),
-        RunError::Trace(_) | RunError::Live(_) => tell_line(program, error, faults),
-    }
-    1
-}
-
-/// Writes the fault line of a want of memory while the words are read, and returns its status, 1.
-fn short_of_memory<E: Sink>(program: Program, faults: &mut E) -> u8
-    requires { E.has_failed faults.old ≡ false }
-    ensures status { result ≡ 1 }
-    ensures told { IsTold (memory_line program) (E.contents faults.old) (E.contents faults.new)
-        (E.has_failed faults.new) }
-{
-    tell_cause(program, "memory", faults);
+    tell_cause(program, cause, faults);
     1
 }
 
@@ -100,13 +86,13 @@ fn run_help<K: Sink, E: Sink>(program: Program, text: &str, sink: &mut K, faults
     ensures written { result ≡ 0 → Appends (K.contents sink.old) (K.contents sink.new) text.now }
     ensures part { result ≡ 1 → AppendsPart (K.contents sink.old) (K.contents sink.new) text.now }
     ensures failed { result ≡ 1 → K.has_failed sink.new ≡ true }
-    ensures told { result ≡ 1 → TellsRun program RunError.Write (E.contents faults.old) (E.contents faults.new)
+    ensures told { result ≡ 1 → IsTold (write_line program) (E.contents faults.old) (E.contents faults.new)
         (E.has_failed faults.new) }
     ensures untold { result ≡ 0 → faults.new ≡ faults.old }
 {
     match write_out(sink, text.as_bytes()) {
         Ok(()) => 0,
-        Err(error) => run_fault(program, &error, faults),
+        Err(_) => known_fault(program, "write", faults),
     }
 }
 
@@ -133,14 +119,14 @@ pub fn refuse<K: Sink, E: Sink>(
     ensures untold { result ≡ 0 → faults.new ≡ faults.old }
     // Help that could not be written, or memory that ran out.
     ensures failed { result ≡ 1 → ((K.has_failed sink.new ≡ true)
-        × TellsRun program RunError.Write (E.contents faults.old) (E.contents faults.new) (E.has_failed faults.new)
+        × IsTold (write_line program) (E.contents faults.old) (E.contents faults.new) (E.has_failed faults.new)
         × (text : List ℕ) × IsHelpText error text × AppendsPart (K.contents sink.old) (K.contents sink.new) text)
         ⊎ ((error ≡ WordsError.Memory) × IsTold (memory_line program) (E.contents faults.old) (E.contents faults.new)
         (E.has_failed faults.new)) }
 {
     match error {
         WordsError::Help(text) => run_help(program, text.as_str(), sink, faults),
-        WordsError::Memory => short_of_memory(program, faults),
+        WordsError::Memory => known_fault(program, "memory", faults),
         WordsError::Usage(text) => {
             tell(faults, text.as_str());
             2

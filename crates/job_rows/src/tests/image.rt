@@ -2,7 +2,8 @@
 //! a quarter as many trace bytes have come.
 
 use super::{ran, refuses};
-use migration_jobs::{Job, RunError, TestSink};
+use byte_sinks::TestSink;
+use migration_jobs::{Job, RunError};
 use std::alloc::{AllocError, Global};
 use std::sync::Wait;
 use std::test::Fail;

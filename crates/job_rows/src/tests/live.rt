@@ -1,8 +1,9 @@
 //! Live runs, also under a schedule that the tests choose.
 
 use super::{sink, whole};
+use byte_sinks::TestSink;
 use live_engine::{Gate, LiveError, OpenGate, Point};
-use migration_jobs::{Job, Remains, RunError, Show, TestSink, run};
+use migration_jobs::{Job, Remains, RunError, Show, run};
 use rate_limit::{Asked, Settings};
 use std::alloc::{AllocError, Global};
 use std::sync::Wait;

@@ -1,0 +1,4 @@
+pub mod Sinks
+pub mod Pieces
+pub mod Cuts
+pub mod Memories
