@@ -34,8 +34,8 @@ scan:
 	$(PACK) scan
 
 page:
-	tools/page-module --if-needed out/lent_planner.wasm
-	tools/join-page out/lent_planner.wasm out/precopy.html
+	tools/page-module --if-needed out/browser_planner.wasm
+	tools/join-page out/browser_planner.wasm out/precopy.html
 
 install: all lib page
 	$(PACK) install $(WHERE)

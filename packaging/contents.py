@@ -86,7 +86,7 @@ class Entry:
         os.chmod(path, self.mode)
 
 
-MODULE = "out/lent_planner.wasm"
+MODULE = "out/browser_planner.wasm"
 PAGE = "precopy.html"
 SCAN = "tools/scan.c"
 

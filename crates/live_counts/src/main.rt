@@ -4,7 +4,7 @@
 
 use anyhow::{Result, bail};
 use byte_sinks::FromWrite;
-use job_words::{job_of, words};
+use job_commands::{job_of, words};
 use live_engine::{Gate, Point};
 use migration_jobs::{Job, Remains, run};
 use std::sync::atomic::{AtomicU64, Ordering};

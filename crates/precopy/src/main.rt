@@ -8,8 +8,8 @@ mod tests;
 
 use crate::starting::start;
 use byte_sinks::FromWrite;
-use job_words::words;
-use program_edge::{Program, refuse};
+use job_commands::words;
+use program_messages::{Program, refuse};
 use std::process::ExitCode;
 use trace_codec::FromRead;
 

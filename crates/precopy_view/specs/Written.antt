@@ -12,7 +12,7 @@ use Rattle.trace_codec.specs.declared.error.TraceError.TheVariants.{ReadFault}
 use Rattle.trace_readers.specs.Pieces.{IsLogOf}
 use Rattle.trace_views.specs.Views.{IsView, RefusesView}
 use Rattle.trace_views.specs.declared.error.ViewError.{ViewError}
-use Rattle.view_words.specs.declared.command.AskedView.{AskedView}
+use Rattle.view_commands.specs.declared.command.AskedView.{AskedView}
 
 -- a view of the trace that a source held, and whether its limit is kept
 pub record MakesView (known : Option (List ℕ)) (asked : AskedView) (output : List ℕ) (kept : Verdict) : Type 0 where

@@ -21,7 +21,7 @@ use crate::starting::start;
 use byte_sinks::FromWrite;
 use std::process::ExitCode;
 use trace_codec::FromRead;
-use view_words::{ViewWordsError, words};
+use view_commands::{ViewWordsError, words};
 
 fn main(rt: HostRuntime) -> ExitCode {
     let mut source = FromRead::new(rt.stdin());

@@ -4,22 +4,22 @@ ghost use Rattle.std.specs.Prelude.{◌≡◌, ◌≢◌, ◌≤◌, ◌↔◌, 
 ghost use Rattle.std.specs.Prelude.{string_bytes, true};
 ghost use Rattle.std.specs.Io.KnownBytes.{Appends};
 ghost use Rattle.byte_sinks.specs.Sink.{AppendsPart};
-ghost use Rattle.program_edge.specs.Ends.{IsTold, NoneHasFailed, memory_line, write_line};
+ghost use Rattle.program_messages.specs.Ends.{IsTold, NoneHasFailed, memory_line, write_line};
 ghost use Rattle.precopy_view.specs.Ends.{FailsAs, IsHelp, IsRefusal, TellsRefusal, TellsShow};
 ghost use Rattle.precopy_view.specs.Written.{HasFailed, MakesView, RefusesAskedView, WritesView, WritesViewPart};
 ghost use Rattle.trace_codec.specs.declared.error.TraceError.TheVariants.{ReadFault};
-ghost use Rattle.view_words.specs.Views.{WordsAsk};
+ghost use Rattle.view_commands.specs.Views.{WordsAsk};
 
 use crate::faults::{ShowError, check_scale, fault, refuse};
 use byte_sinks::{Sink, write_out};
 use predictions::Verdict;
-use program_edge::Program;
+use program_messages::Program;
 use std::alloc::Global;
 use std::thread::Threads;
 use trace_codec::Source;
 use trace_readers::TouchLog;
 use trace_views::{ViewError, ViewText, view_text};
-use view_words::{AskedView, view_of};
+use view_commands::{AskedView, view_of};
 
 /// Returns a view of the trace that a source holds, or why there is none.
 fn text_of<R: Threads + Sync, S: Source>(

@@ -1,0 +1,162 @@
+//! Predictions: what a question about a migration comes to, and its answer over a trace.
+
+ghost use Rattle.std.specs.Prelude.{◌≡◌, ◌≢◌, ◌≤◌, IfErr, IfOk, IsOk, OnErr, length, take};
+ghost use Rattle.predictions.specs.declared.units.error.UnitsError.{UnitsError};
+ghost use Rattle.migration_model.specs.Trace.{GuestTrace, Spells, last_by, last_tick};
+ghost use Rattle.predictions.specs.Predictions.{prediction_with};
+ghost use Rattle.predictions.specs.Questions.{AcceptsQuestion, Fits, RefusesQuestion, answer_of, scale_in};
+ghost use Rattle.predictions.specs.Questions.{settings_of, terms_of};
+ghost use Rattle.c_layout.specs.Refusals.{number_of_units};
+ghost use Rattle.c_layout.specs.Settings.{settings_told};
+ghost use Rattle.browser_planner.specs.Answers.{IsNumberOf};
+ghost use Rattle.browser_planner.specs.Plans.{HasRoom, room_of};
+ghost use Rattle.browser_planner.specs.Predictions.{IsAnswerTo, OfTrace, RefusesAsked};
+
+use crate::answers::Refusal;
+use crate::plans::{PlanRoom, plan_of};
+use crate::touches::LentTouch;
+use crate::traces::last_tick;
+use c_layout::{PlanSettings, units_number};
+use predictions::{Answer, Prediction, Question, Terms, check_fit};
+use round_planner::{Outcome, RoundRow};
+use trace_codec::TraceView;
+
+/// Answers the settings that the limits of a question make, or the number of what is out of its range.
+#[unsafe(no_mangle)]
+pub extern "C" fn lent_question(question: &Question, settings: &mut PlanSettings) -> u32
+    ensures made { result ≡ 0 → settings.new ≡ settings_told (settings_of question.now) }
+    ensures accepted { result ≡ 0 → AcceptsQuestion question.now }
+    ensures refused { result ≢ 0 → (e : UnitsError) × (result ≡ number_of_units e) × RefusesQuestion question.now e }
+    ensures only { AcceptsQuestion question.now → result ≡ 0 }
+    ensures unchanged { result ≢ 0 → settings.new ≡ settings.old }
+{
+    match question.terms() {
+        Ok(terms) => {
+            *settings = PlanSettings::of(&terms.settings);
+            0
+        }
+        Err(error) => units_number(error),
+    }
+}
+
+/// Returns how many pages were dirtied in the last round of a plan with this result, whose rounds are at the front of a
+/// buffer.
+fn last_dirtied(rounds: &[RoundRow], outcome: &Outcome) -> u64
+    requires { outcome.now.rounds ≤ length rounds.now }
+    ensures { result ≡ last_by (λ row. row.dirtied) (take outcome.now.rounds rounds.now) }
+{
+    let (front, _) = rounds.split_at(outcome.rounds as usize);
+    let mut last = 0u64;
+    for row in front {
+        last = row.dirtied;
+    }
+    last
+}
+
+/// Returns the answer of a plan of a trace with this result that leaves so many pages.
+fn answer_with(trace: &TraceView<'_>, terms: &Terms, outcome: &Outcome, left: u64) -> Answer
+    ensures { result ≡ answer_of outcome.now (prediction_with terms.now.scale terms.now.limits
+        terms.now.settings.start outcome.now left (last_tick trace.now.writes)) }
+{
+    let start = terms.settings.asked().start;
+    let last = last_tick(trace);
+    let prediction = Prediction::of_outcome(
+        &terms.scale,
+        &terms.limits,
+        start,
+        outcome,
+        left,
+        last,
+    );
+    Answer::new(outcome, &prediction)
+}
+
+/// Returns the answer to a question about a trace, and writes the rounds of its plan over the front of a buffer.
+fn answer_in(
+    trace: &TraceView<'_>,
+    terms: &Terms,
+    touches: &mut [LentTouch],
+    marks: &mut [u64],
+    list: &mut [u32],
+    rounds: &mut [RoundRow],
+) -> Answer
+    requires { HasRoom trace.now terms.now.settings (room_of (length touches.old) (length marks.old) (length list.old)
+        (length rounds.old)) }
+    ensures { IsAnswerTo terms.now result rounds.old rounds.new trace.now }
+{
+    let outcome = plan_of(trace, &terms.settings, touches, marks, list, rounds);
+    let left = last_dirtied(rounds, &outcome);
+    answer_with(trace, terms, &outcome, left)
+}
+
+/// Returns the answer to a question about the trace that the bytes encode, and writes the rounds of its plan over the
+/// front of a buffer. The question is tested first, and the room last.
+fn predicted(
+    bytes: &[u8],
+    question: &Question,
+    touches: &mut [LentTouch],
+    marks: &mut [u64],
+    list: &mut [u32],
+    rounds: &mut [RoundRow],
+) -> Result<Answer, Refusal>
+    ensures made { IfOk result (λ answer. OfTrace bytes.now question.now (IsAnswerTo (terms_of question.now) answer
+        rounds.old rounds.new)) }
+    ensures accepted { IfOk result (λ answer. AcceptsQuestion question.now) }
+    ensures refused { IfErr result (RefusesAsked bytes.now question.now (λ trace. HasRoom trace
+        (settings_of question.now) (room_of (length touches.old) (length marks.old) (length list.old)
+        (length rounds.old)))) }
+    ensures only { (t : GuestTrace) → Spells bytes.now t → AcceptsQuestion question.now
+        → Fits (scale_in question.now) t.shift t.pages → HasRoom t (settings_of question.now)
+        (room_of (length touches.old) (length marks.old) (length list.old) (length rounds.old)) → IsOk result }
+    ensures unchanged { OnErr result ((rounds.new ≡ rounds.old) × (touches.new ≡ touches.old)
+        × (marks.new ≡ marks.old) × (list.new ≡ list.old)) }
+{
+    let terms = question.terms()?;
+    let trace = TraceView::parse(bytes)?;
+    check_fit(&terms.scale, &trace.shape())?;
+    let room = PlanRoom {
+        touches: touches.len(),
+        marks: marks.len(),
+        list: list.len(),
+        rounds: rounds.len(),
+    };
+    if !room.is_enough(&trace, &terms.settings) {
+        return Err(Refusal::ShortBuffer);
+    }
+    Ok(answer_in(&trace, &terms, touches, marks, list, rounds))
+}
+
+/// Answers what the migration of a trace will be with the limits of a question, and writes the numbers of its rounds,
+/// in order, over the front of a buffer. It is refused if anything lent is too short: a slot of `touches` for each
+/// write, a bit of `marks` and a slot of `list` for each page, and a slot of `rounds` for each round that the question
+/// allows.
+#[unsafe(no_mangle)]
+pub extern "C" fn lent_predict(
+    trace: &[u8],
+    question: &Question,
+    touches: &mut [LentTouch],
+    marks: &mut [u64],
+    list: &mut [u32],
+    rounds: &mut [RoundRow],
+    answer: &mut Answer,
+) -> u32
+    ensures made { result ≡ 0 → OfTrace trace.now question.now (IsAnswerTo (terms_of question.now) answer.new
+        rounds.old rounds.new) }
+    ensures accepted { result ≡ 0 → AcceptsQuestion question.now }
+    ensures refused { result ≢ 0 → IsNumberOf result (RefusesAsked trace.now question.now (λ t. HasRoom t
+        (settings_of question.now) (room_of (length touches.old) (length marks.old) (length list.old)
+        (length rounds.old)))) }
+    ensures only { (t : GuestTrace) → Spells trace.now t → AcceptsQuestion question.now
+        → Fits (scale_in question.now) t.shift t.pages → HasRoom t (settings_of question.now)
+        (room_of (length touches.old) (length marks.old) (length list.old) (length rounds.old)) → result ≡ 0 }
+    ensures unchanged { result ≢ 0 → (answer.new ≡ answer.old) × (rounds.new ≡ rounds.old)
+        × (touches.new ≡ touches.old) × (marks.new ≡ marks.old) × (list.new ≡ list.old) }
+{
+    match predicted(trace, question, touches, marks, list, rounds) {
+        Ok(found) => {
+            *answer = found;
+            0
+        }
+        Err(refusal) => refusal.number(),
+    }
+}

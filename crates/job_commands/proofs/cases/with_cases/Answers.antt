@@ -1,0 +1,10 @@
+use Rattle.std.proofs.lemmas.Result.{IfOk-weaker}
+use Rattle.job_commands.specs.Commands.{case_rule}
+use Rattle.job_commands.proofs.CommandLemmas.{adds_arg, adds_both}
+use Rattle.job_commands.proofs.cases.with_cases.Goals as goal
+
+pub returns : goal.returns
+returns c = IfOk-weaker c.arg.result _ _ (λ new added. adds_both c.args.command c.in_ok-command.command new _ _
+    c.in_ok-command.ensures
+    (adds_arg c.in_ok-command.command new c.cases_arg.result case_rule added c.cases_arg.ensures.local
+    c.cases_arg.ensures.rule)) c.arg.ensures

@@ -1,8 +1,0 @@
-use Rattle.std.proofs.lemmas.Result.{IfOk-weaker}
-use Rattle.job_words.proofs.CommandLemmas.{adds_arg, adds_both}
-use Rattle.job_words.proofs.options.with_pace.Goals as goal
-
-pub returns : goal.returns
-returns c = IfOk-weaker c.arg.result _ _ (λ new added. adds_both c.args.command c.in_ok-command.command new _ _
-    c.in_ok-command.ensures
-    (adds_arg c.in_ok-command.command new c.flag.result _ added c.flag.ensures.local c.flag.ensures.rule)) c.arg.ensures

@@ -1,5 +1,0 @@
-use Rattle.lent_planner.proofs.Puts.{ArePut}
-use Rattle.lent_planner.proofs.touches.put_touches.Given as goal
-
-abbrev pub invariant-loop-write : goal.invariant-loop-write
-invariant-loop-write l = ArePut l.fn.trace.writes l.write-iterator l.count l.fn.room l.room

@@ -1,9 +1,0 @@
-use Rattle.std.proofs.Common.{refl, string_bytes, subst, sym}
-use Rattle.job_words.specs.declared.command.WordsError.{WordsError}
-use Rattle.program_edge.specs.Ends.{IsHelpText}
-use Rattle.program_edge.proofs.telling.refuse.Goals as goal
-
-pub returns-in-Help-clause-kept : goal.returns-in-Help-clause-kept
-returns-in-Help-clause-kept g c none =
-    let text = string_bytes c.in-Help.text in
-    absurd (none text (subst (λ (e : WordsError). IsHelpText e text) (sym c.in-Help.is) refl))

@@ -1,0 +1,7 @@
+use Rattle.std.proofs.lemmas.Result.{IfOk-weaker}
+use Rattle.job_commands.proofs.CommandLemmas.{adds_both}
+use Rattle.view_commands.proofs.limits.with_units.Goals as goal
+
+pub returns : goal.returns
+returns c = IfOk-weaker c.with_scale.result _ _ (λ new added. adds_both c.args.command c.in_ok-command.command new _ _
+    c.in_ok-command.ensures added) c.with_scale.ensures

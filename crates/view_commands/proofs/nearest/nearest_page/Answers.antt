@@ -1,0 +1,8 @@
+use Rattle.std.proofs.Common.{arith}
+use Rattle.view_commands.specs.Nearest.{IsWithin}
+use Rattle.view_commands.proofs.NearestLemmas.{nearest_between}
+use Rattle.view_commands.proofs.nearest.nearest_page.Goals as goal
+
+pub returns : goal.returns
+returns c = nearest_between (IsWithin 16 4_096) 16 4_096 c.args.asked c.clamp.result (omega arith)
+    (λ k. (λ within. within, λ within. within)) c.clamp.ensures

@@ -1,7 +1,0 @@
-use Rattle.std.proofs.lemmas.Result.{IfOk-weaker}
-use Rattle.job_words.proofs.CommandLemmas.{adds_both}
-use Rattle.view_words.proofs.command.with_either.Goals as goal
-
-pub returns : goal.returns
-returns c = IfOk-weaker c.with_units.result _ _ (λ new added. adds_both c.args.command c.in_ok-command.command new _ _
-    c.in_ok-command.ensures added) c.with_units.ensures
