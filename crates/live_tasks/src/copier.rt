@@ -98,27 +98,27 @@ impl<'a, W: WriteLog, G: Gate> SharedRound<'a, W, G> {
 
     /// Encodes the frame of a page, at the place that was read, into a buffer, whose contents it replaces. The page
     /// comes from the cache, which keeps it.
-    fn spell(
+    fn encode(
         &self,
         cache: &mut PageCache<'_, W>,
         page: u32,
         place: u32,
-        text: &mut Vec<u8>,
+        buffer: &mut Vec<u8>,
     ) -> Result<(), SeatError>
         requires trace { cache.old.trace ≡ (W.trace self.now.trace.now) }
         requires page { page < (W.trace self.now.trace.now).pages }
-        ensures spells { OnOk result (SpellsPage (W.trace self.now.trace.now) page place text.new.items) }
+        ensures spells { OnOk result (SpellsPage (W.trace self.now.trace.now) page place buffer.new.items) }
         ensures trace { cache.new.trace ≡ cache.old.trace }
         ensures capacity { cache.new.capacity ≡ cache.old.capacity }
     {
         let shape = self.trace.shape();
         let stamp = place.min(shape.writes);
-        text.clear();
+        buffer.clear();
         cache.keep(page, stamp)?;
         let Some(bytes) = cache.bytes(page) else {
             unreachable!()
         };
-        append_frame(text, &shape, page, stamp, bytes)?;
+        append_frame(buffer, &shape, page, stamp, bytes)?;
         Ok(())
     }
 
@@ -199,9 +199,9 @@ impl<'a, W: WriteLog, G: Gate> SharedRound<'a, W, G> {
             return self.defer_page(page, copier);
         };
         let place = self.read(&mut copier.seat, page);
-        let mut text = copier.state.text(alloc, stream);
-        self.spell(&mut copier.state.cache, page, place, &mut text)?;
-        copier.state.send(stream, text);
+        let mut buffer = copier.state.buffer(alloc, stream);
+        self.encode(&mut copier.state.cache, page, place, &mut buffer)?;
+        copier.state.send(stream, buffer);
         copier.state.log.list_sent(page, place)?;
         Ok(())
     }

@@ -122,12 +122,12 @@ impl<'a, W: WriteLog> RoundState<'a, W> {
     }
 
     /// Returns a buffer for a frame to go on the lane of a stream: one that came back on it, or a new one.
-    pub(crate) fn text(&mut self, alloc: Global, stream: usize) -> Vec<u8>
+    pub(crate) fn buffer(&mut self, alloc: Global, stream: usize) -> Vec<u8>
         requires { HasRoomAt self.old.outs stream }
         ensures { self.new ≡ self.old }
     {
         match self.outs[stream].spare() {
-            Some(text) => text,
+            Some(buffer) => buffer,
             None => Vec::new(alloc),
         }
     }

@@ -33,7 +33,7 @@ fn head_of(page: u32, stamp: u32, kind: u8) -> [u8; 9]
 #[tactic(auto, unfolding(migration_model::specs::Frames::frame_text))]
 pub fn encode_frame(alloc: Global, shape: &Shape, frame: &Frame) -> Result<Vec<u8>, FrameError>
     requires { IsFrame (shape_of shape.now) frame.now }
-    ensures spelled { IfOk result (λ text. text.items ≡ frame_text frame.now) }
+    ensures spelled { IfOk result (λ buffer. buffer.items ≡ frame_text frame.now) }
     ensures refused { IfErr result (λ e. e ≡ FrameError.Memory) }
 {
     match &frame.body {
@@ -43,10 +43,10 @@ pub fn encode_frame(alloc: Global, shape: &Shape, frame: &Frame) -> Result<Vec<u
         }
         Body::Data(bytes) => {
             let head = head_of(frame.page, frame.stamp, 1);
-            let mut text = Vec::with_capacity(alloc, HEAD + shape.page_size())?;
-            text.extend_from_slice(&head)?;
-            text.extend_from_slice(bytes)?;
-            Ok(text)
+            let mut buffer = Vec::with_capacity(alloc, HEAD + shape.page_size())?;
+            buffer.extend_from_slice(&head)?;
+            buffer.extend_from_slice(bytes)?;
+            Ok(buffer)
         }
     }
 }

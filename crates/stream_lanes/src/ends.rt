@@ -112,11 +112,11 @@ impl LaneIn {
 
     /// Gives a buffer back to the other end for reuse. If the ring of such buffers is full, the buffer is dropped. It
     /// allocates nothing.
-    pub fn give_back(&mut self, text: Vec<u8>)
+    pub fn give_back(&mut self, buffer: Vec<u8>)
         ensures { self.new ≡ self.old }
     {
         if !self.back.is_full() {
-            self.back.push_reserved(text);
+            self.back.push_reserved(buffer);
         }
     }
 }

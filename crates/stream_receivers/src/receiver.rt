@@ -83,10 +83,10 @@ impl Receiver {
         ensures some { IsTrue result → TakesOne worker self.old.ends self.new.ends }
     {
         let end = &mut self.ends[worker];
-        let Some(text) = end.take() else {
+        let Some(buffer) = end.take() else {
             return false;
         };
-        let left = accept(&mut self.part, &mut self.refusal, text);
+        let left = accept(&mut self.part, &mut self.refusal, buffer);
         give_back(end, left);
         true
     }

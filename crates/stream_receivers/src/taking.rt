@@ -29,13 +29,13 @@ fn brings_first_bytes(part: &Part, view: &FrameView<'_>) -> bool
 }
 
 /// Takes an encoded frame with bytes into a part, which keeps its buffer. These are its page and its stamp.
-fn keep_text(part: &mut Part, page: u32, stamp: u32, text: Vec<u8>) -> Result<(), ReceiverError>
-    requires { HasBytes part.old.shape text.items page stamp }
+fn keep_frame(part: &mut Part, page: u32, stamp: u32, buffer: Vec<u8>) -> Result<(), ReceiverError>
+    requires { HasBytes part.old.shape buffer.items page stamp }
     ensures shape { part.new.shape ≡ part.old.shape }
-    ensures taken { OnOk result (TakesText part.old part.new text.items) }
+    ensures taken { OnOk result (TakesText part.old part.new buffer.items) }
     ensures error { IfErr result (λ e. e ≡ ReceiverError.Memory) }
 {
-    let frame = frame_behind_head(page, stamp, text);
+    let frame = frame_behind_head(page, stamp, buffer);
     match part.accept(frame) {
         Ok(_) => Ok(()),
         Err(_) => Err(ReceiverError::Memory),
@@ -44,25 +44,25 @@ fn keep_text(part: &mut Part, page: u32, stamp: u32, text: Vec<u8>) -> Result<()
 
 /// Takes one encoded frame into a part. The first bytes of a page stay in the frame's buffer. Later ones are copied
 /// over them, and the buffer in which they came is returned.
-fn accept_text(part: &mut Part, text: Vec<u8>) -> Result<Option<Vec<u8>>, ReceiverError>
+fn accept_frame(part: &mut Part, buffer: Vec<u8>) -> Result<Option<Vec<u8>>, ReceiverError>
     ensures shape { part.new.shape ≡ part.old.shape }
-    ensures taken { OnOk result (TakesText part.old part.new text.items) }
-    ensures only { (frame : PageFrame) → SpellsFrame part.old.shape text.items frame
+    ensures taken { OnOk result (TakesText part.old part.new buffer.items) }
+    ensures only { (frame : PageFrame) → SpellsFrame part.old.shape buffer.items frame
         → IfErr result (λ e. e ≡ ReceiverError.Memory) }
 {
-    let Ok((view, size)) = view_frame(&part.shape(), &text) else {
+    let Ok((view, size)) = view_frame(&part.shape(), &buffer) else {
         return Err(ReceiverError::Frame);
     };
-    if size != text.len() {
+    if size != buffer.len() {
         return Err(ReceiverError::Frame);
     }
     if brings_first_bytes(part, &view) {
         let (page, stamp) = (view.page, view.stamp);
-        keep_text(part, page, stamp, text)?;
+        keep_frame(part, page, stamp, buffer)?;
         return Ok(None);
     }
     part.accept_view(&view).or(Err(ReceiverError::Memory))?;
-    Ok(Some(text))
+    Ok(Some(buffer))
 }
 
 /// Takes one encoded frame, unless something was refused before, and keeps the first refusal. Returns the frame's
@@ -70,14 +70,14 @@ fn accept_text(part: &mut Part, text: Vec<u8>) -> Result<Option<Vec<u8>>, Receiv
 pub(crate) fn accept(
     part: &mut Part,
     refusal: &mut Option<ReceiverError>,
-    text: Vec<u8>,
+    buffer: Vec<u8>,
 ) -> Option<Vec<u8>>
-    ensures { Accepts part.old part.new refusal.old refusal.new (text.items ∷ []) }
+    ensures { Accepts part.old part.new refusal.old refusal.new (buffer.items ∷ []) }
 {
     if refusal.is_some() {
-        return Some(text);
+        return Some(buffer);
     }
-    match accept_text(part, text) {
+    match accept_frame(part, buffer) {
         Ok(left) => left,
         Err(error) => {
             *refusal = Some(error);
@@ -87,11 +87,11 @@ pub(crate) fn accept(
 }
 
 /// Gives a buffer back to the worker of a lane, if there is one.
-pub(crate) fn give_back(end: &mut LaneIn, text: Option<Vec<u8>>)
+pub(crate) fn give_back(end: &mut LaneIn, buffer: Option<Vec<u8>>)
     ensures { end.new ≡ end.old }
 {
-    if let Some(text) = text {
-        end.give_back(text);
+    if let Some(buffer) = buffer {
+        end.give_back(buffer);
     }
 }
 
@@ -103,8 +103,8 @@ pub(crate) fn accept_rest(
 ) -> Option<ReceiverError>
     ensures { Accepts part.old part.new refusal result rest }
 {
-    while let Some(text) = rest.take() {
-        drop(accept(part, &mut refusal, text));
+    while let Some(buffer) = rest.take() {
+        drop(accept(part, &mut refusal, buffer));
     }
     refusal
 }

@@ -33,10 +33,10 @@ fn add_frame(
     requires { IsFrame (shape_of shape.now) frame.now }
     ensures { OnOk result (stream.new.items ≡ stream.old.items ++ frame_text frame.now) }
 {
-    let Ok(text) = encode_frame(alloc, shape, frame) else {
+    let Ok(buffer) = encode_frame(alloc, shape, frame) else {
         return Err(SplitError::Memory);
     };
-    stream.extend_from_slice(&text)?;
+    stream.extend_from_slice(&buffer)?;
     Ok(())
 }
 

@@ -59,8 +59,8 @@ fn zeros_are_sent_without_their_bytes(rt: HostRuntime) -> Result<(), Fail> {
     let bytes = vec![in rt.alloc(); 0u8; shape.page_size()]?;
     let frame = frame_of(&shape, 2, 0, bytes);
     let is_short = matches!(&frame.body, Body::Zero) && frame.fits(&shape);
-    let text = encode_frame(rt.alloc(), &shape, &frame)?;
-    assert!(rt; is_short && text.as_slice() == ZEROS_FRAME.as_slice());
+    let buffer = encode_frame(rt.alloc(), &shape, &frame)?;
+    assert!(rt; is_short && buffer.as_slice() == ZEROS_FRAME.as_slice());
     Ok(())
 }
 
@@ -76,8 +76,8 @@ fn bytes_of_a_page_come_back(rt: HostRuntime) -> Result<(), Fail> {
     let shape = shape();
     let (frame, size) = decode_frame(rt.alloc(), &shape, &DATA_FRAME)?;
     let is_read = (frame.page, frame.stamp, size) == (3, 4, 25) && frame.fits(&shape);
-    let text = encode_frame(rt.alloc(), &shape, &frame)?;
-    assert!(rt; is_read && text.as_slice() == DATA_FRAME.as_slice());
+    let buffer = encode_frame(rt.alloc(), &shape, &frame)?;
+    assert!(rt; is_read && buffer.as_slice() == DATA_FRAME.as_slice());
     Ok(())
 }
 

@@ -50,11 +50,11 @@ fn send_byte(alloc: Global, out: &mut LaneOut, byte: u8) -> bool
 }
 
 /// Gives a buffer back, if there is one.
-fn give_back(end: &mut LaneIn, text: Option<Vec<u8>>) -> bool {
-    let Some(text) = text else {
+fn give_back(end: &mut LaneIn, buffer: Option<Vec<u8>>) -> bool {
+    let Some(buffer) = buffer else {
         return false;
     };
-    end.give_back(text);
+    end.give_back(buffer);
     true
 }
 

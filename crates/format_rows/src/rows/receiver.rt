@@ -45,7 +45,7 @@ fn new_stream(alloc: Global) -> Result<Stream, Fail> {
 }
 
 /// Sends some bytes on one of the lanes. Returns false if there is no such lane, or no room.
-fn send(outs: &mut Vec<LaneOut>, worker: usize, text: Vec<u8>) -> bool
+fn send(outs: &mut Vec<LaneOut>, worker: usize, buffer: Vec<u8>) -> bool
     ensures { map (λ out. out.lane) outs.new.items ≡ map (λ out. out.lane) outs.old.items }
 {
     if worker >= outs.len() {
@@ -54,21 +54,21 @@ fn send(outs: &mut Vec<LaneOut>, worker: usize, text: Vec<u8>) -> bool
     if !outs[worker].has_room() {
         return false;
     }
-    outs[worker].send(text);
+    outs[worker].send(buffer);
     true
 }
 
 impl Stream {
     ghost use Rattle.std.specs.Prelude.{◌<◌, ◌≤◌};
 
-    fn send(&mut self, worker: usize, text: Vec<u8>) -> bool {
-        send(&mut self.outs, worker, text)
+    fn send(&mut self, worker: usize, buffer: Vec<u8>) -> bool {
+        send(&mut self.outs, worker, buffer)
     }
 
     /// Sends a copy of some bytes. Also returns false if memory runs out for the copy.
-    fn send_text(&mut self, alloc: Global, worker: usize, text: &[u8]) -> bool {
-        match Vec::from_slice(alloc, text) {
-            Ok(text) => self.send(worker, text),
+    fn send_bytes(&mut self, alloc: Global, worker: usize, bytes: &[u8]) -> bool {
+        match Vec::from_slice(alloc, bytes) {
+            Ok(buffer) => self.send(worker, buffer),
             Err(_) => false,
         }
     }
@@ -78,8 +78,8 @@ impl Stream {
         requires page { page < 4 }
         requires stamp { stamp ≤ 5 }
     {
-        match spelled(alloc, page, stamp, byte) {
-            Ok(text) => self.send(worker, text),
+        match encoded(alloc, page, stamp, byte) {
+            Ok(buffer) => self.send(worker, buffer),
             Err(_) => false,
         }
     }
@@ -95,13 +95,13 @@ impl Stream {
 }
 
 /// Returns the encoding of a page filled with this byte.
-fn spelled(alloc: Global, page: u32, stamp: u32, byte: u8) -> Result<Vec<u8>, FrameError>
+fn encoded(alloc: Global, page: u32, stamp: u32, byte: u8) -> Result<Vec<u8>, FrameError>
     requires page { page < 4 }
     requires stamp { stamp ≤ 5 }
 {
-    let mut text = Vec::new(alloc);
-    append_frame(&mut text, &shape(), page, stamp, &[byte; 16])?;
-    Ok(text)
+    let mut buffer = Vec::new(alloc);
+    append_frame(&mut buffer, &shape(), page, stamp, &[byte; 16])?;
+    Ok(buffer)
 }
 
 /// Returns whether the part has the page, filled with this byte.
@@ -158,7 +158,7 @@ fn nothing_comes_where_nothing_is_sent(rt: HostRuntime) -> Result<(), Fail> {
 fn a_refusal_is_kept_and_frames_are_taken_behind_it(rt: HostRuntime) -> Result<(), Fail> {
     let mut stream = new_stream(rt.alloc())?;
     let steps = [
-        stream.send_text(rt.alloc(), 0, &[0]),
+        stream.send_bytes(rt.alloc(), 0, &[0]),
         stream.send_page(rt.alloc(), 0, 1, 5, 7),
         stream.take(0),
         stream.take(0),
@@ -173,7 +173,7 @@ fn what_is_left_may_be_refused(rt: HostRuntime) -> Result<(), Fail> {
     let mut stream = new_stream(rt.alloc())?;
     let steps = [
         stream.send_page(rt.alloc(), 0, 1, 5, 7),
-        stream.send_text(rt.alloc(), 1, &[0]),
+        stream.send_bytes(rt.alloc(), 1, &[0]),
         stream.take(0),
     ];
     let refusal = stream.finish().err();
@@ -183,17 +183,17 @@ fn what_is_left_may_be_refused(rt: HostRuntime) -> Result<(), Fail> {
 
 /// Returns the encodings of pages 1 and 2 as one run of bytes.
 fn two_pages(alloc: Global) -> Result<Vec<u8>, Fail> {
-    let mut two = spelled(alloc, 1, 5, 7)?;
-    two.extend_from_slice(&spelled(alloc, 2, 5, 7)?)?;
+    let mut two = encoded(alloc, 1, 5, 7)?;
+    two.extend_from_slice(&encoded(alloc, 2, 5, 7)?)?;
     Ok(two)
 }
 
 #[test]
 fn a_text_is_of_one_frame(rt: HostRuntime) -> Result<(), Fail> {
     let two = two_pages(rt.alloc())?;
-    for text in [&[][..], two.as_slice()] {
+    for bytes in [&[][..], two.as_slice()] {
         let mut stream = new_stream(rt.alloc())?;
-        let sent = stream.send_text(rt.alloc(), 0, text);
+        let sent = stream.send_bytes(rt.alloc(), 0, bytes);
         let refusal = stream.finish().err();
         assert!(rt; (sent, refusal) == (true, Some(ReceiverError::Frame)));
     }
@@ -208,16 +208,16 @@ fn one_out(alloc: Global) -> Result<(LaneOut, Receiver), Fail> {
 }
 
 /// Sends some bytes and takes them. Returns whether the buffer that came back has room for them, if one did.
-fn pass_text(
+fn pass_buffer(
     out: &mut LaneOut,
     receiver: &mut Receiver,
-    text: Vec<u8>,
+    buffer: Vec<u8>,
 ) -> Result<Option<bool>, &'static str> {
     if receiver.lanes() == 0 || !out.has_room() {
         return Err("no room");
     }
-    let size = text.len();
-    out.send(text);
+    let size = buffer.len();
+    out.send(buffer);
     if !receiver.take(0) {
         return Err("nothing came");
     }
@@ -234,8 +234,8 @@ fn pass(
 ) -> Result<Option<bool>, &'static str>
     requires { stamp ≤ 5 }
 {
-    match spelled(alloc, 1, stamp, byte) {
-        Ok(text) => pass_text(out, receiver, text),
+    match encoded(alloc, 1, stamp, byte) {
+        Ok(buffer) => pass_buffer(out, receiver, buffer),
         Err(_) => Err("no memory"),
     }
 }
@@ -267,7 +267,7 @@ fn a_page_keeps_its_first_buffer_and_others_go_back(rt: HostRuntime) -> Result<(
 fn texts_go_back_after_a_refusal(rt: HostRuntime) -> Result<(), Fail> {
     let (mut out, mut receiver) = one_out(rt.alloc())?;
     let first = pass(rt.alloc(), &mut out, &mut receiver, 2, 7);
-    let empty = pass_text(&mut out, &mut receiver, Vec::new(rt.alloc()));
+    let empty = pass_buffer(&mut out, &mut receiver, Vec::new(rt.alloc()));
     let refused = receiver.is_refused();
     let last = pass(rt.alloc(), &mut out, &mut receiver, 4, 8);
     assert!(rt; ([first, empty, last], refused) == ([Ok(None), Ok(None), Ok(Some(true))], true));

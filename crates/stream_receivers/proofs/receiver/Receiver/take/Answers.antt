@@ -47,7 +47,7 @@ invariant_of-self-2 c =
     let before = c.index_mut-end.result.now in
     let after = c.take.new.self in
     let there = c.index_mut-end.ensures.value in
-    let text = c.in-Some.text.items in
+    let text = c.in-Some.buffer.items in
     let grown = c.in-Some.ensures.taken in
     let size = ap (λ (r : ReceiverView). length r.ends) c.self.view_is in
     let low : worker < length ends = omega (arith, size, c.requires) in
@@ -86,7 +86,7 @@ returns-clause-some c e =
     record {
       before = c.index_mut-end.result.now;
       after = c.take.new.self;
-      text = c.in-Some.text.items;
+      text = c.in-Some.buffer.items;
       was = ap (λ (ends : List InView). slice_get ends c.args.worker) (sym ends_are)
           ∙ stood c.self.inside.ends.items c.args.worker c.index_mut-end.result.now (omega (arith, size, c.requires))
           c.index_mut-end.ensures.value;

@@ -3,7 +3,7 @@ use Rattle.migration_model.specs.Trace.{GuestTrace}
 use Rattle.migration_model.specs.Versions.{page_at}
 use Rattle.migration_model.proofs.Pages.{length-page_at}
 use Rattle.page_cache.specs.Cache.{KeptPage}
-use Rattle.live_tasks.proofs.copier.SharedRound.spell.Goals as goal
+use Rattle.live_tasks.proofs.copier.SharedRound.encode.Goals as goal
 
 pub append_frame-requires-clause-whole : goal.append_frame-requires-clause-whole
 append_frame-requires-clause-whole g c =
