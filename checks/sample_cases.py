@@ -145,12 +145,13 @@ def killed_recorder(_, folder):
     with Pages("private") as pages:
         for _ in range(30):
             command = [sys.executable, RECORD, *pages.source, "--by", "writes", os.path.join(folder, "a.light.pcwt")]
-            recorder = subprocess.Popen(command, stdout=subprocess.DEVNULL, stderr=subprocess.DEVNULL)
+            recorder = subprocess.Popen(command, stdout=subprocess.PIPE, stderr=subprocess.DEVNULL)
             end = time.monotonic() + draws.uniform(0.05, 1.2)
             while time.monotonic() < end:
                 expect(pages.write(draws.sample(range(PAGES), 20)) == 0, "a system call was disturbed")
             recorder.kill()
-            recorder.wait()
+            # Until its helper has ended too, which may stop the process a moment later.
+            recorder.communicate()
             pages.expect_as_before()
     left = [name for name in os.listdir(folder) if not name.endswith(".part")]
     expect(not left, f"left: {left}")
