@@ -17,7 +17,7 @@
 # LIBRARYDIR, INCLUDEDIR and SHAREDIR name single folders, and MAINTAINER who answers for a package.
 
 PREFIX ?= /usr/local
-PACK = packaging/make
+PACK = dev/package
 WHERE = --prefix "$(PREFIX)" --destdir "$(DESTDIR)" --bindir "$(BINDIR)" --libdir "$(LIBDIR)" --mandir "$(MANDIR)" \
 	--docdir "$(DOCDIR)" --bashdir "$(BASHDIR)" --zshdir "$(ZSHDIR)" \
 	--systemddir "$(SYSTEMDDIR)" --librarydir "$(LIBRARYDIR)" --includedir "$(INCLUDEDIR)" --sharedir "$(SHAREDIR)"
@@ -25,7 +25,7 @@ WHERE = --prefix "$(PREFIX)" --destdir "$(DESTDIR)" --bindir "$(BINDIR)" --libdi
 all:
 	./precopy --help > /dev/null
 	./precopy-view --help > /dev/null
-	tools/build --if-needed precopy_schedule
+	dev/build --if-needed precopy_schedule
 
 lib:
 	$(PACK) lib
@@ -34,8 +34,8 @@ scan:
 	$(PACK) scan
 
 page:
-	tools/page-module --if-needed out/browser_planner.wasm
-	tools/join-page out/browser_planner.wasm out/precopy.html
+	dev/page-module --if-needed out/browser_planner.wasm
+	dev/join-page out/browser_planner.wasm out/precopy.html
 
 install: all lib page
 	$(PACK) install $(WHERE)

@@ -2,7 +2,7 @@
 #include "precopy.h"
 
 #ifndef PRECOPY_VERSION
-#error "PRECOPY_VERSION is the version of tools/version.py: packaging/library.py gives it"
+#error "PRECOPY_VERSION is the version of python/precopy_tools/version.py: python/precopy_dev/packaging/library.py gives it"
 #endif
 
 const char *precopy_version(void) {

@@ -1,4 +1,4 @@
-//! Worked examples of each call, whose values were worked out by hand; those of checks/library_rows.c.
+//! Worked examples of each call, whose values were worked out by hand; those of checks/rows.c.
 
 use precopy::{
     status, Amounts, Errors, Finding, FramePlace, Question, Reason, Refused, Settings, Sizes, StreamCheck, Sums, Taken,

@@ -1,0 +1,1 @@
+"""Checks of the built programs from outside: checks/run NAME runs one."""

@@ -1,0 +1,152 @@
+"""Tries the tests: they pass on this code, and on a wrong body that only tests refuse exactly those fail that it names.
+
+    checks/run bodies [--list] [--seconds N] [WORD ...]
+
+A wrong body is a file crates/NAME/test-edits/*.edit: a must-fail edit (docs/EDITS.md) with lines 'tests: CRATE TEST
+..', which name the tests of one crate that fail on it. A test that does not end within N seconds, 40 if none are
+given, fails. WORD picks the bodies whose names contain it; if none is given, all are tried. Nothing is proved, and
+nothing in this folder changes: the tests run in a copy elsewhere. Each line is about the tests of a crate, or a body.
+The last line is 'N passed, M failed'; the status is 0 if something was tried and nothing failed.
+"""
+
+import argparse
+import re
+import shutil
+import subprocess
+import sys
+import tempfile
+
+from precopy_dev.edits.files import TESTED, TOP, BadEdit, files_in, read_edit, text_of
+
+SECONDS = 40
+# How many of its last lines are shown if the tests did not run.
+SHOWN = 12
+
+
+class Failure(Exception):
+    """Why a body or the tests of a crate count as failed."""
+
+
+def read_bodies(words):
+    """Returns the bodies whose names contain a word, or all if there is none, in order of their tests' crates."""
+    bodies = []
+    for crate, folder, name in files_in([TESTED]):
+        try:
+            bodies.append(read_edit(crate, folder, name))
+        except BadEdit as bad:
+            raise SystemExit(f"checks/bodies: crates/{crate}/{folder}/{name}: {bad}\n0 passed, 1 failed") from None
+    chosen = [body for body in bodies if not words or any(word in str(body) for word in words)]
+    return sorted(chosen, key=lambda body: (body.tested, str(body)))
+
+
+def copy_sources(room):
+    """Copies what the tests are compiled from."""
+    for name in ("crates.txt", "HANDLES"):
+        shutil.copy2(f"{TOP}/{name}", room)
+    skip = shutil.ignore_patterns("out", "must-fail", "more-edits", "test-edits")
+    shutil.copytree(f"{TOP}/crates", f"{room}/crates", ignore=skip)
+
+
+def run_tests(room, crate, seconds):
+    """Runs all tests of a crate unproved. Returns the names of those that passed, and of those that failed."""
+    words = ["rt", "try", "--test", "--seconds", str(seconds)]
+    pipes = {"stdout": subprocess.PIPE, "stderr": subprocess.STDOUT, "text": True, "errors": "replace"}
+    told = subprocess.run(words, cwd=f"{room}/crates/{crate}", **pipes).stdout
+    found = dict(re.findall(r"^test (\S+) \.\.\. (ok|FAILED)$", told, re.M))
+    counts = re.search(r"^test result: .*?(\d+) passed; (\d+) failed;", told, re.M)
+    if not counts or len(found) != int(counts[1]) + int(counts[2]):
+        raise Failure("\n    ".join(["the tests did not run:", *told.splitlines()[-SHOWN:]]))
+    passed = {name for name, ended in found.items() if ended == "ok"}
+    return passed, {*found} - passed
+
+
+def try_unchanged(room, crate, bodies, seconds):
+    """Wants all tests of a crate to pass on the code as it is, and each test that a body names to be one of them."""
+    passed, failed = run_tests(room, crate, seconds)
+    if failed:
+        raise Failure(f"fail without a wrong body: {' '.join(sorted(failed))}")
+    for body in bodies:
+        if body.tests - passed:
+            raise Failure(f"{body} names tests that are not there: {' '.join(sorted(body.tests - passed))}")
+    return f"all {len(passed)} tests pass"
+
+
+def write(room, texts):
+    for path, text in texts.items():
+        with open(f"{room}/{path}", "w", encoding="utf-8") as file:
+            file.write(text)
+
+
+def try_body(room, body, seconds):
+    """Puts a body in place, wants exactly the tests that it names to fail, and puts the code back."""
+    try:
+        wrong = body.put_in(room)
+    except BadEdit as bad:
+        raise Failure(str(bad)) from None
+    right = {path: text_of(room, path) for path in wrong}
+    try:
+        write(room, wrong)
+        passed, failed = run_tests(room, body.tested, seconds)
+    finally:
+        write(room, right)
+    if failed != body.tests:
+        told = [f"{name} passes" for name in sorted(body.tests & passed)]
+        told += [f"{name} fails too" for name in sorted(failed - body.tests)]
+        raise Failure(", ".join(told))
+    return f"fails {len(failed)} of {len(failed) + len(passed)} tests of {body.tested}, as it must"
+
+
+class Tally:
+    def __init__(self):
+        self.passed, self.failed = 0, 0
+
+    def add(self, name, work, *given):
+        """Does a piece of work, reports it, and counts it. Returns whether it passed."""
+        try:
+            told, good = work(*given), True
+        except Failure as failure:
+            told, good = str(failure), False
+        print(f"{'' if good else 'FAILED '}{name}: {told}", flush=True)
+        self.passed, self.failed = self.passed + good, self.failed + (not good)
+        return good
+
+
+def try_bodies(bodies, seconds):
+    """Tries the bodies, crate by crate of their tests, each crate first without any."""
+    tally = Tally()
+    with tempfile.TemporaryDirectory(prefix="bodies-") as room:
+        copy_sources(room)
+        for crate in sorted({body.tested for body in bodies}):
+            here = [body for body in bodies if body.tested == crate]
+            if not tally.add(crate, try_unchanged, room, crate, here, seconds):
+                tally.failed += len(here)
+                continue
+            for body in here:
+                tally.add(str(body), try_body, room, body, seconds)
+    return tally
+
+
+def arguments():
+    parser = argparse.ArgumentParser(description=__doc__.splitlines()[0])
+    parser.add_argument("--list", action="store_true", help="name the bodies and the tests that fail on them")
+    parser.add_argument("--seconds", type=int, default=SECONDS, help=f"how long a test may take; {SECONDS}")
+    parser.add_argument("word", nargs="*", help="a part of the name of a body")
+    return parser.parse_args()
+
+
+def main():
+    given = arguments()
+    bodies = read_bodies(given.word)
+    if given.list:
+        for body in bodies:
+            print(f"{body}: {body.tested}: {' '.join(sorted(body.tests))}")
+        return 0
+    if not shutil.which("rt"):
+        raise SystemExit("checks/bodies: the toolchain's command rt is not on the path\n0 passed, 1 failed")
+    tally = try_bodies(bodies, given.seconds)
+    print(f"{tally.passed} passed, {tally.failed} failed")
+    return 0 if tally.passed and not tally.failed else 1
+
+
+if __name__ == "__main__":
+    sys.exit(main())

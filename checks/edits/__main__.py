@@ -1,0 +1,245 @@
+"""Checks wrong bodies without a proof: each applies to these sources, and what it makes of them compiles.
+
+    checks/run edits [--text] [WORD ...]
+
+A wrong body is an edit of must-fail/, more-edits/ or test-edits/ of a crate (docs/EDITS.md). It is well formed, its
+name is the only one of its crate, each text that it replaces stands once in its file, and the file changes. must-fail/
+has the bodies that are listed here, and no others. WORD picks the bodies whose names, as collector/last_frame_wins,
+contain it. Edits of different lines are compiled together, and those near a refusal then one by one.
+Compiling is the toolchain's pass over types and borrows, with no proof; an edited definition is parsed.
+With --text nothing is compiled. It works in a copy elsewhere, and needs nothing that an earlier run built.
+It says how many bodies the prover refused as they stand, by the record that `dev/edits --record` keeps.
+The last line is 'N passed, M failed'; the status is 0 if something was tried and nothing failed.
+"""
+
+import argparse
+import os
+import re
+import shutil
+import subprocess
+import sys
+import tempfile
+
+from checks.lib.tally import Tally
+from precopy_dev.edits.files import PROVED, TESTED, TOP, BadEdit, files_in, read_edit, text_of
+
+# The bodies that the gate tries.
+NAMED = {
+    "collector": "accept_bytes_accepts_nothing last_frame_wins",
+    "dirty_core": "core_run_always_refuses step_changes_nothing",
+    "dirty_words": "close_drops_one_store close_gives_opening_back harvest_clears_and_answers_nothing "
+    "harvest_without_clearing invented_page invented_place mark_before_store one_lock_round_the_table "
+    "seats_answer_from_views",
+    "guest_log": "release_taken_for_a_write_of_no_bytes",
+    "live_engine": "base_ignored_all_marked base_image_with_later_stamps end_image_given_as_stop_image",
+    "live_tasks": "latest_bytes_under_old_place nothing_sent_live skipped_page_dropped",
+    "migration_jobs": "always_write_error image_writes_its_input report_in_part_then_memory",
+    "page_message": "zero_data_frame_accepted",
+    "round_planner": "end_tick_in_both_rounds skip_by_whole_round",
+    "stop_copy": "last_partial_word_left_out",
+    "trace_codec": "reader_decodes_what_came reader_ignored trailing_bytes_accepted",
+    "working_sets": "window_cut_counts_twice",
+}
+# What dev/edits noted of its tries.
+RECORD = "docs/edits-tried.tsv"
+KINDS = {"answer": "its answer", "limit": "a limit of its own", "names": "a name that went"}
+SECONDS = 600
+# The crate over all others that is compiled. The toolchain tells its use of a moved value last, after all that it finds
+# in the crates below. So nothing is proved, and a pass that tells this alone has accepted them.
+OVER = "over_all"
+LAST = "#![tactic(auto)]\n\npub struct Once;\n\npub fn twice(once: Once) -> (Once, Once) {\n    (once, once)\n}\n"
+TOLD = re.compile(r"^(\S+?):(\d+):\d+: error\[([\w-]+)\]: (.*)")
+
+
+def read_edits(tally):
+    """Returns the well formed edits, and counts those that are not."""
+    edits, names = [], set()
+    for crate, folder, name in files_in((*PROVED, TESTED)):
+        try:
+            edit = read_edit(crate, folder, name)
+            if str(edit) in names:
+                raise BadEdit("another folder of the crate has an edit of this name")
+            if folder == "must-fail" and edit.name not in NAMED.get(crate, "").split():
+                raise BadEdit("it is not listed in checks/edits")
+            edit.put_in(TOP)
+            names.add(str(edit))
+            edits.append(edit)
+        except BadEdit as bad:
+            tally.add(False, f"crates/{crate}/{folder}/{name}: {bad}")
+    there = {str(edit) for edit in edits if edit.folder == "must-fail"}
+    listed = {f"{crate}/{name}" for crate, names in NAMED.items() for name in names.split()}
+    for name in sorted(listed - there):
+        tally.add(False, f"{name}: must-fail/ has no such edit that applies")
+    return edits
+
+
+def dependencies():
+    """Returns the lines of crates.txt: each crate's libraries by its name."""
+    lines = [line.split("#")[0].partition(":") for line in text_of(TOP, "crates.txt").splitlines()]
+    return {head.split()[0]: below.split() for head, _, below in lines if head.strip()}
+
+
+def make_room(room):
+    """Copies the sources. Programs and libraries for C become libraries, so that one crate can stand on all."""
+    skip = shutil.ignore_patterns("out", "must-fail", "more-edits", "test-edits", "data")
+    shutil.copytree(f"{TOP}/crates", f"{room}/crates", ignore=skip)
+    shutil.copy2(f"{TOP}/HANDLES", room)
+    for name in os.listdir(f"{room}/crates"):
+        root = f"{room}/crates/{name}/src/main.rt"
+        if os.path.isfile(root):
+            with open(root, encoding="utf-8") as file:
+                text = re.sub(r"^fn main\(.*?^\}\n", "", file.read(), flags=re.M | re.S)
+            os.remove(root)
+            write(text, f"{room}/crates/{name}/src/lib.rt")
+    os.makedirs(f"{room}/crates/{OVER}/src")
+    write(LAST, f"{room}/crates/{OVER}/src/lib.rt")
+
+
+def write(text, path):
+    with open(path, "w", encoding="utf-8") as file:
+        file.write(text)
+
+
+class Compiler:
+    """A copy of the sources in which edits are compiled."""
+
+    def __init__(self, room):
+        self.room, self.below = room, dependencies()
+        make_room(room)
+
+    def told(self, words, crate):
+        ran = subprocess.run(
+            words,
+            cwd=f"{self.room}/crates/{crate}",
+            stdout=subprocess.PIPE,
+            stderr=subprocess.STDOUT,
+            text=True,
+            errors="replace",
+            timeout=SECONDS,
+        )
+        return ran.stdout
+
+    def errors(self, changes, edits):
+        """Returns what the toolchain tells of the edits' crates with changed lines in place: where it is, and words."""
+        crates = {edit.crate for edit in edits}
+        changed = {path for path, _ in changes}
+        was = {path: text_of(self.room, path) for path in changed}
+        names = [f"{name}: {' '.join(below)}" for name, below in self.below.items()]
+        write("\n".join([*names, f"{OVER}: {' '.join(sorted(crates))}", ""]), f"{self.room}/crates.txt")
+        try:
+            for path, text in was.items():
+                lines = text.split("\n")
+                for (changes_in, number), line in changes.items():
+                    if changes_in == path:
+                        lines[number] = line
+                write("\n".join(lines), f"{self.room}/{path}")
+            told = self.told(["rt", "check", "--only", ""], OVER)
+        finally:
+            for path, text in was.items():
+                write(text, f"{self.room}/{path}")
+        found = [it for it in map(TOLD.match, told.splitlines()) if it]
+        # Of the crate over all the toolchain gives paths in its folder, of others whole ones.
+        below = [(os.path.relpath(it[1], f"{self.room}/crates"), it) for it in found if os.path.isabs(it[1])]
+        if not found:
+            raise SystemExit(f"checks/edits: the toolchain compiled nothing, and said:\n{told}\n0 passed, 1 failed")
+        return [((f"crates/{path}", int(it[2]) - 1), f"{path}:{it[2]}: {it[4]}") for path, it in below]
+
+    def refused(self, edits):
+        """Returns the edits with which the toolchain refuses the sources, each with the first thing that it tells."""
+        changes = {place: line for edit in edits for place, line in edit.changed_lines(TOP).items()}
+        told = self.errors(changes, edits)
+        if not told or len(edits) == 1:
+            return {str(edit): told[0][1] for edit in edits if told}
+        # Most errors are told of the very line that an edit wrote.
+        places = {place for place, _ in told}
+        near = [edit for edit in edits if places & {*edit.changed_lines(TOP)}]
+        near = near or [edit for edit in edits if f"crates/{edit.crate}/" in " ".join(path for path, _ in places)] or edits
+        found = {}
+        for edit in near:
+            found.update(self.refused([edit]))
+        rest = [edit for edit in edits if edit not in near]
+        return {**found, **(self.refused(rest) if rest else {})}
+
+    def unparsed(self, edits):
+        """Returns those of these edits of definitions that do not parse, each with what the toolchain tells."""
+        found = {}
+        for edit in edits:
+            changes = edit.put_in(TOP)
+            for path, text in changes.items():
+                write(text, f"{self.room}/crates/{OVER}/src/{os.path.basename(path)}")
+            told = self.told(["rt", "fmt"], OVER)
+            if told.strip():
+                found[str(edit)] = told.strip().splitlines()[0]
+            for path in changes:
+                os.remove(f"{self.room}/crates/{OVER}/src/{os.path.basename(path)}")
+        return found
+
+
+def groups_of(edits):
+    """Returns the edits in few groups. Those of a group change different lines."""
+    groups = []
+    for edit in edits:
+        places = {*edit.changed_lines(TOP)}
+        group = next((it for it in groups if not places & it[0]), None)
+        if group is None:
+            group = (set(), [])
+            groups.append(group)
+        group[0].update(places)
+        group[1].append(edit)
+    return [group for _, group in groups]
+
+
+def compile_all(edits, tally):
+    """Compiles the edits group by group, and counts them."""
+    definitions = [edit for edit in edits if any(file.startswith("specs/") for file, *_ in edit.pairs)]
+    bodies = [edit for edit in edits if edit not in definitions]
+    with tempfile.TemporaryDirectory(prefix="edits-") as room:
+        compiler = Compiler(os.path.realpath(room))
+        tested = [edit for edit in bodies if edit.folder == TESTED]
+        groups = groups_of(tested) + groups_of([edit for edit in bodies if edit.folder != TESTED])
+        for number, group in enumerate(groups, 1):
+            refused = compiler.refused(group)
+            for edit in group:
+                tally.add(str(edit) not in refused, f"{edit} does not compile: {refused.get(str(edit))}")
+            print(f"group {number} of {len(groups)}: {len(group) - len(refused)} of {len(group)} compile", flush=True)
+        unparsed = compiler.unparsed(definitions)
+        for edit in definitions:
+            tally.add(str(edit) not in unparsed, f"{edit} does not parse: {unparsed.get(str(edit))}")
+
+
+def compare_record(edits, tally):
+    """Counts the lines of the record of tries, each of which has to be of an edit that was refused."""
+    names, current = {str(edit): edit for edit in edits if edit.folder != TESTED}, {}
+    for line in text_of(TOP, RECORD).splitlines():
+        name, digest, _, how, _ = line.split("\t")
+        tally.add(name in names and how in KINDS, f"{RECORD}: {name} is no edit here, or was not refused")
+        if name in names and names[name].digest() == digest:
+            current[how] = current.get(how, 0) + 1
+    shown = ", ".join(f"{count} by {KINDS[how]}" for how, count in sorted(current.items()) if how in KINDS)
+    print(f"of {len(names)} bodies the prover refused as they stand: {shown or 'none'}")
+
+
+def arguments():
+    parser = argparse.ArgumentParser(description=__doc__.splitlines()[0])
+    parser.add_argument("--text", action="store_true", help="compile nothing")
+    parser.add_argument("word", nargs="*", help="a part of the name of a body, as collector/last_frame_wins")
+    return parser.parse_args()
+
+
+def main():
+    given, tally = arguments(), Tally()
+    edits = read_edits(tally)
+    compare_record(edits, tally)
+    edits = [it for it in edits if not given.word or any(word in str(it) for word in given.word)]
+    if given.text:
+        tally.passed += len(edits)
+    elif not shutil.which("rt"):
+        raise SystemExit("checks/edits: the toolchain's command rt is not on the path\n0 passed, 1 failed")
+    else:
+        compile_all(edits, tally)
+    print(tally)
+    return 0 if tally.passed and not tally.failed else 1
+
+
+if __name__ == "__main__":
+    sys.exit(main())

@@ -1,0 +1,372 @@
+"""Makes traces from text, text from traces, and releases in traces: by tools/import, tools/export and tools/release.
+
+    checks/run importing [PROGRAM]
+
+PROGRAM is crates/precopy/out/precopy of this repository if none is given. tools/export and tools/release must refuse
+each damaged trace by the name that the program gives it. If valgrind is on the path, what its lackey reports about a
+process is imported too. The last line is 'N passed, M failed'; the status is 0 if something was tried and nothing
+failed.
+"""
+
+import glob
+import os
+import shutil
+import struct
+import subprocess
+import sys
+import tempfile
+import traceback
+
+from checks.lib.worked import header, record
+from precopy_dev.tree import TOP
+
+IMPORT, EXPORT, RELEASE = (os.path.join(TOP, "tools", name) for name in ("import", "export", "release"))
+SECONDS = 60
+
+A_TEXT = """\
+pages 4 size 16
+0 0 0 01
+5 1 15 02
+1200 1 0 03
+2500 3 2 0405
+2500 1 0 00
+"""
+
+C_TEXT = A_TEXT.replace("size 16", "size 16 version 2").replace("2500 1 0 00", "2500 1 release")
+
+LACKEY = """\
+==7== Lackey, an example Valgrind tool
+I  04001000,3
+ S 1ffeffffe8,8
+I  04001003,5
+ L 1ffeffffe8,8
+I  04001008,4
+ M 04222ffe,4
+
+I  0400100c,2
+ S 1ffeffff00,16
+"""
+# Tick, page, offset and length of its stores, if a tick is two instructions: the modify crosses the end of a page.
+LACKEY_STORES = [(0, 0, 0xFE8, 8), (1, 1, 0xFFE, 2), (1, 2, 0, 2), (2, 0, 0xF00, 16)]
+
+
+def expect(holds, told):
+    if not holds:
+        raise AssertionError(told)
+
+
+def run(command, text=b""):
+    if command[0] in (IMPORT, EXPORT, RELEASE):
+        command = [sys.executable, *command]
+    return subprocess.run(command, input=text, capture_output=True, timeout=SECONDS)
+
+
+def records_of(trace):
+    """The writes of a trace, taken apart here by docs/FORMATS.md."""
+    at, found = 16, []
+    while at < len(trace):
+        tick, page, offset, length = struct.unpack_from("<QIHH", trace, at)
+        found.append((tick, page, offset, trace[at + 16 : at + 16 + length]))
+        at += 16 + length
+    return found
+
+
+# ---- The cases. Each has an empty folder, and raises if something is wrong.
+
+
+def round_trips(_, folder):
+    paths = sorted(glob.glob(os.path.join(TOP, "examples", "**", "*.pcwt"), recursive=True))
+    expect(len(paths) >= 6, f"{len(paths)} examples")
+    for path in paths:
+        text, again = os.path.join(folder, "text"), os.path.join(folder, "again")
+        for command in ([EXPORT, path, text], [IMPORT, text, again]):
+            done = run(command)
+            expect(done.returncode == 0 and not done.stdout + done.stderr, f"{command}: {done}")
+        with open(path, "rb") as one, open(again, "rb") as other:
+            expect(one.read() == other.read(), f"{path} is another trace after export and import")
+        with open(path, "rb") as file:
+            trace = file.read()
+        through = run(["sh", "-c", '"$0" - - | "$1" - -', EXPORT, IMPORT], trace)
+        expect(through.stdout == trace, f"{path} is another trace after a pipe: {through.stderr!r}")
+
+
+def known_text(_, folder):
+    for name, text in (("a", A_TEXT), ("c", C_TEXT)):
+        done = run([EXPORT, os.path.join(TOP, "examples", f"{name}.pcwt"), "-"])
+        expect(done.stdout.decode() == text, done)
+
+
+def versions(_, folder):
+    """The version that a text says, and the one that it has by its lines. A release has 16 bytes."""
+    plain, release = b"0 2 0 ff\n", b"7 2 release\n"
+    written, released = record(0, 2, 0, b"\xff"), record(7, 2, 0, b"")
+    for text, trace in (
+        (plain, header(3, 1) + written),
+        (release, header(3, 1, version=2) + released),
+        (plain + release, header(3, 2, version=2) + written + released),
+        (b"pages 5 size 32 version 1\n" + plain, header(5, 1, 5) + written),
+        (b"pages 5 size 32 version 2\n" + plain, header(5, 1, 5, version=2) + written),
+        (b"pages 5 size 32\n" + plain + release, header(5, 2, 5, version=2) + written + released),
+        (b"pages 5 size 32 version 2\n", header(5, 0, 5, version=2)),
+    ):
+        done = run([IMPORT, "-", "-"], text)
+        expect(done.returncode == 0 and done.stdout == trace, f"{text!r} gives {done}")
+    first = run([IMPORT, "--first", "1", "-", "-"], plain + release)
+    expect(first.stdout == header(3, 1) + written, first)
+
+
+def releases(_, folder):
+    """tools/release: a page that is not written for a number of ticks, and no other, and no page twice."""
+    text = b"0 0 0 01\n5 1 0 02\n10 0 0 03\n21 2 0 04\n25 2 0 05\n40 1 0 06\n"
+    trace = run([IMPORT, "-", "-"], text).stdout
+    wanted = text.replace(b"21 2", b"15 1 release\n20 0 release\n21 2").replace(b"40 1", b"35 2 release\n40 1")
+    for made, due in ((trace, wanted), (run([IMPORT, "-", "-"], wanted).stdout, wanted)):
+        done = run([RELEASE, "--after", "10", "-", "-"], made)
+        expect(done.returncode == 0 and done.stdout == run([IMPORT, "-", "-"], due).stdout, done)
+    done = run([RELEASE, "--after", "100", "-", "-"], trace)
+    expect(done.returncode == 0 and done.stdout == trace, done)
+    gzip, released = (os.path.join(TOP, "examples", f"{name}.pcwt") for name in ("gzip", "released"))
+    done = run([RELEASE, "--after", "100", gzip, "-"])
+    with open(released, "rb") as file:
+        expect(done.stdout == file.read(), "examples/released.pcwt is not made of gzip.pcwt as examples/README.md says")
+
+
+def derived_shape(_, folder):
+    """Pages and their size without a line and options, with a line, and with options."""
+    for words, text, pages, shift in (
+        ([], "0 2 0 ff\n", 3, 4),
+        ([], "0 2 16 ff\n", 3, 5),
+        ([], "0 0 4000 " + "ab" * 96 + "\n", 1, 12),
+        ([], "", 1, 4),
+        ([], "# a remark\n\n  \npages 7 size 64\n0 2 0 ff\n", 7, 6),
+        (["--pages", "9", "--size", "4096"], "0 2 0 ff\n", 9, 12),
+        (["--pages", "9"], "pages 7 size 64\n0 2 0 ff\n", 9, 6),
+        (["--first", "1"], "0 2 0 ff\n0 5 0 ff\n", 3, 4),
+    ):
+        done = run([IMPORT, *words, "-", "-"], text.encode())
+        wanted = [] if not text else [(0, int(text.split("\n")[-2 - ("--first" in words)].split()[1]))]
+        expect(done.returncode == 0, done)
+        expect(done.stdout[:12] == header(pages, 0, shift)[:12], f"{text!r} gives {done.stdout[:16]!r}")
+        expect([write[:2] for write in records_of(done.stdout)] == wanted, f"{text!r} gives {done.stdout!r}")
+
+
+BAD_LINES = [
+    ("0 0 0\n", 1, "hexbytes"),
+    ("0 0 0 0\n", 1, "hexbytes"),
+    ("0 0 0 0g\n", 1, "hexbytes"),
+    ("0 0 0 00 00\n", 1, "hexbytes"),
+    ("0  0 0 00\n", 1, "hexbytes"),
+    ("-1 0 0 00\n", 1, "hexbytes"),
+    ("0 0 0 \n", 1, "hexbytes"),
+    ("0 0 0 00\t00\n", 1, "hexbytes"),
+    ("0 0 0 \u00b2\u00b2\n", 1, "hexbytes"),
+    ("\u0662 0 0 00\n", 1, "hexbytes"),
+    ("0 0 0 00\npages 4 size 16\n", 2, "hexbytes"),
+    ("0 0 0 00\n\n# so far\n1.5 0 0 00\n", 4, "hexbytes"),
+    ("5 0 0 00\n4 0 0 00\n", 2, "below 5"),
+    (f"0 0 0 00\n{1 << 40} 0 0 00\n", 2, "2^40"),
+    ("0 65536 0 00\n", 1, "page 65536"),
+    ("pages 2 size 16\n0 1 0 00\n0 2 0 00\n", 3, "page 2"),
+    ("pages 2 size 16\n0 1 15 0000\n", 2, "byte 17"),
+    ("0 0 4095 0000\n", 1, "byte 4097"),
+    ("pages 0 size 16\n", 1, "pages"),
+    ("pages 65537 size 16\n", 1, "pages"),
+    ("pages 1 size 24\n", 1, "power of two"),
+    ("pages 1 size 8192\n", 1, "power of two"),
+    ("pages 1 size 16\npages 1 size 16\n", 2, "hexbytes"),
+    ("pages 1 size 16 version 3\n", 1, "hexbytes"),
+    ("pages 1 size 16 version\n", 1, "hexbytes"),
+    ("pages 1 size 16 version 1\n0 0 release\n", 2, "version 1"),
+    ("0 0 0 release\n", 1, "hexbytes"),
+    ("0 release\n", 1, "hexbytes"),
+    ("0 x release\n", 1, "hexbytes"),
+    ("0 0 releases\n", 1, "hexbytes"),
+    ("5 0 0 00\n4 0 release\n", 2, "below 5"),
+    ("pages 2 size 16\n0 2 release\n", 2, "page 2"),
+]
+
+
+def bad_lines(_, folder):
+    for text, number, word in BAD_LINES:
+        expect_refused(folder, [IMPORT, "-"], text.encode(), f"import: line {number}: ", word)
+
+
+def expect_refused(folder, command, text, begin, word="", status=1):
+    """The command, followed by the name of a trace, is refused and leaves that file as it was."""
+    for before in (None, b"as it was"):
+        path = os.path.join(folder, "out")
+        if before is not None:
+            with open(path, "wb") as file:
+                file.write(before)
+        done = run([*command, path], text)
+        faults = done.stderr.decode()
+        expect(done.returncode == status and not done.stdout, f"{text[:80]!r}: {done}")
+        expect(faults.startswith(begin) and word in faults, f"{text[:80]!r}: {faults!r}")
+        expect(os.listdir(folder) == (["out"] if before else []), f"{text[:80]!r} leaves {os.listdir(folder)}")
+        if before:
+            with open(path, "rb") as file:
+                expect(file.read() == before, "the file that was there is another one")
+            os.unlink(path)
+
+
+def limits(_, folder):
+    """As many writes as a trace has pass, and one more is refused by its line; so with bytes."""
+    most = 1 << 20
+    done = run([IMPORT, "-", "-"], b"0 0 0 01\n" * most)
+    expect(done.returncode == 0 and len(done.stdout) == 16 + 17 * most, done.stderr)
+    more = run([IMPORT, "-", os.path.join(folder, "out")], b"0 0 0 01\n" * (most + 1))
+    expect(more.returncode == 1 and b"writes" in more.stderr, more)
+    expect(more.stderr.startswith(b"import: line %d: " % (most + 1)), more.stderr)
+    fits = ((1 << 28) - 16) // (16 + 4096)
+    line = b"0 0 0 " + b"ab" * 4096 + b"\n"
+    done = subprocess.Popen([IMPORT, "-", os.path.join(folder, "out")], stdin=subprocess.PIPE, stderr=subprocess.PIPE)
+    try:
+        for _ in range(fits + 1):
+            done.stdin.write(line)
+        done.stdin.close()
+    except BrokenPipeError:
+        pass
+    faults = done.stderr.read().decode()
+    expect(done.wait(SECONDS) == 1 and faults.startswith(f"import: line {fits + 1}: "), faults)
+    expect(not os.listdir(folder), f"left: {os.listdir(folder)}")
+
+
+DAMAGED = [
+    b"",
+    header(4, 0)[:15],
+    b"PCWX" + header(4, 0)[4:],
+    header(4, 0, version=0),
+    header(4, 0, version=3),
+    header(4, 0, 3),
+    header(4, 0, 13),
+    b"PCWT\x01\x04\x00\x01" + header(4, 0)[8:],
+    header(0, 0),
+    header(65537, 0),
+    header(4, (1 << 20) + 1),
+    header(4, 1),
+    header(4, 2) + record(0, 0, 0, b"\1") + record(0, 0, 0, b"\1")[:-1],
+    header(4, 2) + record(5, 0, 0, b"\1") + record(4, 0, 0, b"\1"),
+    header(4, 1) + record(1 << 40, 0, 0, b"\1"),
+    header(4, 1) + record(0, 4, 0, b"\1"),
+    header(4, 1) + record(0, 0, 0, b""),
+    header(4, 1, version=2) + record(0, 0, 1, b""),
+    header(4, 1, version=2) + record(0, 0, 17, b""),
+    header(4, 1, version=2) + record(0, 4, 0, b""),
+    header(4, 1, version=2) + record(0, 0, 0, b"")[:15],
+    header(4, 1, version=2) + record(0, 0, 0, b"") + b"\0",
+    header(4, 1) + record(0, 0, 15, b"\1\1"),
+    header(4, 1) + record(0, 0, 65535, b"\1"),
+    header(4, 1) + record(0, 0, 0, b"\1") + b"\0",
+    header(4, 2) + record(5, 9, 0, b"\1") + record(4, 9, 0, b""),
+    header(4, 1) + record(1 << 40, 9, 16, b"\1", 9),
+    bytes((1 << 28) + 1),
+]
+
+
+def damaged_traces(program, folder):
+    names = set()
+    for trace in DAMAGED:
+        told = run([program, "image"], trace)
+        expect(told.returncode == 1 and told.stderr.startswith(b"precopy: trace E"), told)
+        cause = told.stderr.decode().removeprefix("precopy: ")
+        expect_refused(folder, [EXPORT, "-"], trace, f"export: {cause}")
+        expect_refused(folder, [RELEASE, "--after", "10", "-"], trace, f"release: {cause}")
+        names.add(cause.split()[1])
+    expect(len(names) == 15, f"causes: {sorted(names)}")
+
+
+def bad_words(_, folder):
+    for command in (
+        [IMPORT, "--pages", "0", "-"],
+        [IMPORT, "--size", "17", "-"],
+        [IMPORT, "--lackey", "--size", "16", "-"],
+        [IMPORT, "--instructions", "4", "-"],
+        [IMPORT, "--lackey", "--instructions", "0", "-"],
+        [IMPORT, "--first", "0", "-"],
+        [EXPORT],
+        [RELEASE, "--after", "0", "-"],
+        [RELEASE, "-"],
+    ):
+        expect_refused(folder, command, b"", "usage: ", "error: ", 2)
+    expect_refused(folder, [IMPORT, os.path.join(folder, "none")], b"", "import: ", "No such file")
+    expect_refused(folder, [EXPORT, os.path.join(folder, "none")], b"", "export: ", "No such file")
+    expect_refused(folder, [RELEASE, "--after=1", os.path.join(folder, "none")], b"", "release: ", "No such file")
+
+
+def lackey(program, folder):
+    done = run([IMPORT, "--lackey", "--instructions", "2", "-", "-"], LACKEY.encode())
+    expect(done.returncode == 0 and done.stdout[:16] == header(3, 4, 12), done)
+    found = records_of(done.stdout)
+    expect([(*write[:3], len(write[3])) for write in found] == LACKEY_STORES, found)
+    expect(all(any(write[3]) for write in found), "a store's data are zero")
+    expect(len({write[3][:2] for write in found}) == len(found), "stores have the same data")
+    first = run([IMPORT, "--lackey", "--instructions", "2", "--first", "2", "-", "-"], LACKEY.encode())
+    expect(records_of(first.stdout) == found[:2] and first.stdout[:16] == header(2, 2, 12), first)
+    image = run([program, "image"], done.stdout)
+    expect(image.returncode == 0 and len(image.stdout) == 3 * 4096, image.stderr)
+
+
+def bad_lackey(_, folder):
+    begin = f"import: line {LACKEY.count(chr(10)) + 1}: "
+    bad = [" S 1ffeffffe8", " S xyz,8", " X 10,8", "I 10,3", "10,3", " S 10,0", " S ffffffffffffffff,2", "0 0 0 01"]
+    for line in bad:
+        expect_refused(folder, [IMPORT, "--lackey", "-"], (LACKEY + line + "\n" + LACKEY).encode(), begin)
+
+
+def real_lackey(program, folder):
+    log, trace = os.path.join(folder, "log"), os.path.join(folder, "true.pcwt")
+    run(["valgrind", "--tool=lackey", "--trace-mem=yes", f"--log-file={log}", "true"])
+    done = run([IMPORT, "--lackey", log, trace])
+    expect(done.returncode == 0, done.stderr)
+    with open(log, "rb") as lines:
+        stores = sum(line[:3] in (b" S ", b" M ") for line in lines)
+    with open(trace, "rb") as file:
+        text = file.read()
+    writes = struct.unpack_from("<I", text, 12)[0]
+    expect(1000 < stores <= writes <= stores + stores // 10, f"{writes} writes of {stores} stores")
+    for words in (["image"], ["report"]):
+        done = run([program, *words], text)
+        expect(done.returncode == 0, done.stderr)
+
+
+CASES = [
+    round_trips,
+    known_text,
+    versions,
+    releases,
+    derived_shape,
+    bad_lines,
+    limits,
+    damaged_traces,
+    bad_words,
+    lackey,
+    bad_lackey,
+    *([real_lackey] if shutil.which("valgrind") else []),
+]
+
+
+def main(words):
+    if len(words) > 1:
+        raise SystemExit("usage: checks/run importing [PROGRAM]")
+    program = os.path.abspath(words[0] if words else os.path.join(TOP, "crates", "precopy", "out", "precopy"))
+    if not os.access(program, os.X_OK):
+        print(f"checks/importing: there is no program {program}; ./precopy builds it\n0 passed, 1 failed")
+        return 1
+    failed = 0
+    for case in CASES:
+        with tempfile.TemporaryDirectory() as folder:
+            try:
+                case(program, folder)
+                print(f"{case.__name__}: passed", flush=True)
+            except Exception as wrong:
+                failed += 1
+                told = str(wrong) if isinstance(wrong, AssertionError) else traceback.format_exc()
+                print(f"{case.__name__}: FAILED {told}", flush=True)
+    if real_lackey not in CASES:
+        print("valgrind is not on the path: what it tells of a process was not imported")
+    print(f"{len(CASES) - failed} passed, {failed} failed")
+    return 1 if failed or not CASES else 0
+
+
+if __name__ == "__main__":
+    sys.exit(main(sys.argv[1:]))

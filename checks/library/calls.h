@@ -1,0 +1,138 @@
+/*
+ * The calls of the library for C, each over the inputs of a guest and three buffers, for checks/library/library.c.
+ */
+#include "fences.h"
+#include "precopy.h"
+
+#include <string.h>
+
+struct guest {
+    struct room trace, settings, cases, question, sizes, page, stream, streams, lengths, states;
+    uint64_t tick;
+    uint32_t stamp; /* the last version of page 0 */
+};
+
+/* What a call writes: its long buffer, what it reports, and the record for which it refuses a trace. */
+struct outputs {
+    struct room room, told, record;
+};
+
+typedef uint32_t call_of(const struct guest *guest, struct outputs *out);
+
+static uint32_t check_trace(const struct guest *g, struct outputs *out) {
+    return precopy_check_trace(g->trace.at, g->trace.length, (void *)out->told.at, (void *)out->record.at);
+}
+
+static uint32_t plan(const struct guest *g, struct outputs *out) {
+    return precopy_plan(g->trace.at, g->trace.length, (void *)g->settings.at, (void *)out->told.at,
+                        (void *)out->record.at);
+}
+
+static uint32_t rounds(const struct guest *g, struct outputs *out) {
+    return precopy_rounds(g->trace.at, g->trace.length, (void *)g->settings.at, (void *)out->room.at,
+                          out->room.length / sizeof(struct precopy_round), (void *)out->told.at,
+                          (void *)out->record.at);
+}
+
+static uint32_t report(const struct guest *g, struct outputs *out) {
+    return precopy_report(g->trace.at, g->trace.length, (void *)g->settings.at, out->room.at, out->room.length,
+                          (void *)out->told.at, (void *)out->record.at);
+}
+
+static uint32_t sweep(const struct guest *g, struct outputs *out) {
+    return precopy_sweep(g->trace.at, g->trace.length, (void *)g->cases.at,
+                         g->cases.length / sizeof(struct precopy_settings), (void *)out->room.at,
+                         out->room.length / sizeof(struct precopy_sums), (void *)out->told.at, (void *)out->record.at);
+}
+
+/* A prediction, and its standard errors behind it, whose last bytes are no part of any of them. */
+static uint32_t predict(const struct guest *g, struct outputs *out) {
+    uint8_t *errors = out->told.at + sizeof(struct precopy_prediction);
+    uint32_t status = precopy_predict(g->trace.at, g->trace.length, (void *)g->question.at, (void *)out->told.at,
+                                      (void *)errors, (void *)out->record.at);
+    if (status == PRECOPY_OK) {
+        size_t end = offsetof(struct precopy_errors, has_errors) + sizeof(uint32_t);
+        memset(errors + end, PATTERN, sizeof(struct precopy_errors) - end);
+    }
+    return status;
+}
+
+static uint32_t enough(const struct guest *g, struct outputs *out) {
+    return precopy_enough(g->trace.at, g->trace.length, (void *)g->question.at, (void *)out->told.at,
+                          (void *)out->record.at);
+}
+
+static uint32_t memory(const struct guest *g, struct outputs *out) {
+    return precopy_memory(g->trace.at, g->trace.length, out->room.at, out->room.length, (void *)out->told.at,
+                          (void *)out->record.at);
+}
+
+static uint32_t memory_before(const struct guest *g, struct outputs *out) {
+    return precopy_memory_before(g->trace.at, g->trace.length, g->tick, out->room.at, out->room.length,
+                                 (void *)out->told.at, (void *)out->record.at);
+}
+
+static uint32_t writes_before(const struct guest *g, struct outputs *out) {
+    return precopy_writes_before(g->trace.at, g->trace.length, g->tick, (void *)out->told.at, (void *)out->record.at);
+}
+
+static uint32_t memory_step(const struct guest *g, struct outputs *out) {
+    return precopy_memory_step(g->trace.at, g->trace.length, 0, UINT32_MAX, out->room.at, out->room.length,
+                               (void *)out->record.at);
+}
+
+static uint32_t version_after(const struct guest *g, struct outputs *out) {
+    return precopy_version_after(g->trace.at, g->trace.length, 0, UINT32_MAX, (void *)out->told.at,
+                                 (void *)out->record.at);
+}
+
+static uint32_t page_at(const struct guest *g, struct outputs *out) {
+    return precopy_page_at(g->trace.at, g->trace.length, 0, g->stamp, out->room.at, out->room.length,
+                           (void *)out->record.at);
+}
+
+static uint32_t page_writes(const struct guest *g, struct outputs *out) {
+    return precopy_page_writes(g->trace.at, g->trace.length, 0, (void *)out->room.at,
+                               out->room.length / sizeof(struct precopy_write), (void *)out->told.at,
+                               (void *)out->record.at);
+}
+
+static uint32_t check_streams(const struct guest *g, struct outputs *out) {
+    return precopy_check_streams(g->trace.at, g->trace.length, UINT32_MAX, g->streams.at, g->streams.length,
+                                 (void *)g->lengths.at, g->lengths.length / sizeof(size_t), (void *)out->told.at,
+                                 (void *)out->record.at);
+}
+
+/* The first stream of a guest in one piece. The states are what is told; if they stay zeros, they get their pattern back.
+ */
+static uint32_t check_piece(const struct guest *g, struct outputs *out) {
+    struct precopy_progress progress = {0, 0, 0, UINT32_MAX};
+    struct precopy_finding found;
+    size_t first = g->lengths.length ? *(const size_t *)(const void *)g->lengths.at : 0;
+    memset(out->told.at, 0, out->told.length);
+    uint32_t status = precopy_check_piece(g->trace.at, g->trace.length, g->streams.at, first, &progress,
+                                          (void *)out->told.at, out->told.length / sizeof(struct precopy_page), &found,
+                                          (void *)out->record.at);
+    if (status != PRECOPY_OK && precopy_is_zero(out->told.at, out->told.length)) {
+        memset(out->told.at, PATTERN, out->told.length);
+    }
+    return status;
+}
+
+/* The end of the streams, by the states that they leave. */
+static uint32_t check_pages(const struct guest *g, struct outputs *out) {
+    struct precopy_progress progress = {2, 0, 0, UINT32_MAX};
+    return precopy_check_pages(g->trace.at, g->trace.length, &progress, (void *)g->states.at,
+                               g->states.length / sizeof(struct precopy_page), (void *)out->told.at,
+                               (void *)out->record.at);
+}
+
+static uint32_t encode(const struct guest *g, struct outputs *out) {
+    return precopy_encode_frame((void *)g->sizes.at, 0, 0, g->page.at, g->page.length, out->room.at, out->room.length,
+                                (void *)out->told.at);
+}
+
+static uint32_t decode(const struct guest *g, struct outputs *out) {
+    return precopy_decode_frame((void *)g->sizes.at, g->stream.at, g->stream.length, (void *)out->told.at, out->room.at,
+                                out->room.length);
+}

@@ -1,0 +1,334 @@
+"""Cases of checks/library. The module precopy loads the library, so that is built before this is imported."""
+
+import os
+import random
+import re
+import shutil
+import sys
+
+import precopy
+from checks.lib import trace_bytes
+from checks.lib.library_runs import EXAMPLES, LIBRARY, is_done, program_says, read, run
+from checks.library import header, installs, places, python, rust, streams, traces
+from precopy_dev.tree import TOP
+from precopy_tools import version
+
+GENERATED = 500
+WARNINGS = ["-Wall", "-Wextra", "-pedantic", "-Werror"]
+SANITIZERS = ["-fsanitize=address,undefined", "-fno-sanitize-recover=all", "-g", "-O1"]
+
+
+# ---- The form of the library, and its header.
+
+
+def names_of(header):
+    """The functions that the header declares, and the numbers of its statuses."""
+    text = re.sub(r"/\*.*?\*/", "", header, flags=re.S)
+    numbers = {name: int(number) for name, number in re.findall(r"\b(PRECOPY_\w+) = (\d+)", text)}
+    return set(re.findall(r"\b(precopy_\w+)\(", text)), numbers
+
+
+def check_form(tally):
+    header = read("include/precopy.h", "r")
+    declared, numbers = names_of(header)
+    shared, archive = os.path.join(LIBRARY, "libprecopy.so.2"), os.path.join(LIBRARY, "libprecopy.a")
+    found = run("nm", "-D", "--defined-only", "-f", "posix", shared).stdout.decode().split("\n")
+    exported = {line.split()[0].split("@")[0] for line in found if line and " A " not in line}
+    tally.add(exported == declared, f"libprecopy.so.2 and the header differ in {sorted(exported ^ declared)}")
+    found = run("nm", "-g", "--defined-only", "-f", "posix", archive).stdout.decode().split("\n")
+    exported = {line.split()[0] for line in found if " T " in line or " D " in line or " R " in line}
+    tally.add(exported == declared, f"libprecopy.a and the header differ in {sorted(exported ^ declared)}")
+    told = run("readelf", "-d", shared).stdout.decode()
+    tally.add("[libprecopy.so.2]" in told and "TEXTREL" not in told, f"readelf -d tells\n{told}")
+    needed = set(re.findall(r"NEEDED.*\[(.*)\]", told))
+    tally.add(needed <= {"libc.so.6"}, f"libprecopy.so.2 needs {sorted(needed)}")
+    size = os.path.getsize(shared)
+    tally.add(size < 100 * 1024, f"libprecopy.so.2 has {size} bytes")
+    print(f"libprecopy.so.2 has {size} bytes, libprecopy.a {os.path.getsize(archive)}", flush=True)
+    # The contracts say the same numbers, but for two that no call answers: a failed read, and threads out of range.
+    names = ("Answers", "Places", "Predictions", "StreamChecks")
+    files = ["c_layout/specs/Refusals.antt", *(f"precopy_c/specs/{name}.antt" for name in names)]
+    specs = "".join(read(f"crates/{file}", "r") for file in files)
+    told = re.findall(r"^number_of\w* .* = (\d+)$", specs, re.M)
+    statuses = {number for name, number in numbers.items() if number and name not in REASONS}
+    tally.add({int(it) for it in told} - {17, 29} == statuses, f"the numbers of contracts and header differ: {told}")
+
+
+REASONS = {"PRECOPY_FEW", "PRECOPY_FAST", "PRECOPY_ALL_ROUNDS", "PRECOPY_YES", "PRECOPY_NO", "PRECOPY_UNKNOWN"}
+
+
+def check_header(tally, folder):
+    """The header by itself, as several standards of C and as C++, and the words for each status."""
+    for language, suffix, standards in (("c", "c", ["c99", "c11", "c17"]), ("c++", "cpp", ["c++11", "c++17"])):
+        path = os.path.join(folder, f"header.{suffix}")
+        with open(path, "w", encoding="utf-8") as file:
+            file.write('#include "precopy.h"\n' * 2 + "int main(void) { return precopy_version()[0] == 0; }\n")
+        for standard in standards:
+            words = ["-x", language, f"-std={standard}", *WARNINGS, f"-I{TOP}/include", "-fsyntax-only", path]
+            done = run("cc", *words)
+            tally.add(done.returncode == 0 and not done.stderr, f"precopy.h as {standard}: {done.stderr.decode()}")
+    tally.add(precopy.version() == version.VERSION, f"precopy_version tells {precopy.version()}")
+    numbers = names_of(read("include/precopy.h", "r"))[1]
+    told = precopy._LIBRARY.precopy_strerror
+    words = {number: told(number) for name, number in numbers.items() if name not in REASONS}
+    unknown = told(1234)
+    tally.add(len({*words.values(), unknown}) == len(words) + 1, f"statuses share words: {words}")
+
+
+# ---- Beside the program.
+
+
+def library_says(call, *words):
+    """What a call returns, or the line that the program writes for the refusal."""
+    try:
+        return call(*words)
+    except precopy.TraceRefused as refused:
+        name = str(refused).split(":")[0].replace("trace ", "")
+        try:
+            precopy.check_trace(words[0])
+        except precopy.TraceRefused as again:
+            record = f" record {again.record}" if again.record is not None else ""
+            return f"precopy: trace {name}{record}"
+        return f"precopy: trace {name}, and check_trace does not refuse it"
+
+
+def options_of(settings):
+    words = [f"--min={settings.min}", f"--max={settings.max}", f"--inc={settings.increment}"]
+    words += [f"--threshold={settings.threshold}", f"--rounds={settings.rounds}"]
+    words += [f"--window={settings.window}", f"--hot={settings.hot}"]
+    words += [f"--start={settings.start}", *(["--skip"] if settings.skip else [])]
+    return words + ([f"--base={settings.base}"] if settings.base is not None else [])
+
+
+def case_line(number, case, sums):
+    skip, word = int(case.skip), sums.reason.name.lower()
+    limits = f"min {case.min} max {case.max} inc {case.increment} threshold {case.threshold} limit {case.rounds}"
+    ends = f"rounds {sums.rounds} stop {word} at {sums.stop} down {sums.down} total {sums.total}"
+    return f"case {number} {limits} skip {skip} {ends}\n"
+
+
+def round_line(number, it):
+    sizes = f"pages {it.pages} sent {it.sent} dirtied {it.dirtied}"
+    return f"round {number} from {it.start} to {it.end} rate {it.rate} {sizes}\n"
+
+
+def compare(tally, program, trace, settings, name):
+    """One trace with some settings: report, image, sweep, rounds, memory before ticks."""
+    wanted = program_says(program, ["report", *options_of(settings)], trace)
+    found = library_says(precopy.report, trace, settings)
+    found = found.encode() if isinstance(found, str) and not found.startswith("precopy: ") else found
+    tally.add(found == wanted, f"{name}: report {found!r:.300}, and the program {wanted!r:.300}")
+    wanted = program_says(program, ["image"], trace)
+    found = library_says(precopy.memory, trace)
+    tally.add(found == wanted, f"{name}: memory {found!r:.100}, and the program {wanted!r:.100}")
+    if isinstance(wanted, str):
+        return
+    others = traces.cases_like(settings)
+    words = [f"{c.min},{c.max},{c.increment},{c.threshold},{c.rounds},{int(c.skip)}" for c in others]
+    base = [f"--base={settings.base}"] if settings.base is not None else []
+    wanted = program_says(program, ["sweep", *words, f"--start={settings.start}", *base], trace)
+    lines, best = precopy.sweep(trace, others)
+    found = "".join(case_line(i, *it) for i, it in enumerate(zip(others, lines))) + f"best {best}\n"
+    tally.add(found.encode() == wanted, f"{name}: sweep {found}, and the program {wanted!r}")
+    report, lines = precopy.report(trace, settings), precopy.rounds(trace, settings)
+    found = "".join(round_line(i, it) for i, it in enumerate(lines))
+    tally.add(found in report and len(lines) == report.count("\nround "), f"{name}: rounds {found}, report {report}")
+    sums = precopy.plan(trace, settings)
+    ends = f"stop {sums.reason.name.lower()} at {sums.stop} pages {lines[-1].dirtied}"
+    ends += f" down {sums.down} total {sums.total}"
+    tally.add(report.endswith(f"{ends}\n") and sums.rounds == len(lines), f"{name}: sums {sums}, report {report}")
+    if len(trace) < 4096:
+        for tick in (0, 1, sums.stop, settings.start):
+            found, wanted = precopy.memory_before(trace, tick), trace_bytes.memory_before(trace, tick)
+            tally.add(found == wanted, f"{name}: memory before tick {tick}")
+
+
+def check_beside(tally, program):
+    few = precopy.Settings(min=500, max=4000, threshold=10, window=1200, hot=3)
+    for path in EXAMPLES:
+        for settings in (precopy.Settings(), few, precopy.Settings(min=2, max=4, increment=1, threshold=1, rounds=8)):
+            compare(tally, program, read(path), settings, os.path.basename(path))
+    chosen = random.Random(50)
+    for number in range(GENERATED):
+        trace = trace_bytes.generated(chosen)
+        if number % 2:
+            trace = trace_bytes.damaged(chosen, trace)
+        compare(tally, program, trace, traces.settings(chosen), f"trace {number}")
+    # Where a plan stops the guest, a live run leaves what is written before that tick.
+    for path in EXAMPLES:
+        trace = read(path)
+        stop = precopy.plan(trace, few).stop
+        wanted = program_says(program, ["live", "--at-stop", *options_of(few)[:5]], trace)
+        tally.add(precopy.memory_before(trace, stop) == wanted, f"{path}: memory at the stop of a live run")
+
+
+def check_settings(tally, program):
+    """Each setting at both ends of its range and one beyond them."""
+    for name, low, high in traces.RANGES:
+        for value in {low, high, low - 1, high + 1} - {-1}:
+            settings = precopy.Settings(**{"min": 1, "max": 1_000_000, name: value})
+            try:
+                precopy.check_settings(settings)
+                found = ""
+            except precopy.SettingsRefused as refused:
+                found = f"precopy: {str(refused).split(':')[0]}"
+            wanted = program_says(program, ["report", *options_of(settings)], read(EXAMPLES[0]))
+            tally.add(found == (wanted if isinstance(wanted, str) else ""), f"{name} {value}: {found}, {wanted!r:.80}")
+
+
+# ---- Streams of frames.
+
+
+def check_streams(tally):
+    chosen = random.Random(51)
+    for number in range(60):
+        sizes, frames = traces.frames(chosen)
+        wanted = traces.joined(sizes, frames)
+        flat = precopy.FlatMemory(sizes)
+        sent = frames * chosen.randint(1, 3)
+        chosen.shuffle(sent)
+        texts = [precopy.encode_frame(sizes, *frame) for frame in sent]
+        tally.add(all(traces.frame_text(*it) == text for it, text in zip(sent, texts)), f"stream {number}: encodings")
+        pieces, text = [], b"".join(texts)
+        while text:
+            length = chosen.randint(1, 60)
+            pieces, text = [*pieces, text[:length]], text[length:]
+        rest = b""
+        for piece in pieces:
+            rest += piece
+            rest = rest[traces.taken_of(flat, rest) :]
+        tally.add(not rest and traces.state(flat) == wanted, f"stream {number}: shuffled, repeated, in pieces")
+        tally.add(flat.missing() == traces.first_missing(sizes, wanted), f"stream {number}: missing {flat.missing()}")
+    sizes, frames = traces.frames(chosen)
+    text = b"".join(traces.frame_text(*frame) for frame in frames)
+    ends = traces.ends_of(frames)
+    for cut in range(len(text) + 1):
+        flat = precopy.FlatMemory(sizes)
+        taken = traces.taken_of(flat, text[:cut])
+        good = taken == max(end for end in ends if end <= cut)
+        good = good and traces.taken_of(flat, text[taken:]) == len(text) - taken
+        tally.add(good and traces.state(flat) == traces.joined(sizes, frames), f"a stream cut at byte {cut}")
+    for number in range(300):
+        check_damage(tally, chosen, number)
+
+
+def check_damage(tally, chosen, number):
+    """A stream of which some bytes are others: the frames in front of the first that is none are taken."""
+    sizes, frames = traces.frames(chosen)
+    text = bytearray(b"".join(traces.frame_text(*frame) for frame in frames))
+    for _ in range(chosen.randint(1, 3)):
+        text[chosen.randrange(len(text))] = chosen.choice([0, 1, 2, 255])
+    whole, rest, cause = traces.decoded(sizes, bytes(text))
+    flat = precopy.FlatMemory(sizes)
+    try:
+        taken, found = flat.accept(bytes(text)), None
+    except precopy.FrameRefused as refused:
+        taken, found = refused.taken, str(refused).split(":")[0]
+    good = found == cause and (taken.frames, taken.bytes) == (len(whole), len(text) - len(rest))
+    tally.add(good and traces.state(flat) == traces.joined(sizes, whole), f"damage {number}: {found} {cause} {taken}")
+    if whole:
+        frame = precopy.decode_frame(sizes, bytes(text))
+        tally.add((frame.page, frame.stamp, frame.content) == whole[0], f"damage {number}: {frame}")
+
+
+# ---- Sanitizers.
+
+
+def check_rows(tally, folder):
+    """Worked examples of each function; null pointers with length 0, and the order of refusals."""
+    for name in ("rows", "edges"):
+        built, source = os.path.join(folder, name), f"checks/{name}.c"
+        words = ["-std=c99", *WARNINGS, *SANITIZERS, f"-I{TOP}/include", "-o", built, f"{TOP}/{source}"]
+        if is_done(tally, run("cc", *words, os.path.join(LIBRARY, "libprecopy.a")), f"{source} is compiled"):
+            count_in(tally, run(built), source)
+
+
+def count_in(tally, done, what):
+    """Adds the trials that a program counts in its last line."""
+    counts = re.search(rb"(\d+) passed, (\d+) failed\n$", done.stdout)
+    if is_done(tally, done, what) and tally.add(counts and int(counts[1]), f"{what}: nothing was tried"):
+        tally.passed += int(counts[1])
+
+
+def check_sanitized(tally, folder):
+    driver = os.path.join(folder, "library")
+    wrapped = [f"-Wl,--wrap={name}" for name in ("malloc", "realloc", "free")]
+    words = ["-std=c11", *WARNINGS, *SANITIZERS, f"-I{TOP}/include", "-o", driver, f"{TOP}/checks/library/library.c"]
+    done = run("cc", *words, os.path.join(LIBRARY, "libprecopy.a"), *wrapped, "-pthread")
+    if not is_done(tally, done, "checks/library/library.c is compiled with sanitizers"):
+        return
+    chosen = random.Random(52)
+    path = os.path.join(folder, "trace.pcwt")
+    for number in range(40):
+        if number < len(EXAMPLES):
+            shutil.copy(EXAMPLES[number], path)
+        else:
+            trace = trace_bytes.generated(chosen)
+            with open(path, "wb") as file:
+                file.write(trace_bytes.damaged(chosen, trace) if number % 4 == 0 else trace)
+        done = run(driver, path, str(chosen.choice([0, 5, 100, 2500])))
+        count_in(tally, done, f"checks/library/library.c, trace {number}")
+
+
+# ---- Examples and what the page on the library shows.
+
+
+def check_c(tally, folder, program):
+    for name in ("plan", "receiver"):
+        words = ["-std=c99", *WARNINGS, *SANITIZERS, f"-I{TOP}/include", "-o", os.path.join(folder, name)]
+        done = run("cc", *words, f"{TOP}/examples/c/{name}.c", os.path.join(LIBRARY, "libprecopy.a"))
+        if not is_done(tally, done, f"examples/c/{name}.c is compiled"):
+            return
+    for path in EXAMPLES:
+        trace = read(path)
+        wanted = program_says(program, ["report", "--min=500", "--max=4000", "--threshold=10"], trace)
+        done = run(os.path.join(folder, "plan"), "500", "4000", "10", input=trace)
+        good = done.stdout and wanted.endswith(done.stdout) and done.stdout.startswith(b"round 0 ")
+        tally.add(good, f"examples/c/plan.c of {path}: {done.stdout!r}, {done.stderr!r}")
+        rust.receive(tally, folder, path, trace)
+    done = run(os.path.join(folder, "plan"), "500", "4000", "10", input=b"none")
+    wanted = b"plan: trace E1: it has fewer than the 16 bytes of a header\n"
+    tally.add((done.returncode, done.stderr) == (1, wanted), f"plan.c: {done}")
+    done = run(os.path.join(folder, "plan"), "500", "4000", "10", input=read(EXAMPLES[0])[:-1])
+    tally.add(re.search(rb"trace E8: .*, record \d+\n$", done.stderr), f"plan.c: {done}")
+
+
+def check_page(tally, folder):
+    """The programs in C and Python of docs/LIBRARY.md, whose output is below them, and the migration with a bug."""
+    page = read("docs/LIBRARY.md", "r")
+    source = re.search(r"```c\n(.*?)```", page, re.S)[1]
+    with open(os.path.join(folder, "page.c"), "w", encoding="utf-8") as file:
+        file.write(source)
+    built, words = os.path.join(folder, "page"), ["-std=c99", *WARNINGS, f"-I{TOP}/include", f"{folder}/page.c"]
+    done = run("cc", *words, os.path.join(LIBRARY, "libprecopy.a"), "-o", built)
+    if is_done(tally, done, "the program of docs/LIBRARY.md is compiled"):
+        done = run(built, input=read("examples/gzip.pcwt"))
+        tally.add(done.stdout and done.stdout.decode() in page, f"docs/LIBRARY.md does not tell what it prints: {done}")
+    for block in re.findall(r"```python\n(.*?)```", page, re.S):
+        done = run(sys.executable, "-c", block, cwd=TOP)
+        shown = all(f"    {line}\n" in page for line in done.stdout.decode().splitlines())
+        tally.add(done.returncode == 0 and shown, f"docs/LIBRARY.md does not tell what this prints: {done}\n{block}")
+    bug = [sys.executable, f"{TOP}/examples/left_out.py", f"{TOP}/examples/gzip.pcwt"]
+    done = run(*bug)
+    tally.add(done.returncode == 1 and b"page" in done.stdout, f"examples/left_out.py finds nothing: {done}")
+    done = run(*bug, "--mended")
+    tally.add(done.returncode == 0 and b"equal" in done.stdout, f"examples/left_out.py --mended: {done}")
+
+
+def check(tally, folder, program):
+    """All of it, in a folder that is empty."""
+    check_form(tally)
+    check_header(tally, folder)
+    header.check(tally, folder)
+    check_settings(tally, program)
+    check_beside(tally, program)
+    check_streams(tally)
+    streams.check(tally)
+    places.check(tally)
+    check_rows(tally, folder)
+    check_sanitized(tally, folder)
+    check_c(tally, folder, program)
+    python.check(tally, folder)
+    rust.check(tally, folder, program)
+    check_page(tally, folder)
+    installs.check(tally, folder)

@@ -1,0 +1,190 @@
+/*
+ * Null pointers whose length is 0, and the order of refusals, in each function of the library for C that has them.
+ */
+#include "row.h"
+#include "precopy.h"
+
+#include <string.h>
+
+/* Pages of 16 bytes, 1 page, and a write of a byte at tick 7. */
+static const uint8_t trace[33] = {0x50, 0x43, 0x57, 0x54, 1, 4, 0, 0, 1, 0, 0, 0, 1, 0, 0, 0, 7,
+                                  0,    0,    0,    0,    0, 0, 0, 0, 0, 0, 0, 0, 0, 1, 0, 5};
+static const uint8_t page[16] = {5};
+/* The page at stamp 1. */
+static const uint8_t frame[25] = {0, 0, 0, 0, 1, 0, 0, 0, 1, 5};
+static const struct precopy_settings good = PRECOPY_SETTINGS_DEFAULT;
+static const struct precopy_settings bad = {sizeof bad, 1000, 5000, 500, 0, 30, 0, 1000, 2, 0, 0, 0};
+static const struct precopy_question asked = {sizeof asked, 16000, 0, 0, 0, 1000, 16, 1, 1, 0, 30, 0, 0, 0, 0, 0, 0};
+static const struct precopy_sizes sizes = {4, 1, 1}, no_sizes = {4, 0, 1};
+
+static uint32_t record = 9;
+
+/* The record of the last refusal, which is then forgotten. */
+static uint32_t forget(void) {
+    uint32_t told = record;
+    record = 9;
+    return told;
+}
+
+static void nulls_of_traces(void) {
+    struct precopy_sizes found;
+    struct precopy_sums sums;
+    struct precopy_prediction told;
+    struct precopy_errors errors;
+    struct precopy_amounts amounts;
+    uint32_t written;
+    size_t count = 9;
+    ROW(precopy_check_trace(NULL, 0, &found, &record) == PRECOPY_SHORT_HEADER);
+    ROW(precopy_plan(NULL, 0, &good, &sums, &record) == PRECOPY_SHORT_HEADER);
+    ROW(precopy_rounds(NULL, 0, &good, NULL, 0, &count, &record) == PRECOPY_SHORT_HEADER && count == 9);
+    ROW(precopy_rounds(trace, sizeof trace, &good, NULL, 0, &count, &record) == PRECOPY_SHORT_BUFFER && count == 1);
+    ROW(precopy_report(NULL, 0, &good, NULL, 0, &count, &record) == PRECOPY_SHORT_HEADER && count == 1);
+    ROW(precopy_report(trace, sizeof trace, &good, NULL, 0, &count, &record) == PRECOPY_SHORT_BUFFER && count > 100);
+    ROW(precopy_predict(NULL, 0, &asked, &told, &errors, &record) == PRECOPY_SHORT_HEADER);
+    ROW(precopy_enough(NULL, 0, &asked, &amounts, &record) == PRECOPY_SHORT_HEADER);
+    ROW(precopy_sweep(NULL, 0, NULL, 0, NULL, 0, &count, &record) == PRECOPY_SHORT_HEADER);
+    ROW(precopy_sweep(trace, sizeof trace, NULL, 0, NULL, 0, &count, &record) == PRECOPY_OK && count == 0);
+    ROW(precopy_sweep(trace, sizeof trace, &good, 1, NULL, 0, &count, &record) == PRECOPY_SHORT_BUFFER && count == 0);
+    ROW(precopy_sweep(trace, sizeof trace, NULL, 0, &sums, 1, &count, &record) == PRECOPY_OK && count == 0);
+    ROW(precopy_writes_before(NULL, 0, 1, &written, &record) == PRECOPY_SHORT_HEADER);
+    ROW(precopy_version_after(NULL, 0, 0, 1, &written, &record) == PRECOPY_SHORT_HEADER);
+    ROW(precopy_page_at(NULL, 0, 0, 1, NULL, 0, &record) == PRECOPY_SHORT_HEADER);
+    ROW(precopy_page_at(trace, sizeof trace, 0, 1, NULL, 0, &record) == PRECOPY_SHORT_BUFFER);
+    ROW(precopy_page_writes(NULL, 0, 0, NULL, 0, &count, &record) == PRECOPY_SHORT_HEADER && count == 0);
+    ROW(precopy_page_writes(trace, sizeof trace, 0, NULL, 0, &count, &record) == PRECOPY_SHORT_BUFFER && count == 1);
+    ROW(precopy_memory_step(NULL, 0, 0, 1, NULL, 0, &record) == PRECOPY_SHORT_HEADER);
+    ROW(precopy_memory_step(trace, sizeof trace, 0, 1, NULL, 0, &record) == PRECOPY_MEMORY_LENGTH);
+    count = 0;
+    ROW(precopy_memory(NULL, 0, NULL, 0, &count, &record) == PRECOPY_SHORT_HEADER && count == 0);
+    ROW(precopy_memory(trace, sizeof trace, NULL, 0, &count, &record) == PRECOPY_SHORT_BUFFER && count == 16);
+    ROW(precopy_memory_before(NULL, 0, 8, NULL, 0, &count, &record) == PRECOPY_SHORT_HEADER && count == 16);
+    ROW(precopy_memory_before(trace, sizeof trace, 8, NULL, 0, &count, &record) == PRECOPY_SHORT_BUFFER && count == 16);
+}
+
+static void nulls_of_frames(void) {
+    struct precopy_frame head;
+    struct precopy_taken taken = {9, 9};
+    struct precopy_page state = {0, 0};
+    struct precopy_finding found = {9, 9, 9, 9, 9, 9, 9, 9};
+    struct precopy_progress progress = {0, 0, 0, 1};
+    struct precopy_page states[2] = {{0, 0}, {0, 0}};
+    uint8_t memory[16] = {0};
+    size_t needed = 9;
+    ROW(precopy_encode_frame(&sizes, 0, 1, NULL, 0, NULL, 0, &needed) == PRECOPY_PAGE_LENGTH && needed == 9);
+    ROW(precopy_encode_frame(&sizes, 0, 1, page, 16, NULL, 0, &needed) == PRECOPY_SHORT_BUFFER && needed == 25);
+    ROW(precopy_decode_frame(&sizes, NULL, 0, &head, NULL, 0) == PRECOPY_FRAME_SHORT);
+    ROW(precopy_decode_frame(&sizes, frame, 25, &head, NULL, 0) == PRECOPY_SHORT_BUFFER);
+    ROW(precopy_accept(&sizes, NULL, 0, NULL, 0, NULL, 0, &taken) == PRECOPY_MEMORY_LENGTH && taken.frames == 9);
+    ROW(precopy_accept(&sizes, NULL, 0, memory, 16, NULL, 0, &taken) == PRECOPY_PAGE_COUNT && taken.frames == 9);
+    ROW(precopy_accept(&sizes, NULL, 0, memory, 16, &state, 1, &taken) == PRECOPY_OK && taken.frames == 0);
+    ROW(precopy_check_streams(NULL, 0, 1, NULL, 0, NULL, 0, &found, &record) == PRECOPY_SHORT_HEADER
+        && found.offset == 9);
+    ROW(precopy_check_streams(trace, sizeof trace, 1, NULL, 0, NULL, 0, &found, &record) == PRECOPY_PAGE_MISSING);
+    ROW(found.missing == 1 && found.tick == 7);
+    ROW(precopy_check_piece(NULL, 0, NULL, 0, &progress, NULL, 0, &found, &record) == PRECOPY_SHORT_HEADER);
+    ROW(precopy_check_piece(trace, sizeof trace, NULL, 0, &progress, NULL, 0, &found, &record) == PRECOPY_PAGE_COUNT);
+    ROW(precopy_check_piece(trace, sizeof trace, NULL, 0, &progress, states, 2, &found, &record) == PRECOPY_OK);
+    ROW(precopy_check_piece(trace, 20, NULL, 0, &progress, states, 1, &found, &record) == PRECOPY_SHORT_RECORD
+        && forget() == 0);
+    ROW(precopy_check_pages(trace, 20, &progress, states, 1, &found, &record) == PRECOPY_SHORT_RECORD
+        && forget() == 0);
+    ROW(precopy_check_pages(NULL, 0, &progress, NULL, 0, &found, &record) == PRECOPY_SHORT_HEADER);
+    ROW(precopy_check_pages(trace, sizeof trace, &progress, NULL, 0, &found, &record) == PRECOPY_PAGE_COUNT);
+    ROW(precopy_missing(NULL, 0, &needed) == PRECOPY_OK && needed == 25);
+    ROW(precopy_is_zero(NULL, 0));
+}
+
+static void order_of_traces(void) {
+    static const struct precopy_settings cases[2] = {PRECOPY_SETTINGS_DEFAULT, {.size = sizeof good}};
+    struct precopy_sums sums[2];
+    size_t count;
+    ROW(precopy_plan(trace, 5, &bad, sums, &record) == PRECOPY_BAD_THRESHOLD);
+    ROW(precopy_rounds(trace, 5, &bad, NULL, 0, &count, &record) == PRECOPY_BAD_THRESHOLD);
+    ROW(precopy_rounds(trace, 32, &good, NULL, 0, &count, &record) == PRECOPY_SHORT_RECORD && forget() == 0);
+    ROW(precopy_report(trace, 5, &bad, NULL, 0, &count, &record) == PRECOPY_BAD_THRESHOLD);
+    ROW(precopy_report(trace, 32, &good, NULL, 0, &count, &record) == PRECOPY_SHORT_RECORD && forget() == 0);
+    ROW(precopy_sweep(trace, 5, cases, 2, sums, 1, &count, &record) == PRECOPY_SHORT_BUFFER);
+    ROW(precopy_sweep(trace, 5, cases, 2, sums, 2, &count, &record) == PRECOPY_BAD_MIN);
+    ROW(precopy_sweep(trace, 5, cases, 1, sums, 2, &count, &record) == PRECOPY_SHORT_HEADER);
+    ROW(precopy_memory(trace, 32, NULL, 0, &count, &record) == PRECOPY_SHORT_RECORD && forget() == 0);
+    ROW(precopy_memory_before(trace, 32, 8, NULL, 0, &count, &record) == PRECOPY_SHORT_RECORD && forget() == 0);
+}
+
+static void order_of_questions(void) {
+    struct precopy_question other = asked;
+    struct precopy_prediction told;
+    struct precopy_errors errors;
+    ROW(precopy_predict(trace, sizeof trace, &asked, &told, &errors, &record) == PRECOPY_OK && told.left == 0);
+    other.size = 0, other.tick = 0;
+    ROW(precopy_predict(trace, 5, &other, &told, &errors, &record) == PRECOPY_BAD_SIZE);
+    other.size = sizeof other;
+    ROW(precopy_predict(trace, 5, &other, &told, &errors, &record) == PRECOPY_BAD_TICK);
+    other = asked, other.page = 32, other.link = 32000;
+    ROW(precopy_predict(trace, 32, &other, &told, &errors, &record) == PRECOPY_SHORT_RECORD && forget() == 0);
+    ROW(precopy_predict(trace, sizeof trace, &other, &told, &errors, &record) == PRECOPY_OTHER_PAGES);
+}
+
+static void order_of_amounts(void) {
+    struct precopy_question other = asked;
+    struct precopy_amounts amounts;
+    ROW(precopy_enough(trace, sizeof trace, &asked, &amounts, &record) == PRECOPY_OK && amounts.has_speed == 0);
+    other.size = 0, other.tick = 0;
+    ROW(precopy_enough(trace, 5, &other, &amounts, &record) == PRECOPY_BAD_SIZE);
+    other.size = sizeof other;
+    ROW(precopy_enough(trace, 5, &other, &amounts, &record) == PRECOPY_BAD_TICK);
+    other = asked, other.page = 32, other.link = 32000;
+    ROW(precopy_enough(trace, 32, &other, &amounts, &record) == PRECOPY_SHORT_RECORD && forget() == 0);
+    ROW(precopy_enough(trace, sizeof trace, &other, &amounts, &record) == PRECOPY_OTHER_PAGES);
+}
+
+static void order_of_places(void) {
+    struct precopy_write writes[1];
+    uint32_t version;
+    size_t count;
+    ROW(precopy_version_after(trace, 32, 1, 1, &version, &record) == PRECOPY_SHORT_RECORD && forget() == 0);
+    ROW(precopy_page_at(trace, 32, 1, 2, NULL, 0, &record) == PRECOPY_SHORT_RECORD && forget() == 0);
+    ROW(precopy_page_at(trace, sizeof trace, 1, 2, NULL, 0, &record) == PRECOPY_NO_PAGE);
+    ROW(precopy_page_at(trace, sizeof trace, 0, 2, NULL, 0, &record) == PRECOPY_NO_VERSION);
+    ROW(precopy_page_writes(trace, 32, 1, writes, 0, &count, &record) == PRECOPY_SHORT_RECORD && forget() == 0);
+    ROW(precopy_page_writes(trace, sizeof trace, 1, writes, 0, &count, &record) == PRECOPY_NO_PAGE);
+    ROW(precopy_memory_step(trace, 32, 2, 1, NULL, 0, &record) == PRECOPY_BACKWARDS);
+    ROW(precopy_memory_step(trace, 32, 1, 2, NULL, 0, &record) == PRECOPY_SHORT_RECORD && forget() == 0);
+}
+
+static void order_of_frames(void) {
+    static const size_t whole[] = {25};
+    struct precopy_finding found = {9, 9, 9, 9, 9, 9, 9, 9};
+    struct precopy_frame head;
+    struct precopy_taken taken;
+    struct precopy_page states[2] = {{0, 0}, {0, 0}};
+    uint8_t memory[17] = {0};
+    size_t needed;
+    ROW(precopy_encode_frame(&no_sizes, 1, 2, page, 15, NULL, 0, &needed) == PRECOPY_BAD_PAGES);
+    ROW(precopy_encode_frame(&sizes, 1, 2, page, 15, NULL, 0, &needed) == PRECOPY_FRAME_PAGE);
+    ROW(precopy_encode_frame(&sizes, 0, 2, page, 15, NULL, 0, &needed) == PRECOPY_FRAME_STAMP);
+    ROW(precopy_encode_frame(&sizes, 0, 1, page, 15, NULL, 0, &needed) == PRECOPY_PAGE_LENGTH);
+    ROW(precopy_decode_frame(&no_sizes, frame, 24, &head, NULL, 0) == PRECOPY_BAD_PAGES);
+    ROW(precopy_decode_frame(&sizes, frame, 24, &head, NULL, 0) == PRECOPY_FRAME_SHORT);
+    ROW(precopy_check_streams(trace, 5, 1, frame, 24, whole, 1, &found, &record) == PRECOPY_STREAM_SIZES
+        && found.page == 9);
+    ROW(precopy_check_streams(trace, 32, 1, frame, 25, whole, 1, &found, &record) == PRECOPY_SHORT_RECORD
+        && forget() == 0 && found.page == 9);
+    ROW(precopy_check_streams(trace, sizeof trace, 1, frame, 25, whole, 1, &found, &record) == PRECOPY_OK
+        && found.page == 9);
+    ROW(precopy_accept(&no_sizes, frame, 24, memory, 17, states, 2, &taken) == PRECOPY_BAD_PAGES);
+    ROW(precopy_accept(&sizes, frame, 24, memory, 17, states, 2, &taken) == PRECOPY_MEMORY_LENGTH);
+    ROW(precopy_accept(&sizes, frame, 24, memory, 16, states, 2, &taken) == PRECOPY_PAGE_COUNT);
+    ROW(precopy_accept(&sizes, frame, 24, memory, 16, states, 1, &taken) == PRECOPY_FRAME_SHORT);
+}
+
+int main(void) {
+    nulls_of_traces();
+    nulls_of_frames();
+    order_of_traces();
+    order_of_questions();
+    order_of_amounts();
+    order_of_places();
+    order_of_frames();
+    printf("%d passed, %d failed\n", passed, failed);
+    return failed != 0;
+}

@@ -1,0 +1,434 @@
+/*
+ * Calls the library for C over one trace, for checks/library, from which it is compiled with the sanitizers.
+ *
+ *     library TRACE TICK
+ *
+ * Each input lies in memory that cannot be written. Each buffer ends where memory ends, so that one byte read or
+ * written after it stops the program, and has bytes of one pattern in front. malloc and realloc are wrapped: one of
+ * them can be refused, and what is not given back is counted. It prints what is wrong, and at last how many trials
+ * there were.
+ */
+#define _GNU_SOURCE
+#include "calls.h"
+
+#include <pthread.h>
+#include <stdatomic.h>
+#include <stdio.h>
+#include <stdlib.h>
+#include <string.h>
+
+#define THREADS 8
+#define TURNS 20
+#define MOST_MEMORY ((size_t)1 << 22)
+#define MOST_CUTS 400
+
+static int passed, failed;
+
+static void expect(int holds, const char *what, const char *detail) {
+    if (holds) {
+        passed++;
+    } else {
+        failed++;
+        printf("FAILED %s: %s\n", what, detail);
+    }
+}
+
+/* ---- allocations */
+
+static _Atomic long asked, live;
+static _Atomic long refused_at; /* the number of the request that is refused; 0 for none */
+
+void *__real_malloc(size_t size);
+void *__real_realloc(void *old, size_t size);
+void __real_free(void *old);
+
+static int is_refused(void) {
+    return atomic_fetch_add(&asked, 1) + 1 == atomic_load(&refused_at);
+}
+
+void *__wrap_malloc(size_t size) {
+    void *made = is_refused() ? NULL : __real_malloc(size);
+    if (made) {
+        atomic_fetch_add(&live, 1);
+    }
+    return made;
+}
+
+void *__wrap_realloc(void *old, size_t size) {
+    void *made = is_refused() ? NULL : __real_realloc(old, size);
+    if (made && !old) {
+        atomic_fetch_add(&live, 1);
+    }
+    return made;
+}
+
+void __wrap_free(void *old) {
+    if (old) {
+        atomic_fetch_sub(&live, 1);
+    }
+    __real_free(old);
+}
+
+/* ---- trials of the calls */
+
+/* Each call that writes through a buffer or allocates: its name, the lengths that it writes, and how long an element of
+ * its buffer is. */
+struct trial {
+    const char *name;
+    call_of *call;
+    size_t room, told, element;
+};
+
+static struct outputs outputs_of(size_t room, size_t told) {
+    struct outputs out = {fenced(room), fenced(told), fenced(sizeof(uint32_t))};
+    return out;
+}
+
+static void drop_outputs(struct outputs *out) {
+    drop(&out->room);
+    drop(&out->told);
+    drop(&out->record);
+}
+
+/* Refuses one request for memory after the other, until none is left. */
+static void try_refusals(const struct guest *guest, const struct trial *trial) {
+    for (long number = 1;; number++) {
+        struct outputs out = outputs_of(trial->room, trial->told);
+        atomic_store(&asked, 0);
+        atomic_store(&refused_at, number);
+        uint32_t status = trial->call(guest, &out);
+        int came = atomic_load(&asked) >= number;
+        atomic_store(&refused_at, 0);
+        expect(atomic_load(&live) == 0, trial->name, "memory is not given back");
+        expect(is_untouched(&out.record, 0), trial->name, "a record of a trace that is not refused");
+        if (came) {
+            expect(status == PRECOPY_NO_MEMORY, trial->name, "a refused request for memory is not told");
+            expect(is_untouched(&out.room, 0) && is_untouched(&out.told, 0), trial->name, "it writes without memory");
+        } else {
+            expect(status == PRECOPY_OK && is_untouched(&out.room, out.room.length), trial->name, "it refuses");
+        }
+        drop_outputs(&out);
+        if (!came) {
+            return;
+        }
+    }
+}
+
+/* Buffers of no length, one element too short, and longer than needed. */
+static void try_lengths(const struct guest *guest, const struct trial *trial) {
+    if (!trial->room) {
+        return;
+    }
+    size_t lengths[] = {0, trial->room - trial->element};
+    for (int i = 0; i < 2; i++) {
+        struct outputs out = outputs_of(lengths[i], trial->told);
+        uint32_t status = trial->call(guest, &out);
+        expect(status == PRECOPY_SHORT_BUFFER && is_untouched(&out.room, 0), trial->name, "of a short buffer");
+        size_t needed = 0;
+        int tells = trial->call != decode && trial->call != sweep && trial->call != page_at;
+        if (tells) {
+            memcpy(&needed, out.told.at, sizeof needed);
+        }
+        expect(!tells || needed * trial->element == trial->room, trial->name, "the length that is needed");
+        expect(tells || is_untouched(&out.told, 0), trial->name, "what is told of a short buffer");
+        drop_outputs(&out);
+    }
+    struct outputs out = outputs_of(trial->room + 4 * trial->element, trial->told);
+    uint32_t status = trial->call(guest, &out);
+    expect(status == PRECOPY_OK && is_untouched(&out.room, trial->room), trial->name, "of a long buffer");
+    drop_outputs(&out);
+}
+
+/* ---- threads */
+
+struct turn {
+    const struct guest *guest;
+    const struct trial *trial;
+    struct outputs whole; /* what one thread wrote on its own */
+    _Atomic int differing;
+};
+
+static void *take_turns(void *words) {
+    struct turn *turn = words;
+    for (int i = 0; i < TURNS; i++) {
+        struct outputs out = outputs_of(turn->trial->room, turn->trial->told);
+        uint32_t status = turn->trial->call(turn->guest, &out);
+        int same = !memcmp(out.room.at, turn->whole.room.at, out.room.length)
+                   && !memcmp(out.told.at, turn->whole.told.at, out.told.length);
+        if (status != PRECOPY_OK || !same) {
+            atomic_fetch_add(&turn->differing, 1);
+        }
+        drop_outputs(&out);
+    }
+    return NULL;
+}
+
+/* All calls at once, each of them by as many threads. */
+static void try_threads(const struct guest *guest, const struct trial *trials, size_t count) {
+    pthread_t threads[THREADS];
+    struct turn turns[THREADS];
+    for (size_t first = 0; first < count; first++) {
+        for (int i = 0; i < THREADS; i++) {
+            const struct trial *trial = &trials[(first + (size_t)i / 2) % count];
+            turns[i] = (struct turn){guest, trial, outputs_of(trial->room, trial->told), 0};
+            trial->call(guest, &turns[i].whole);
+        }
+        for (int i = 0; i < THREADS; i++) {
+            if (pthread_create(&threads[i], NULL, take_turns, &turns[i])) {
+                exit(3);
+            }
+        }
+        for (int i = 0; i < THREADS; i++) {
+            pthread_join(threads[i], NULL);
+            expect(!turns[i].differing, turns[i].trial->name, "beside other threads it writes something else");
+            drop_outputs(&turns[i].whole);
+        }
+    }
+    expect(atomic_load(&live) == 0, "threads", "memory is not given back");
+}
+
+/* ---- streams */
+
+/* Appends the frames of some memory, all at one stamp. Returns how long the stream is then. */
+static size_t append_frames(uint8_t *stream, size_t length, const struct precopy_sizes *sizes, const uint8_t *bytes,
+                            uint32_t stamp) {
+    size_t size = (size_t)1 << sizes->shift;
+    for (uint32_t page = 0; page < sizes->pages; page++) {
+        size_t needed = 0;
+        uint32_t status = precopy_encode_frame(sizes, page, stamp, bytes + page * size, size, stream + length,
+                                               size + 9, &needed);
+        expect(status == PRECOPY_OK, "encode_frame", "of a page");
+        length += needed;
+    }
+    return length;
+}
+
+/* Notes the place of the last write to each page of a trace. */
+static void last_places(const struct room *trace, uint32_t writes, uint32_t *places) {
+    size_t at = 16;
+    for (uint32_t place = 1; place <= writes; place++) {
+        uint32_t page;
+        memcpy(&page, trace->at + at + 8, sizeof page);
+        places[page] = place;
+        at += 16 + trace->at[at + 14] + ((size_t)trace->at[at + 15] << 8);
+    }
+}
+
+/* Makes two streams of a guest's last memory, in which all is right, and the states that they leave. */
+static void make_streams(struct guest *guest, const struct precopy_sizes *sizes, const uint8_t *whole) {
+    size_t size = (size_t)1 << sizes->shift, lengths[2] = {0, 0}, length = 0;
+    uint8_t *stream = __real_malloc(sizes->pages * (size + 9));
+    uint32_t *places = __real_malloc(sizes->pages * sizeof *places);
+    memset(places, 0, sizes->pages * sizeof *places);
+    last_places(&guest->trace, sizes->writes, places);
+    for (uint32_t page = 0; page < sizes->pages; page++) {
+        size_t needed = 0;
+        uint32_t status = precopy_encode_frame(sizes, page, places[page], whole + page * size, size, stream + length,
+                                               size + 9, &needed);
+        expect(status == PRECOPY_OK, "encode_frame", "of a page of a stream");
+        lengths[page > sizes->pages / 2] += needed;
+        length += needed;
+    }
+    struct precopy_page *states = __real_malloc(2 * sizes->pages * sizeof *states);
+    for (uint32_t page = 0; page < sizes->pages; page++) {
+        states[page] = (struct precopy_page){0, 0};
+        states[sizes->pages + page] = (struct precopy_page){1, places[page]};
+    }
+    guest->states = input_of(states, 2 * sizes->pages * sizeof *states);
+    __real_free(states);
+    guest->streams = input_of(stream, length);
+    guest->lengths = input_of(lengths, sizeof lengths);
+    guest->stamp = places[0];
+    __real_free(stream);
+    __real_free(places);
+}
+
+/* Takes a stream that is cut at a place, from two inputs that end there, into flat memory with a fence. */
+static void take_cut(const struct precopy_sizes *sizes, const uint8_t *stream, size_t length, size_t cut,
+                     const uint8_t *whole) {
+    size_t bytes = (size_t)sizes->pages << sizes->shift;
+    struct room flat = fenced(bytes), states = fenced(sizes->pages * sizeof(struct precopy_page));
+    struct precopy_page *pages = (struct precopy_page *)states.at;
+    memset(flat.at, 0, flat.length);
+    memset(states.at, 0, states.length);
+    struct precopy_taken taken = {0, 0};
+    struct room piece = input_of(stream, cut);
+    uint32_t status = precopy_accept(sizes, piece.at, cut, flat.at, bytes, pages, sizes->pages, &taken);
+    int good = taken.bytes <= cut && status == (taken.bytes < cut ? PRECOPY_FRAME_SHORT : PRECOPY_OK);
+    expect(good, "accept", "of the front of a stream");
+    drop(&piece);
+    piece = input_of(stream + taken.bytes, length - taken.bytes);
+    status = precopy_accept(sizes, piece.at, piece.length, flat.at, bytes, pages, sizes->pages, &taken);
+    expect(status == PRECOPY_OK && !memcmp(flat.at, whole, bytes), "accept", "of a stream in two pieces");
+    size_t missing;
+    expect(precopy_missing(pages, sizes->pages, &missing) == PRECOPY_OK, "missing", "of a whole stream");
+    expect(is_untouched(&flat, bytes) && is_untouched(&states, states.length), "accept", "in front of a buffer");
+    drop(&piece);
+    drop(&flat);
+    drop(&states);
+}
+
+/* Memory that is brought on in two steps, backwards, and of a wrong length. */
+static void try_steps(const struct guest *guest, const struct precopy_sizes *sizes, const uint8_t *whole) {
+    const uint8_t *trace = guest->trace.at;
+    size_t length = guest->trace.length, bytes = (size_t)sizes->pages << sizes->shift;
+    uint32_t half = sizes->writes / 2, record = 9;
+    struct room room = fenced(bytes), longer = fenced(bytes + 1);
+    expect(precopy_memory_step(trace, length, 1, 0, room.at, bytes, &record) == PRECOPY_BACKWARDS, "memory_step",
+           "backwards");
+    expect(precopy_memory_step(trace, length, 0, half, room.at, bytes - 1, &record) == PRECOPY_MEMORY_LENGTH,
+           "memory_step", "of short memory");
+    uint32_t status = precopy_memory_step(trace, length, 0, half, longer.at, bytes + 1, &record);
+    expect(status == PRECOPY_MEMORY_LENGTH && is_untouched(&longer, 0), "memory_step", "of long memory");
+    expect(is_untouched(&room, 0), "memory_step", "that is refused");
+    memset(room.at, 0, bytes);
+    status = precopy_memory_step(trace, length, 0, half, room.at, bytes, &record);
+    expect(status == PRECOPY_OK, "memory_step", "to the half");
+    status = precopy_memory_step(trace, length, half, sizes->writes, room.at, bytes, &record);
+    expect(status == PRECOPY_OK && !memcmp(room.at, whole, bytes), "memory_step", "to the end");
+    expect(is_untouched(&room, bytes) && record == 9, "memory_step", "beside memory");
+    drop(&room);
+    drop(&longer);
+}
+
+static void try_streams(const struct precopy_sizes *sizes, const uint8_t *earlier, const uint8_t *whole) {
+    size_t most = 2 * sizes->pages * (((size_t)1 << sizes->shift) + 9) + ((size_t)1 << sizes->shift) + 9;
+    uint8_t *stream = __real_malloc(most);
+    /* The last memory comes first, and then what is older, where there was a write. */
+    size_t length = append_frames(stream, 0, sizes, whole, sizes->writes);
+    if (sizes->writes) {
+        length = append_frames(stream, length, sizes, earlier, 0);
+    }
+    size_t step = length / MOST_CUTS + 1;
+    for (size_t cut = 0; cut <= length; cut += step) {
+        take_cut(sizes, stream, length, cut, whole);
+    }
+    __real_free(stream);
+}
+
+/* ---- one trace */
+
+static struct precopy_settings settings_of(uint64_t min, uint64_t max, uint64_t threshold, uint32_t skip) {
+    struct precopy_settings settings = PRECOPY_SETTINGS_DEFAULT;
+    settings.min = min, settings.max = max, settings.threshold = threshold, settings.skip = skip;
+    return settings;
+}
+
+/* What is asked of a guest of which every third page was recorded. */
+static struct precopy_question question_of(uint64_t size, uint64_t pages) {
+    struct precopy_question question = PRECOPY_QUESTION_DEFAULT;
+    question.link = 3 * 4000 * size, question.downtime = 1000, question.page = size;
+    question.sampled = pages, question.guest = 3 * pages;
+    return question;
+}
+
+/* Each call over a trace that is refused: the same number and record, and nothing else written. */
+static void try_refused(const struct guest *guest, uint32_t status, const struct room *record) {
+    call_of *calls[] = {plan,          rounds,        report,      sweep,         predict, enough,      memory,
+                        memory_before, writes_before, memory_step, version_after, page_at, page_writes, check_streams,
+                        check_piece,   check_pages};
+    for (size_t i = 0; i < sizeof calls / sizeof *calls; i++) {
+        struct outputs out = outputs_of(1920, sizeof(struct precopy_prediction) + sizeof(struct precopy_errors));
+        uint32_t told = calls[i](guest, &out);
+        expect(told == status && is_untouched(&out.room, 0) && is_untouched(&out.told, 0), "a refused trace", "a call");
+        expect(!memcmp(out.record.at, record->at, record->length), "a refused trace", "its record");
+        drop_outputs(&out);
+    }
+    call_of *tests_first[] = {check_piece, check_pages};
+    for (size_t i = 0; i < sizeof tests_first / sizeof *tests_first; i++) {
+        struct outputs out = outputs_of(0, sizeof(struct precopy_finding));
+        atomic_store(&asked, 0);
+        expect(tests_first[i](guest, &out) == status, "a refused trace", "in pieces");
+        expect(atomic_load(&asked) == 0, "a refused trace", "memory for a check in pieces");
+        drop_outputs(&out);
+    }
+}
+
+static void try_all(struct guest *guest, const struct precopy_sizes *sizes) {
+    size_t bytes = (size_t)sizes->pages << sizes->shift, size = (size_t)1 << sizes->shift;
+    size_t row = sizeof(struct precopy_write);
+    struct outputs whole = outputs_of(bytes, sizeof(size_t)), earlier = outputs_of(bytes, sizeof(size_t));
+    expect(memory(guest, &whole) == PRECOPY_OK && memory_before(guest, &earlier) == PRECOPY_OK, "memory", "of a trace");
+    uint8_t frame[9 + 4096];
+    size_t needed = 0, text = 0, count = 0, writes = 0;
+    struct precopy_question question = question_of(size, sizes->pages);
+    guest->question = input_of(&question, sizeof question);
+    guest->page = input_of(whole.room.at, size);
+    uint32_t status = precopy_encode_frame(sizes, 0, 0, guest->page.at, size, frame, sizeof frame, &needed);
+    expect(status == PRECOPY_OK, "encode_frame", "of page 0");
+    guest->stream = input_of(frame, needed);
+    make_streams(guest, sizes, whole.room.at);
+    struct outputs none = outputs_of(0, sizeof(size_t));
+    report(guest, &none);
+    memcpy(&text, none.told.at, sizeof text);
+    expect(text <= PRECOPY_REPORT_BOUND(guest->trace.length), "report", "a bound of its length");
+    rounds(guest, &none);
+    memcpy(&count, none.told.at, sizeof count);
+    page_writes(guest, &none);
+    memcpy(&writes, none.told.at, sizeof writes);
+    struct trial trials[] = {
+        {"check_trace", check_trace, 0, sizeof(struct precopy_sizes), 1},
+        {"plan", plan, 0, sizeof(struct precopy_sums), 1},
+        {"rounds", rounds, count * sizeof(struct precopy_round), sizeof(size_t), sizeof(struct precopy_round)},
+        {"report", report, text, sizeof(size_t), 1},
+        {"sweep", sweep, 3 * sizeof(struct precopy_sums), sizeof(size_t), sizeof(struct precopy_sums)},
+        {"predict", predict, 0, sizeof(struct precopy_prediction) + sizeof(struct precopy_errors), 1},
+        {"enough", enough, 0, sizeof(struct precopy_amounts), 1},
+        {"memory", memory, bytes, sizeof(size_t), 1},
+        {"memory_before", memory_before, bytes, sizeof(size_t), 1},
+        {"writes_before", writes_before, 0, sizeof(uint32_t), 1},
+        {"version_after", version_after, 0, sizeof(uint32_t), 1},
+        {"page_at", page_at, size, 0, 1},
+        {"page_writes", page_writes, writes * row, sizeof(size_t), row},
+        {"check_streams", check_streams, 0, sizeof(struct precopy_finding), 1},
+        {"check_piece", check_piece, 0, 2 * sizes->pages * sizeof(struct precopy_page), 1},
+        {"check_pages", check_pages, 0, sizeof(struct precopy_finding), 1},
+        {"encode_frame", encode, needed, sizeof(size_t), 1},
+        {"decode_frame", decode, size, sizeof(struct precopy_frame), 1},
+    };
+    size_t all = sizeof trials / sizeof *trials;
+    for (size_t i = 0; i < all; i++) {
+        try_refusals(guest, &trials[i]);
+        try_lengths(guest, &trials[i]);
+    }
+    if (sizes->writes < 20000) {
+        try_threads(guest, trials, all);
+    }
+    try_steps(guest, sizes, whole.room.at);
+    try_streams(sizes, earlier.room.at, whole.room.at);
+    drop_outputs(&whole);
+    drop_outputs(&earlier);
+    drop_outputs(&none);
+}
+
+int main(int argc, char **argv) {
+    FILE *file = argc == 3 ? fopen(argv[1], "rb") : NULL;
+    if (!file) {
+        fprintf(stderr, "usage: library TRACE TICK\n");
+        return 2;
+    }
+    uint8_t *bytes = __real_malloc(((size_t)1 << 28) + 2);
+    size_t length = fread(bytes, 1, ((size_t)1 << 28) + 2, file);
+    fclose(file);
+    struct precopy_settings settings = settings_of(2, 4000, 2, 0);
+    struct precopy_settings cases[] = {settings, settings_of(100, 4000, 2, 1), settings_of(2, 4, 3, 0)};
+    struct guest guest = {.trace = input_of(bytes, length), .settings = input_of(&settings, sizeof settings)};
+    __real_free(bytes);
+    struct precopy_question question = question_of(4096, 1);
+    guest.cases = input_of(cases, sizeof cases);
+    guest.question = input_of(&question, sizeof question);
+    guest.tick = strtoull(argv[2], NULL, 10);
+    struct outputs out = outputs_of(0, sizeof(struct precopy_sizes));
+    uint32_t status = check_trace(&guest, &out);
+    struct precopy_sizes sizes;
+    memcpy(&sizes, out.told.at, sizeof sizes);
+    if (status != PRECOPY_OK) {
+        expect(precopy_strerror(status)[0] != 0, "strerror", "of a status");
+        try_refused(&guest, status, &out.record);
+    } else if ((size_t)sizes.pages << sizes.shift <= MOST_MEMORY) {
+        guest.sizes = input_of(&sizes, sizeof sizes);
+        try_all(&guest, &sizes);
+    }
+    printf("status %u, %d passed, %d failed\n", status, passed, failed);
+    return failed != 0;
+}

@@ -1,0 +1,72 @@
+"""Versions and writes of pages, and memory that is brought on from place to place, over random traces. stream_model.py
+works them out from the bytes of the trace."""
+
+import random
+
+import precopy
+from checks.lib import stream_model
+from checks.library.traces import generated
+
+TRACES = 150
+NO_PAGE, BACKWARDS, NO_VERSION = 67, 68, 71
+
+
+def status_of(call, *words):
+    """The status with which a call refuses, or what it returns."""
+    try:
+        return call(*words)
+    except precopy.Refused as refused:
+        return refused.status
+
+
+def check_page(tally, trace, guest, number, chosen):
+    page = guest.pages[number]
+    rows = [precopy.Write(place, tick, at, len(data)) for place, (tick, at, data) in zip(page.places, page.writes)]
+    found = precopy.page_writes(trace, number)
+    tally.add(found == rows, f"writes to page {number}: {found}, not {rows}")
+    for count in {0, 1, guest.write_count, guest.write_count + 1, chosen.randrange(1 << 32), *page.places}:
+        found, wanted = precopy.version_after(trace, number, count), page.version(count)
+        tally.add(found == wanted, f"page {number} after {count} writes: version {found}, not {wanted}")
+    for stamp in {0, 1, guest.write_count, guest.write_count + 1, chosen.randrange(1 << 32), *page.places}:
+        found = status_of(precopy.page_at, trace, number, stamp)
+        wanted = bytes(page.after(stamp)) if page.version(stamp) == stamp else NO_VERSION
+        tally.add(found == wanted, f"page {number} at {stamp}: {found}, not {wanted}")
+
+
+def check_steps(tally, trace, guest, chosen):
+    """Memory from place to place, each step in the memory that the last one left."""
+    places = sorted(chosen.randint(0, guest.write_count + 2) for _ in range(6))
+    memory = bytearray(len(guest.pages) * guest.size)
+    for start, end in zip([0, *places], [*places, (1 << 32) - 1]):
+        precopy.memory_step(trace, start, end, memory)
+        tally.add(memory == guest.memory_after(end), f"memory from {start} to {end}")
+    for place in places:
+        found, wanted = status_of(precopy.memory_step, trace, place + 1, place, memory), BACKWARDS
+        tally.add(found == wanted, f"memory from {place + 1} to {place}: {found}")
+    # What was in memory stays where no write comes.
+    start, end = sorted(chosen.randint(0, guest.write_count) for _ in range(2))
+    old = bytearray(chosen.randbytes(len(memory)))
+    memory = bytearray(old)
+    precopy.memory_step(trace, start, end, memory)
+    for number, page in enumerate(guest.pages):
+        for place, (_, offset, data) in zip(page.places, page.writes):
+            if start < place <= end:
+                data = data or bytes(guest.size)
+                at = number * guest.size + offset
+                old[at : at + len(data)] = data
+    tally.add(memory == old, f"other memory from {start} to {end}")
+
+
+def check(tally):
+    chosen = random.Random(55)
+    for _ in range(TRACES):
+        trace = generated(chosen)
+        guest = stream_model.Guest(trace)
+        numbers = range(len(guest.pages))
+        for number in chosen.sample(numbers, min(len(numbers), 5)):
+            check_page(tally, trace, guest, number, chosen)
+        check_steps(tally, trace, guest, chosen)
+        for number in (len(numbers), chosen.randrange(len(numbers), 1 << 32)):
+            found = [status_of(precopy.version_after, trace, number, 1), status_of(precopy.page_at, trace, number, 0)]
+            found.append(status_of(precopy.page_writes, trace, number))
+            tally.add(set(found) == {NO_PAGE}, f"page {number} of {len(numbers)}: {found}")

@@ -1,0 +1,366 @@
+"""Trials of the Python module: numbers out of range, bytes of all kinds, refusals, threads, and pip."""
+
+import array
+import concurrent.futures
+import ctypes
+import mmap
+import os
+import pickle
+import random
+import shutil
+import subprocess
+import sys
+import tempfile
+import time
+import tracemalloc
+
+import precopy
+from checks.lib import trace_bytes
+from checks.lib.tally import left_out
+from checks.library import traces
+from precopy_dev.tree import TOP
+
+LIBRARY = os.path.join(TOP, "out", "library", "libprecopy.so.2")
+SECONDS = 300
+HOSTILE = [-1, 1 << 31, 1 << 32, (1 << 32) + 1, (1 << 32) + 4, 1 << 63, 1 << 64, (1 << 64) + 1, 10**5000]
+HOSTILE += [-(1 << 31), -(1 << 32), -(1 << 63), -(1 << 64), -(10**30)]
+OPTIONAL = ("base", "first", "increment of a question")
+NO_NUMBERS = [1.0, 0.5, -1.0, 2.0**32, float("nan"), float("inf"), "1", b"1", None, [], 1j]
+NO_BYTES = [5, -1, 1 << 64, 1.5, None, "text", [1, 2], object()]
+SIZES, PAGE = precopy.Sizes(4, 3, 20), bytes(15) + b"\1"
+
+
+# ---- Numbers.
+
+
+def taking_numbers(trace):
+    """Each number that a call takes: its name, the call, and the ends of its range."""
+    settings = {name: (low, high) for name, low, high in traces.RANGES if name not in ("max", "base")}
+    for name, ends in (*settings.items(), ("max", (1000, 1_000_000)), ("base", (0, 0)), ("skip", (0, 1))):
+        for call in (precopy.plan, precopy.rounds, precopy.report):
+            yield f"{call.__name__}, {name}", lambda it, n=name, c=call: c(trace, of_setting(n, it)), ends
+        yield f"sweep, {name}", lambda it, n=name: precopy.sweep(trace, [of_setting(n, it)]), ends
+        yield f"check_settings, {name}", lambda it, n=name: precopy.check_settings(of_setting(n, it)), ends
+    yield "memory_before, tick", lambda it: precopy.memory_before(trace, it), (0, (1 << 64) - 1)
+    for name, ends in (("shift", (4, 12)), ("pages", (1, 1 << 16)), ("writes", (0, 1 << 20))):
+        yield f"Sizes, {name}", lambda it, n=name: precopy.Sizes(**{"shift": 4, "pages": 1, "writes": 0, n: it}), ends
+    yield "writes_before, tick", lambda it: precopy.writes_before(trace, it), (0, (1 << 64) - 1)
+    pages, memory = precopy.check_trace(trace).pages, precopy.memory(trace)
+    yield "version_after, page", lambda it: precopy.version_after(trace, it, 1), (0, pages - 1)
+    yield "version_after, count", lambda it: precopy.version_after(trace, 0, it), (0, (1 << 32) - 1)
+    yield "page_at, page", lambda it: precopy.page_at(trace, it, 0), (0, pages - 1)
+    yield "page_at, stamp", lambda it: precopy.page_at(trace, 0, it), (0, 0)
+    yield "page_writes, page", lambda it: precopy.page_writes(trace, it), (0, pages - 1)
+    yield "memory_step, start", lambda it: precopy.memory_step(trace, it, 7, memory), (0, 7)
+    yield "memory_step, end", lambda it: precopy.memory_step(trace, 7, it, memory), (7, (1 << 32) - 1)
+    yield from numbers_of_questions(trace)
+    yield "check_streams, stop", lambda it: precopy.check_streams(trace, it, []), (0, (1 << 32) - 1)
+    yield "encode_frame, page", lambda it: precopy.encode_frame(SIZES, it, 0, PAGE), (0, 2)
+    yield "encode_frame, stamp", lambda it: precopy.encode_frame(SIZES, 0, it, PAGE), (0, 20)
+    yield "stamp, page", precopy.FlatMemory(SIZES).stamp, (0, 2)
+
+
+def numbers_of_questions(trace):
+    """Each number of a question about a trace, all of whose pages were recorded, of 1,000 pages per 1,000 ticks."""
+    sizes = precopy.check_trace(trace)
+    page, pages = sizes.page_length, sizes.pages
+    ends = {"link": (page, 1_000_001 * page - 1), "first": (page, 1_001 * page - 1), "downtime": (0, 65_535_999)}
+    ends |= {"reserve": (0, 0), "tick": (1, 1_000_000), "page": (page, page), "sampled": (pages, pages)}
+    ends |= {"guest": (pages, 1_000 * pages), "increment of a question": (0, 1_000_000), "rounds": (1, 64)}
+    ends |= {"start": (0, (1 << 40) - 1), "base": (0, 0), "skip": (0, 1)}
+    asked = {"link": 1_000 * page, "downtime": 0, "page": page, "sampled": pages, "guest": pages}
+    for name, each in ends.items():
+        for call in (precopy.predict, precopy.enough):
+            yield f"{call.__name__}, {name}", answered_with(call, trace, asked, name.split()[0]), each
+
+
+def answered_with(call, trace, asked, name):
+    """What a call answers to a question, by one more of its numbers."""
+    return lambda it: call(trace, precopy.Question(**{**asked, name: it}))
+
+
+def of_setting(name, value):
+    return precopy.Settings(**{"min": 1, "max": 1_000_000, name: value} if name != "max" else {"max": value})
+
+
+def outcome(call, *words):
+    """The name of the error that a call raises, or `answered`."""
+    try:
+        call(*words)
+        return "answered"
+    except precopy.Refused:
+        return "Refused"
+    except Exception as fault:  # noqa: BLE001
+        return type(fault).__name__
+
+
+class Index:
+    """An integer that is no int, as numpy has them."""
+
+    def __init__(self, value):
+        self.value = value
+
+    def __index__(self):
+        return self.value
+
+
+def check_numbers(tally):
+    trace = trace_bytes.generated(random.Random(60))
+    for name, call, (low, high) in taking_numbers(trace):
+        chosen = random.Random(name)
+        values = [*HOSTILE, low - 1, high + 1, low, high, *(chosen.getrandbits(70) for _ in range(10))]
+        for value in [*values, *(Index(value) for value in values)]:
+            found = outcome(call, value)
+            number = value.value if isinstance(value, Index) else value
+            wanted = {"answered"} if low <= number <= high else {"OverflowError", "Refused"}
+            tally.add(found in wanted, f"{name} {str(hex(number))[:40]}: {found}, not {wanted}")
+        for value in NO_NUMBERS:
+            found = outcome(call, value)
+            wanted = "answered" if value is None and name.endswith(OPTIONAL) else "TypeError"
+            tally.add(found == wanted, f"{name} {value!r}: {found}")
+    good = precopy.memory_before(trace, 1 << 40) == precopy.memory(trace) == precopy.memory_before(trace, 1 << 63)
+    tally.add(good, "memory before a tick after all writes")
+
+
+# ---- Bytes.
+
+
+def taking_bytes(trace, stream):
+    """Each call over bytes: its name, the bytes, and the call."""
+    settings = precopy.Settings(min=2, max=4, increment=1, threshold=1, rounds=8)
+    for call in (precopy.plan, precopy.rounds, precopy.report):
+        yield call.__name__, trace, lambda it, c=call: c(it, settings)
+    yield "sweep", trace, lambda it: precopy.sweep(it, [settings, settings])
+    page = 1 << trace[5] if trace[5:6] and 4 <= trace[5] <= 12 else 4096
+    question = precopy.Question(link=100 * page, downtime=5000, page=page)
+    for call in (precopy.predict, precopy.enough):
+        yield call.__name__, trace, lambda it, c=call: c(it, question)
+    for call in (precopy.check_trace, precopy.memory, precopy.is_zero):
+        yield call.__name__, trace, call
+    yield "memory_before", trace, lambda it: precopy.memory_before(it, 700)
+    yield "writes_before", trace, lambda it: precopy.writes_before(it, 700)
+    yield "version_after", trace, lambda it: precopy.version_after(it, 0, 9)
+    yield "page_at", trace, lambda it: precopy.page_at(it, 0, 0)
+    yield "page_writes", trace, lambda it: precopy.page_writes(it, 0)
+    yield "memory_step", trace, step_of
+    yield "check_streams, trace", trace, lambda it: precopy.check_streams(it, 9, [b""])
+    yield "encode_frame", PAGE, lambda it: precopy.encode_frame(SIZES, 2, 3, it)
+    yield "decode_frame", stream, lambda it: precopy.decode_frame(SIZES, it)
+    yield "accept", stream, lambda it: (lambda flat: (flat.accept(it), traces.state(flat)))(precopy.FlatMemory(SIZES))
+
+
+def step_of(data):
+    """The memory after nine writes of a trace."""
+    try:
+        sizes = precopy.check_trace(data)
+        room = bytearray(sizes.pages << sizes.shift)
+    except (precopy.TraceRefused, TypeError, BufferError):
+        room = bytearray()
+    precopy.memory_step(data, 0, 9, room)
+    return room
+
+
+def kinds_of(data, folder):
+    """Objects that have these bytes."""
+    yield from (data, bytearray(data), memoryview(data), memoryview(bytearray(data)))
+    yield memoryview(b"..." + data + b"....")[3 : 3 + len(data)]
+    yield from (array.array("B", data), (ctypes.c_ubyte * len(data)).from_buffer_copy(data))
+    if len(data) % 4 == 0:
+        yield from (array.array("I", data), memoryview(data).cast("I"))
+    with tempfile.TemporaryFile(dir=folder) as file:
+        file.write(data)
+        file.flush()
+        for access in (mmap.ACCESS_READ, mmap.ACCESS_COPY, mmap.ACCESS_WRITE):
+            with mmap.mmap(file.fileno(), 0, access=access) as mapped:
+                yield mapped
+
+
+def check_bytes(tally, folder):
+    chosen = random.Random(61)
+    for number in range(20):
+        trace = trace_bytes.generated(chosen)
+        frames = [(chosen.randrange(3), chosen.randrange(21), chosen.choice([bytes(16), PAGE])) for _ in range(5)]
+        stream = b"".join(traces.frame_text(*frame) for frame in frames)
+        for name, data, call in taking_bytes(trace, stream):
+            wanted = call(data)
+            for kind in kinds_of(data, folder):
+                tally.add(call(kind) == wanted, f"{name} over {type(kind).__name__}, trace {number}")
+            for other in NO_BYTES:
+                tally.add(outcome(call, other) == "TypeError", f"{name} over {other!r}: {outcome(call, other)}")
+            found = outcome(call, memoryview(data)[::2])
+            tally.add(found == "BufferError", f"{name} over bytes that are not in one piece: {found}")
+
+
+def peak(call, *words):
+    """The most bytes that Python had for a call, and what it returned."""
+    tracemalloc.start()
+    try:
+        answer = call(*words)
+        return tracemalloc.get_traced_memory()[1], answer
+    finally:
+        tracemalloc.stop()
+
+
+def check_copies(tally):
+    """A long trace is not copied, nor is memory a second time, and a report is made once."""
+    pages, size = 4096, 4096
+    head = trace_bytes.MAGIC + bytes([1, 12, 0, 0]) + pages.to_bytes(4, "little") + (2000).to_bytes(4, "little")
+    trace = head + b"".join(trace_bytes.record(tick, tick * 7 % pages, 0, b"\1" * size) for tick in range(2000))
+    settings, whole, small = precopy.Settings(), pages * size, 1 << 20
+    for kind in (trace, bytearray(trace), memoryview(trace)):
+        for call in (precopy.plan, precopy.rounds, precopy.report):
+            most = peak(call, kind, settings)[0]
+            tally.add(most < small, f"{call.__name__} over {type(kind).__name__} of {len(trace)} bytes takes {most}")
+        most, found = peak(precopy.memory, kind)
+        tally.add(most < whole + small and len(found) == whole, f"memory of {whole} bytes takes {most}")
+    counted, call = [], precopy._LIBRARY.precopy_report
+
+    def count(*words):
+        counted.append(words)
+        return call(*words)
+
+    precopy._LIBRARY.precopy_report = count
+    try:
+        for trace in (*longest_reports(), b"", b"none", trace):
+            counted.clear()
+            outcome(precopy.report, trace, precopy.Settings(window=1, hot=1, start=(1 << 40) - 1, min=1, max=1))
+            tally.add(len(counted) == 1, f"a report over {len(trace)} bytes is made {len(counted)} times")
+    finally:
+        precopy._LIBRARY.precopy_report = call
+
+
+def longest_reports():
+    """Traces whose reports are long: each write, the shortest there is, has a window with a great number and a page."""
+    for writes in (0, 1, 2, 70, 5000):
+        head = trace_bytes.MAGIC + bytes([2, 4, 0, 0]) + (1 << 16).to_bytes(4, "little") + writes.to_bytes(4, "little")
+        late = [(1 << 40) - 1 - writes + number for number in range(writes)]
+        yield head + b"".join(trace_bytes.record(tick, 65_535 - number, 0, b"") for number, tick in enumerate(late))
+
+
+# ---- Refusals and flat memory.
+
+
+def check_refusals(tally):
+    """A refused record is named by each call over a trace, and a refusal goes from process to process."""
+    chosen, settings, named = random.Random(62), precopy.Settings(), 0
+    for number in range(200):
+        trace = trace_bytes.damaged(chosen, trace_bytes.generated(chosen))
+        try:
+            precopy.check_trace(trace)
+            continue
+        except precopy.TraceRefused as fault:
+            wanted = fault
+        named += wanted.record is not None
+        for name, _, call in taking_bytes(trace, b""):
+            if name not in ("is_zero", "encode_frame", "decode_frame", "accept", "check_trace"):
+                try:
+                    call(trace)
+                    tally.add(False, f"{name} takes damaged trace {number}")
+                except precopy.TraceRefused as found:
+                    same = (found.status, found.record, str(found)) == (wanted.status, wanted.record, str(wanted))
+                    tally.add(same, f"{name} of damaged trace {number}: {found}, and check_trace {wanted}")
+        again = pickle.loads(pickle.dumps(wanted))
+        tally.add((type(again), vars(again), str(again)) == (type(wanted), vars(wanted), str(wanted)), f"{again!r}")
+    tally.add(named > 20, f"only {named} damaged traces have a record that is named")
+    tally.add(outcome(precopy.plan, b"", settings) == "Refused", "a trace without bytes")
+    try:
+        precopy.FlatMemory(SIZES).accept(b"\1")
+    except precopy.FrameRefused as fault:
+        again = pickle.loads(pickle.dumps(fault))
+        tally.add((again.status, again.taken) == (41, precopy.Taken(0, 0)), f"a refused frame becomes {vars(again)}")
+
+
+def check_flat(tally):
+    """Frames that stand in the memory that takes them, and threads that share one memory."""
+    chosen, frame = random.Random(63), precopy.encode_frame(SIZES, 0, 7, bytes(range(1, 17)))
+    for number in range(100):
+        sizes = precopy.Sizes(4, 6, 20)
+        frames = [(chosen.randrange(6), chosen.randrange(21), chosen.randbytes(16)) for _ in range(3)]
+        stream, start = b"".join(traces.frame_text(*it) for it in frames), chosen.randrange(96 - 75)
+        flat, wanted = precopy.FlatMemory(sizes), precopy.FlatMemory(sizes)
+        for each in (flat, wanted):
+            each.memory[start : start + len(stream)] = stream
+        good = wanted.accept(stream) == flat.accept(memoryview(flat.memory)[start : start + len(stream)])
+        good = good and traces.state(flat) == traces.state(wanted)
+        tally.add(good, f"frames that stand in the memory that takes them, {number}")
+    check_turns(tally)
+    for number in range(10):
+        sizes, frames = traces.frames(chosen)
+        frames *= 40
+        chosen.shuffle(frames)
+        flat = precopy.FlatMemory(sizes)
+        with concurrent.futures.ThreadPoolExecutor(8) as threads:
+            list(threads.map(lambda it: flat.accept(traces.frame_text(*it)), frames))
+        tally.add(traces.state(flat) == traces.joined(sizes, frames), f"eight threads and one memory, {number}")
+    flat = precopy.FlatMemory(SIZES)
+    del flat.memory[5:]
+    tally.add(outcome(flat.accept, frame) == "Refused", "memory that was cut")
+
+
+def check_turns(tally):
+    """Calls of several threads over one memory take turns: no two are in the library at once."""
+    inside, most, call = [], [], precopy._LIBRARY.precopy_accept
+
+    def watched(*words):
+        inside.append(1)
+        most.append(len(inside))
+        time.sleep(0.001)
+        answer = call(*words)
+        inside.pop()
+        return answer
+
+    flat = precopy.FlatMemory(SIZES)
+    frames = [precopy.encode_frame(SIZES, number % 3, number % 20, PAGE) for number in range(100)]
+    precopy._LIBRARY.precopy_accept = watched
+    try:
+        with concurrent.futures.ThreadPoolExecutor(8) as threads:
+            list(threads.map(flat.accept, frames))
+    finally:
+        precopy._LIBRARY.precopy_accept = call
+    tally.add(len(most) == 100 and max(most) == 1, f"{max(most)} calls over one memory at once")
+
+
+# ---- pip.
+
+
+def run(*command, **how):
+    return subprocess.run(command, stdin=subprocess.DEVNULL, capture_output=True, timeout=SECONDS, check=False, **how)
+
+
+def check_pip(tally, folder):
+    """The module by pip in a fresh environment without an index: from these sources with the library, and from a packed
+    copy without it."""
+    python = "/usr/bin/python3" if os.access("/usr/bin/python3", os.X_OK) else sys.executable
+    fresh, packed = os.path.join(folder, "a venv"), os.path.join(folder, "packed")
+    made = run(python, "-m", "venv", fresh)
+    if made.returncode:
+        left_out("the module by pip", f"{python} makes no environment: {made.stdout.decode()[-200:]}")
+        return
+    shutil.copytree(f"{TOP}/bindings/python", packed, ignore=shutil.ignore_patterns("__pycache__"))
+    pack = run(python, "-Bc", "import wheels; print(wheels.build_sdist('.'))", cwd=packed)
+    tally.add(pack.returncode == 0, f"the sources are packed: {pack.stderr.decode()}")
+    alone = os.path.join(packed, pack.stdout.decode().strip())
+    environment = {"PATH": "/usr/bin:/bin", "PIP_NO_INDEX": "1", "PIP_DISABLE_PIP_VERSION_CHECK": "1", "HOME": folder}
+    environment |= {"LC_ALL": "C.UTF-8", "PYTHONDONTWRITEBYTECODE": "1"}
+    line = "import precopy, os; print(os.path.dirname(precopy.__file__), precopy.version(),"
+    line += " os.path.exists(os.path.join(os.path.dirname(precopy.__file__), 'py.typed')))"
+    for source, library in ((f"{TOP}/bindings/python", {}), (alone, {"PRECOPY_LIBRARY": LIBRARY})):
+        ran = run(f"{fresh}/bin/pip", "install", "--force-reinstall", source, env=environment, cwd="/")
+        if not tally.add(ran.returncode == 0, f"pip install {source}: {(ran.stdout + ran.stderr).decode()[-800:]}"):
+            continue
+        ran = run(f"{fresh}/bin/python", "-c", line, env={**environment, **library}, cwd="/")
+        words = ran.stdout.decode()
+        good = words.startswith(fresh) and words.endswith(f"/precopy {precopy.version()} True\n")
+        tally.add(good, f"the module that pip installs from {source}: {ran}")
+    ran = run(f"{fresh}/bin/pip", "uninstall", "-y", "precopy", env=environment, cwd="/")
+    left = [at for at, _, _ in os.walk(fresh) if "precopy" in os.path.relpath(at, fresh)]
+    tally.add(ran.returncode == 0 and not left, f"pip uninstall leaves {left}")
+
+
+def check(tally, folder):
+    check_numbers(tally)
+    check_bytes(tally, folder)
+    check_copies(tally)
+    check_refusals(tally)
+    check_flat(tally)
+    check_pip(tally, folder)

@@ -1,0 +1,414 @@
+/*
+ * Worked examples of each function of the library for C, whose values were worked out by hand.
+ */
+#include "row.h"
+#include "precopy.h"
+
+#include <string.h>
+
+/* Pages of 16 bytes, 4 pages, 5 writes: of pages 0 and 1 at ticks 0 and 5, of page 1 at tick 1200, of pages 3 and 1 at
+ * tick 2500. */
+static const uint8_t trace[102] = {
+    0x50, 0x43, 0x57, 0x54, 1, 4, 0, 0, 4, 0, 0, 0, 5, 0, 0, 0,       /* */
+    0,    0,    0,    0,    0, 0, 0, 0, 0, 0, 0, 0, 0, 0, 1, 0, 1,    /* */
+    5,    0,    0,    0,    0, 0, 0, 0, 1, 0, 0, 0, 15, 0, 1, 0, 2,   /* */
+    0xb0, 4,    0,    0,    0, 0, 0, 0, 1, 0, 0, 0, 0, 0, 1, 0, 3,    /* */
+    0xc4, 9,    0,    0,    0, 0, 0, 0, 3, 0, 0, 0, 2, 0, 2, 0, 4, 5, /* */
+    0xc4, 9,    0,    0,    0, 0, 0, 0, 1, 0, 0, 0, 0, 0, 1, 0, 0,
+};
+
+/* The record of a refused trace; the calls that do not refuse it leave it. */
+static uint32_t record = 9;
+
+static const struct precopy_settings slow = {sizeof slow, 2, 4, 1, 1, 8, 0, 1000, 2, 0, 0, 0};
+
+static int are(const struct precopy_sums *sums, uint64_t rounds, uint64_t reason, uint64_t stop, uint64_t down,
+               uint64_t total) {
+    return sums->rounds == rounds && sums->reason == reason && sums->stop == stop && sums->down == down
+           && sums->total == total;
+}
+
+static void plans(void) {
+    struct precopy_sums sums;
+    struct precopy_round rounds[3];
+    size_t count = 0;
+    ROW(precopy_plan(trace, sizeof trace, &slow, &sums, &record) == PRECOPY_OK);
+    ROW(are(&sums, 3, PRECOPY_FEW, 3667, 0, 8));
+    ROW(precopy_rounds(trace, sizeof trace, &slow, rounds, 2, &count, &record) == PRECOPY_SHORT_BUFFER && count == 3);
+    ROW(precopy_rounds(trace, sizeof trace, &slow, rounds, 3, &count, &record) == PRECOPY_OK && count == 3);
+    ROW(rounds[0].from == 0 && rounds[0].to == 2000 && rounds[0].rate == 2 && rounds[0].pages == 4);
+    ROW(rounds[1].from == 2000 && rounds[1].to == 3000 && rounds[1].sent == 2 && rounds[1].dirtied == 2);
+    ROW(rounds[2].from == 3000 && rounds[2].to == 3667 && rounds[2].rate == 3 && rounds[2].dirtied == 0);
+    /* A warm start: the destination lacks only page 1 at tick 1201, and what is written at tick 2500 remains. */
+    struct precopy_settings warm = slow;
+    warm.start = 1201, warm.has_base = 1, warm.base = 6;
+    ROW(precopy_rounds(trace, sizeof trace, &warm, rounds, 3, &count, &record) == PRECOPY_OK && rounds[0].pages == 1);
+    ROW(rounds[0].from == 1201 && rounds[0].to == 1701 && rounds[0].dirtied == 0 && count == 1);
+}
+
+static void reports(void) {
+    static const char report[] = "trace pages 4 size 16 writes 5\n"
+                                 "window 0 writes 2 pages 2 again 0 fresh 2\n"
+                                 "window 1 writes 1 pages 1 again 1 fresh 0\n"
+                                 "window 2 writes 2 pages 2 again 1 fresh 1\n"
+                                 "hot 2 pages 1\n"
+                                 "page 1\n"
+                                 "round 0 from 0 to 2000 rate 2 pages 4 sent 4 dirtied 2\n"
+                                 "round 1 from 2000 to 3000 rate 2 pages 2 sent 2 dirtied 2\n"
+                                 "round 2 from 3000 to 3667 rate 3 pages 2 sent 2 dirtied 0\n"
+                                 "stop few at 3667 pages 0 down 0 total 8\n";
+    uint8_t text[400];
+    size_t needed = 0;
+    ROW(precopy_report(trace, sizeof trace, &slow, text, sizeof report - 2, &needed, &record) == PRECOPY_SHORT_BUFFER);
+    ROW(needed == sizeof report - 1);
+    ROW(precopy_report(trace, sizeof trace, &slow, text, sizeof text, &needed, &record) == PRECOPY_OK);
+    ROW(needed == sizeof report - 1 && !memcmp(text, report, needed));
+}
+
+static void sweeps(void) {
+    struct precopy_settings cases[] = {slow, slow, slow};
+    struct precopy_sums sums[3];
+    size_t best = 9;
+    cases[0].threshold = 3, cases[1].max = 2;
+    ROW(precopy_sweep(trace, sizeof trace, cases, 3, sums, 3, &best, &record) == PRECOPY_OK && best == 2);
+    ROW(are(&sums[0], 1, PRECOPY_FEW, 2000, 500, 6) && are(&sums[1], 2, PRECOPY_FAST, 3000, 1000, 8));
+    ROW(are(&sums[2], 3, PRECOPY_FEW, 3667, 0, 8));
+    cases[1].max = 1;
+    ROW(precopy_sweep(trace, sizeof trace, cases, 3, sums, 3, &best, &record) == PRECOPY_BAD_MAX && best == 2);
+    ROW(precopy_check_settings(&cases[1]) == PRECOPY_BAD_MAX && precopy_check_settings(&slow) == PRECOPY_OK);
+    ROW(precopy_sweep(trace, sizeof trace, cases, 0, sums, 0, &best, &record) == PRECOPY_OK && best == 0);
+    cases[0] = cases[1] = slow, cases[1].size = 0;
+    ROW(precopy_sweep(trace, sizeof trace, cases, 3, sums, 3, &best, &record) == PRECOPY_BAD_SIZE && best == 0);
+}
+
+static void sizes_of_settings(void) {
+    static const uint64_t sizes[] = {0, sizeof slow - 1, sizeof slow + 1, UINT64_MAX};
+    struct precopy_settings other = slow;
+    struct precopy_sums sums;
+    struct precopy_round rounds[3];
+    uint8_t text[400];
+    size_t count = 9;
+    other.min = 0;
+    for (int i = 0; i < 4; i++) {
+        other.size = sizes[i];
+        ROW(precopy_check_settings(&other) == PRECOPY_BAD_SIZE);
+        ROW(precopy_plan(trace, sizeof trace, &other, &sums, &record) == PRECOPY_BAD_SIZE);
+        ROW(precopy_rounds(trace, sizeof trace, &other, rounds, 3, &count, &record) == PRECOPY_BAD_SIZE);
+        ROW(precopy_report(trace, sizeof trace, &other, text, sizeof text, &count, &record) == PRECOPY_BAD_SIZE);
+    }
+    ROW(count == 9);
+}
+
+/* Rounds of 2 and 4 pages per 1,000 ticks of 1 ms; the rates are in bytes a second of a guest of 8 pages, half of which
+ * were recorded. */
+static const struct precopy_question half = {sizeof half, 128, 64, 600000, 100000, 1000, 16, 4, 8,
+                                             1,           8,   0,  0,      1,      1,    0,  0};
+
+static int is_told(const struct precopy_prediction *told, uint64_t time, uint64_t bytes, uint64_t downtime,
+                   uint64_t left, uint32_t verdict) {
+    return told->time == time && told->bytes == bytes && told->downtime == downtime && told->left == left
+           && told->recorded == 2500000 && told->converges == verdict && told->kept == verdict;
+}
+
+static int are_errors(const struct precopy_errors *errors, uint64_t bytes, uint64_t time, uint64_t downtime,
+                      uint32_t has_errors) {
+    return errors->bytes == bytes && errors->time == time && errors->downtime == downtime
+           && errors->has_errors == has_errors;
+}
+
+static void predictions(void) {
+    struct precopy_prediction told;
+    struct precopy_errors errors;
+    struct precopy_question asked = half;
+    ROW(precopy_predict(trace, sizeof trace, &asked, &told, &errors, &record) == PRECOPY_OK);
+    ROW(told.rounds == 1 && told.reason == PRECOPY_FEW && told.stop == 2000 && told.down == 500 && told.total == 6);
+    ROW(is_told(&told, 2600000, 192, 600000, 2, PRECOPY_YES));
+    /* The standard errors are those of python/precopy_dev/models/redrawn.py. */
+    ROW(are_errors(&errors, 48, 430565, 129524, 1));
+    asked.guest = 4, asked.link = 64, asked.first = 32;
+    ROW(precopy_predict(trace, sizeof trace, &asked, &told, &errors, &record) == PRECOPY_OK);
+    ROW(is_told(&told, 2600000, 96, 600000, 2, PRECOPY_YES) && are_errors(&errors, 0, 0, 0, 0));
+    asked.rounds = 1, asked.downtime = asked.reserve = 0;
+    ROW(precopy_predict(trace, sizeof trace, &asked, &told, &errors, &record) == PRECOPY_OK);
+    ROW(is_told(&told, 2500000, 96, 500000, 2, PRECOPY_NO) && told.reason == PRECOPY_ALL_ROUNDS);
+    /* The plan stops at tick 3667, after the last write. */
+    asked.rounds = 8, asked.downtime = 100000, asked.reserve = 50000;
+    ROW(precopy_predict(trace, sizeof trace, &asked, &told, &errors, &record) == PRECOPY_OK);
+    ROW(is_told(&told, 3717000, 128, 50000, 0, PRECOPY_UNKNOWN) && told.stop == 3667);
+    /* A warm start, of which only page 1 is sent, and after which page 1 and page 3 are left at tick 2500. */
+    asked.has_base = 1, asked.base = 6, asked.start = 1201;
+    ROW(precopy_predict(trace, sizeof trace, &asked, &told, &errors, &record) == PRECOPY_OK);
+    ROW(told.rounds == 1 && told.stop == 1701 && told.recorded == 1299000 && told.kept == PRECOPY_YES);
+}
+
+static int are_enough(const struct precopy_question *asked, struct precopy_amounts wanted) {
+    struct precopy_amounts told;
+    memset(&told, 9, sizeof told);
+    return precopy_enough(trace, sizeof trace, asked, &told, &record) == PRECOPY_OK
+           && !memcmp(&told, &wanted, sizeof told);
+}
+
+/* The amounts are those of python/precopy_dev/models/remedies.py. */
+static void amounts(void) {
+    struct precopy_question asked = half;
+    ROW(are_enough(&asked, (struct precopy_amounts){250, 600000, 0, 1, 1, 0, 1}));
+    asked.start = 2400;
+    ROW(are_enough(&asked, (struct precopy_amounts){0, 0, 5, 0, 0, 1, 0}));
+    asked = half, asked.guest = 4, asked.link = 64, asked.first = 32, asked.downtime = 100000, asked.reserve = 50000;
+    ROW(are_enough(&asked, (struct precopy_amounts){750, 550000, 65, 1, 1, 1, 0}));
+    asked.rounds = 1, asked.downtime = asked.reserve = 0;
+    ROW(are_enough(&asked, (struct precopy_amounts){0, 0, 0, 0, 0, 0, 0}));
+    asked = half, asked.has_base = 1, asked.base = 6, asked.start = 1201;
+    ROW(are_enough(&asked, (struct precopy_amounts){125, 100195, 0, 1, 1, 0, 1}));
+}
+
+/* Returns what is told of a question with one other number. */
+static uint32_t refused(struct precopy_question asked) {
+    struct precopy_prediction told = {9, 9, 9, 9, 9, 9, 9, 9, 9, 9, 9, 9};
+    struct precopy_errors errors = {9, 9, 9, 9};
+    struct precopy_amounts amounts = {9, 9, 9, 9, 9, 9, 9}, before = amounts;
+    uint32_t status = precopy_predict(trace, sizeof trace, &asked, &told, &errors, &record);
+    ROW(told.time == 9 && told.kept == 9 && are_errors(&errors, 9, 9, 9, 9) && record == 9);
+    ROW(precopy_enough(trace, sizeof trace, &asked, &amounts, &record) == status);
+    ROW(!memcmp(&amounts, &before, sizeof amounts) && record == 9);
+    return status;
+}
+
+static void questions(void) {
+    struct precopy_question asked = half;
+    asked.size--;
+    ROW(refused(asked) == PRECOPY_BAD_SIZE);
+    asked.size += 2;
+    ROW(refused(asked) == PRECOPY_BAD_SIZE);
+    asked = half, asked.tick = 0;
+    ROW(refused(asked) == PRECOPY_BAD_TICK);
+    asked = half, asked.page = 15;
+    ROW(refused(asked) == PRECOPY_BAD_PAGE);
+    asked = half, asked.sampled = 9;
+    ROW(refused(asked) == PRECOPY_BAD_SAMPLE);
+    asked = half, asked.link = 31;
+    ROW(refused(asked) == PRECOPY_BAD_LINK);
+    asked = half, asked.first = 160;
+    ROW(refused(asked) == PRECOPY_BAD_FIRST);
+    asked = half, asked.reserve = 600001;
+    ROW(refused(asked) == PRECOPY_BAD_RESERVE);
+    asked = half, asked.downtime = 20000000000;
+    ROW(refused(asked) == PRECOPY_BAD_DOWNTIME);
+    asked = half, asked.rounds = 65;
+    ROW(refused(asked) == PRECOPY_BAD_ROUNDS);
+    asked = half, asked.has_base = 1, asked.base = 1;
+    ROW(refused(asked) == PRECOPY_BAD_BASE);
+    asked = half, asked.page = 32, asked.link = 256, asked.first = 128;
+    ROW(refused(asked) == PRECOPY_OTHER_PAGES);
+    asked = half, asked.sampled = 3;
+    ROW(refused(asked) == PRECOPY_MORE_PAGES);
+}
+
+static void memories(void) {
+    uint8_t memory[64], wanted[64] = {0};
+    size_t needed = 0;
+    wanted[0] = 1, wanted[16] = 3, wanted[31] = 2;
+    ROW(precopy_memory_before(trace, sizeof trace, 2500, memory, 64, &needed, &record) == PRECOPY_OK);
+    ROW(needed == 64 && !memcmp(memory, wanted, 64));
+    wanted[16] = 0, wanted[50] = 4, wanted[51] = 5;
+    ROW(precopy_memory_before(trace, sizeof trace, 2501, memory, 64, &needed, &record) == PRECOPY_OK);
+    ROW(!memcmp(memory, wanted, 64));
+    memset(memory, 9, sizeof memory);
+    ROW(precopy_memory(trace, sizeof trace, memory, 64, &needed, &record) == PRECOPY_OK && !memcmp(memory, wanted, 64));
+    ROW(precopy_memory(trace, sizeof trace, memory, 63, &needed, &record) == PRECOPY_SHORT_BUFFER && needed == 64);
+}
+
+static void pages(void) {
+    static const uint8_t first[16] = {1};
+    struct precopy_write writes[4] = {{0, 9, 9, 9}, {0, 9, 9, 9}, {0, 9, 9, 9}, {0, 9, 9, 9}};
+    uint8_t content[17], memory[64] = {0}, wanted[64] = {0};
+    uint32_t version = 9;
+    size_t count = 9;
+    ROW(precopy_version_after(trace, sizeof trace, 1, 0, &version, &record) == PRECOPY_OK && version == 0);
+    ROW(precopy_version_after(trace, sizeof trace, 1, 4, &version, &record) == PRECOPY_OK && version == 3);
+    ROW(precopy_version_after(trace, sizeof trace, 1, 5, &version, &record) == PRECOPY_OK && version == 5);
+    ROW(precopy_version_after(trace, sizeof trace, 1, UINT32_MAX, &version, &record) == PRECOPY_OK && version == 5);
+    ROW(precopy_version_after(trace, sizeof trace, 2, 5, &version, &record) == PRECOPY_OK && version == 0);
+    ROW(precopy_version_after(trace, sizeof trace, 4, 5, &version, &record) == PRECOPY_NO_PAGE && version == 0);
+    memset(content, 9, sizeof content);
+    ROW(precopy_page_at(trace, sizeof trace, 0, 1, content, 17, &record) == PRECOPY_OK);
+    ROW(!memcmp(content, first, 16) && content[16] == 9);
+    ROW(precopy_page_at(trace, sizeof trace, 1, 3, content, 16, &record) == PRECOPY_OK && content[0] == 3
+        && content[15] == 2);
+    ROW(precopy_page_at(trace, sizeof trace, 1, 5, content, 16, &record) == PRECOPY_OK && content[0] == 0
+        && content[15] == 2);
+    ROW(precopy_page_at(trace, sizeof trace, 1, 0, content, 16, &record) == PRECOPY_OK && precopy_is_zero(content, 16));
+    memset(content, 9, sizeof content);
+    ROW(precopy_page_at(trace, sizeof trace, 1, 4, content, 16, &record) == PRECOPY_NO_VERSION);
+    ROW(precopy_page_at(trace, sizeof trace, 1, 6, content, 16, &record) == PRECOPY_NO_VERSION);
+    ROW(precopy_page_at(trace, sizeof trace, 4, 0, content, 16, &record) == PRECOPY_NO_PAGE);
+    ROW(precopy_page_at(trace, sizeof trace, 1, 3, content, 15, &record) == PRECOPY_SHORT_BUFFER && content[0] == 9);
+    ROW(precopy_page_writes(trace, sizeof trace, 1, writes, 2, &count, &record) == PRECOPY_SHORT_BUFFER && count == 3);
+    ROW(writes[0].size == 9);
+    ROW(precopy_page_writes(trace, sizeof trace, 1, writes, 4, &count, &record) == PRECOPY_OK && count == 3);
+    ROW(writes[0].place == 2 && writes[0].tick == 5 && writes[0].offset == 15 && writes[0].size == 1);
+    ROW(writes[1].place == 3 && writes[1].tick == 1200 && writes[1].offset == 0 && writes[1].size == 1);
+    ROW(writes[2].place == 5 && writes[2].tick == 2500 && writes[2].offset == 0 && writes[3].size == 9);
+    ROW(precopy_page_writes(trace, sizeof trace, 2, writes, 0, &count, &record) == PRECOPY_OK && count == 0);
+    ROW(precopy_page_writes(trace, sizeof trace, 4, writes, 4, &count, &record) == PRECOPY_NO_PAGE && count == 0);
+    wanted[0] = 1, wanted[31] = 2;
+    ROW(precopy_memory_step(trace, sizeof trace, 0, 2, memory, 64, &record) == PRECOPY_OK
+        && !memcmp(memory, wanted, 64));
+    ROW(precopy_memory_step(trace, sizeof trace, 2, 2, memory, 64, &record) == PRECOPY_OK
+        && !memcmp(memory, wanted, 64));
+    wanted[16] = 3, wanted[50] = 4, wanted[51] = 5;
+    ROW(precopy_memory_step(trace, sizeof trace, 2, 4, memory, 64, &record) == PRECOPY_OK
+        && !memcmp(memory, wanted, 64));
+    ROW(precopy_memory_step(trace, sizeof trace, 4, 3, memory, 64, &record) == PRECOPY_BACKWARDS);
+    ROW(precopy_memory_step(trace, sizeof trace, 4, 5, memory, 63, &record) == PRECOPY_MEMORY_LENGTH);
+    ROW(!memcmp(memory, wanted, 64));
+    wanted[16] = 0;
+    ROW(precopy_memory_step(trace, sizeof trace, 4, UINT32_MAX, memory, 64, &record) == PRECOPY_OK);
+    ROW(!memcmp(memory, wanted, 64));
+}
+
+static void traces(void) {
+    struct precopy_sizes sizes = {0, 0, 0};
+    ROW(precopy_check_trace(trace, sizeof trace, &sizes, &record) == PRECOPY_OK && record == 9);
+    ROW(sizes.shift == 4 && sizes.pages == 4 && sizes.writes == 5);
+    ROW(precopy_check_trace(trace, 101, &sizes, &record) == PRECOPY_SHORT_RECORD && record == 4);
+    ROW(precopy_check_trace(trace, 15, &sizes, &record) == PRECOPY_SHORT_HEADER && record == 4);
+}
+
+static void frames(void) {
+    static const struct precopy_sizes sizes = {4, 2, 5};
+    static const uint8_t page[16] = {0, 0, 0, 0, 0, 0, 0, 0, 0, 0, 0, 0, 0, 0, 0, 2}, zeros[16];
+    /* Page 1 at stamp 5, and after it page 1 at stamp 3, zeros. */
+    static const uint8_t stream[34] = {1, 0, 0, 0, 5, 0, 0, 0, 1, 0, 0, 0, 0, 0, 0, 0, 0,
+                                       0, 0, 0, 0, 0, 0, 0, 2, 1, 0, 0, 0, 3, 0, 0, 0, 0};
+    uint8_t text[25], content[16];
+    struct precopy_frame frame;
+    size_t needed = 0;
+    ROW(precopy_encode_frame(&sizes, 1, 5, page, 16, text, 25, &needed) == PRECOPY_OK && needed == 25);
+    ROW(!memcmp(text, stream, 25));
+    ROW(precopy_encode_frame(&sizes, 1, 3, zeros, 16, text, 25, &needed) == PRECOPY_OK && needed == 9);
+    ROW(!memcmp(text, stream + 25, 9));
+    ROW(precopy_encode_frame(&sizes, 2, 5, page, 16, text, 25, &needed) == PRECOPY_FRAME_PAGE);
+    ROW(precopy_encode_frame(&sizes, 1, 6, page, 16, text, 25, &needed) == PRECOPY_FRAME_STAMP);
+    ROW(precopy_encode_frame(&sizes, 1, 5, page, 15, text, 25, &needed) == PRECOPY_PAGE_LENGTH);
+    ROW(precopy_decode_frame(&sizes, stream, 34, &frame, content, 16) == PRECOPY_OK);
+    ROW(frame.page == 1 && frame.stamp == 5 && frame.size == 25 && !memcmp(content, page, 16));
+    ROW(precopy_is_zero(zeros, 16) && precopy_is_zero(zeros, 0) && !precopy_is_zero(page, 16));
+
+    uint8_t memory[32] = {0};
+    struct precopy_page pages[2] = {{0, 0}, {0, 0}};
+    struct precopy_taken taken = {9, 9};
+    size_t missing = 9;
+    ROW(precopy_accept(&sizes, stream, 34, memory, 32, pages, 2, &taken) == PRECOPY_OK);
+    ROW(taken.frames == 2 && taken.bytes == 34 && !memcmp(memory + 16, page, 16));
+    ROW(pages[0].came == 0 && pages[1].came == 1 && pages[1].stamp == 5);
+    ROW(precopy_missing(pages, 2, &missing) == PRECOPY_PAGE_MISSING && missing == 0);
+    ROW(precopy_accept(&sizes, stream, 33, memory, 32, pages, 2, &taken) == PRECOPY_FRAME_SHORT);
+    ROW(taken.frames == 1 && taken.bytes == 25);
+    ROW(precopy_accept(&sizes, stream, 34, memory, 31, pages, 2, &taken) == PRECOPY_MEMORY_LENGTH);
+    ROW(precopy_accept(&sizes, stream, 34, memory, 32, pages, 1, &taken) == PRECOPY_PAGE_COUNT);
+    /* In the other order the page at the lower stamp comes first, and gives way. */
+    memset(memory, 0, sizeof memory);
+    memset(pages, 0, sizeof pages);
+    ROW(precopy_accept(&sizes, stream + 25, 9, memory, 32, pages, 2, &taken) == PRECOPY_OK && pages[1].stamp == 3);
+    ROW(precopy_accept(&sizes, stream, 25, memory, 32, pages, 2, &taken) == PRECOPY_OK && pages[1].stamp == 5);
+    ROW(!memcmp(memory + 16, page, 16));
+    ROW(precopy_missing(pages + 1, 1, &missing) == PRECOPY_OK);
+}
+
+/* Frames of pages 0 to 3 and of page 1 again, which make the memory before tick 2500, after three writes. They begin at
+ * bytes 0, 25, 50, 59 and 68. After them comes the older frame of page 1 once more. */
+static const uint8_t sent[118] = {
+    0, 0, 0, 0, 1, 0, 0, 0, 1, 1, 0, 0, 0, 0, 0, 0, 0, 0, 0, 0, 0, 0, 0, 0, 0, /* */
+    1, 0, 0, 0, 2, 0, 0, 0, 1, 0, 0, 0, 0, 0, 0, 0, 0, 0, 0, 0, 0, 0, 0, 0, 2, /* */
+    2, 0, 0, 0, 0, 0, 0, 0, 0, 3, 0, 0, 0, 0, 0, 0, 0, 0,                      /* */
+    1, 0, 0, 0, 3, 0, 0, 0, 1, 3, 0, 0, 0, 0, 0, 0, 0, 0, 0, 0, 0, 0, 0, 0, 2, /* */
+    1, 0, 0, 0, 2, 0, 0, 0, 1, 0, 0, 0, 0, 0, 0, 0, 0, 0, 0, 0, 0, 0, 0, 0, 2,
+};
+
+static int is_frame(const struct precopy_finding *found, size_t stream, size_t frame, size_t offset, uint32_t page,
+                    uint32_t stamp, uint32_t wanted) {
+    return found->stream == stream && found->frame == frame && found->offset == offset && found->page == page
+           && found->stamp == stamp && found->wanted == wanted && found->missing == 0 && found->tick == 0;
+}
+
+static int is_page(const struct precopy_finding *found, uint32_t page, uint32_t stamp, uint32_t wanted,
+                   uint32_t missing, uint64_t tick) {
+    return found->stream == 0 && found->frame == 0 && found->offset == 0 && found->page == page && found->stamp == stamp
+           && found->wanted == wanted && found->missing == missing && found->tick == tick;
+}
+
+static void streams(void) {
+    static const size_t right[] = {93}, two[] = {93, 25}, late[] = {118}, cut[] = {92}, four[] = {68}, few[] = {0, 68};
+    struct precopy_finding found = {9, 9, 9, 9, 9, 9, 9, 9};
+    uint32_t count = 9;
+    uint8_t other[93];
+    ROW(precopy_writes_before(trace, sizeof trace, 2500, &count, &record) == PRECOPY_OK && count == 3);
+    ROW(precopy_writes_before(trace, sizeof trace, 5, &count, &record) == PRECOPY_OK && count == 1);
+    ROW(precopy_writes_before(trace, sizeof trace, 1ull << 40, &count, &record) == PRECOPY_OK && count == 5);
+    ROW(precopy_check_streams(trace, sizeof trace, 3, sent, 93, right, 1, &found, &record) == PRECOPY_OK);
+    ROW(precopy_check_streams(trace, sizeof trace, 3, sent, 118, two, 2, &found, &record) == PRECOPY_OK
+        && found.offset == 9);
+    ROW(precopy_check_streams(trace, sizeof trace, 3, sent, 92, right, 1, &found, &record) == PRECOPY_STREAM_SIZES);
+    ROW(precopy_check_streams(trace, sizeof trace, 3, sent, 93, cut, 1, &found, &record) == PRECOPY_STREAM_SIZES);
+    ROW(found.stream == 9 && found.tick == 9);
+    ROW(precopy_check_streams(trace, sizeof trace, 3, sent, 118, late, 1, &found, &record) == PRECOPY_OLDER);
+    ROW(is_frame(&found, 0, 5, 93, 1, 2, 3));
+    ROW(precopy_check_streams(trace, sizeof trace, 3, sent, 92, cut, 1, &found, &record) == PRECOPY_FRAME_SHORT);
+    ROW(is_frame(&found, 0, 4, 68, 0, 0, 0));
+    ROW(precopy_check_streams(trace, sizeof trace, 2, sent, 93, right, 1, &found, &record) == PRECOPY_AFTER_STOP);
+    ROW(is_frame(&found, 0, 4, 68, 1, 3, 2));
+    memcpy(other, sent, sizeof other);
+    other[92] = 7;
+    ROW(precopy_check_streams(trace, sizeof trace, 3, other, 93, right, 1, &found, &record) == PRECOPY_OTHER_BYTES);
+    ROW(is_frame(&found, 0, 4, 68, 1, 3, 3));
+    other[72] = 4;
+    ROW(precopy_check_streams(trace, sizeof trace, 3, other, 93, right, 1, &found, &record) == PRECOPY_NO_VERSION);
+    ROW(is_frame(&found, 0, 4, 68, 1, 4, 3));
+    ROW(precopy_check_streams(trace, sizeof trace, 3, sent, 68, four, 1, &found, &record) == PRECOPY_PAGE_BEHIND);
+    ROW(is_page(&found, 1, 2, 3, 3, 1200));
+    ROW(precopy_check_streams(trace, sizeof trace, 3, sent + 25, 68, few, 2, &found, &record) == PRECOPY_PAGE_MISSING);
+    ROW(is_page(&found, 0, 0, 1, 1, 0));
+}
+
+/* The same streams, in pieces. */
+static void pieces(void) {
+    struct precopy_finding found = {9, 9, 9, 9, 9, 9, 9, 9};
+    for (size_t cut = 0; cut <= 93; cut++) {
+        struct precopy_progress progress = {0, 0, 0, 3};
+        struct precopy_page states[8] = {{0, 0}};
+        ROW(precopy_check_piece(trace, sizeof trace, sent, cut, &progress, states, 8, &found, &record) == PRECOPY_OK);
+        uint32_t ends = precopy_check_pages(trace, sizeof trace, &progress, states, 8, &found, &record);
+        ROW(progress.bytes <= cut && (ends == PRECOPY_OK) == (progress.frames == 5));
+        size_t taken = progress.bytes;
+        ROW(precopy_check_piece(trace, sizeof trace, sent + taken, 118 - taken, &progress, states, 8, &found, &record)
+            == PRECOPY_OLDER);
+        ROW(is_frame(&found, 0, 5, 93, 1, 2, 3) && progress.bytes == taken);
+        ROW(precopy_check_pages(trace, sizeof trace, &progress, states, 8, &found, &record) == PRECOPY_OK);
+    }
+    struct precopy_progress progress = {0, 0, 0, 3};
+    struct precopy_page states[8] = {{0, 0}};
+    ROW(precopy_check_piece(trace, sizeof trace, sent, 93, &progress, states, 7, &found, &record)
+        == PRECOPY_PAGE_COUNT);
+    ROW(precopy_check_pages(trace, sizeof trace, &progress, states, 8, &found, &record) == PRECOPY_PAGE_MISSING);
+    ROW(is_page(&found, 0, 0, 1, 1, 0));
+}
+
+int main(void) {
+    ROW(precopy_abi() == PRECOPY_ABI);
+    streams();
+    pieces();
+    plans();
+    reports();
+    sweeps();
+    sizes_of_settings();
+    predictions();
+    amounts();
+    questions();
+    memories();
+    pages();
+    traces();
+    frames();
+    printf("%d passed, %d failed\n", passed, failed);
+    return failed != 0;
+}

@@ -1,0 +1,162 @@
+"""Trials of the crate for Rust and its example, and of frames that examples receive."""
+
+import dataclasses
+import os
+import random
+import re
+import shutil
+
+import precopy
+from checks.lib import trace_bytes
+from checks.lib.library_runs import EXAMPLES, LIBRARY, TOP, is_done, program_says, read, run
+from checks.lib.tally import left_out
+from checks.library import traces
+
+HEADER, CRATE = "include/precopy.h", "bindings/rust"
+SOURCES = ("flat.rs", "lib.rs", "places.rs", "predictions.rs", "refusals.rs", "streams.rs")
+
+
+def receive(tally, folder, path, trace):
+    """The frames of a trace's memory, older ones too, dealt to three streams. The example in C takes them."""
+    sizes = precopy.check_trace(trace)
+    chosen, paths = random.Random(53), [os.path.join(folder, f"stream{number}") for number in range(3)]
+    texts = []
+    for memory, stamp in ((precopy.memory(trace), sizes.writes), (precopy.memory_before(trace, 9), 0)):
+        for page in range(sizes.pages if sizes.writes or not stamp else 0):
+            content = bytes(memory[page << sizes.shift : page + 1 << sizes.shift])
+            texts.append(precopy.encode_frame(sizes, page, stamp, content))
+    chosen.shuffle(texts)
+    for number, name in enumerate(paths):
+        with open(name, "wb") as file:
+            file.write(b"".join(texts[number::3]))
+    words = [str(sizes.shift), str(sizes.pages), str(sizes.writes)]
+    done = run(os.path.join(folder, "receiver"), *words, *paths)
+    tally.add(done.stdout == precopy.memory(trace), f"examples/c/receiver.c of {path}: {done.stderr!r}")
+    done = run(os.path.join(folder, "receiver"), *words, paths[0])
+    wanted = b"did not come" in done.stderr or b"" == done.stderr and sizes.pages < 3
+    tally.add(wanted, f"examples/c/receiver.c of one stream of {path}: {done.stderr!r}")
+    return words, b"".join(texts)
+
+
+def check_statuses(tally):
+    """The numbers of the crate's statuses are those of the header."""
+    pattern = r"\b(?:PRECOPY_|pub const )(\w+)(?:: u32)? = (\d+)"
+    header, crate = (dict(re.findall(pattern, read(path, "r"))) for path in (HEADER, f"{CRATE}/src/refusals.rs"))
+    reasons = {"FEW", "FAST", "ALL_ROUNDS", "YES", "NO", "UNKNOWN"}
+    header = {name: number for name, number in header.items() if name not in reasons}
+    differ = header.items() ^ crate.items()
+    tally.add(not differ and len(crate) > 30, f"statuses of header and crate differ: {differ}")
+    declared = set(re.findall(r"\b(precopy_\w+)\(", re.sub(r"/\*.*?\*/", "", read(HEADER, "r"), flags=re.S)))
+    called = set(re.findall(r"\bcalls::(precopy_\w+)\(", "".join(read(f"{CRATE}/src/{it}", "r") for it in SOURCES)))
+    tally.add(declared == called, f"the crate does not have the calls {sorted(declared ^ called)}")
+
+
+def sums_line(it):
+    return f"{it.rounds} {it.reason.name.capitalize()} {it.stop} {it.down} {it.total}"
+
+
+def question(sizes, settings):
+    """What examples/answers.rs asks: its numbers do not grow beyond 64 bits."""
+    page, most = sizes.page_length, (1 << 64) - 1
+    asked = {name: getattr(settings, name) for name in ("rounds", "start", "base", "skip")}
+    asked |= {"link": min(most, 3 * page * settings.max), "first": min(most, 3 * page * settings.min)}
+    asked |= {"downtime": min(most, 1000 * settings.threshold), "reserve": 500, "page": page}
+    return precopy.Question(sampled=sizes.pages, guest=3 * sizes.pages, **asked)
+
+
+def prediction_lines(it):
+    yield f"plan {sums_line(it)} {it.left}"
+    verdicts = f"{it.converges.name.capitalize()} {it.kept.name.capitalize()}"
+    yield f"migration {it.time} {it.bytes} {it.downtime} {it.recorded} {verdicts}"
+    if it.errors:
+        yield f"errors {it.errors.bytes} {it.errors.time} {it.errors.downtime}"
+
+
+def amounts_line(it):
+    words = ["-" if amount is None else str(amount) for amount in (it.link, it.downtime, it.speed)]
+    return f"enough {str(it.is_kept).lower()} {' '.join(words)}"
+
+
+def answer_lines(trace, settings):
+    """What examples/answers.rs of the crate prints, as the Python module tells it."""
+    try:
+        sizes = precopy.check_trace(trace)
+        yield f"sizes {sizes.shift} {sizes.pages} {sizes.writes}"
+        sums = precopy.plan(trace, settings)
+        yield f"sums {sums_line(sums)}"
+        for it in precopy.rounds(trace, settings):
+            yield f"round {it.start} {it.end} {it.rate} {it.pages} {it.sent} {it.dirtied}"
+        yield precopy.report(trace, settings).rstrip("\n")
+        cases, best = precopy.sweep(trace, [settings, dataclasses.replace(settings, skip=not settings.skip)])
+        yield from (f"case {sums_line(it)}" for it in cases)
+        yield f"best {best}"
+        yield f"memory {precopy.memory(trace).hex()}"
+        yield f"before {precopy.memory_before(trace, sums.stop).hex()}"
+        yield from prediction_lines(precopy.predict(trace, question(sizes, settings)))
+        yield amounts_line(precopy.enough(trace, question(sizes, settings)))
+    except precopy.Refused as refused:
+        yield f"refused {refused.status} {refused}"
+
+
+def check_crate(tally, crate, target, environment):
+    """The crate's own tests, its form, and its answers beside those of the Python module."""
+    done = run("cargo", "test", "--offline", cwd=crate, env=environment)
+    counts = [int(count) for count in re.findall(rb"test result: ok\. (\d+) passed; 0 failed", done.stdout)]
+    if is_done(tally, done, "the tests of bindings/rust") and tally.add(sum(counts) > 10, f"tests in Rust: {counts}"):
+        tally.passed += sum(counts)
+    for words in (("fmt", "--check"), ("clippy", "--offline", "--all-targets", "--", "-D", "warnings")):
+        if run("cargo", words[0], "--version").returncode:
+            left_out(f"cargo {words[0]} of bindings/rust", "it is not installed")
+        else:
+            is_done(tally, run("cargo", *words, cwd=crate, env=environment), f"cargo {words[0]} of bindings/rust")
+    warned = {**environment, "RUSTDOCFLAGS": "-D warnings"}
+    is_done(tally, run("cargo", "doc", "--offline", cwd=crate, env=warned), "cargo doc of bindings/rust")
+    if not is_done(tally, run("cargo", "build", "--offline", "--examples", cwd=crate, env=environment), "answers.rs"):
+        return
+    chosen = random.Random(54)
+    for number in range(200):
+        trace, settings = trace_bytes.generated(chosen), traces.settings(chosen)
+        trace = trace_bytes.damaged(chosen, trace) if number % 3 == 0 else trace
+        if number % 10 == 9:
+            settings = dataclasses.replace(settings, rounds=chosen.choice([0, 65, (1 << 64) - 1]))
+        base = "-" if settings.base is None else settings.base
+        words = [getattr(settings, it) for it in "min max increment threshold rounds start window hot".split()]
+        done = run(f"{target}/debug/examples/answers", *map(str, [*words, base, int(settings.skip)]), input=trace)
+        wanted = "".join(f"{line}\n" for line in answer_lines(trace, settings))
+        tally.add(done.stdout.decode() == wanted, f"answers.rs of trace {number}: {done}, and in Python\n{wanted}")
+
+
+def check_example(tally, folder, source, target, environment, program):
+    done = run("cargo", "build", "--offline", "--quiet", cwd=source, env=environment)
+    if not is_done(tally, done, "examples/rust is built"):
+        return
+    built = os.path.join(target, "debug", "precopy-example")
+    for path in EXAMPLES:
+        trace = read(path)
+        done = run(built, input=trace)
+        tally.add(done.stdout == program_says(program, ["report"], trace), f"examples/rust of {path}: {done.stderr!r}")
+        done = run(built, "memory", "2000", input=trace)
+        tally.add(done.stdout == trace_bytes.memory_before(trace, 2000), f"examples/rust of {path}, memory: {done.stderr!r}")
+        words, stream = receive(tally, folder, path, trace)
+        done = run(built, "receive", *words, input=stream)
+        wanted = program_says(program, ["image"], trace)
+        tally.add(done.stdout == wanted, f"examples/rust of {path}, frames: {done.stderr!r}")
+    for words in ((), ("memory", "-1"), ("memory", str(1 << 64)), ("receive", "64", "1", "0"), ("receive", "4")):
+        done = run(built, *words, input=b"none")
+        good = done.returncode == 1 and done.stderr.startswith(b"Error: ")
+        tally.add(good, f"examples/rust with {words} and no trace: {done}")
+
+
+def check(tally, folder, program):
+    check_statuses(tally)
+    if not shutil.which("cargo"):
+        left_out("the crate for Rust and its example", "there is no cargo")
+        return
+    # In copies, as a build writes among sources.
+    copies, target = os.path.join(folder, "rust"), os.path.join(folder, "target")
+    for path in (CRATE, "examples/rust"):
+        skip = shutil.ignore_patterns("target", "Cargo.lock")
+        shutil.copytree(os.path.join(TOP, path), os.path.join(copies, path), ignore=skip)
+    environment = {**os.environ, "PRECOPY_LIBRARY_DIR": LIBRARY, "CARGO_TARGET_DIR": target}
+    check_crate(tally, os.path.join(copies, CRATE), target, environment)
+    check_example(tally, folder, os.path.join(copies, "examples/rust"), target, environment, program)

@@ -1,0 +1,341 @@
+"""Tests the planner's page in a headless Chromium, and what users do with it in Firefox too.
+
+    checks/run page [PRECOPY [MODULE]]
+    checks/run page --pictures FOLDER [PRECOPY [MODULE]]
+
+PRECOPY is crates/precopy/out/precopy of this repository if none is given, and MODULE the WebAssembly module, by default
+out/browser_planner.wasm, which `make page` builds; if it is missing, dev/page-module builds it. The page is joined
+from web/. Numbers that it shows for 400 random settings over 20 traces must be those of `precopy report` and `precopy
+sweep`, and the words that it gives for `precopy-view predict` and `when` ask for the same; what a click takes as enough
+for the limit keeps it. Each damage of the table in docs/FORMATS.md is refused by its name; a trace of `2^28` bytes is
+planned, or refused in a sentence. Fifty traces of all shapes plan at once. No task of the page's own thread works for
+more than 50 ms, however large the trace. The page opens no connection, fits widths from 360 to 1,920 pixels in each
+state, has contrasts of 4.5 for text and 3 for marks in light and in dark, and a name of its own for each control. In
+tables points are below each other, and no plan has a gap beside it, on paper neither. If Node is there, web/planner.js
+plans the same in it. Without Chromium all but sizes and Node are left out, and a line says so. The last line is 'N
+passed, M failed'; the status is 0 if something was tried and nothing failed.
+
+With --pictures only looks are tried, in Chromium, and FOLDER gets them for a reader's eye: a PNG of each state of the
+page at each width, in light and in dark; PDFs of what is printed; and the files that the page saves.
+"""
+
+import argparse
+import json
+import os
+import random
+import subprocess
+import sys
+import tempfile
+
+from checks.lib.amount_texts import moment_text, size_text, time_text
+from checks.lib.tally import Tally, has, left_out
+from checks.lib.view_texts import TOP, Failure, ran, report_facts, sweep_facts, told
+from checks.page import cases, enough, loads
+from checks.page import looks as page_looks
+from checks.page import states, uses
+from checks.page.browser import Browser
+from checks.page.firefox import Firefox
+from checks.page.node import node_command, put_web
+from checks.page.shown import COLLECTOR, Page, tried
+from checks.view.limit_cases import Known
+from checks.view.quantity_cases import amounts, quantities, texts_of
+
+MOST_MODULE, MOST_PAGE = 65_536, 350_000
+VIEW = os.path.join(TOP, "crates", "precopy_view", "out", "precopy_view")
+STARTS_OF, STARTS_TIMES = ["gzip.pcwt", "guests/sqlite.light.pcwt"], 4
+
+
+# ---- Sizes, and the module in Node.
+
+
+def built_page(folder, module):
+    if not module:
+        module = os.path.join(TOP, "out", "browser_planner.wasm")
+        if not os.path.exists(module):
+            subprocess.run([os.path.join(TOP, "tools", "page-module"), module], check=True)
+    page = os.path.join(folder, "precopy.html")
+    for path in (os.path.join(folder, "again.html"), page):
+        subprocess.run([os.path.join(TOP, "tools", "join-page"), module, path], check=True)
+    return os.path.abspath(module), page
+
+
+def check_sizes(tally, folder, module, page):
+    sizes = {path: os.path.getsize(path) for path in (module, page)}
+    print(f"the module has {sizes[module]:,} bytes, and the page {sizes[page]:,}")
+    tally.add(sizes[module] < MOST_MODULE, f"the module has {sizes[module]} bytes")
+    tally.add(sizes[page] < MOST_PAGE, f"the page has {sizes[page]} bytes")
+    with open(page, "rb") as file, open(os.path.join(folder, "again.html"), "rb") as again:
+        tally.add(file.read() == again.read(), "the same sources give two pages")
+
+
+def node_settings(asked):
+    least, most, increment, threshold = asked.settings()
+    return {"min": least, "max": most, "increment": increment, "threshold": threshold, "rounds": asked.rounds,
+            "start": asked.start, "window": asked.window, "base": asked.base, "skip": bool(asked.skip)}
+
+
+def node_question(asked):
+    link, first, downtime, reserve = asked.limits()
+    return {"link": link, "first": first, "downtime": downtime, "reserve": reserve, "tick": asked.tick,
+            "page": asked.page, "sampled": asked.sampled, "guest": asked.guest, "increment": asked.settings()[2],
+            "rounds": asked.rounds, "start": asked.start, "base": asked.base, "skip": bool(asked.skip)}
+
+
+def node_facts(asked, report):
+    """What the module has to answer, by the lines of a report."""
+    figures = cases.figures(asked, report)
+    return {"windows": [list(row.values()) for row in report["windows"]],
+            "rounds": [list(row.values())[1:] for row in report["rounds"]], "stop": list(report["stop"].values()),
+            "settings": list(asked.settings()), "isSame": True,
+            "answer": [str(figures[name]) for name in ("time", "sent", "down", "recorded", "kept", "converges")]}
+
+
+def check_quantities(tally, command, web):
+    """Reads in Node what the other doors make of times and rates. The page takes what a number of JavaScript holds. It
+    writes times and sizes as they do."""
+    rows = [row for row in quantities() if row[0] != "size"]
+    words = [*command, "--no-warnings", os.path.join(web, "words.mjs")]
+    ran = subprocess.run(words, input=json.dumps([row[:2] for row in rows]).encode(), capture_output=True, check=False)
+    if not tally.add(ran.returncode == 0, f"Node: {ran.stderr.decode()[:300]}"):
+        return
+    for (_, word, amount), found in zip(rows, json.loads(ran.stdout), strict=True):
+        is_held = amount is not None and amount < 1 << 53
+        tally.add(found == ([amount] * 2 if is_held else None), f"the page takes {word!r} as {found}, not {amount}")
+    words, some = [*command, "--no-warnings", os.path.join(web, "texts.mjs")], amounts()
+    ran = subprocess.run(words, input=json.dumps(list(map(str, some))).encode(), capture_output=True, check=False)
+    if tally.add(ran.returncode == 0, f"Node: {ran.stderr.decode()[:300]}"):
+        for amount, found in zip(some, json.loads(ran.stdout), strict=True):
+            tally.add(found == texts_of(amount), f"the page writes {amount} as {found}, not {texts_of(amount)}")
+
+
+def check_node(tally, folder, module, precopy):
+    """Plans in Node what `precopy report` plans."""
+    command = node_command()
+    if not command:
+        left_out("the module in Node", "there is no node with 64-bit memory")
+        return
+    web = put_web(folder, "plans.mjs", "words.mjs", "texts.mjs")
+    check_quantities(tally, command, web)
+    for known, some in cases.tries(folder):
+        fitting = [asked for asked in some if not asked.refusal()]
+        questions = []
+        for asked in fitting:
+            questions.append({"settings": node_settings(asked), "question": node_question(asked)})
+        words = [*command, "--no-warnings", os.path.join(web, "plans.mjs"), module, known.path]
+        ran = subprocess.run(words, input=json.dumps(questions).encode(), capture_output=True, check=False)
+        if not tally.add(ran.returncode == 0, f"Node: {ran.stderr.decode()[:300]}"):
+            continue
+        for asked, found in zip(fitting, json.loads(ran.stdout)):
+            report = report_facts(told(precopy, ["report", *asked.words()], known.path))
+            drawn, remedies = found.pop("errors"), found.pop("remedies")
+            tally.add(found == node_facts(asked, report), f"in Node {known}, {asked.fragment()}: {found['stop']}")
+            if known.pages <= cases.SMALL:
+                wanted = cases.drawn_errors(asked)
+                tally.add(drawn == (wanted and list(wanted)), f"in Node {known}, {asked.fragment()}: {drawn}, {wanted}")
+                wanted = enough.remedies_of(asked, asked.limits()[1], asked.settings()[2])
+                wanted = [wanted.is_kept, *(None if amount is None else str(amount) for amount in wanted[1:])]
+                tally.add(remedies == wanted, f"in Node {known}, {asked.fragment()}: {remedies}, {wanted}")
+
+
+# ---- Numbers.
+
+
+def check_numbers(tally, page, precopy, folder):
+    has_view = os.access(VIEW, os.X_OK)
+    if not has_view:
+        left_out("the words for precopy-view predict", f"{VIEW} is not built")
+    for known, some in cases.tries(folder):
+        page.load(known.path)
+        page.browser.value("document.getElementById('windows-details').open = true")
+        for asked in some:
+            tried(tally, f"{known}, {asked.fragment()}", check_one, page, precopy, asked, has_view)
+
+
+def check_one(page, precopy, asked, has_view):
+    found = page.ask(asked.fragment())
+    document = cases.predicted(VIEW, asked, found) if has_view and not asked.refusal() else None
+    cases.check_facts(precopy, asked, found, document)
+    if not asked.refusal():
+        enough.check_enough(asked, page, document)
+        enough.check_taken(asked, page, precopy)
+
+
+def start_prices(asked, line, start):
+    """What a migration from a start costs: whether it is kept, and its prices."""
+    _, _, limit, reserve = asked.limits()
+    down = line["down"] * asked.tick + reserve
+    time = (line["at"] - start) * asked.tick + down
+    sent = asked.bytes(line["total"])
+    is_kept = down <= limit
+    return (not is_kept, *((sent, down) if is_kept else (down, sent)), time), (time, sent, down, is_kept)
+
+
+def start_ticks(asked, last):
+    """The starts that the page plans: from tick 0 on, or from a step after the copy."""
+    first = 0 if asked.base is None else asked.base + max(1, -(-(max(asked.base, last) - asked.base) // 200))
+    every = max(1, -(-(max(first, last) - first) // 200))
+    return range(first, max(first, last) + 1, every)
+
+
+def check_starts(page, precopy, name, seed):
+    """Compares the best and the worst start with those of the lines of `precopy sweep`, and of `precopy-view when`."""
+    known = Known(cases.example(name))
+    draw = random.Random(f"{name} {seed}")
+    asked = next(some for some in iter(lambda: cases.Asked(draw, known), None) if not some.refusal())
+    page.load(known.path)
+    page.ask(asked.fragment())
+    ticks = start_ticks(asked, known.last)
+    words = page.browser.value("textOf('ask')")
+    page.browser.value("document.getElementById('ask').click()")
+    done = "!document.getElementById('starts-answer').hidden && document.getElementById('starts-progress').hidden"
+    page.browser.wait(done)
+    found = page.browser.value("[...document.querySelectorAll('#starts-choice p:not(#saving, .hint)')]"
+                               ".map((line) => line.textContent.replaceAll('\\u00a0', ' '))")
+    costs = []
+    for start in ticks:
+        base = [] if asked.base is None else [f"--base={asked.base}"]
+        line = sweep_facts(told(precopy, ["sweep", f"--start={start}", *base, asked.case()], known.path))["cases"][0]
+        if line["at"] <= known.last:
+            costs.append((*start_prices(asked, line, start), start))
+    wanted, chosen = [], []
+    for title, choice in (("Best", min), ("Worst", max)) if costs else ():
+        _, (time, sent, down, is_kept), start = choice(costs, key=lambda cost: cost[0])
+        chosen.append(start)
+        cost = (f"time {time_text(time)}, sent {size_text(sent)}, "
+                f"downtime {time_text(down)}, {'kept' if is_kept else 'not kept'}")
+        place = moment_text(start * asked.tick) + (f", tick {start:,}" if asked.ticks else "")
+        wanted.append(f"{title} start: {place}: {cost}")
+    if len(set(chosen)) == 1:
+        wanted = [f"Each start whose migration ends within the trace: {cost}"]
+    if found != (wanted or ["No migration ends within the trace: record longer."]):
+        raise Failure(f"{found} in place of {wanted}")
+    if words != f"Plan {cases.plural(len(ticks), 'start')}":
+        raise Failure(f"{words!r} for {len(ticks)} starts")
+    if os.access(VIEW, os.X_OK):
+        check_when(page.browser.value("textOf('command-when')"), known.path, len(ticks), chosen)
+
+
+def check_when(words, path, count, chosen):
+    """Runs the words that the page gives for `precopy-view when`: they ask for the same starts."""
+    _, text, faults = ran(VIEW, ["json", *words.removesuffix(" < TRACE").split()[1:]], path)
+    if faults:
+        raise Failure(f"{words}: {faults}")
+    found = json.loads(text)
+    starts = [found[name]["start"] for name in ("best", "worst") if name in found]
+    if (len(found["starts"]), starts) != (count, chosen):
+        raise Failure(f"{words}: {len(found['starts'])} starts, {starts} in place of {count}, {chosen}")
+
+
+# ---- Refusals and long traces.
+
+
+def check_damages(tally, page, folder):
+    """A file that is refused is named, and leaves the trace that is open, with its plan."""
+    path = os.path.join(folder, "damaged.pcwt")
+    page.load(cases.example("guests/mid.light.pcwt"))
+    before = page.shown()
+    for name, text in cases.damages():
+        with open(path, "wb") as file:
+            file.write(text)
+        said = page.load(path)
+        sentence = said.partition(f"damaged.pcwt is refused: {name} ")[2]
+        tally.add(len(sentence) > 10 and "mid.light.pcwt is still open." in said and page.shown() == before,
+                  f"{name}: {said!r}")
+
+
+def check_no_memory(page):
+    """No memory to lend, and a file that cannot be read, are refused in a sentence."""
+    codes = {"E16": "WebAssembly.Memory.prototype.grow = () => { throw new RangeError('no'); };",
+             "E17": "Blob.prototype.stream = () => { throw new Error('gone'); };"}
+    for name, code in codes.items():
+        page.open()
+        page.wait_for_plan()
+        # The next worker begins with this.
+        page.browser.value(f"""(() => {{
+          const Made = Blob;
+          Blob = function (parts, kind) {{
+            return new Made(kind?.type === "text/javascript" ? [{json.dumps(code)}, ...parts] : parts, kind);
+          }};
+        }})()""")
+        uses.end_worker(page)
+        said = page.load(cases.example("guests/mid.light.pcwt"))
+        if f"is refused: {name} " not in said:
+            raise Failure(f"{said!r} in place of {name}")
+
+
+
+# ---- All of it.
+
+
+def in_chromium(act, tally, path, *words):
+    with Browser("chromium") as browser:
+        browser.begin_with(COLLECTOR)
+        browser.dress(1400, 900)
+        act(tally, Page(browser, path), *words)
+
+
+def all_uses(tally, page, folder, precopy):
+    page.open()
+    page.wait_for_plan()
+    check_numbers(tally, page, precopy, folder)
+    for name in STARTS_OF:
+        for seed in range(STARTS_TIMES):
+            tried(tally, f"starts of {name}, {seed}", check_starts, page, precopy, name, seed)
+    check_damages(tally, page, folder)
+    tried(tally, "no memory", check_no_memory, page)
+    uses.check_uses(tally, page, folder)
+    looks(tally, page)
+    page_looks.check_looks(tally, page, tried)
+    loads.check_loads(tally, page, folder)
+    page_looks.check_silence(tally, page)
+
+
+def looks(tally, page, pictures=None):
+    states.check_states(tally, page, tried, pictures)
+    tried(tally, "traces of other shapes", page_looks.check_shapes, page, pictures)
+
+
+def in_firefox(tally, folder, path):
+    """What users do with the page, in the other kind of browser."""
+    with Firefox() as browser:
+        browser.begin_with(COLLECTOR)
+        uses.check_uses(tally, Page(browser, path), folder)
+
+
+def check_pictures(tally, path, pictures):
+    if has("chromium", "chromium", "the page in a browser"):
+        tried(tally, "the browser", in_chromium, looks, tally, path, pictures)
+
+
+def check_all(tally, folder, module, path, precopy):
+    check_sizes(tally, folder, module, path)
+    check_node(tally, folder, module, precopy)
+    if has("chromium", "chromium", "the page in a browser"):
+        tried(tally, "the browser", in_chromium, all_uses, tally, path, folder, precopy)
+    if has("firefox-esr", "firefox-esr", "what users do, in Firefox"):
+        tried(tally, "Firefox", in_firefox, tally, folder, path)
+
+
+def main():
+    parser = argparse.ArgumentParser(description=__doc__, formatter_class=argparse.RawDescriptionHelpFormatter)
+    parser.add_argument("--pictures", metavar="FOLDER")
+    parser.add_argument("precopy", nargs="?", default=os.path.join(TOP, "crates", "precopy", "out", "precopy"))
+    parser.add_argument("module", nargs="?")
+    asked = parser.parse_args()
+    precopy, tally = os.path.abspath(asked.precopy), Tally()
+    with tempfile.TemporaryDirectory() as folder:
+        try:
+            module, path = built_page(folder, asked.module and os.path.abspath(asked.module))
+        except (OSError, subprocess.CalledProcessError) as error:
+            tally.add(False, f"the page was not built: {error}")
+        else:
+            if asked.pictures:
+                check_pictures(tally, path, asked.pictures)
+            else:
+                check_all(tally, folder, module, path, precopy)
+    print(tally)
+    return 0 if tally.passed and not tally.failed else 1
+
+
+if __name__ == "__main__":
+    sys.exit(main())

@@ -1,0 +1,24 @@
+"""What checks do on the planner's page: they ask for settings, and type."""
+
+import json
+
+from checks.lib.view_texts import Failure
+
+PLAIN = {"trace": "sqlite", "link": "1Gbit", "downtime": "300ms", "first": "10", "reserve": "0ms", "start": "1000",
+         "rounds": "30", "tick": "1ms", "base": "none", "window": "500"}
+
+
+def require(holds, words):
+    if not holds:
+        raise Failure(words)
+
+
+def asked(page, **more):
+    """Asks for plain settings with some others."""
+    return page.ask("&".join(f"{name}={word}" for name, word in {**PLAIN, **more}.items()))
+
+
+def typed(page, name, text):
+    """Types into a field, and returns what the page shows then."""
+    return page.after(f"const field = document.getElementById('control-{name}'); field.value = {json.dumps(text)};"
+                      "field.dispatchEvent(new Event('input'));")

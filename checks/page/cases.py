@@ -1,0 +1,346 @@
+"""Cases of checks/page: traces and their damages, and random settings with the facts that the page must show of them.
+
+The facts are worked out from the lines of `precopy report` and `precopy sweep`, by the rules of docs/COMMANDS.md.
+"""
+
+import os
+import random
+
+from checks.lib.amount_texts import error_text, moment_text, size_text, time_text
+from checks.lib.host_words import host_lines, is_command, sentence_of
+from checks.lib.view_texts import TOP, Failure, document_of, ran, report_facts, sweep_facts, told
+from checks.page import shapes
+from checks.page.tables import round_texts, window_texts
+from checks.view.limit_cases import RATES, Known, redrawn
+
+TRACES = ["a.pcwt", "gzip.pcwt", "released.pcwt", "guests/mid.light.pcwt", "guests/sqlite.light.pcwt"]
+SHAPES, SETTINGS = 15, 20
+# Of how many pages the standard errors, and what is enough for the limit, are worked out here too.
+SMALL = 2_000
+
+
+def example(name):
+    return os.path.join(TOP, "examples", name)
+
+
+# ---- Damages.
+
+
+def changed(text, at, new):
+    return text[:at] + bytes(new) + text[at + len(new):]
+
+
+def damages():
+    """Names of refusals, each with the bytes of a damaged trace, by the table of docs/FORMATS.md."""
+    with open(example("a.pcwt"), "rb") as file:
+        text = file.read()
+    records = [16, 33, 50, 67, 85]
+    return [
+        ("E1", text[:15]), ("E1", b""), ("E2", changed(text, 0, [0x51])), ("E3", changed(text, 4, [3])),
+        ("E3", changed(text, 4, [0])), ("E4", changed(text, 5, [3])), ("E4", changed(text, 5, [13])),
+        ("E5", changed(text, 6, [1])), ("E5", changed(text, 7, [1])), ("E6", changed(text, 8, [0, 0, 0, 0])),
+        ("E6", changed(text, 8, [1, 0, 1, 0])), ("E7", changed(text, 12, [1, 0, 16, 0])),
+        ("E8 record 5", changed(text, 12, [6])), ("E14", changed(text, 12, [4])), ("E14", text + b"\0"),
+        ("E8 record 4", changed(text, records[4] + 14, [255, 255])), ("E8 record 4", text[:-1]),
+        ("E9 record 1", changed(changed(text, records[0], [6]), records[1], [5])),
+        ("E9 record 4", changed(text, records[4], [0])),
+        ("E10 record 4", changed(text, records[4], [0, 0, 0, 0, 0, 1, 0, 0])),
+        ("E11 record 3", changed(text, records[3] + 8, [4])), ("E12 record 0", changed(text, records[0] + 14, [0, 0])),
+        ("E13 record 1", changed(text, records[1] + 12, [16, 0])), ("E2", changed(changed(text, 0, [0x51]), 4, [2])),
+        ("E12 record 4", changed(changed(text, 4, [2])[:-1], records[4] + 12, [1, 0, 0, 0])),
+    ]
+
+
+# ---- Settings.
+
+
+class Asked:
+    """What the controls of the page say, and the settings that they make."""
+
+    def __init__(self, draw, known):
+        self.known, self.page, self.sampled = known, known.size, known.pages
+        self.tick = draw.choice([1, 10, 100, 1_000, 1_000, 20_000])
+        self.guest = draw.choice([known.pages, known.pages, draw.randrange(known.pages, 5_000 * known.pages)])
+        self.link = self._link(draw)
+        self.first = draw.choice([100, draw.randrange(101), draw.randrange(100_001) / 1_000])
+        self.increase = draw.choice([10, draw.randrange(101)])
+        self.downtime, self.reserve = self._times(draw)
+        self.start = draw.randrange(known.last + 2)
+        self.base = draw.choice([None, None, draw.randrange(self.start + 1), self.start + draw.choice([0, 0, 1])])
+        self.rounds, self.skip = draw.choice([30, draw.randrange(66)]), draw.randrange(2)
+        self.window = draw.choice([max(1, known.last // draw.randrange(1, 500)), draw.randrange(3_000), 1 << 40])
+        self.ticks = draw.randrange(2)
+
+    def _link(self, draw):
+        """A link that is some rate of the trace, nearly, in bytes a second; and its word."""
+        rate = 10 ** draw.uniform(-0.3, 6.1)
+        size = min(rate * 1_000 * self.page * self.guest / self.sampled / self.tick, 1 << 52)
+        unit = draw.choice([unit for unit in RATES if size / RATES[unit] < 10**12])
+        count = max(1, round(size / RATES[unit]))
+        return count * RATES[unit], f"{count}{unit}"
+
+    def _times(self, draw):
+        most = max(1, self.rate(self.link[0]))
+        ticks = int(66_000 * 1_000 / most * 10 ** draw.uniform(-5, 0.01))
+        downtime = max(0, ticks * self.tick)
+        if downtime > 5_000_000:
+            downtime -= downtime % 1_000_000
+        return downtime, draw.choice([0, 0, draw.randrange(1 + downtime), draw.randrange(50_000)])
+
+    def rate(self, size):
+        return size * self.tick * self.sampled // (1_000 * self.page * self.guest)
+
+    def fragment(self):
+        sample = "all" if self.guest == self.sampled else f"{self.sampled}/{self.guest}"
+        return "&".join([
+            f"link={self.link[1]}", f"first={self.first}", f"increase={self.increase}", f"downtime={self.downtime}us",
+            f"reserve={self.reserve}us", f"start={self.start}", f"rounds={self.rounds}", f"skip={self.skip}",
+            f"base={'none' if self.base is None else self.base}", f"tick={self.tick}us", f"sample={sample}",
+            f"window={self.window}", f"ticks={self.ticks}"])
+
+    def limits(self):
+        """The link and the first round in bytes a second, the downtime and the reserve in microseconds."""
+        link = self.link[0]
+        share = link * round(self.first * 1_000) // 100_000
+        first = link if self.first == 100 else share - share % 125
+        return link, first, self.downtime, self.reserve
+
+    def refusal(self):
+        """The control at which the page refuses these settings, or None."""
+        link, first, downtime, reserve = self.limits()
+        most, least = self.rate(link), self.rate(first)
+        tests = [
+            ("sample", self.guest > 1 << 32), ("link", not 1 <= most <= 1_000_000), ("first", least < 1),
+            ("reserve", reserve > downtime),
+            ("downtime", (downtime - reserve) // self.tick * most // 1_000 + 1 > 65_536),
+            ("rounds", not 1 <= self.rounds <= 64), ("window", not 1 <= self.window <= 1 << 40),
+            ("base", self.base is not None and self.base > self.start)]
+        return next((name for name, is_refused in tests if is_refused), None)
+
+    def settings(self):
+        link, first, downtime, reserve = self.limits()
+        most, least = self.rate(link), self.rate(first)
+        threshold = (downtime - reserve) // self.tick * most // 1_000 + 1
+        return least, most, (most - least) * self.increase // 100, threshold
+
+    def words(self):
+        """The options of `precopy report`."""
+        least, most, increment, threshold = self.settings()
+        return [f"--min={least}", f"--max={most}", f"--inc={increment}", f"--threshold={threshold}",
+                f"--rounds={self.rounds}", f"--window={self.window}", *self.place(), *["--skip"] * self.skip]
+
+    def place(self):
+        return [f"--start={self.start}", *([] if self.base is None else [f"--base={self.base}"])]
+
+    def case(self):
+        return ",".join(map(str, [*self.settings(), self.rounds, self.skip]))
+
+    def bytes(self, pages):
+        return pages * self.page * self.guest // self.sampled
+
+
+# ---- What the page says of a plan.
+
+
+def plural(count, noun):
+    return f"{count:,} {noun}{'' if count == 1 else 's'}"
+
+
+def hosts(asked):
+    """What the page gives QEMU and libvirt: commands, and sentences on what they do not take, as `precopy-view` has
+    them."""
+    link, _, downtime, reserve = asked.limits()
+    lines = host_lines(link, (downtime - reserve) // 1_000)
+    words, sentences = {}, {}
+    for name in ("QEMU", "libvirt"):
+        own = [line for line in lines if line.startswith(f"{name}: ")]
+        words[name.lower()] = "\n".join(line.removeprefix(f"{name}: ") for line in own if is_command(line))
+        sentences[name.lower()] = [sentence_of(line) for line in own if not is_command(line)]
+    return words, sentences
+
+
+def commands(asked):
+    """The words that the page gives for `precopy live`, QEMU and libvirt."""
+    least, most, increment, threshold = asked.settings()
+    live = f"precopy live --min {least} --max {most} --inc {increment} --threshold {threshold} --rounds {asked.rounds} "
+    live += " ".join([*(word.replace("=", " ") for word in asked.place()), *["--skip"] * asked.skip]) + " < TRACE"
+    return {"live": live, **hosts(asked)[0]}
+
+
+def check_notes(asked, notes):
+    """A note says of each hypervisor what it does not take, and what of a limit its commands leave out."""
+    link, _, downtime, reserve = asked.limits()
+    for name, sentences in hosts(asked)[1].items():
+        is_cut = (downtime - reserve) % 1_000 > 0 or downtime - reserve < 1_000
+        is_slow = name == "libvirt" and link % (1 << 20) * 100 >= link
+        missing = [sentence for sentence in sentences if sentence not in notes[name]]
+        if missing or bool(notes[name]) != bool(sentences or is_cut or is_slow):
+            raise Failure(f"the note on {name} is {notes[name]!r}, without {missing}")
+
+
+def figures(asked, report):
+    """What a migration comes to by the lines of a report: its answers, and its prices if it ends within the trace."""
+    stop, known = report["stop"], asked.known
+    _, _, limit, reserve = asked.limits()
+    down = stop["down"] * asked.tick + reserve
+    is_known = stop["at"] <= known.last
+
+    def answer(holds):
+        return "unknown" if not is_known else "yes" if holds else "no"
+
+    return {"converges": answer(stop["why"] == "few"), "kept": answer(down <= limit),
+            "recorded": max(0, known.last - asked.start) * asked.tick,
+            "time": (stop["at"] - asked.start) * asked.tick + down, "sent": asked.bytes(stop["total"]), "down": down}
+
+
+def drawn_errors(asked):
+    """The standard errors of bytes, time and downtime by `python/precopy_dev/models/redrawn.py`, if there are any."""
+    if not 2 <= asked.sampled < asked.guest:
+        return None
+    least, most, increment, threshold = asked.settings()
+    settings = redrawn.Settings(least, most, increment, threshold, asked.rounds, asked.start, bool(asked.skip),
+                                asked.base)
+    scale = redrawn.Scale(asked.tick, asked.page, asked.sampled, asked.guest)
+    return redrawn.errors(asked.known.guest, settings, scale)
+
+
+def micros(value):
+    return round(value * 1e6)
+
+
+def told_errors(document):
+    """The standard errors that a document of `json predict` tells, if it does."""
+    errors = document.get("migration", {}).get("errors")
+    return errors and (errors["sent_bytes"], micros(errors["time_seconds"]), micros(errors["down_seconds"]))
+
+
+def errors(asked, document):
+    """The standard errors, as the program tells them, and for small traces as they are worked out beside it."""
+    if document is None:
+        return drawn_errors(asked)
+    told_by_program = told_errors(document)
+    is_small = asked.known.pages <= SMALL
+    if is_small and document["kept"] != "unknown" and told_by_program != drawn_errors(asked):
+        raise Failure(f"errors of {told_by_program} in place of {drawn_errors(asked)}")
+    return told_by_program
+
+
+def reason(asked, report):
+    threshold, of_sample = asked.settings()[3], " of the sample" * (asked.guest > asked.sampled)
+    few = "no page was left" if threshold == 1 else f"fewer than {threshold:,} pages{of_sample} were left"
+    return {"few": few, "fast": "the guest writes faster than the link sends",
+            "rounds": f"all {plural(asked.rounds, 'round')} that are allowed are done"}[report["stop"]["why"]]
+
+
+def comparison(asked, report, document):
+    """The rows of the comparison, as the page writes them."""
+    stop, found = report["stop"], figures(asked, report)
+    if found["kept"] == "unknown":
+        least = f"more than {time_text(found['recorded'])}" if found["recorded"] else "unknown"
+        return {**{name: ["unknown", ""] for name in ("downtime", "sent", "rounds", "left", "stop")},
+                "time": [least, ""]}
+    drawn = errors(asked, document)
+    sent, time, down = drawn or (0, 0, 0)
+
+    def more(error, *words):
+        return "; ".join([*([f"\u00b1 {error}"] if drawn else []), *words])
+
+    def ticks(words):
+        return [words] * asked.ticks
+
+    of_sample = " of the sample" * (asked.guest > asked.sampled)
+    threshold = asked.settings()[3]
+    few = "none left ends pre-copy" if threshold == 1 else f"fewer than {threshold:,} end pre-copy"
+    guest = [f"{plural(stop['total'] * asked.guest // asked.sampled, 'page')} of the guest"] * bool(of_sample)
+    pages = f"{plural(stop['total'], 'page')}{of_sample}"
+    return {
+        "downtime": [time_text(found["down"]),
+                     more(error_text(down), "kept" if found["kept"] == "yes" else "not kept",
+                          *ticks(f"{plural(stop['down'], 'tick')} for pages"))],
+        "time": [time_text(found["time"]),
+                 more(error_text(time), *ticks(f"{plural(stop['at'] - asked.start, 'tick')} of pre-copy"))],
+        "sent": [size_text(found["sent"]), more(size_text(sent), *guest, pages)],
+        "rounds": [f"{len(report['rounds']):,}", reason(asked, report)],
+        "left": [plural(stop["pages"], "page") + of_sample, few],
+        "stop": [moment_text(stop["at"] * asked.tick), "".join(ticks(f"tick {stop['at']:,}"))],
+    }
+
+
+def warnings(asked, report):
+    stop = report["stop"]
+    return 0 if stop["at"] > asked.known.last else (stop["pages"] < 100) + (stop["why"] != "few")
+
+
+def verdict(asked, report):
+    """Words of the verdict."""
+    found = figures(asked, report)
+    if found["kept"] == "unknown":
+        least = f", which takes more than {time_text(found['recorded'])}" * (found["recorded"] > 0)
+        return f"The trace ends before the migration does{least}: record longer."
+    return f"It {'converges' if found['converges'] == 'yes' else 'does not converge'}: {reason(asked, report)}."
+
+
+def check_facts(precopy, asked, found, document):
+    """Tests what the page shows for settings against what precopy writes, and against the document of `json predict`,
+    if there is one."""
+    name = asked.refusal()
+    if name:
+        if found["refused"] != name or not found["fault"] or not found["stale"]:
+            raise Failure(f"{found['refused']!r}, {found['fault']!r} in place of {name}")
+        return
+    if found["refused"]:
+        raise Failure(f"refused: {found['refused']}, {found['fault']}")
+    report = report_facts(told(precopy, ["report", *asked.words()], asked.known.path))
+    line = sweep_facts(told(precopy, ["sweep", *asked.place(), asked.case()], asked.known.path))["cases"][0]
+    stop = report["stop"]
+    if (line["rounds"], line["stop"], line["at"], line["down"], line["total"]) != (
+            len(report["rounds"]), stop["why"], stop["at"], stop["down"], stop["total"]):
+        raise Failure(f"report and sweep differ: {line}, {stop}")
+    check_notes(asked, found["notes"])
+    wanted = {
+        "rounds": round_texts(asked, report["rounds"]), "windows": window_texts(asked, report["windows"]),
+        "comparison": comparison(asked, report, document), "warnings": warnings(asked, report),
+        "commands": commands(asked),
+    }
+    for key, value in wanted.items():
+        if found[key] != value:
+            raise Failure(f"{key}: {found[key]} in place of {value}")
+    words = verdict(asked, report)
+    if words not in found["verdict"].replace("\u00a0", " ") or found["stale"]:
+        raise Failure(f"{found['verdict']!r} in place of {words!r}")
+    if document is not None:
+        check_document(document, figures(asked, report))
+
+
+def check_document(document, wanted):
+    """Compares a document of `json predict` with what a migration comes to."""
+    told = {name: document[name] for name in ("converges", "kept")}
+    told["recorded"] = micros(document["recorded_seconds"])
+    if document["kept"] != "unknown":
+        migration = document["migration"]
+        told |= {"time": micros(migration["time_seconds"]), "sent": migration["sent_bytes"],
+                 "down": micros(migration["down_seconds"])}
+    if told != {name: wanted[name] for name in told}:
+        raise Failure(f"json predict tells {told} in place of {wanted}")
+
+
+def predicted(view, asked, found):
+    """Runs the words that the page gives for `precopy-view predict`: they ask for the same migration. Returns what
+    `json predict` answers to them."""
+    words = found["predict"].removesuffix(" < TRACE").split()[1:]
+    status, text, faults = ran(view, words, asked.known.path)
+    lines = text.splitlines()
+    live = next((line for line in lines if line.startswith("precopy live ")), None)
+    if status not in (0, 3, 4) or live is None or f"{live} < TRACE" != found["commands"]["live"]:
+        raise Failure(f"{words}: status {status}, {faults!r}, {live!r} in place of {found['commands']['live']!r}")
+    _, text, _ = ran(view, ["json", *words], asked.known.path)
+    return document_of("predict", text)
+
+
+def tries(folder):
+    """Random settings over the examples and over traces of other shapes, trace by trace."""
+    draw = random.Random(2005)
+    paths = [example(name) for name in TRACES] + shapes.written(folder, SHAPES, 67)
+    for path in paths:
+        known = Known(path)
+        yield known, [Asked(draw, known) for _ in range(SETTINGS)]

@@ -1,0 +1,107 @@
+"""What the planner's page says to be enough for a limit: the amounts that the search found, in few digits, and what a
+click takes of them."""
+
+import math
+import re
+from fractions import Fraction
+
+from checks.lib.view_texts import Failure, sweep_facts, told
+from checks.page.cases import SMALL, micros
+from checks.view.limit_cases import RATES, TIMES, redrawn
+from precopy_dev.models.remedies import Limits, Others, Remedies, Trial, remedies
+
+# The page takes smaller amounts than this.
+MOST_OF_PAGE = 1 << 53
+
+
+def remedies_of(asked, first, increment):
+    """What keeps the limit by `python/precopy_dev/models/remedies.py`, the link in bytes a second. `first` and `increment` may be None."""
+    link, _, downtime, reserve = asked.limits()
+    others = Others(asked.rounds, asked.start, bool(asked.skip), asked.base, increment)
+    scale = redrawn.Scale(asked.tick, asked.page, asked.sampled, asked.guest)
+    found = remedies(asked.known.guest, Trial(scale, Limits(link, downtime, first, reserve), others))
+    return found._replace(link=found.link and found.link * 125)
+
+
+def amount_in(lines, words, units):
+    """The amount of the line that begins with these words, in bytes a second or microseconds."""
+    line = next((line for line in lines if line.startswith(words)), None)
+    if line is None:
+        return None
+    count, unit = re.match(r"([\d.]+) (\S+?)(?:/s)?(?:,|$)", line.removeprefix(words)).groups()
+    return math.floor(Fraction(count) * units[unit])
+
+
+def enough_in(lines):
+    """What lines of the page say of what is enough for the limit."""
+    slowed = [re.fullmatch(r"the guest slowed to (\d+) % of its speed, by a throttle of \d+ %", line) for line in lines]
+    speeds = [int(found[1]) for found in slowed if found]
+    is_kept = lines[0].startswith("Enough for the limit: these settings.")
+    return Remedies(is_kept, amount_in(lines, "link rate ", RATES), amount_in(lines, "downtime limit ", TIMES),
+                    speeds[0] if speeds else None)
+
+
+def enough_of(document):
+    """The same by a document of `json predict`, if it has that."""
+    told = document and document.get("enough")
+    if not told:
+        return None
+    down = told.get("down_seconds")
+    return Remedies(told["answer"] == "asked", told.get("link_bytes"), down if down is None else micros(down),
+                    told.get("guest_percent"))
+
+
+def check_shown(asked, lines, found):
+    """An amount is shown with few digits: it is the next of these above the last that was tried before the one that was
+    found, which is told in full. What is less than the link or the downtime that is set is shown to be less."""
+    shown, (link, _, downtime, _) = enough_in(lines), asked.limits()
+    for some, exact, set_one, grain in ((shown.link, found.link, link, RATES["Kbit"]),
+                                        (shown.downtime, found.downtime, downtime, 1)):
+        if exact is not None and some != exact and not (
+                exact - grain < some <= exact + max(1, exact // 100) and (some < set_one) == (exact < set_one)):
+            raise Failure(f"{some} is shown for {exact}, where {set_one} is set: {lines}")
+
+
+def check_enough(asked, page, document):
+    """Tests what is enough for the limit: beside the model if the trace is small, and beside the program."""
+    lines, exact = page.enough(), page.exact_enough()
+    if lines == ["Enough for the limit: unknown, since the trace ends before the migration does."]:
+        return
+    found, wanted = enough_in(exact), [enough_of(document)]
+    if asked.known.pages <= SMALL:
+        first = None if asked.first == 100 else asked.limits()[1]
+        wanted.append(remedies_of(asked, first, None if asked.increase == 10 else asked.settings()[2]))
+    if max(found.link or 0, found.downtime or 0) >= MOST_OF_PAGE:
+        return
+    check_shown(asked, lines, found)
+    for some in filter(None, wanted):
+        if found != some:
+            raise Failure(f"enough: {exact} in place of {some}")
+
+
+# What can be taken, and what the controls say of it: the line of each, and the amount of its control.
+OFFERED = """[...document.querySelectorAll("[data-takes]")].map((button) =>
+  [button.dataset.takes, button.closest("li").querySelector("b").textContent])"""
+CONTROL = """(() => {
+  const field = document.getElementById("control-NAME");
+  return `${field.value} ${document.querySelector("[data-control=NAME] select").selectedOptions[0].textContent.trim()}`;
+})()"""
+
+
+def check_taken(asked, page, precopy):
+    """What a click takes is what is shown, and keeps the limit: the page says so, and so does a plan of the program."""
+    offers = page.browser.value(OFFERED)
+    if not offers:
+        return
+    name, said = offers[asked.start % len(offers)]
+    found = page.after(f"document.querySelector('[data-takes={name}]').click()")
+    taken, verdict = page.browser.value(CONTROL.replace("NAME", name)), found["verdict"].replace("\u00a0", " ")
+    if taken != said or "It converges: " not in verdict or " is kept." not in verdict:
+        raise Failure(f"{taken} is taken for the {name} that is shown as {said}: {verdict}")
+    words = found["commands"]["live"].split()
+    case = [words[words.index(f"--{option}") + 1] for option in ("min", "max", "inc", "threshold", "rounds")]
+    case.append(str(int("--skip" in words)))
+    plan = sweep_facts(told(precopy, ["sweep", *asked.place(), ",".join(case)], asked.known.path))["cases"][0]
+    limit = amount_in([said], "", TIMES) if name == "downtime" else asked.downtime
+    if plan["stop"] != "few" or plan["at"] > asked.known.last or plan["down"] * asked.tick + asked.reserve > limit:
+        raise Failure(f"{name} {said} is taken, and the plan is {plan}")

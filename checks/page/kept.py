@@ -1,0 +1,94 @@
+"""What the planner's page says of kept plans beside another, and what it gives hypervisors."""
+
+from checks.lib.amount_texts import time_text
+from checks.lib.host_words import LONGEST_MILLIS, host_lines, sentence_of
+from checks.page.acts import asked, require, typed
+
+
+def check_comparison(page):
+    """Of two kept plans each is compared; better and worse are marked, and one can be exchanged and dropped."""
+    asked(page, link="5Gbit", downtime="20ms")
+    page.after("document.getElementById('keep').click()")
+    first = asked_rounds(page, "2")
+    page.after("document.getElementById('keep').click()")
+    asked_rounds(page, "1")
+    heads = "[...document.querySelectorAll('#comparison thead th')].map((cell) => cell.firstChild.textContent.trim())"
+    require(page.browser.value(heads) == ["This plan", "Kept plan 1", "Kept plan 2"], page.browser.value(heads))
+    marks = page.browser.value("['better', 'worse'].map((name) => "
+                               "document.querySelectorAll(`#comparison .${name}`).length)")
+    require(min(marks) > 0, f"better and worse: {marks}")
+    found = page.after("document.querySelector('[data-exchanges=\"1\"]').click()")
+    require(found["comparison"] == first["comparison"], f"{found['comparison']} in place of {first['comparison']}")
+    page.after("const drop = document.querySelector('[data-drops=\"0\"]'); drop.focus(); drop.click()")
+    focused = page.browser.value("document.activeElement.getAttribute('aria-label')")
+    require(focused == "Kept plan 1: drop", f"after a drop the focus is on {focused!r}")
+    page.after("document.activeElement.click()")
+    require(page.browser.value(heads) == ["This plan"], page.browser.value(heads))
+
+
+def asked_rounds(page, rounds):
+    return typed(page, "rounds", rounds)
+
+
+# The words of the pictures of rounds, where each has its stop, in pixels, and when its last round ends, in seconds.
+ROUNDS = """["this", "kept-1"].map((name) => {
+  const plot = document.getElementById(`rounds-plot-${name}`);
+  return [[...plot.querySelectorAll("text")].map((text) => text.textContent),
+    Number(plot.querySelector("rect.stop").getAttribute("x")) + 1,
+    Number(rowsOf(`rounds-table-${name}`).at(-1)[2].replaceAll(",", ""))];
+})"""
+LEFT_OF_PLOT = 64
+
+
+def check_axes(page):
+    """Plans beside each other have the same axes, also if their ticks are not equally long and their units differ: what
+    takes twice as long is twice as far from the start."""
+    asked(page, link="100Mbit", first="100", downtime="300ms")
+    page.after("document.getElementById('keep').click()")
+    asked_unit = "const unit = document.querySelector('[data-control=link] select'); unit.value = 'MiB';"
+    page.after(asked_unit + "unit.dispatchEvent(new Event('change'))")
+    typed(page, "link", "70")
+    typed(page, "tick", "2")
+    page.rest()
+    (words, stop, seconds), (others, far, long) = page.browser.value(ROUNDS)
+    require(words == others and any("MiB/s" in text for text in words), f"{words} beside {others}")
+    require(seconds > 0 and abs((far - LEFT_OF_PLOT) / (stop - LEFT_OF_PLOT) * seconds / long - 1) < 0.02,
+            f"{seconds} s at {stop}, and {long} s at {far}")
+
+
+# What is said of a link or a downtime that a hypervisor does not take.
+NO_LINK = sentence_of(host_lines(0, 1)[2])
+NO_LIBVIRT_DOWNTIME = sentence_of(host_lines(1 << 20, 0)[3])
+NO_QEMU_DOWNTIME = sentence_of(host_lines(1 << 20, LONGEST_MILLIS + 1)[1])
+
+# Settings, what libvirt and QEMU are told of them, and words of what they are not told.
+HOSTS = [
+    ("link=600KB&downtime=4ms", {"libvirt": "virsh migrate-setmaxdowntime DOMAIN 4"}, {"libvirt": NO_LINK}),
+    ("link=1.5MiB&downtime=2500us",
+     {"libvirt": "virsh migrate-setspeed DOMAIN 1\nvirsh migrate-setmaxdowntime DOMAIN 2"},
+     {"libvirt": "1.5 MiB/s", "qemu": "2.5 ms"}),
+    ("link=8MiB&downtime=2ms&reserve=1.5ms", {"libvirt": "virsh migrate-setspeed DOMAIN 8"},
+     {"libvirt": NO_LIBVIRT_DOWNTIME, "qemu": time_text(500)}),
+    ("link=600KB&downtime=2500us&reserve=2ms", {"libvirt": ""},
+     {"libvirt": f"{NO_LINK} {NO_LIBVIRT_DOWNTIME}", "qemu": time_text(500)}),
+    ("link=8MiB&downtime=4ms", {"libvirt": "virsh migrate-setspeed DOMAIN 8\n"
+                                "virsh migrate-setmaxdowntime DOMAIN 4"}, {}),
+    ("link=8KB&downtime=2001s", {"libvirt": "", "qemu": "migrate_set_parameter max-bandwidth 8000B"},
+     {"libvirt": f"{NO_LINK} {NO_LIBVIRT_DOWNTIME}", "qemu": NO_QEMU_DOWNTIME}),
+    ("link=10Gbit&downtime=4us&tick=1us", {"libvirt": "virsh migrate-setspeed DOMAIN 1192"},
+     {"libvirt": NO_LIBVIRT_DOWNTIME, "qemu": time_text(4)}),
+]
+
+
+def check_hosts(page):
+    """A hypervisor is told no limit that it does not take: a sentence says why."""
+    for fragment, commands, notes in HOSTS:
+        found = page.ask(f"trace=gzip&first=100&start=400&{fragment}")
+        require(not found["refused"], f"{fragment}: {found['fault']}")
+        for name, words in commands.items():
+            require(found["commands"][name] == words, f"{fragment}: {found['commands'][name]!r} in place of {words!r}")
+            can = page.browser.value(f"!document.querySelector('[data-copies=command-{name}]').disabled")
+            require(can == bool(words), f"{fragment}: {name} can be copied: {can}")
+        for name in ("qemu", "libvirt"):
+            said = found["notes"][name]
+            require(notes.get(name, "") in said and bool(said) == (name in notes), f"{fragment}: {name}: {said!r}")

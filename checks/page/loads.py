@@ -1,0 +1,276 @@
+"""The planner's page over traces as large as may be: how long a change takes, whether its own thread stays free, and
+how much memory it has."""
+
+import os
+import random
+import statistics
+import struct
+
+from checks.lib.view_texts import Failure
+from checks.page.shown import tried
+
+MOST_BYTES = 1 << 28
+# A change takes 20 ms on a quiet machine, and twice that on a busy one; with plans over the trace's bytes it was 137.
+MOST_MILLIS, MOST_TASK_MILLIS, MOST_CANCEL_SECONDS = 60, 50, 1
+# By how many times a plan may take longer if each write has more bytes, and the bytes of each.
+MOST_TIMES, LENGTHS = 2, (1, 236)
+# What a trace that is read may add to the memory of the browser.
+MOST_MEMORY = 160 << 20
+
+# Moves the slider of the link, sixty times, each time after the page has drawn.
+CHANGES = """
+(async () => {
+  times.length = 0;
+  plans.length = 0;
+  const slider = document.getElementById("control-link").closest(".control").querySelector("[type=range]");
+  for (let number = 0; number < 60; number += 1) {
+    const before = times.length;
+    slider.value = Number(slider.value) + (number % 3 === 0 ? -1 : 1);
+    slider.dispatchEvent(new Event("input"));
+    while (times.length === before) { await new Promise((resume) => setTimeout(resume, 5)); }
+  }
+})()
+"""
+SETTINGS = "link=10Gbit&first=50&downtime=50ms&window=500"
+
+# Changes the most rounds, and tells after how many milliseconds the plan is drawn, the standard errors, and what is
+# enough for the limit; and whether the errors were still to come when the plan was drawn.
+LATE = """
+(async () => {
+  const since = performance.now();
+  const field = document.getElementById("control-rounds");
+  field.value = "29";
+  field.dispatchEvent(new Event("input"));
+  const until = async (holds) => {
+    while (!holds()) { await new Promise((resume) => setTimeout(resume, 1)); }
+    return performance.now() - since;
+  };
+  const planned = await until(() => begun >= since);
+  const isBefore = !isTold("comparison");
+  return [planned, await until(() => isTold("comparison")), await until(() => isTold("limits-answer")), isBefore];
+})()
+"""
+
+
+# ---- Traces that are made.
+
+
+def header(pages, writes):
+    return b"PCWT" + bytes([1, 12, 0, 0]) + struct.pack("<II", pages, writes)
+
+
+def write_long(path):
+    """A trace of exactly `2^28` bytes: writes of whole pages."""
+    pages, length = 65_536, 4096
+    count = (MOST_BYTES - 16) // (16 + length)
+    rest = MOST_BYTES - 16 - count * (16 + length) - 16
+    with open(path, "wb") as file:
+        file.write(header(pages, count + 1))
+        for number in range(count):
+            file.write(struct.pack("<QIHH", 2 * number, number * 7919 % pages, 0, length) + bytes(length))
+        file.write(struct.pack("<QIHH", 2 * count, 0, 0, rest) + bytes(rest))
+
+
+def write_full(path, in_a_tick, length):
+    """A trace with as many writes as there may be: a hot set and a rest, over all pages."""
+    draw, count = random.Random(20), 1 << 20
+    data = bytes(length)
+    with open(path, "wb") as file:
+        file.write(header(65_536, count))
+        for number in range(count):
+            page = draw.randrange(2_000) if number % 5 else draw.randrange(65_536)
+            file.write(struct.pack("<QIHH", number // in_a_tick, page, 0, length) + data)
+
+
+# ---- What a thread does, and what a browser holds.
+
+
+def processor_millis(page):
+    """How long the page's thread has worked, by a clock that stops while others have the processor."""
+    metrics = page.browser.call("Performance.getMetrics")["metrics"]
+    return 1_000 * next(metric["value"] for metric in metrics if metric["name"] == "TaskDuration")
+
+
+def require_free(page, words, act):
+    """Does something, and fails if one task of the page's own thread works long meanwhile. On a busy machine the same
+    work takes more of a processor's time, so what was long is done up to twice more."""
+    longest = page.browser.longest_task(act)
+    for _ in range(2):
+        if longest > MOST_TASK_MILLIS:
+            longest = min(longest, page.browser.longest_task(act))
+    print(f"  {words}: the longest task of the page's thread works for {longest:.0f} ms")
+    if longest > MOST_TASK_MILLIS:
+        raise Failure(f"{words}: a task works for {longest:.0f} ms")
+
+
+def change(page, name, text):
+    page.after(f"const field = document.getElementById('control-{name}'); field.value = '{text}';"
+               "field.dispatchEvent(new Event('input'))")
+
+
+def plan_starts(page):
+    page.browser.value("document.getElementById('ask').click()")
+    page.browser.wait("!document.getElementById('starts-answer').hidden && "
+                      "document.getElementById('starts-progress').hidden", 120)
+
+
+def cancel_starts(page):
+    """Begins to plan starts, and cancels that. Returns in how many seconds the page can be asked again."""
+    return page.browser.value("""(async () => {
+      const button = document.getElementById("ask");
+      button.click();
+      const progress = document.getElementById("starts-progress");
+      while (!progress.value) { await new Promise((resume) => setTimeout(resume, 5)); }
+      const begun = performance.now();
+      button.click();
+      await after(() => {
+        document.getElementById("control-rounds").value = "7";
+        document.getElementById("control-rounds").dispatchEvent(new Event("input"));
+      });
+      return (performance.now() - begun) / 1000;
+    })()""")
+
+
+# ---- The trials.
+
+
+def opened(page, path):
+    """Opens a trace, and returns what is said of it and how many bytes of memory the browser has more, once it is
+    used."""
+    said, before = [], page.browser.memory()
+    require_free(page, "reading", lambda: said.append(page.load(path)))
+    return said[0], lambda: page.browser.memory() - before
+
+
+def check_speed(page, folder):
+    """Changes, starts and a cancel over as many writes as there may be; with more bytes in each they take no longer."""
+    require_free(page, "opening, with the first example", lambda: (page.open(), page.wait_for_plan()))
+    middles = [speed_over(page, folder, length) for length in LENGTHS]
+    if middles[1] > MOST_TIMES * middles[0]:
+        raise Failure(f"a plan takes {middles[0]:.1f} ms, and over more bytes {middles[1]:.1f}")
+
+
+def speed_over(page, folder, length):
+    """The time of a plan over 2^20 writes of some length, in milliseconds. On a busy machine the page's thread waits
+    for a processor, so its own time is taken too."""
+    path = os.path.join(folder, "full.pcwt")
+    write_full(path, 32, length)
+    print(f"2^20 writes in {os.path.getsize(path) / 1e6:.0f} MB:")
+    page.open()
+    page.wait_for_plan()
+    said, more_memory = opened(page, path)
+    if "1,048,576 writes" not in said:
+        raise Failure(said)
+    page.ask(SETTINGS)
+    page.browser.call("Performance.enable", timeDomain="threadTicks")
+    before = processor_millis(page)
+    require_free(page, "60 changes", lambda: page.browser.value(CHANGES))
+    times, plans = page.browser.value("times"), page.browser.value("plans")
+    each = (processor_millis(page) - before) / len(times)
+    middle, plan = statistics.median(times), statistics.median(plans)
+    print(f"  a change takes {middle:.1f} ms in the middle, {plan:.1f} of it for the plan, {max(times):.1f} at most, "
+          f"and {each:.1f} ms of the page's thread")
+    if min(middle, each) > MOST_MILLIS:
+        raise Failure(f"a change takes {middle:.1f} ms, and {each:.1f} ms of a processor")
+    seconds = cancel_starts(page)
+    print(f"  after a cancel the next plan takes {seconds:.2f} s")
+    if seconds > MOST_CANCEL_SECONDS:
+        raise Failure(f"after a cancel the next plan takes {seconds:.2f} s")
+    tell_starts(page, more_memory)
+    return plan
+
+
+def check_late(page, folder):
+    """Plans of a sample as large as may be do not wait for what takes long: that comes later, for the last of them."""
+    path = os.path.join(folder, "full.pcwt")
+    write_full(path, 32, 1)
+    page.open()
+    page.wait_for_plan()
+    _, more_memory = opened(page, path)
+    page.ask(f"{SETTINGS}&sample=65536/1000000")
+    require_free(page, "60 changes over a sample", lambda: page.browser.value(CHANGES))
+    middle = statistics.median(page.browser.value("times"))
+    page.rest()
+    planned, errors, enough, is_before = page.browser.value(LATE)
+    print(f"  a change takes {middle:.1f} ms in the middle; after one the plan is drawn in {planned:.0f} ms, its "
+          f"errors in {errors:.0f} ms, and what is enough in {enough:.0f} ms; {more_memory() / 1e6:.0f} MB")
+    if not is_before or "\u00b1 " not in page.shown()["comparison"]["time"][1]:
+        raise Failure("the plan waits for its errors, or has none")
+    if more_memory() > MOST_MEMORY:
+        raise Failure(f"{more_memory():,} bytes more than without the trace")
+
+
+def tell_starts(page, more_memory):
+    begun = page.browser.value("performance.now()")
+    require_free(page, "all starts", lambda: plan_starts(page))
+    seconds, memory = (page.browser.value("performance.now()") - begun) / 1_000, more_memory()
+    print(f"  all starts take {seconds:.1f} s; the browser has {memory / 1e6:.0f} MB more than before")
+    if memory > MOST_MEMORY:
+        raise Failure(f"{memory:,} bytes more than without the trace")
+
+
+def check_long(page, folder):
+    """A trace as long as may be is planned or refused; one byte more is refused."""
+    path = os.path.join(folder, "long.pcwt")
+    write_long(path)
+    page.open("#link=64MiB&first=100&downtime=300ms&window=1000")
+    said, more_memory = opened(page, path)
+    print(f"a trace of 2^28 bytes: {said}")
+    if page.browser.value("document.body.classList.contains('loaded')"):
+        if "65,280 writes" not in said and "65,281 writes" not in said:
+            raise Failure(said)
+        page.wait_for_plan()
+        require_free(page, "60 changes", lambda: page.browser.value(CHANGES))
+        print(f"  a plan takes {statistics.median(page.browser.value('plans')):.1f} ms in the middle")
+        tell_starts(page, more_memory)
+    elif "E16" not in said:
+        raise Failure(said)
+    with open(path, "ab") as file:
+        file.write(b"\0")
+    said = page.load(path)
+    os.unlink(path)
+    if "is refused: E15 " not in said:
+        raise Failure(said)
+
+
+def check_many_windows(page, folder):
+    """A window for each of 2^20 writes: the picture has a bar for each pixel, and the file a line for each window."""
+    path = os.path.join(folder, "apart.pcwt")
+    write_full(path, 1, 1)
+    page.open()
+    page.wait_for_plan()
+    page.load(path)
+    require_free(page, "2^20 windows", lambda: (change(page, "window", "2"), change(page, "window", "1")))
+    bars, room = page.browser.value("""(() => {
+      const lefts = [...document.querySelectorAll("#windows-plot path")].flatMap((path) =>
+        [...path.getAttribute("d").matchAll(/M([\\d.]+) /g)].map(([, left]) => Math.floor(left)));
+      return [new Set(lefts).size, document.querySelector("#windows-plot svg").clientWidth - 76];
+    })()""")
+    if not 0.9 * room < bars <= room + 1:
+        raise Failure(f"{bars} bars in {room} pixels for 2^20 windows")
+    require_free(page, "their table", lambda: page.browser.value(
+        "document.getElementById('windows-details').open = true; new Promise((resume) => setTimeout(resume, 300))"))
+    require_free(page, "2^20 windows and their table", lambda: (change(page, "window", "2"),
+                                                                change(page, "window", "1")))
+    page.browser.value("document.getElementById('windows-details').open = false")
+    require_free(page, "2^20 windows, taken nearer", lambda: page.browser.value(
+        "document.getElementById('zoom-plan').click()"))
+    require_free(page, "2^20 windows as CSV", lambda: page.browser.value("""(async () => {
+      const made = URL.createObjectURL;
+      HTMLAnchorElement.prototype.click = () => {};
+      const saved = new Promise((resolve) => {
+        URL.createObjectURL = (blob) => { resolve(blob); return made.call(URL, blob); };
+      });
+      [...document.querySelectorAll("#windows .saves button")].at(-1).click();
+      window.saved = await saved;
+    })()"""))
+    lines = page.browser.value("saved.text().then((text) => text.split('\\n').length)")
+    if lines != (1 << 20) + 2:
+        raise Failure(f"the file of 2^20 windows has {lines:,} lines")
+
+
+def check_loads(tally, page, folder):
+    for words, check in (("2^20 writes", check_speed), ("what takes long", check_late),
+                         ("2^20 windows", check_many_windows),
+                         ("a trace of 2^28 bytes", check_long)):
+        tried(tally, words, check, page, folder)

@@ -1,0 +1,188 @@
+"""What the planner's page shows, in a browser that a check drives."""
+
+import base64
+import json
+import time
+
+from checks.lib.view_texts import Failure
+from checks.page.browser import BrowserError, NoAnswer
+
+SECONDS_TO_BECOME = 10
+
+# Collects what the page shows, after the next time that it draws.
+COLLECTOR = r"""
+window.times = [];
+window.plans = [];
+window.begun = -1;
+window.opened = 0;
+window.openedAt = -2;
+new PerformanceObserver((list) => {
+  for (const { name, duration, startTime } of list.getEntries()) {
+    if (name === "replan") { times.push(duration); window.begun = startTime; }
+    if (name === "plan") { plans.push(duration); }
+    if (name === "refused") { window.opened += 1; }
+    if (name === "opened") { window.opened += 1; window.openedAt = startTime + duration; }
+  }
+}).observe({ type: "measure" });
+// What the page's own code did not expect.
+window.faults = [];
+addEventListener("error", ({ message }) => faults.push(message));
+addEventListener("unhandledrejection", ({ reason }) => faults.push(String(reason)));
+// Whether nothing that is shown is still to come: standard errors, and what is enough for the limit.
+window.isTold = (...ids) => ids.every((id) => document.getElementById(id).getAttribute("aria-busy") !== "true");
+window.isDrawn = () => begun >= openedAt && isTold("comparison");
+// The planner's workers, without that of what takes long.
+window.workers = [];
+if (typeof Worker === "function") {
+  window.Worker = class extends Worker {
+    constructor(...words) {
+      super(...words);
+      if (words[1]?.name === "planner") { workers.push(this); }
+      if (window.isDeadly) { setTimeout(() => { this.terminate(); this.onerror(); }); }
+    }
+  };
+}
+window.rowsOf = (id) => [...document.querySelectorAll(`#${id} tbody tr`)].map((row) =>
+  [...row.children].map((cell) => cell.textContent));
+window.notesOf = () => [...document.querySelectorAll("[data-note]")].map((note) => [note.dataset.note,
+  note.hidden ? "" : note.textContent]);
+window.textOf = (id) => document.getElementById(id).textContent.trim();
+window.shown = () => {
+  const refused = document.querySelector("#verdict .refusal")?.dataset.control ?? null;
+  return {
+    refused,
+    fault: refused && textOf(`control-${refused}-fault`),
+    verdict: textOf("verdict"),
+    warnings: document.querySelectorAll("#verdict .warnings li").length,
+    stale: document.getElementById("rounds").classList.contains("stale") || document.getElementById("rounds").hidden,
+    rounds: rowsOf("rounds-table-this"),
+    windows: rowsOf("windows-table"),
+    comparison: Object.fromEntries([...document.querySelectorAll("#comparison tr")].slice(1).map((row) => {
+      const cell = row.children[1];
+      return [cell.dataset.name, [cell.querySelector("b").textContent, cell.querySelector("small").textContent]];
+    })),
+    commands: Object.fromEntries(["live", "qemu", "libvirt"].map((name) => [name, textOf(`command-${name}`)])),
+    notes: Object.fromEntries(notesOf()),
+    predict: textOf("command-predict"),
+  };
+};
+window.after = async (act) => {
+  const since = performance.now();
+  await act();
+  for (let count = 0; begun < since || !isTold("comparison"); count += 1) {
+    if (count > 3000) { throw new Error("nothing was drawn"); }
+    await new Promise((resume) => setTimeout(resume, 5));
+  }
+  return shown();
+};
+// Whether each picture that is seen is as wide as its place, and whether nothing is drawn anew any more.
+window.isFitted = () => [...document.querySelectorAll(".plot")].every((plot) => {
+  const picture = plot.querySelector("svg");
+  return !picture || !plot.offsetParent || Math.abs(Number(picture.getAttribute("width")) - plot.clientWidth) < 1;
+});
+window.atRest = async () => {
+  for (let count = 0, since = null; since !== begun || !isFitted() || !isTold("comparison", "limits-answer");
+    count += 1) {
+    if (count > 200) { throw new Error("the page does not come to rest"); }
+    since = begun;
+    await new Promise((resume) => setTimeout(resume, 150));
+    await new Promise(requestAnimationFrame);
+  }
+};
+window.afterAsking = (hash) => after(() => {
+  history.replaceState(null, "", location.pathname + "#");
+  location.hash = hash;
+});
+window.drop = (files) => {
+  const holder = new DataTransfer();
+  for (const [name, text] of files) {
+    const bytes = Uint8Array.from(atob(text), (letter) => letter.charCodeAt(0));
+    holder.items.add(new File([bytes], name));
+  }
+  document.body.dispatchEvent(new DragEvent("drop", { dataTransfer: holder, bubbles: true, cancelable: true }));
+};
+"""
+
+
+class Page:
+    """The page in a browser, and what it shows."""
+
+    def __init__(self, browser, path):
+        self.browser, self.path = browser, path
+
+    def open(self, fragment=""):
+        """Opens the page anew, and waits for the trace of the address, if there is one."""
+        self.browser.open_page(f"file://{self.path}{fragment}")
+        self.browser.wait("document.readyState === 'complete' && typeof times === 'object'")
+
+    def wait_for_plan(self):
+        """Waits for the plan over the trace that the page opens by itself."""
+        self.browser.wait("document.querySelectorAll('#rounds-table-this tbody tr').length > 0 && opened > 0 "
+                          "&& isDrawn()", 20)
+
+    def load(self, *paths):
+        """Chooses files, and returns what is said of them, once the page has drawn them if they were taken."""
+        before = self.browser.value("opened")
+        self.browser.choose("#file", paths)
+        self.browser.wait(f"opened > {before} && isDrawn()", 120)
+        return self.browser.value("textOf('trace-notes') + ' | ' + textOf('trace-state')")
+
+    def drop(self, *files):
+        """Drops files, given by name and bytes, and returns what is said of them."""
+        before = self.browser.value("opened")
+        texts = json.dumps([[name, base64.b64encode(text).decode()] for name, text in files])
+        self.browser.value(f"drop({texts})")
+        self.browser.wait(f"opened > {before} && isDrawn()", 20)
+        return self.browser.value("textOf('trace-notes') + ' | ' + textOf('trace-state')")
+
+    def ask(self, fragment):
+        """Asks for settings by the address, and returns what the page shows then."""
+        return self.browser.value(f"afterAsking({json.dumps(f'#{fragment}')})")
+
+    def after(self, act):
+        """Does something in the page, and returns what it shows once it has drawn that."""
+        return self.browser.value(f"after(() => {{ {act} }})")
+
+    def shown(self):
+        return self.browser.value("shown()")
+
+    def enough(self):
+        """What is said to be enough for the limit, a line each, once it is there."""
+        self.browser.wait('isTold("limits-answer")', 60)
+        return self.browser.value("[...document.querySelectorAll('#limits-answer p, #limits-answer li')]"
+                                  ".map((line) => line.textContent.replace(/ Take it$/, ''))")
+
+    def exact_enough(self):
+        """The same with all digits, which the title of a rounded amount has."""
+        return self.browser.value("""[...document.querySelectorAll("#limits-answer :is(p, li)")].map((line) => {
+          const copy = line.cloneNode(true);
+          copy.querySelectorAll("b[title]").forEach((amount) => {
+            amount.textContent = amount.title.replace("The search found ", "");
+          });
+          return copy.textContent.replace(/ Take it$/, "");
+        })""")
+
+    def rest(self):
+        """Waits until the page draws nothing anew, and its pictures are as wide as their places."""
+        self.browser.value("atRest()")
+
+    def becomes(self, expression, wanted, told, seconds=SECONDS_TO_BECOME):
+        """Waits until an expression has a value. If it has another all that time, that is a failure."""
+        until = time.monotonic() + seconds
+        while (found := self.browser.value(expression)) != wanted:
+            if time.monotonic() > until:
+                raise Failure(f"{told}: {found!r} in place of {wanted!r}")
+            time.sleep(0.05)
+
+
+def tried(tally, told_of, act, *words):
+    """Counts a trial that fails by an exception. If the browser does not answer, the trial is begun once more."""
+    try:
+        try:
+            act(*words)
+        except NoAnswer as error:
+            print(f"  {told_of}: {error}, and the trial is begun once more", flush=True)
+            act(*words)
+        return tally.add(True, told_of)
+    except (Failure, BrowserError, OSError, KeyError, ValueError, IndexError) as error:
+        return tally.add(False, f"{told_of}: {str(error)[:900]}")

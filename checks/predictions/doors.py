@@ -1,0 +1,303 @@
+"""The doors at which a prediction is asked for, for checks/predictions. A further door is a further class in DOORS."""
+
+import contextlib
+import io
+import json
+import os
+import shutil
+import subprocess
+from fractions import Fraction
+from typing import NamedTuple, Optional
+
+from checks.lib.host_words import host_lines
+from checks.lib.remedy_model import Remedies, enough_lines, found_of
+from checks.lib.view_texts import Failure, ran
+from checks.predictions.model import Answer, document_of, lines_of
+from checks.predictions.questions import Asked
+from precopy_dev.tree import TOP
+from precopy_tools.predict import command
+
+LIBRARY = os.path.join(TOP, "out", "library")
+STATUSES = {"yes": 0, "no": 3, "unknown": 4}
+REFUSED = (1, 2)
+# The statuses of the library for a question that is out of its range, or that is not about such a trace.
+QUESTION_REFUSED = (*range(21, 31), *range(81, 90))
+KINDS = ("converges: ", "total time: ", "sent: ", "downtime: ", "standard errors: ", "warning: ", "enough: ", "QEMU: ",
+         "libvirt: ")
+
+
+class Programs(NamedTuple):
+    """What is built: precopy-view, the page's module, and a folder with what the page's programs need in Node. `asker`
+    is the program that asks the library for C, or nothing."""
+
+    view: str
+    module: str
+    web: str
+    node: Optional[list[str]]
+    asker: str
+
+
+class Door:
+    """A door: what it answers to a question, and what it should answer by the model. Refused is None."""
+
+    name = ""
+
+    def __init__(self, programs: Programs):
+        self.programs = programs
+
+    @staticmethod
+    def lacking(programs: Programs) -> str:
+        """Why there is no such door here, or nothing."""
+        return ""
+
+    def is_asked(self, asked: Asked) -> bool:
+        """Whether the question can be asked at this door."""
+        return True
+
+    def told(self, asked: Asked) -> object:
+        raise NotImplementedError
+
+    def all_told(self, some: list[Asked]) -> list[object]:
+        """The answers to some questions about one trace."""
+        return [self.told(asked) for asked in some]
+
+    def wanted(self, asked: Asked, answer: Answer) -> object:
+        raise NotImplementedError
+
+
+class Lines(Door):
+    """The program's lines and its status. Those of which the model knows nothing are left out."""
+
+    name = "precopy-view predict"
+
+    def told(self, asked: Asked) -> object:
+        status, text, faults = ran(self.programs.view, ["predict", *asked.question.words()], asked.trace.path)
+        return answered(status, faults) and [status, *known(text.splitlines())]
+
+    def wanted(self, asked: Asked, answer: Answer) -> object:
+        return [STATUSES[answer.kept], *lines_of(asked.question, answer), *enough_lines(answer.enough),
+                *host_lines(asked.question.link, asked.question.millis_for_pages())]
+
+
+class Document(Door):
+    """The program's JSON. Members of which the model knows nothing are left out."""
+
+    name = "precopy-view json predict"
+
+    def told(self, asked: Asked) -> object:
+        status, text, faults = ran(self.programs.view, ["json", "predict", *asked.question.words()], asked.trace.path)
+        return answered(status, faults) and [status, json.loads(text, parse_float=Fraction)]
+
+    def wanted(self, asked: Asked, answer: Answer) -> object:
+        return [STATUSES[answer.kept], document_of(asked.question, answer)]
+
+
+class Tool(Door):
+    """The lines of tools/predict that are the program's. It reads the record itself."""
+
+    name = "tools/predict"
+
+    def __init__(self, programs: Programs):
+        super().__init__(programs)
+        self.tool = command
+
+    def is_asked(self, asked: Asked) -> bool:
+        return asked.words is not None
+
+    def told(self, asked: Asked) -> object:
+        printed, faults = io.StringIO(), io.StringIO()
+        with contextlib.redirect_stdout(printed), contextlib.redirect_stderr(faults):
+            status = self.tool.main([*asked.words, "--program", self.programs.view])
+        lines = known(printed.getvalue().splitlines())
+        return answered(status, faults.getvalue()) and [status, *lines]
+
+    def wanted(self, asked: Asked, answer: Answer) -> object:
+        """If the downtime is cut to what a plan takes, there is no word for a hypervisor."""
+        question = asked.question
+        is_whole = f"--downtime={question.downtime}us" in asked.words
+        hosts = host_lines(question.link, question.millis_for_pages()) if is_whole else []
+        lines = lines_of(asked.question, answer) + enough_lines(answer.enough)
+        return [STATUSES[answer.kept], *lines, *hosts]
+
+
+class Page(Door):
+    """The page's module, by the file that asks it."""
+
+    name = "web/planner.js"
+
+    @staticmethod
+    def lacking(programs: Programs) -> str:
+        if not programs.node:
+            return "there is no node with 64-bit memory"
+        return "" if os.path.exists(programs.module) else f"there is no {programs.module}; make page builds it"
+
+    def all_told(self, some: list[Asked]) -> list[object]:
+        questions = [{name: str(value) if type(value) is int else value for name, value in vars(asked.question).items()}
+                     for asked in some]
+        script, module = os.path.join(self.programs.web, "predictions.mjs"), self.programs.module
+        command = [*self.programs.node, "--no-warnings", script, module, some[0].trace.path]
+        done = subprocess.run(command, input=json.dumps(questions), capture_output=True, text=True, check=False)
+        if done.returncode:
+            raise Failure(done.stderr[-300:])
+        return [None if "refusal" in found else found for found in json.loads(done.stdout)]
+
+    def wanted(self, asked: Asked, answer: Answer) -> object:
+        """Large numbers are words."""
+        plain = {"rounds": answer.rounds, "reason": answer.why, "left": answer.left, "converges": answer.converges,
+                 "kept": answer.kept}
+        large = {"time": answer.time, "bytes": answer.sent, "downtime": answer.downtime, "recorded": answer.recorded}
+        errors = answer.errors and dict(zip(("bytes", "time", "downtime"), map(str, answer.errors)))
+        large = {name: str(number) for name, number in large.items()}
+        return {**plain, **large, "errors": errors, "remedies": self.remedies(answer)}
+
+    @staticmethod
+    def remedies(answer: Answer) -> Optional[dict]:
+        """What is enough for the limit."""
+        if answer.enough is None:
+            return None
+        words = {name: None if amount is None else str(amount) for name, amount in amounts_of(answer.enough).items()}
+        return {"isKept": answer.enough.is_kept, **words}
+
+
+class Library(Door):
+    """The library. It gives numbers, and tells standard errors and what is enough of what is unknown too."""
+
+    LACKING = f"there is no {LIBRARY}; make lib builds it"
+
+    @staticmethod
+    def lacking(programs: Programs) -> str:
+        return "" if os.path.exists(LIBRARY) else Library.LACKING
+
+    def wanted(self, asked: Asked, answer: Answer) -> object:
+        numbers = {name: getattr(answer, name) for name in ("rounds", "time", "downtime", "left", "recorded")}
+        verdicts = {"reason": answer.why, "converges": answer.converges, "kept": answer.kept}
+        found = answer.enough or found_of(asked.trace.guest, asked.question.trial(), is_late=False)
+        enough = {**amounts_of(found), "is_kept": found.is_kept}
+        return {**numbers, **verdicts, "bytes": answer.sent, "errors": answer.errors, "enough": enough}
+
+
+class Python(Library):
+    """The library in Python."""
+
+    name = "precopy.predict, precopy.enough"
+
+    def told(self, asked: Asked) -> object:
+        import precopy  # noqa: PLC0415
+
+        with open(asked.trace.path, "rb") as file:
+            trace = file.read()
+        question = precopy.Question(**vars(asked.question))
+        try:
+            it = precopy.predict(trace, question)
+        except (precopy.QuestionRefused, precopy.SettingsRefused):
+            return None
+        errors = it.errors and (it.errors.bytes, it.errors.time, it.errors.downtime)
+        words = {name: getattr(it, name).name.lower() for name in ("reason", "converges", "kept")}
+        known = {"errors": errors if words["kept"] != "unknown" else None}
+        return {**vars(it), **words, **known, "enough": vars(precopy.enough(trace, question))}
+
+
+class C(Library):
+    """The library in C, by a program that asks it."""
+
+    name = "precopy_predict, precopy_enough"
+    NUMBERS = "link first downtime reserve tick page sampled guest increment rounds start base"
+    ANSWER = "rounds reason stop down total left time bytes downtime recorded converges kept"
+    AMOUNTS = ("link", "downtime", "speed")
+
+    @staticmethod
+    def lacking(programs: Programs) -> str:
+        if lacks := Library.lacking(programs):
+            return lacks
+        return "" if programs.asker else "there is no cc"
+
+    def all_told(self, some: list[Asked]) -> list[object]:
+        lines = "".join(f"{' '.join(map(str, self.numbers(asked)))}\n" for asked in some)
+        command = [self.programs.asker, some[0].trace.path]
+        done = subprocess.run(command, input=lines, capture_output=True, text=True, check=False)
+        told = [self.answer(list(map(int, line.split()))) for line in done.stdout.splitlines()]
+        if done.returncode or len(told) != len(some):
+            raise Failure(f"status {done.returncode}, {done.stderr[-300:]!r}, {len(told)} answers")
+        return told
+
+    def numbers(self, asked: Asked) -> list[int]:
+        """The numbers of a question in the order of struct precopy_question."""
+        given = vars(asked.question)
+        has = [int(given[name] is not None) for name in ("first", "increment", "base")]
+        return [given[name] or 0 for name in self.NUMBERS.split()] + has + [int(given["skip"])]
+
+    def answer(self, numbers: list[int]) -> object:
+        """What a line of the program tells: twelve numbers, four of standard errors and seven of what is enough, or a
+        status."""
+        if len(numbers) == 1:
+            if numbers[0] in QUESTION_REFUSED:
+                return None
+            raise Failure(f"status {numbers[0]}")
+        found = dict(zip(self.ANSWER.split(), numbers))
+        verdicts = {name: ("yes", "no", "unknown")[found[name]] for name in ("converges", "kept")}
+        has_errors = numbers[15] and verdicts["kept"] != "unknown"
+        errors = tuple(numbers[12:15]) if has_errors else None
+        given = zip(self.AMOUNTS, numbers[16:19], numbers[19:22])
+        enough = {name: amount if has else None for name, amount, has in given} | {"is_kept": numbers[22] != 0}
+        reason = ("few", "fast", "rounds")[found["reason"]]
+        return {**found, **verdicts, "reason": reason, "errors": errors, "enough": enough}
+
+
+DOORS = [Lines, Document, Tool, Page, C, Python]
+
+
+def asker(folder: str) -> str:
+    """Compiles the program that asks the library for C, or returns nothing if there is no compiler or no library."""
+    archive, path = os.path.join(LIBRARY, "libprecopy.a"), os.path.join(folder, "prediction_answers")
+    if not shutil.which("cc") or not os.path.exists(LIBRARY):
+        return ""
+    words = ["-std=c99", "-O1", f"-I{TOP}/include", "-o", path, f"{TOP}/checks/predictions/answers.c", archive]
+    done = subprocess.run(["cc", *words], capture_output=True, text=True, check=False)
+    if done.returncode:
+        raise Failure(f"checks/predictions/answers.c is not compiled: {done.stderr[-300:]}")
+    return path
+
+
+def amounts_of(found: Remedies) -> dict[str, Optional[int]]:
+    """The amounts that are enough, with the link in bytes a second."""
+    return {"link": found.link and 125 * found.link, "downtime": found.downtime, "speed": found.speed}
+
+
+def answered(status: int, faults: str) -> Optional[bool]:
+    """Whether there is an answer; None if the question is refused, in words."""
+    if status in REFUSED and faults:
+        return None
+    if status in REFUSED or faults:
+        raise Failure(f"status {status}, {faults!r}")
+    return True
+
+
+def known(lines: list[str]) -> list[str]:
+    """The lines that the model tells too."""
+    return [line for line in lines if line.startswith(KINDS)]
+
+
+def only(found: object, wanted: object) -> object:
+    """What is found, without members that are not wanted."""
+    if isinstance(found, dict) and isinstance(wanted, dict):
+        return {name: only(found[name], wanted[name]) for name in wanted if name in found}
+    if isinstance(found, list) and isinstance(wanted, list):
+        return [only(*pair) for pair in zip(found, wanted)] if len(found) == len(wanted) else found
+    return found
+
+
+def difference(door: Door, asked: Asked, found: object, answer: Optional[Answer]) -> str:
+    """What differs at a door from what should be told, or nothing."""
+    wanted = answer and door.wanted(asked, answer)
+    found = only(found, wanted)
+    return "" if found == wanted else f"{asked}, at {door.name}: {found} in place of {wanted}"
+
+
+def compare(door: Door, some: list[Asked], answers: list[Optional[Answer]]) -> list[str]:
+    """The differences at a door, of each of some questions about one trace that can be asked there."""
+    pairs = [(asked, answer) for asked, answer in zip(some, answers) if door.is_asked(asked)]
+    try:
+        told = door.all_told([asked for asked, _ in pairs]) if pairs else []
+    except (Failure, OSError, ValueError) as fault:
+        return [f"{asked}, at {door.name}: {fault}" for asked, _ in pairs]
+    return [difference(door, asked, found, answer) for (asked, answer), found in zip(pairs, told)]

@@ -1,0 +1,162 @@
+"""Random questions for checks/predictions, over traces and records whose shapes come from elsewhere.
+
+Traces are examples, or from `page_shapes` and `trace_bytes`. Records are an example, one of tools/thin, and traces
+of `page_shapes` with a NAME.json of random numbers.
+"""
+
+import json
+import math
+import os
+import random
+import struct
+import subprocess
+from dataclasses import replace
+from fractions import Fraction
+from typing import NamedTuple, Optional
+
+from checks.lib import trace_bytes
+from checks.page import shapes as page_shapes
+from checks.predictions.model import Question, Trace, in_longer_ticks, trace_in
+from precopy_dev.tree import TOP
+from precopy_tools.formats import samples
+
+EXAMPLES = os.path.join(TOP, "examples")
+SHAPES = 6
+OF_TRACE, OF_RECORD = 17, 16
+# More pages than these take the model too long, and fewer writes decide nothing.
+MOST_PAGES, LEAST_WRITES = 5_000, 50
+
+
+class Asked(NamedTuple):
+    """A question about a trace; if that is a record's, also the words of tools/predict that ask the same."""
+
+    question: Question
+    trace: Trace
+    words: Optional[list[str]] = None
+
+    def __str__(self) -> str:
+        return f"{os.path.basename(self.trace.path)}, {' '.join(self.words or self.question.words())}"
+
+
+# ---- Traces and records.
+
+
+def put(folder: str, name: str, text: bytes) -> str:
+    path = os.path.join(folder, name)
+    with open(path, "wb") as file:
+        file.write(text)
+    return path
+
+
+def is_fit(text: bytes) -> bool:
+    pages, writes = struct.unpack_from("<II", text, 8)
+    return writes >= LEAST_WRITES and pages <= MOST_PAGES
+
+
+def shapes_of(seed: int) -> list[bytes]:
+    """Traces of random shapes, without the corners, which are first."""
+    return page_shapes.shapes(100, seed)[len(page_shapes.corners()):]
+
+
+def shapes(folder: str, seed: int) -> list[str]:
+    found = filter(is_fit, shapes_of(seed))
+    return [put(folder, f"shape-{number}.pcwt", text) for number, text in zip(range(SHAPES), found)]
+
+
+def small(folder: str, seed: int) -> list[str]:
+    """Two small traces in both versions of the format."""
+    chosen = random.Random(seed)
+    found = filter(is_fit, (trace_bytes.generated(chosen) for _ in range(100)))
+    return [put(folder, f"small-{number}.pcwt", text) for number, text in zip(range(2), found)]
+
+
+def thinned(folder: str) -> str:
+    path = os.path.join(folder, "thin.light.pcwt")
+    words = [os.path.join(EXAMPLES, "guests", "mid.light.pcwt"), path, "--one-in", "16", "--start", "1000"]
+    command = [os.path.join(TOP, "tools", "thin"), *words]
+    subprocess.run(command, check=True, stdout=subprocess.DEVNULL)
+    return path
+
+
+def recorded(draw: random.Random, path: str) -> str:
+    """Writes a NAME.json of random numbers beside a trace, which is a record then."""
+    trace = trace_in(path)
+    with open(path, "rb") as file:
+        text = file.read()
+    pages = len(trace.guest)
+    sampled = draw.randrange(pages, 2 * pages + 1)
+    guest = sampled * draw.choice([1, draw.randrange(1, 300)])
+    last, tick = trace.last + draw.choice([0, draw.randrange(2_000)]), draw.choice([0.0001, 0.001, 0.001, 0.02])
+    told = samples.Sample(
+        format=samples.FORMAT, trace_sha256=samples.digest(text), trace_pages=pages,
+        trace_writes=struct.unpack_from("<I", text, 12)[0], first_tick=draw.randrange(trace.last // 4 + 1),
+        last_tick=last, tick_seconds=tick, interval_seconds=1.0, guest_pages=guest,
+        guest_nonzero=draw.randrange(pages, guest + 1), counted_pages=guest, sampled_pages=sampled,
+        sampled_nonzero=pages, seed=0, method="trace", samples=1, late=0, taken_at=samples.now(), taken_of="no guest",
+    )
+    with open(samples.path_beside(path), "wb") as file:
+        file.write(told.text())
+    return path
+
+
+# ---- Questions.
+
+
+def drawn(draw: random.Random, trace: Trace) -> Question:
+    """A question about a trace, most of the time one that is not refused."""
+    pages, sampled = len(trace.guest), len(trace.guest)
+    if draw.randrange(2):
+        sampled = draw.randrange(max(1, pages - draw.choice([0] * 9 + [1])), 2 * pages + 2)
+    guest = sampled * draw.choice([1, draw.randrange(1, 50), draw.randrange(1, 10_000)]) + draw.choice([0, 0, 17])
+    tick = draw.choice([1, 10, 100, 1_000, 1_000, 10_000, 1_000_000])
+    rounds, skips = draw.choice([30, 1, 2, draw.randrange(66)]), bool(draw.randrange(2))
+    asked = Question(1, None, 0, 0, tick, trace.size, sampled, guest, None, rounds, 0, None, skips)
+    asked = limited(draw, asked, trace)
+    start = draw.choice([0, draw.randrange(trace.last + 1), draw.randrange(trace.last + 5)])
+    base = draw.choice([None, None, draw.randrange(start + 1), start + draw.choice([0, 0, 0, 0, 1])])
+    first = draw.choice([None, None, max(125, asked.link * draw.randrange(10, 101) // 100 // 125 * 125)])
+    increment = draw.choice([None, None, draw.randrange(1 + min(1_000_000, asked.rate(asked.link)))])
+    reserve = draw.choice([0, 0, draw.randrange(1 + 2 * asked.downtime)])
+    return replace(asked, start=start, base=base, first=first, increment=increment, reserve=reserve,
+                   downtime=asked.downtime + reserve * draw.choice([0, 1, 1, 1, 1, 1]))
+
+
+def limited(draw: random.Random, asked: Question, trace: Trace) -> Question:
+    """With a link that moves all pages in about the time of the trace or less, and a downtime for some of them."""
+    pages = len(trace.guest)
+    rate = min(1_010_000, max(1.2, 1_000 * pages / (trace.last + 1) * 10 ** draw.uniform(-0.3, 2)))
+    link = max(1, math.ceil(rate * 1_000 * asked.page * asked.guest / asked.sampled / asked.tick / 125)) * 125
+    most = max(1, asked.rate(link))
+    ticks = draw.choice([0, 1, 1, 1]) * int(min(65_600, pages * 10 ** draw.uniform(-3, 0.2)) * 1_000 / most)
+    return replace(asked, link=link, downtime=ticks * asked.tick)
+
+
+def of_record(draw: random.Random, folder: str, trace: Trace, told: dict) -> Asked:
+    """What tools/predict may be asked about a record, and the same in its longer ticks."""
+    sampled, length = told["trace_pages"], told["last_tick"] - told["first_tick"]
+    guest = max(sampled, round(Fraction(sampled * told["guest_nonzero"], told["sampled_nonzero"])))
+    tick = round(1e6 * told["tick_seconds"])
+    asked = Question(1, None, 0, 0, tick, trace.size, sampled, guest, None, 64, 0, None, False)
+    asked = limited(draw, asked, trace)
+    asked = replace(asked, downtime=max(1, asked.downtime - asked.downtime % draw.choice([1, 10 * tick, 20 * tick])))
+    words = [trace.path, f"--link={asked.link // 125}Kbit", f"--downtime={asked.downtime}us"]
+    if draw.randrange(3) == 0:
+        later = draw.randrange(1, 2 + length // 2)
+        asked, words = replace(asked, start=later), [*words, f"--start={later * tick}us"]
+    longer, writes = in_longer_ticks(asked, told, trace)
+    text = page_shapes.trace(trace.size.bit_length() - 1, len(trace.guest), [(*write, 1) for write in writes])
+    name = f"{os.path.basename(trace.path)}-{longer.tick}.pcwt"
+    return Asked(longer, trace_in(put(folder, name, text)), words)
+
+
+def all_asked(folder: str, seed: int) -> list[Asked]:
+    """The questions about eight traces, and those about four records."""
+    draw, made = random.Random(f"questions {seed}"), shapes(folder, seed)
+    paths = [os.path.join(EXAMPLES, name) for name in ("gzip.pcwt", "released.pcwt")] + small(folder, seed) + made[:4]
+    found = [Asked(drawn(draw, trace), trace) for trace in map(trace_in, paths) for _ in range(OF_TRACE)]
+    records = [os.path.join(EXAMPLES, "guests", "sqlite.light.pcwt"), thinned(folder)]
+    for path in records + [recorded(draw, path) for path in made[4:]]:
+        with open(samples.path_beside(path), encoding="utf-8") as file:
+            trace, told = trace_in(path), json.load(file)
+        found += [of_record(draw, folder, trace, told) for _ in range(OF_RECORD)]
+    return found

@@ -1,0 +1,464 @@
+"""Cases of checks/recording: NAME.json beside a trace, tools/thin and tools/predict."""
+
+import datetime
+import json
+import os
+import random
+import re
+import statistics
+import subprocess
+import xml.etree.ElementTree
+from concurrent.futures import ThreadPoolExecutor
+
+from checks.lib.amount_texts import size_text, time_text
+from checks.recording.recorder_runs import SECONDS, TOP, expect
+from precopy_tools import places, refusals
+from precopy_tools.formats import samples, traces
+from precopy_tools.predict import day_chart, forecast, plans
+
+# The built precopy-view, by which tools/predict plans.
+VIEW = [places.program("precopy-view")]
+THIN, PREDICT = (os.path.join(TOP, "tools", name) for name in ("thin", "predict"))
+RECORDED = os.path.join(TOP, "examples", "guests", "mid.light.pcwt")
+LINK = ["--link", "32MiB", "--downtime", "100ms"]
+SEEDS, ONE_IN = 200, 16
+AT_ONCE = 2
+
+
+def run_thin(*words, status=0):
+    return run(THIN, *words, status=status)
+
+
+def run_predict(*words, status=0):
+    return run(PREDICT, *words, "--program", VIEW[0], status=status)
+
+
+def run(tool, *words, status=0):
+    done = subprocess.run([tool, *words], capture_output=True, text=True, timeout=12 * SECONDS)
+    expect(done.returncode == status, f"{words}: status {done.returncode}, {done.stdout!r}, {done.stderr!r}")
+    return done.stdout, done.stderr
+
+
+def read_trace(path):
+    with open(path, "rb") as file:
+        return traces.read(file.read())
+
+
+def made_trace(path, pages=4096, ticks=8000, rate=2):
+    """A trace as tools/record makes them: all pages at tick 0, then writes, mostly to hot pages that lie together."""
+    draws = random.Random("a trace, not a draw of its pages")
+    with traces.Writer(path) as writer:
+        writer.append([(0, page, 0, b"\x01") for page in range(pages)])
+        hot = range(pages // 2, pages // 2 + pages // 16)
+        chosen = (draws.choice(hot) if draws.random() < 0.8 else draws.randrange(pages) for _ in range(ticks * rate))
+        writer.append([(1000 + number // rate, page, 0, b"\x01") for number, page in enumerate(chosen)])
+        writer.finish(12, pages)
+
+
+def damaged(fields, trace_pages):
+    """Values that a field must not have: of another kind, out of its range, or not those of this trace."""
+    wrong = [None, [], {}, True, "", "x", -1, 1.5, 1 << 60, float("nan")]
+    at = {
+        "format": ["precopy sample 2"],
+        "trace_sha256": ["0" * 64, fields["trace_sha256"].upper()],
+        "trace_pages": [0, trace_pages + 1],
+        "trace_writes": [fields["trace_writes"] + 1],
+        "first_tick": [fields["last_tick"] + 1],
+        "last_tick": [0, fields["first_tick"]],
+        "tick_seconds": [0, 2e9],
+        "interval_seconds": [0, fields["tick_seconds"] / 2],
+        "guest_pages": [0, fields["sampled_pages"] - 1],
+        "guest_nonzero": [fields["sampled_nonzero"] - 1, fields["guest_pages"] + 1],
+        "counted_pages": [0, fields["sampled_pages"] - 1, fields["guest_pages"] + 1],
+        "sampled_pages": [0, trace_pages - 1, fields["guest_pages"] + 1],
+        "sampled_nonzero": [fields["sampled_nonzero"] - 1, fields["sampled_nonzero"] + 1],
+        "method": ["magic"],
+        "samples": [0, fields["last_tick"] + 2],
+        "late": [fields["samples"] + 1],
+        "taken_at": ["2026-11-26", "yesterday"],
+    }
+    kept = {"tick_seconds": (1.5,), "interval_seconds": (1.5,), "taken_of": ("x",)}
+    for name in fields:
+        for value in [*wrong, *at.get(name, [])]:
+            if value not in kept.get(name, ()) or isinstance(value, bool):
+                yield name, value
+
+
+def damaged_fields(_, folder):
+    """Each field that is missing, of another kind, out of its range or not of this trace is refused by its name."""
+    path = os.path.join(folder, "guest.pcwt")
+    beside = samples.path_beside(path)
+    made_trace(os.path.join(folder, "whole.pcwt"))
+    run_thin(os.path.join(folder, "whole.pcwt"), path, "--one-in", "4", "--start", "1000")
+    with open(beside, encoding="utf-8") as file:
+        fields = json.load(file)
+    fields.update(method="values", counted_pages=4000, samples=80)
+    trace = read_trace(path)
+    written = [record[:2] for record in trace.records()]
+
+    def refusal(text):
+        with open(beside, "w", encoding="utf-8") as file:
+            file.write(text)
+        try:
+            samples.read(path, trace, written)
+        except refusals.Refused as refused:
+            return str(refused)
+        return ""
+
+    expect(refusal(json.dumps(fields)) == "", "the file as it should be is refused")
+    count = 0
+    for name, value in damaged(fields, trace.pages):
+        count += 1
+        expect(name in refusal(json.dumps({**fields, name: value})), f"{name} = {value!r} is not refused by its name")
+    for name in fields:
+        said = refusal(json.dumps({other: fields[other] for other in fields if other != name}))
+        expect(f"{name} is missing" in said, f"without {name}: {said!r}")
+    for text, said in (("", "no JSON"), ("[1]", "no JSON object"), ('{"a": 1}', "no field a"), ("{", "no JSON"),
+                       ("[" * 100_000, "no JSON")):
+        expect(said in refusal(text), f"{text!r} is not refused")
+    expect(count > 180, f"{count} damages")
+
+
+def damaged_beside_tools(_, folder):
+    """All readers refuse it, and write nothing."""
+    whole, path, other = (os.path.join(folder, name) for name in ("whole.pcwt", "guest.pcwt", "other.pcwt"))
+    made_trace(whole)
+    run_thin(whole, path, "--one-in", "4", "--start", "1000")
+    beside = samples.path_beside(path)
+    with open(beside, encoding="utf-8") as file:
+        text = file.read()
+    with open(beside, "w", encoding="utf-8") as file:
+        file.write(text.replace('"seed": 0', '"seed": -1'))
+    for tool, words in ((run_predict, [path, *LINK]), (run_thin, [path, other, "--one-in", "2"])):
+        printed, refused = tool(*words, status=1)
+        expect(not printed and "seed is not a number" in refused, refused)
+    os.unlink(beside)
+    printed, refused = run_predict(path, *LINK, status=1)
+    expect(not printed and "there is no" in refused and "guest.json" in refused, refused)
+    expect(not os.path.exists(other), "a trace was written")
+
+
+def refused_traces(_, folder):
+    """A trace that is damaged at random is refused by file, name and cause, or it has another SHA-256."""
+    path, draws = os.path.join(folder, "guest.pcwt"), random.Random(7)
+    made_trace(os.path.join(folder, "whole.pcwt"), pages=64, ticks=200)
+    run_thin(os.path.join(folder, "whole.pcwt"), path, "--one-in", "1", "--start", "1000")
+    with open(path, "rb") as file:
+        text = file.read()
+    names = set()
+    for number in range(60):
+        damaged = bytearray(text)
+        for _ in range(draws.randrange(1, 3)):
+            damaged[draws.choice((draws.randrange(16), draws.randrange(len(text))))] ^= draws.randrange(1, 256)
+        damaged = damaged[: draws.choice((len(text), draws.randrange(len(text)), len(text)))] + b"x" * (number % 5 == 4)
+        with open(path, "wb") as file:
+            file.write(damaged)
+        printed, refused = run_predict(path, *LINK, status=1)
+        name = re.match(rf"predict: {re.escape(path)}: (E\d+)(?: record \d+)?: \w", refused)
+        expect(not printed and (name or "trace_sha256" in refused or "does not fit" in refused), refused)
+        expect(refused.count("\n") == 1, refused)
+        names.add(name and name[1])
+    expect(len(names) > 6, f"{names}")
+
+
+def thinned_pages(_, folder):
+    """A thinned trace has the writes of the drawn pages, with their bytes, and can be thinned again."""
+    whole, path, again = (os.path.join(folder, f"{name}.pcwt") for name in ("whole", "part", "less"))
+    text = os.path.join(folder, "text")
+    with open(text, "w", encoding="ascii") as file:
+        file.write("pages 64 size 4096 version 2\n")
+        for tick in range(400):
+            page = tick * 7 % 64
+            file.write(f"{tick} {page} release\n" if tick % 9 == 8 else f"{tick} {page} {tick} {tick % 250 + 1:02x}\n")
+    run(os.path.join(TOP, "tools", "import"), text, whole)
+    run_thin(whole, path, "--one-in", "4", "--seed", "3", "--tick", "2ms")
+    numbers = {page: number for number, page in enumerate(samples.draw(64, 16, 3))}
+    wanted = [(t, numbers[p], o, d) for t, p, o, d in read_trace(whole).records() if p in numbers]
+    trace = read_trace(path)
+    records = list(trace.records())
+    expect(records == wanted and trace.version == 2 and trace.pages == 16, "other writes than those of the pages drawn")
+    sample = samples.read(path, trace, [record[:2] for record in records])
+    expect((sample.weight, sample.tick_seconds, sample.seed, sample.method) == (4, 0.002, 3, "trace"), f"{sample}")
+    run_thin(path, again, "--one-in", "4", "--seed", "1")
+    less = read_trace(again)
+    sample = samples.read(again, less, [record[:2] for record in less.records()])
+    expect((sample.weight, less.pages, sample.guest_pages) == (16, 4, 64), f"{sample}")
+    for words, status, said in (
+        ([whole, os.path.join(folder, "a.light.pcwt"), "--one-in", "2"], 2, ".light.pcwt"),
+        ([whole, os.path.join(folder, "a.pcwt")], 2, "--one-in"),
+        ([whole, os.path.join(folder, "none", "a.pcwt"), "--one-in", "2"], 1, "No such file"),
+        ([text, os.path.join(folder, "a.pcwt"), "--one-in", "2"], 1, f"{text}: E2: it does not begin as a trace"),
+    ):
+        _, refused = run_thin(*words, status=status)
+        expect(said in refused, refused)
+    left = sorted(os.listdir(folder))
+    expect(left == ["less.json", "less.pcwt", "part.json", "part.pcwt", "text", "whole.pcwt"], f"left: {left}")
+
+
+def numbers_of(printed):
+    """What tools/predict prints: bytes sent, the time and the downtime as texts."""
+    sent, unit = re.search(r"^sent: ([0-9.]+) (\w+)", printed, re.M).groups()
+    time = re.search(r"^total time: ([0-9.]+ \w+)$", printed, re.M)[1]
+    downtime = re.search(r"^downtime: ([0-9.]+ \w+),", printed, re.M)[1]
+    return float(sent) * {"KiB": 1 << 10, "MiB": 1 << 20, "GiB": 1 << 30}[unit], time, downtime
+
+
+def reported(program, trace, weight, factor=1):
+    """The plan of `precopy report` for LINK, over a trace whose ticks are `factor` times longer."""
+    writes = sorted({(tick // factor, page) for tick, page, *_ in trace.records()})
+    rate = int(8192 * factor / weight)
+    settings = plans.Settings(rate, 100 // factor * rate // 1000 + 1)
+    return plans.report(program, forecast.encoded(trace.pages, writes, 4096), settings, 1000 // factor)
+
+
+def expect_prediction(printed, plan, weight, factor=1):
+    sent, time, downtime = numbers_of(printed)
+    expect(abs(sent / (plan.sent * weight * 4096) - 1) < 1e-3, printed)
+    expect(time == time_text(1000 * (factor * (plan.tick + plan.down) - 1000)), printed)
+    expect(downtime == time_text(1000 * factor * plan.down), printed)
+
+
+def thinned(folder, one_in):
+    """A part of the recorded trace: its path, the trace, how many of the pages each stands for, and its prediction."""
+    path = os.path.join(folder, "guest.light.pcwt")
+    run_thin(RECORDED, path, "--one-in", str(one_in), "--start", "1000")
+    trace = read_trace(path)
+    printed, _ = run_predict(path, *LINK)
+    return path, trace, 26_715 / trace.pages, printed
+
+
+def predicted(program, folder):
+    """The answers are those of `precopy report` times the weight; the status says whether the limit is kept."""
+    path, trace, weight, printed = thinned(folder, 4)
+    expect_prediction(printed, reported(program, trace, weight), weight)
+    expect("converges: yes, " in printed and "at half the link: " in printed, printed)
+    hosts = ["max-bandwidth 33554432B", "downtime-limit 100", "migrate-setspeed DOMAIN 32", "setmaxdowntime DOMAIN 100"]
+    expect(all(f"{words}\n" in printed for words in hosts) and "precopy live" not in printed, printed)
+    again, _ = run_predict(path, *LINK)
+    expect(again == printed, "the same words print other lines")
+    busy, part = os.path.join(folder, "busy.pcwt"), os.path.join(folder, "part.pcwt")
+    made_trace(busy, rate=12)
+    run_thin(busy, part, "--one-in", "2", "--start", "1000")
+    for name, words, status, said in (
+        (part, ["--link", "16MiB", "--downtime", "10ms"], 3, "converges: no"),
+        (part, ["--link", "64MiB", "--downtime", "3ms"], 0, "decided the stop"),
+        (part, ["--link", "64MiB", "--downtime", "9s"], 0, "converges: yes"),
+        (path, ["--link", "100Mbit", "--downtime", "2s"], 4, "converges: unknown"),
+        (path, ["--link", "32MiB", "--downtime", "100ms", "--start", "1h"], 4, "time: more than 0 s"),
+        (path, ["--link", "1Kbit"], 1, "too slow for this sample"),
+        (path, ["--link", "128Gbit"], 0, "at twice the link: no plan"),
+        (path, ["--link", "1"], 2, "Kbit, Mbit, Gbit"),
+    ):
+        printed, refused = run_predict(name, *words, status=status)
+        expect(said in printed + refused, printed + refused)
+        is_cut = "a plan takes no longer limit than that: 65,535 pages of the sample" in printed
+        expect(is_cut == ("9s" in words or "128Gbit" in words), printed)
+        expect(("QEMU: " in printed) == (status not in (1, 2) and not is_cut), printed)
+
+
+def longer_ticks(program, folder):
+    """If so few pages are drawn that their rate would be 128, ticks are five times as long."""
+    _, trace, weight, printed = thinned(folder, 64)
+    expect_prediction(printed, reported(program, trace, weight, 5), weight, 5)
+    expect("limit: 100 ms" in printed and "decided the stop" in printed, printed)
+
+
+def converted(_, folder):
+    """The trace that is planned: from the first look on, with a write at the last, in longer ticks."""
+    path = os.path.join(folder, "guest.light.pcwt")
+    found = [(0, page) for page in range(3)]
+    later = [(1000, 2), (1003, 2), (1004, 1), (1004, 1), (1012, 1), (1019, 0)]
+    with traces.Writer(path) as writer:
+        writer.append([(*write, 0, b"\x01") for write in found + later])
+        text = writer.seal(12, 3)
+        sample = samples.Sample(
+            samples.FORMAT, samples.digest(text), 3, 9, 1000, 1050, 0.001, 0.1, 900, 30, 90, 30, 3, 0, "writes", 10, 0,
+            "2026-11-26T00:00:00+00:00", "a process")
+        with samples.pending(path, sample) as beside:
+            writer.finish(12, 3)
+            beside.finish()
+    asked = forecast.forecast_of(VIEW[0], path)
+    for factor, wanted in (
+        (1, [(0, 2), (3, 2), (4, 1), (12, 1), (19, 0), (50, 0)]),
+        (5, [(0, 2), (0, 1), (2, 1), (3, 0), (10, 0)]),
+        (20, [(0, 2), (0, 1), (0, 0), (2, 0)]),
+    ):
+        trace = traces.read(asked.text(factor))
+        expect([record[:2] for record in trace.records()] == wanted, f"{factor}: {list(trace.records())}")
+        expect(trace.pages == 3 and trace.shift == 12, f"{trace}")
+    expect(asked.scale(5) == (5000, 4096, 3, 30), f"{asked.scale(5)}")
+    asked.begin_after(0.025)
+    for bandwidth, downtime, factor in ((1 << 30, 0.1, 1), (8 << 20, 0.1, 5), (8 << 20, 0.003, 1), (1 << 20, 0.1, 20)):
+        found, words = asked.limits(forecast.Link(bandwidth, downtime))
+        expect(found == factor and f"{1000 * factor}us" in words and "3/30" in words, f"{found}, {words}")
+    expect(asked.start == 25 and asked.moment(0.025).isoformat() == "2026-11-26T00:00:00.025000+00:00", "the start")
+    for base, wanted in ((0, "--rounds 64 --start 0"), (700, "--base 0 --start 0")):
+        warm = forecast.forecast_of(VIEW[0], path)
+        warm.begin_with(base)
+        _, words = warm.words(forecast.Link(8 << 20, 0.1))
+        expect(" ".join(words).endswith(wanted), f"{words}")
+        expect(warm.text(5) == asked.text(5), f"{base}: {list(traces.read(warm.text(5)).records())}")
+
+
+def whole_sample(program, folder):
+    """A sample of all pages has no error, and the plan of the trace itself."""
+    path = os.path.join(folder, "guest.light.pcwt")
+    run_thin(RECORDED, path, "--one-in", "1", "--start", "1000")
+    printed, _ = run_predict(path, "--link", "64MiB", "--downtime", "50ms")
+    with open(RECORDED, "rb") as file:
+        plan = plans.report(program, file.read(), plans.settings_of(64 << 20, 0.05, 0.001), 1000)
+    expect_prediction(printed, plan, 1)
+    expect("standard errors" not in printed, printed)
+
+
+def bias_over_seeds(program, folder):
+    """The mean of the plans of 200 samples is that of the whole trace, within two of its standard errors."""
+    path = os.path.join(folder, "whole.pcwt")
+    made_trace(path, pages=1 << 15, ticks=12_000, rate=6)
+    run_thin(path, os.path.join(folder, "all.pcwt"), "--one-in", "1", "--start", "1000")
+    trace = read_trace(os.path.join(folder, "all.pcwt"))
+    records = [record[:2] for record in trace.records()]
+    whole = samples.read(os.path.join(folder, "all.pcwt"), trace, records)
+    plan = plans.report(program, trace.text, plans.settings_of(64 << 20, 0.05, 0.001), 1000)
+    expect(plan.why == "few" and plan.rounds > 2, f"{plan}")
+    settings = plans.settings_of(64 << 20, 0.05, 0.001, ONE_IN)
+
+    def sent(seed):
+        sample, kept = samples.thinned(whole, records, ONE_IN, seed)
+        text = forecast.encoded(sample.trace_pages, kept, 4096)
+        return plans.report(program, text, settings, 1000).sent * sample.weight
+
+    with ThreadPoolExecutor(AT_ONCE) as pool:
+        found = list(pool.map(sent, range(SEEDS)))
+    apart, error = statistics.mean(found) - plan.sent, statistics.stdev(found) / SEEDS**0.5
+    told = f"mean {statistics.mean(found):.0f}, whole {plan.sent}, standard error {error:.1f}"
+    expect(abs(apart) <= 2 * error, told)
+    expect(statistics.stdev(found) < 0.05 * plan.sent, told)
+    print(f"  bias of {SEEDS} samples, one page in {ONE_IN}: {told}", flush=True)
+
+
+# ---- Series.
+
+
+def made_series(folder, moments):
+    """A series of recordings that begin at some moments, and what is sent by each, in the order of their names."""
+    whole, part = os.path.join(folder, "whole.light.pcwt"), os.path.join(folder, "part.light.pcwt")
+    paths = []
+    for number, moment in enumerate(moments):
+        made_trace(whole, pages=512, ticks=4000, rate=1 + number)
+        run_thin(whole, part, "--one-in", "2", "--seed", str(number), "--start", "1000")
+        path = os.path.join(folder, f"guest.{moment:%Y%m%dT%H%M%SZ}.light.pcwt")
+        os.rename(part, path)
+        with open(samples.path_beside(part), encoding="utf-8") as file:
+            fields = json.load(file)
+        fields["taken_at"] = moment.isoformat()
+        with open(samples.path_beside(path), "w", encoding="utf-8") as file:
+            json.dump(fields, file)
+        os.unlink(samples.path_beside(part))
+        paths.append(path)
+    os.unlink(whole)
+    return paths
+
+
+def starts_of(path, link, downtime):
+    """What `precopy-view json when` tells of a trace, by words that are made here: of each 50th tick or so."""
+    trace = read_trace(path)
+    writes = [(tick, page) for tick, page, *_ in trace.records() if tick >= 1000]
+    text = forecast.encoded(trace.pages, writes + [(4999, 0)], 4096)
+    words = ["--link", link, "--downtime", downtime, "--tick", "1ms", "--page", "4096", "--sampled", "256/512"]
+    sides = ["--from", "1000", "--to", "4999", "--every", "67", "--rounds", "64"]
+    done = subprocess.run([VIEW[0], "json", "when", *words, *sides], input=text, capture_output=True, timeout=SECONDS)
+    return json.loads(done.stdout)
+
+
+def pictured(path):
+    """The dots of a picture: their places and colours, by what they are told to be."""
+    tree = xml.etree.ElementTree.parse(path).getroot()
+    space = "{http://www.w3.org/2000/svg}"
+    dots = tree.findall(f"{space}circle")
+    return [(float(dot.get("cx")), float(dot.get("cy")), dot.get("fill"), dot[0].text) for dot in dots]
+
+
+def predicted_series(_, folder):
+    """A line for each segment, and a picture of all by time of day; a damaged one is refused, and the others stay."""
+    begin = datetime.datetime(2026, 11, 26, 22, 0, tzinfo=datetime.timezone.utc)
+    moments = [begin + datetime.timedelta(hours=hours) for hours in (0, 1, 9, 25, 30)]
+    paths, picture = made_series(folder, moments), os.path.join(folder, "day.svg")
+    link = ["--link", "16MiB", "--downtime", "2ms"]
+    name = os.path.join(folder, "guest.light.pcwt")
+    printed, refused = run_predict(name, *link, "--picture", picture, status=3)
+    lines = printed.strip().split("\n")
+    expect(len(lines) == 5 and not refused, f"{printed!r}, {refused!r}")
+    within = 0
+    for path, moment, line in zip(paths, moments, lines):
+        alone, _ = run_predict(path, *link, status=4 if "unknown" in line else 3 if "does not" in line else 0)
+        expect(line.startswith(f"{moment:%Y-%m-%d %H:%M:%S}  "), line)
+        for said in ("sent", "total time", "downtime"):
+            value = re.search(rf"^{said}: ([^,\n]+)", alone, re.M)[1]
+            error = re.search(rf"^standard errors: .*\b{said.split()[-1]} ([^,\n]+)", alone, re.M)[1]
+            expect(f"  {value} +- {error}  " in line, f"{value!r} +- {error} is not in {line!r}")
+        told = starts_of(path, "16MiB", "2ms")
+        within += sum(start["kept"] != "unknown" for start in told["starts"])
+        for which in ("best", "worst"):
+            start = told[which]
+            at = moment + datetime.timedelta(seconds=start["start_seconds"] - 1)
+            expect(f"  {which} {at:%H:%M:%S} {size_text(start['sent_bytes'])}" in line, f"{which}: {line}")
+    dots = pictured(picture)
+    expect(len(dots) == 3 * within > 100, f"{len(dots)} dots, {within} starts")
+    expect({dot[2] for dot in dots} == {day_chart.KEPT, day_chart.NOT_KEPT}, "no colours")
+    for place, _, _, text in dots:
+        moment = datetime.datetime.fromisoformat(text[:19])
+        of_day = (moment - moment.replace(hour=0, minute=0, second=0)).total_seconds() / 86400
+        wanted = day_chart.LEFT + of_day * (day_chart.WIDTH - day_chart.LEFT - day_chart.RIGHT)
+        expect(abs(place - wanted) < 0.1, f"{text} stands at {place}")
+    with open(paths[2], "r+b") as file:
+        file.write(b"XXXX")
+    printed, refused = run_predict(name, *link, status=1)
+    expect(printed.strip().split("\n") == lines[:2] + lines[3:], printed)
+    expect(refused == f"predict: {paths[2]}: E2: {traces.CAUSES['E2']}\n", refused)
+    printed, refused = run_predict(os.path.join(folder, "other.light.pcwt"), *link, status=1)
+    expect("other.light.pcwt: No such file" in refused, refused)
+    run_predict(*paths[:2], *link, "--picture", os.path.join(folder, "none", "a.svg"), status=1)
+    expect(not [name for name in os.listdir(folder) if name.endswith(".part")], f"{os.listdir(folder)}")
+
+
+def pictures_of_any_starts(_, folder):
+    """Whatever the costs are, the picture is well formed, and no dot is outside of its panel."""
+    path = os.path.join(folder, "any.svg")
+    for seed in range(200):
+        draws = random.Random(seed)
+        begin = datetime.datetime.fromtimestamp(1_800_000_000 + draws.random() * 1e8, datetime.timezone.utc)
+        span = draws.choice((0, 1, 50, 4000, 86_399, 86_400, 900_000))
+        starts = [
+            day_chart.Start(
+                begin + datetime.timedelta(seconds=draws.uniform(0, span)),
+                draws.choice((0, 1, 1e6, 1e13)) * draws.random(),
+                draws.choice((0, 1e-6, 1e6)),
+                draws.random() * draws.choice((0, 1, 1000)),
+                draws.random() < 0.5,
+            )
+            for _ in range(draws.randrange(1, 40))
+        ]
+        with open(path, "w", encoding="utf-8") as file:
+            file.write(day_chart.drawn(starts, f"<{seed}> & \"others\""))
+        dots = pictured(path)
+        expect(len(dots) == 3 * len(starts), f"seed {seed}: {len(dots)} dots")
+        for number, (x, y, _, text) in enumerate(dots):
+            top = day_chart.TOP + 20 + number // len(starts) * (day_chart.HEIGHT + day_chart.GAP)
+            inside = day_chart.LEFT - 0.1 <= x <= day_chart.WIDTH - day_chart.RIGHT + 0.1
+            expect(inside and top - 0.1 <= y <= top + day_chart.HEIGHT + 0.1, f"seed {seed}: {text} at {x}, {y}")
+
+
+CASES = [
+    damaged_fields,
+    damaged_beside_tools,
+    refused_traces,
+    thinned_pages,
+    predicted,
+    longer_ticks,
+    converted,
+    whole_sample,
+    bias_over_seeds,
+    predicted_series,
+    pictures_of_any_starts,
+]

@@ -1,0 +1,323 @@
+"""Cases of checks/recording: series, which are recordings in segments, and what may end one."""
+
+import os
+import random
+import re
+import resource
+import signal
+import subprocess
+import tempfile
+import time
+import uuid
+
+from checks.recording.memory_cases import Known, virsh_in
+from checks.recording.recorder_runs import RECORD, SECONDS, TOP, Run, expect, read_until_recording
+from checks.recording.sample_runs import PAGE, PAGES, Pages
+from precopy_tools.formats import samples, traces
+from precopy_tools.record import series
+
+NAME = "guest.light.pcwt"
+SEGMENT = re.compile(
+    r"^segment (guest\.\d{8}T\d{6}Z\.light\.pcwt): [\d,]+ writes in [\d.]+ (?:us|ms|s), \d+ looks, \d+ late"
+)
+STEPS, STEP = 14, 40
+PAUSES = 0.06, 0.5
+OTHERS = ("guest.light.json", "guest.20260101T000000Z.light.pcwt.old", "guest2.20260101T000000Z.light.pcwt",
+          "xguest.20260101T000000Z.light.pcwt", "guest.2026.light.pcwt", ".guest.20260101T000000Z.light.pcwt.part")
+
+
+class Segments(Run):
+    """A run of tools/record that writes a series into a folder."""
+
+    def __init__(self, folder, source, *words, **more):
+        words = [RECORD, *source, "--every", "50ms", "--segment", "1s", *words]
+        super().__init__(folder, words, os.path.join(folder, NAME), **more)
+
+    def bytes(self):
+        """How much of the segment that is written is there."""
+        names = [name for name in os.listdir(self.folder) if name.endswith(".part") and ".pcwt." in name]
+        return sum(os.path.getsize(os.path.join(self.folder, name)) for name in names)
+
+    @staticmethod
+    def wait_for(holds):
+        end = time.monotonic() + 2 * SECONDS
+        while not holds():
+            expect(time.monotonic() < end, "the recorder does not go on")
+            time.sleep(0.02)
+
+    def told(self):
+        """The names of the segments that it has told."""
+        return [match[1] for match in map(SEGMENT.match, self.output.split("\n")) if match]
+
+
+def segments_in(folder):
+    """Each segment of a folder as (path, trace, writes as tick and page, sample); all of them are whole."""
+    found = []
+    for path in series.Series(os.path.join(folder, NAME)).paths():
+        trace, records = traces.read_file(path)
+        written = [record[:2] for record in records]
+        found.append((path, trace, written, samples.read(path, trace, written)))
+    return found
+
+
+def expect_no_parts(folder):
+    left = [name for name in os.listdir(folder) if name.endswith(".part") and name not in OTHERS]
+    expect(not left, f"left: {left}")
+
+
+def filled_of(count):
+    """The pages that are not zero at first, of so many."""
+    return [page for page in range(count) if page % 3]
+
+
+def written_in(found, count):
+    """How often each page was written in all segments. Pages that are not zero at first are numbered in their order."""
+    filled = filled_of(count)
+    times = {}
+    for _, _, written, _ in found:
+        for tick, number in written:
+            if tick > 1000:
+                page = filled[number]
+                times[page] = times.get(page, 0) + 1
+    return times
+
+
+def exact_series(folder, draws, *words, steps=STEPS, size=STEP, pauses=PAUSES, count=PAGES):
+    """Whenever a page is written, it is in exactly one segment, once. Each is written once, in one of the steps."""
+    with Pages("private", count) as pages:
+        run = Segments(folder, pages.source, *words)
+        to_write = draws.sample(filled_of(count), steps * size)
+        for at in range(0, len(to_write), size):
+            pages.write(to_write[at : at + size])
+            time.sleep(draws.uniform(*pauses))
+        time.sleep(0.2)
+        run.end(signal.SIGINT)
+        pages.expect_as_before()
+    expect(run.status == 0, f"status {run.status}, {run.output!r}, {run.faults!r}")
+    found = segments_in(folder)
+    times = written_in(found, count)
+    expect(len(times) == steps * size and set(times.values()) == {1}, f"{len(times)} pages, {set(times.values())}")
+    expect(run.told() == [os.path.basename(path) for path, *_ in found], run.output)
+    expect_no_parts(folder)
+    for (_, _, _, before), (_, _, _, after) in zip(found, found[1:]):
+        expect((before.seed, before.counted_pages) == (after.seed, after.counted_pages), "other pages are drawn")
+        expect(before.taken_at <= after.taken_at, f"{before.taken_at}, {after.taken_at}")
+    return run, found
+
+
+def nothing_lost(_, folder):
+    """Over several segments."""
+    for seed in range(2):
+        with tempfile.TemporaryDirectory(dir=folder) as each:
+            _, found = exact_series(each, random.Random(f"series {seed}"))
+            expect(len(found) >= 3, f"{len(found)} segments")
+    # Also in the milliseconds in which one segment ends and the next one begins.
+    with tempfile.TemporaryDirectory(dir=folder) as each:
+        one_by_one = {"steps": 6000, "size": 1, "pauses": (0.0004, 0.0006), "count": 1 << 14}
+        _, found = exact_series(each, random.Random("one by one"), **one_by_one)
+        expect(len(found) >= 4, f"{len(found)} segments")
+
+
+def full_segments(_, folder):
+    """A segment that is full is followed by the next one, which has what found no room."""
+    filled = len(filled_of(PAGES))
+    words = ["--segment", "60s", "--limit-writes", str(filled + 8 * STEP)]
+    run, found = exact_series(folder, random.Random("full"), *words)
+    expect(len(found) >= 2, f"{len(found)} segments")
+    expect(run.output.count("; ended early: a trace has at most") == len(found) - 1, run.output)
+
+
+def full_from_the_first(_, folder):
+    """If even one interval does not fit, the series ends by words, and what there is is whole."""
+    filled = len(filled_of(PAGES))
+    with Pages("private") as pages:
+        run = Segments(folder, pages.source, "--limit-writes", str(filled + 5))
+        for _ in range(8):
+            pages.write(range(0, PAGES, 2))
+            time.sleep(0.06)
+        run.end()
+    expect(run.status == 3 and "the series ended after" in run.faults, f"{run.status}, {run.faults!r}")
+    expect(1 <= len(segments_in(folder)) <= 3, f"{os.listdir(folder)}")
+    expect_no_parts(folder)
+
+
+def killed_twice(_, folder):
+    """A recorder that is killed loses the segment that it was writing, and no other; the next one cleans up."""
+    draws = random.Random("killed")
+    with Pages("private") as pages:
+        told, before = [], set()
+        for _ in range(2):
+            run = Segments(folder, pages.source)
+            for _ in range(draws.randrange(15, 30)):
+                pages.write(draws.sample(range(PAGES), 50))
+                time.sleep(0.1)
+            run.end(signal.SIGKILL)
+            told += run.told()
+            names = {os.path.basename(path) for path, *_ in segments_in(folder)}
+            expect(set(run.told()) <= names - before, f"{run.output!r}, {names}")
+            expect(len(names - before) - len(run.told()) <= 1, f"{names} are more than told: {told}")
+            before = names
+            pages.expect_as_before()
+        parts = [name for name in os.listdir(folder) if name.endswith(".part")]
+        expect(len(parts) <= 2, f"parts: {parts}")
+        run = Segments(folder, pages.source, "--for", "2200ms")
+        run.end()
+        pages.expect_as_before()
+    said = f"removed: {len(parts)} unfinished files" if parts else "recording"
+    expect(run.status == 0 and said in run.output, f"{run.output!r}, {run.faults!r}")
+    expect(len(segments_in(folder)) >= len(before) + 2, f"{os.listdir(folder)}")
+    expect_no_parts(folder)
+
+
+def kept_segments(_, folder):
+    """The last ones are kept. No other file is touched, whatever it is called."""
+    for name in OTHERS:
+        with open(os.path.join(folder, name), "w", encoding="ascii") as file:
+            file.write(name)
+    with Pages("private") as pages:
+        run = Segments(folder, pages.source, "--keep", "2", "--for", "5200ms")
+        run.end()
+    expect(run.status == 0, f"{run.status}, {run.faults!r}")
+    expect(len(run.told()) >= 3, run.output)
+    wanted = {*OTHERS}
+    for name in run.told()[-2:]:
+        wanted |= {name, samples.path_beside(name)}
+    expect(set(os.listdir(folder)) == wanted, f"{sorted(os.listdir(folder))}")
+
+
+def guest_of_a_series_ends(_, folder):
+    with Pages("private") as pages:
+        run = Segments(folder, pages.source)
+        run.wait_for(lambda: segments_in(folder))
+        before = run.bytes()
+        pages.write(range(100))
+        run.wait_for(lambda: run.bytes() > before)
+        time.sleep(0.1)
+        pages.process.kill()
+        pages.process.wait()
+        run.end()
+    expect(run.status == 0 and "the process ended" in run.faults, f"{run.status}, {run.faults!r}")
+    found = segments_in(folder)
+    later = sum(tick > 1000 for tick, _ in found[-1][2])
+    expect(len(found) == 2 and later == 100, f"{len(found)} segments, {later} writes in the last one")
+    expect_no_parts(folder)
+
+
+def values_of_a_series(_, folder):
+    """By values each segment begins with the pages that are not zero then."""
+    path = os.path.join(folder, "memory")
+    with open(path, "wb") as file:
+        file.truncate(PAGES * PAGE)
+    run = Segments(folder, ["--file", path])
+    for number in range(30):
+        with open(path, "r+b") as file:
+            file.seek(number * PAGE)
+            file.write(bytes([number + 1]))
+        time.sleep(0.1)
+    run.end(signal.SIGINT)
+    expect(run.status == 0, f"{run.status}, {run.faults!r}")
+    found = segments_in(folder)
+    counts = [sample.sampled_nonzero for *_, sample in found]
+    expect(counts == sorted(counts) and counts[0] <= 1 and counts[-1] >= 20, f"{counts}")
+    later = sum(1 for _, _, written, _ in found for tick, _ in written if tick > 1000)
+    expect(later == 30, f"{later} changes of 30")
+
+
+def no_room_left(_, folder):
+    """A file that cannot grow, and a disk that is full: the segment is whole, with its NAME.json, and words."""
+    with Pages("private") as pages:
+
+        def limit():
+            resource.setrlimit(resource.RLIMIT_FSIZE, (40_000, 40_000))
+
+        run = Segments(folder, pages.source, preexec_fn=limit)
+        for _ in range(12):
+            pages.write(range(PAGES))
+            time.sleep(0.06)
+        run.end()
+        expect(run.status == 3 and "File too large" in run.faults, f"{run.status}, {run.faults!r}")
+        expect(len(segments_in(folder)) == 1, f"{os.listdir(folder)}")
+        expect_no_parts(folder)
+        disk = os.path.join(folder, "disk")
+        os.mkdir(disk)
+        if subprocess.run(["mount", "-t", "tmpfs", "-o", "size=160k", "none", disk], capture_output=True).returncode:
+            print("  no disk of its own can be mounted: a full disk is not tried", flush=True)
+            return
+        try:
+            run = Segments(disk, pages.source)
+            for _ in range(40):
+                pages.write(range(PAGES))
+                time.sleep(0.06)
+            run.end()
+            expect(run.status == 3 and "No space left on device" in run.faults, f"{run.status}, {run.faults!r}")
+            found = segments_in(disk)
+            expect(found and found[-1][2], f"{os.listdir(disk)}")
+            expect(run.told() == [os.path.basename(path) for path, *_ in found], run.output)
+            expect_no_parts(disk)
+        finally:
+            subprocess.run(["umount", disk], check=True)
+
+
+def words_of_a_series(_, folder):
+    with Pages("private") as pages:
+        first = Segments(folder, pages.source)
+        second = Segments(folder, pages.source)
+        second.end()
+        expect(second.status == 1 and "another recorder writes this series" in second.faults, second.faults)
+        first.end(signal.SIGTERM)
+        expect(first.status == 0 and first.told(), f"{first.status}, {first.faults!r}")
+        before = sorted(os.listdir(folder))
+        for words, said in (
+            (["--segment", "900ms"], "--segment is 1s or more"),
+            (["--segment", "1s", "--every", "600ms"], "--segment is 1s or more"),
+            (["--segment", "1s", "--map", "map"], "--segment is 1s or more"),
+            (["--segment", "1x"], "us, ms, s, m or h"),
+            (["--segment", "1s", "--keep", "0"], "whole number from 1"),
+            (["--segment", "1s", "--image", "image"], "leave out --image"),
+        ):
+            run = Segments(folder, pages.source, *words)
+            run.end()
+            expect(run.status == 2 and said in run.faults, f"{words}: {run.status}, {run.faults!r}")
+        command = [RECORD, *pages.source, "--keep", "2", os.path.join(folder, NAME)]
+        done = subprocess.run(command, capture_output=True, text=True, timeout=4 * SECONDS)
+        expect(done.returncode == 2 and "--keep goes with --segment" in done.stderr, done.stderr)
+        expect(sorted(os.listdir(folder)) == before, f"{os.listdir(folder)}")
+
+
+def service_of_a_guest(_, folder):
+    """What the service file says is run, with a guest of libvirt: it is accepted, and a stop ends it well."""
+    identity = uuid.uuid4()
+    with open(os.path.join(TOP, "packaging", "precopy-record@.service"), encoding="utf-8") as file:
+        words = re.search(r"^ExecStart=precopy-record (.*)$", file.read(), re.M)[1].split()
+    expect("$OPTIONS" in words, f"{words}")
+    *words, path = [word.replace("%I", "known").replace("%i", "guest") for word in words if word != "$OPTIONS"]
+    layout = {"nodes": [["a", "private", 600], ["b", "memfd", 500]], "code": 5000}
+    with Known(folder, layout, "-uuid", str(identity)) as known:
+        command = [RECORD, *words, os.path.join(folder, os.path.basename(path))]
+        environment = virsh_in(folder, known, identity)
+        process = subprocess.Popen(command, stdout=subprocess.PIPE, stderr=subprocess.PIPE, text=True, env=environment)
+        read_until_recording(process.stdout)
+        time.sleep(0.3)
+        known.ask("write")
+        time.sleep(0.3)
+        process.send_signal(signal.SIGTERM)
+        _, faults = process.communicate(timeout=4 * SECONDS)
+        expect(process.returncode == 0 and not faults, f"{process.returncode}, {faults!r}")
+    found = segments_in(folder)
+    expect(len(found) == 1 and found[0][3].guest_pages == 1100, f"{found[0][3] if found else os.listdir(folder)}")
+    expect(sum(tick > 1000 for tick, _ in found[0][2]) == 1100, f"{len(found[0][2])} writes")
+
+
+NEED_WRITES = {nothing_lost, full_segments, full_from_the_first, killed_twice, no_room_left, words_of_a_series}
+CASES = [
+    nothing_lost,
+    full_segments,
+    full_from_the_first,
+    killed_twice,
+    kept_segments,
+    guest_of_a_series_ends,
+    values_of_a_series,
+    no_room_left,
+    words_of_a_series,
+    service_of_a_guest,
+]

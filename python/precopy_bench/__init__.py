@@ -1,0 +1,1 @@
+"""Measurements, and the workloads that they are made with."""

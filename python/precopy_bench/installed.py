@@ -1,0 +1,107 @@
+"""Times the program as it is installed, beside ./precopy, the program without a launcher, and fast.
+
+    bench/installed [-n RUNS] [--only REGEX] [--traces DIR] [--program PATH]
+
+Prints the table "As installed" of docs/MEASUREMENTS.md: wall ms, processor ms and MB, the least of RUNS, 4 by default,
+but of memory the most. Output goes nowhere, and programs run in turn. An installation of the launcher and the program
+is made in a temporary folder. It needs cargo and a C compiler; build the program first with `./precopy --help`.
+"""
+
+import argparse
+import os
+import re
+import shutil
+import subprocess
+import sys
+import tempfile
+
+from precopy_bench import jobs as work
+from precopy_bench.measuring import Fault, Nowhere, Others, run
+from precopy_bench.programs import built, made
+from precopy_dev.packaging import compilers, launcher
+from precopy_dev.tree import TOP
+
+LIMIT = 300
+
+
+def live(count, lane=65_536):
+    return work.live(workers=count, streams=count, replayers=count, lane=lane)
+
+
+IMAGE, REPORT, SWEEP = lambda _: ["image"], work.report(), work.sweep(16, 1)
+OTHERS = (("`image`", IMAGE), ("`live`, 1", live(1)), ("`live`, 4", live(4)))
+ROWS = [
+    ("uniform", "`image`", IMAGE),
+    ("uniform", "`report`", REPORT),
+    ("uniform", "`sweep`, 16 cases", SWEEP),
+    ("uniform", "`live`, 1 of each", live(1)),
+    ("uniform", "`live`, 4 of each", live(4)),
+    ("uniform", "`live`, 1, short", live(1, 1024)),
+    *[(trace, *row) for trace in ("zipf", "phase", "big", "full") for row in OTHERS],
+]
+
+
+def asked_for():
+    parser = argparse.ArgumentParser(prog="bench/installed", description=__doc__, formatter_class=argparse.RawDescriptionHelpFormatter)
+    folder = os.path.join(tempfile.gettempdir(), "precopy-bench")
+    program = os.path.join(TOP, "crates", "precopy", "out", "precopy")
+    parser.add_argument("-n", type=int, default=4, metavar="RUNS", help="runs of each program, 4 by default")
+    parser.add_argument("--only", default="", metavar="REGEX", help="matched against a row's name, as '^uniform'")
+    parser.add_argument("--program", default=program, metavar="PATH", help="precopy, as it is built by default")
+    parser.add_argument("--traces", default=folder, metavar="DIR", help=f"where traces are, {folder} by default")
+    asked = parser.parse_args()
+    if asked.n < 1:
+        parser.error("-n has to be at least 1")
+    return asked
+
+
+def install(program, folder):
+    """Puts a launcher and the program into a folder, as an installation has them. Returns the launcher's path."""
+    proper, called = (os.path.join(folder, name, "precopy") for name in ("lib", "bin"))
+    for path in (proper, called):
+        os.mkdir(os.path.dirname(path))
+    shutil.copy(program, proper)
+    with open(called, "wb") as file:
+        file.write(launcher.launcher(os.path.relpath(proper, os.path.dirname(called))))
+    os.chmod(called, 0o755)
+    return called
+
+
+def cell(runs):
+    figures = (1000 * min(it.wall for it in runs), 1000 * min(it.processor for it in runs))
+    return ", ".join(f"{it:,.0f}" for it in (*figures, max(it.memory for it in runs) / 1e6))
+
+
+def main():
+    asked = asked_for()
+    if not os.access(asked.program, os.X_OK):
+        raise Fault(f"{asked.program} is not built: ./precopy --help builds it")
+    rows = [row for row in ROWS if re.search(asked.only, f"{row[0]} {row[1]}")]
+    plain = {name: value for name, value in os.environ.items() if name != "GLIBC_TUNABLES"}
+    traces, others = made(sorted({trace for trace, *_ in rows}), asked.traces), Others()
+    with tempfile.TemporaryDirectory() as folder:
+        script, called = os.path.join(TOP, "precopy"), install(asked.program, folder)
+        # A script whose program is older than a source would build it while it is timed.
+        subprocess.run([script, "--help"], stdout=subprocess.DEVNULL, check=True)
+        programs = {"`./precopy`": script, "Installed": called, "Bare": asked.program, "Fast": built()["fast"]}
+        print(f"| | {' | '.join(programs)} |\n|---|---|---|---|---|")
+        for trace, name, words in rows:
+            taken = {program: [] for program in programs}
+            for _ in range(asked.n):
+                for program, runs in taken.items():
+                    path = traces[trace].path
+                    once = run([programs[program], *words(traces[trace])], plain, path, Nowhere(), LIMIT)
+                    if once.status:
+                        raise Fault(f"{program} over {trace} ends with status {once.status}: {once.message}")
+                    runs.append(once)
+            print(f"| {trace} {name} | {' | '.join(cell(runs) for runs in taken.values())} |", flush=True)
+    busy = others.average()
+    print(f"\nOthers kept {busy:.2f} processors busy on average." if busy is not None else "")
+
+
+if __name__ == "__main__":
+    try:
+        main()
+    except (Fault, compilers.Lacks, subprocess.CalledProcessError, OSError, ValueError, KeyError, re.error) as fault:
+        print(f"bench/installed: {fault}", file=sys.stderr)
+        sys.exit(1)

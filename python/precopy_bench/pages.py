@@ -1,0 +1,101 @@
+"""Times live runs by the page: processor time of the whole process for each page that is sent.
+
+    bench/pages [-n RUNS] [--lane N] [--traces DIR] [--only REGEX]
+
+How many pages a run sends depends on how its threads run, so times of whole runs compare different work. Here
+`live_counts` does what `precopy live` does, and tells how many frames its receivers took. Fast hands over pages by
+pointer, and the peer is fast with frames of bytes, as precopy has them. Both also count the pages of the final copy,
+which lanes do not carry; with long lanes these are few. Output goes nowhere. Programs run in turn; each figure is the
+least of RUNS, 6 by default, but of memory the most. It needs cargo, and `live_counts`, which `rt run` in its folder
+builds.
+"""
+
+import argparse
+import os
+import re
+import sys
+import tempfile
+
+from precopy_bench import jobs as work
+from precopy_bench.measuring import Fault, Nowhere, Others, run
+from precopy_bench.programs import TOP, built, large_pages, made
+
+TRACES = ("uniform", "zipf", "seq", "phase", "big", "full", "tiny")
+COUNTS = (1, 4)
+LIMIT = 300
+
+
+def asked_for():
+    parser = argparse.ArgumentParser(prog="bench/pages", description=__doc__, formatter_class=argparse.RawDescriptionHelpFormatter)
+    folder = os.path.join(tempfile.gettempdir(), "precopy-bench")
+    program = os.path.join(TOP, "crates", "live_counts", "out", "live_counts")
+    parser.add_argument("-n", type=int, default=6, metavar="RUNS", help="runs of each program, 6 by default")
+    parser.add_argument("--only", default="", metavar="REGEX", help="matched against 'TRACE COUNT', as '^uniform 4$'")
+    parser.add_argument("--lane", type=int, default=65_536, metavar="N", help="frames of a lane, 65536 by default")
+    parser.add_argument("--program", default=program, metavar="PATH", help="live_counts, as it is built by default")
+    parser.add_argument("--traces", default=folder, metavar="DIR", help=f"where traces are, {folder} by default")
+    asked = parser.parse_args()
+    if asked.n < 1:
+        parser.error("-n has to be at least 1")
+    return asked
+
+
+class Programs:
+    """Each program by its name: its path, the words that follow those of the job, and its environment."""
+
+    def __init__(self, counting):
+        if not os.access(counting, os.X_OK):
+            raise Fault(f"{counting} is not built: `rt run` in crates/live_counts builds it")
+        fast = built()["fast"]
+        large = {**os.environ, "GLIBC_TUNABLES": large_pages()}
+        counted = {**os.environ, "FAST_COUNTS": "1"}
+        self.of = {"precopy": (counting, [], large), "fast": (fast, [], counted)}
+        self.of["peer"] = (fast, work.MORE_WORDS["peer"], counted)
+
+    def once(self, name, words, trace):
+        """One run, and how many pages it sent."""
+        path, more, env = self.of[name]
+        taken = run([path, *words, *more], env, trace.path, Nowhere(), LIMIT)
+        told = re.search(r"^sent (\d+)$", taken.message, re.MULTILINE)
+        if taken.status or not told or not int(told[1]):
+            raise Fault(f"{name} over {trace.name} ends with status {taken.status}: {taken.message}")
+        return taken, int(told[1])
+
+
+def cell(runs):
+    """Least wall ms; processor ms, pages sent and processor ns a page of the run with the least of these; most MB."""
+    taken, sent = min(runs, key=lambda it: it[0].processor / it[1])
+    wall, most = min(it[0].wall for it in runs), max(it[0].memory for it in runs)
+    figures = 1000 * wall, 1000 * taken.processor, sent, 1e9 * taken.processor / sent, most / 1e6
+    return ", ".join(f"{it:,.0f}" for it in figures)
+
+
+def by_page(runs):
+    return min(it[0].processor / it[1] for it in runs)
+
+
+def main():
+    asked = asked_for()
+    programs, others = Programs(asked.program), Others()
+    pairs = [(trace, count) for trace in TRACES for count in COUNTS if re.search(asked.only, f"{trace} {count}")]
+    traces = made(sorted({trace for trace, _ in pairs}), asked.traces)
+    print(f"Lanes of {asked.lane:,} frames. Wall ms, processor ms, pages sent, processor ns a page, MB.\n")
+    print("| Trace, of each | Precopy | Fast | Peer | Precopy / peer, a page |\n|---|---|---|---|---|")
+    for trace, count in pairs:
+        words = work.live(workers=count, streams=count, replayers=count, lane=asked.lane)(traces[trace])
+        taken = {name: [] for name in programs.of}
+        for _ in range(asked.n):
+            for name, runs in taken.items():
+                runs.append(programs.once(name, words, traces[trace]))
+        ratio = by_page(taken["precopy"]) / by_page(taken["peer"])
+        print(f"| {trace}, {count} | {' | '.join(cell(it) for it in taken.values())} | {ratio:.2f} |", flush=True)
+    busy = others.average()
+    print(f"\nOthers kept {busy:.1f} processors busy on average." if busy is not None else "")
+
+
+if __name__ == "__main__":
+    try:
+        main()
+    except (Fault, OSError, ValueError, KeyError, re.error) as fault:
+        print(f"bench/pages: {fault}", file=sys.stderr)
+        sys.exit(1)

@@ -1,0 +1,1 @@
+"""Wrong bodies, which the prover has to refuse."""

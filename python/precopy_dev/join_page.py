@@ -1,0 +1,126 @@
+"""Joins the planner's page into one file, which works from disk and without a network.
+
+    dev/join-page MODULE PAGE
+
+MODULE is the WebAssembly module of the proved planner, and PAGE the file to write. The rest comes from web/ and
+examples/ of this repository. The scripts follow one another in the order of their imports, as one script; so no two of
+them may name something alike. Comments on lines of their own stay out. Module and examples are gzipped, in base64; of
+an example each write has one byte, which plans as the whole does. The page's policy names the script and the style by
+their hashes, and allows no connection. The same inputs give the same bytes. The status is 0 if the page was written,
+and 1 if not.
+"""
+
+import base64
+import gzip
+import hashlib
+import os
+import re
+import sys
+
+from precopy_dev.tree import TOP
+from precopy_tools.formats import traces
+from precopy_tools.refusals import Refused
+
+EXAMPLES = {"example-gzip": "examples/gzip.pcwt", "example-sqlite": "examples/guests/sqlite.light.pcwt"}
+RECORDS = {"record-sqlite": "examples/guests/sqlite.light.json"}
+IMPORT = re.compile(r'^import \{([^}]*)\} from "\./([\w-]+\.js)";\n', re.MULTILINE)
+NAMED = re.compile(r"^(export )?(?:async )?(?:function\*?|class|const|let) (\w+)", re.MULTILINE)
+# The page, and the page on paper.
+STYLES = ["page.css", "paper.css"]
+COMMENT = re.compile(r"^[ \t]*(?:/\*.*?\*/|//[^\n]*)\n", re.MULTILINE | re.DOTALL)
+# What a page that opens no connection has no use for.
+CALLS = r"\b(fetch|XMLHttpRequest|WebSocket|EventSource|sendBeacon|importScripts|RTCPeerConnection|import\()"
+FORBIDDEN = re.compile(CALLS + r"|https?://(?!www\.w3\.org/)")
+
+
+def read(*path):
+    with open(os.path.join(TOP, *path), encoding="utf-8") as file:
+        return file.read()
+
+
+def scripts_below(name, order):
+    """Adds a script to `order` after those that it imports, and returns what each exports."""
+    if name in order:
+        return
+    text = read("web", name)
+    for names, other in IMPORT.findall(text):
+        scripts_below(other, order)
+        missing = {word.strip() for word in names.split(",") if word.strip()} - order[other][1]
+        if missing:
+            raise Refused(f"web/{name} imports {sorted(missing)} from {other}, which has none")
+    exported = {name for export, name in NAMED.findall(text) if export}
+    order[name] = (text, exported)
+
+
+def joined_script(first):
+    """Returns a script and all that it imports as one, without imports and exports."""
+    order, owners, parts = {}, {}, []
+    scripts_below(first, order)
+    for name, (text, _) in order.items():
+        for _, word in NAMED.findall(text):
+            if owners.setdefault(word, name) != name:
+                raise Refused(f"{word} is in web/{owners[word]} and in web/{name}")
+        plain = COMMENT.sub("", re.sub(r"^export ", "", IMPORT.sub("", text), flags=re.MULTILINE)).strip("\n")
+        if re.search(r"^(import|export)\b", plain, re.MULTILINE) or "</script" in plain:
+            raise Refused(f"web/{name} has an import or export of another form")
+        if found := FORBIDDEN.search(plain):
+            raise Refused(f"web/{name} has {found.group(0)!r}")
+        parts.append(f"// ---- {name}\n\n{plain}\n")
+    return "\n" + "\n".join(parts)
+
+
+def hash_of(text):
+    return f"'sha256-{base64.b64encode(hashlib.sha256(text.encode()).digest()).decode()}'"
+
+
+def light(path):
+    """A trace with its ticks and pages, and one byte for each write."""
+    trace, records = traces.read_file(os.path.join(TOP, path))
+    writes = (traces.RECORD.pack(tick, page, 0, 1) + b"\1" for tick, page, _, _ in records)
+    return trace.text[:traces.HEADER] + b"".join(writes)
+
+
+def packed(data):
+    return base64.b64encode(gzip.compress(data, 9, mtime=0)).decode()
+
+
+def replaced(text, old, new):
+    if text.count(old) != 1:
+        raise Refused(f"web/index.html has {old!r} {text.count(old)} times")
+    return text.replace(old, new)
+
+
+def page_of(module):
+    script = joined_script("page.js")
+    style = "\n" + COMMENT.sub("", "".join(read("web", name) for name in STYLES))
+    policy = (f"default-src 'none'; script-src {hash_of(script)} 'wasm-unsafe-eval'; style-src {hash_of(style)}; "
+              "worker-src blob:; img-src data:; connect-src 'none'; form-action 'none'; base-uri 'none'")
+    embedded = {"planner-module": module}
+    embedded |= {name: light(path) for name, path in EXAMPLES.items()}
+    embedded |= {name: read(path).encode() for name, path in RECORDS.items()}
+    holders = [f'<script type="text/plain" id="{name}">{packed(some)}</script>\n' for name, some in embedded.items()]
+    page = replaced(read("web", "index.html"), "content=\"default-src 'none'\"", f'content="{policy}"')
+    links = "".join(f'<link rel="stylesheet" href="{name}">' for name in STYLES)
+    page = replaced(page, links, f"<style>{style}</style>")
+    program = f'<script type="module" id="program">{script}</script>'
+    return replaced(page, '<script type="module" src="page.js"></script>', "".join(holders) + program)
+
+
+def main(words):
+    if len(words) != 2:
+        print("usage: dev/join-page MODULE PAGE", file=sys.stderr)
+        return 2
+    try:
+        with open(words[0], "rb") as file:
+            page = page_of(file.read())
+        os.makedirs(os.path.dirname(os.path.abspath(words[1])), exist_ok=True)
+        with open(words[1], "w", encoding="utf-8") as file:
+            file.write(page)
+    except (OSError, Refused) as error:
+        print(f"dev/join-page: {error}", file=sys.stderr)
+        return 1
+    return 0
+
+
+if __name__ == "__main__":
+    sys.exit(main(sys.argv[1:]))

@@ -1,0 +1,1 @@
+"""Models in Python of what precopy-view answers, written from the definitions."""

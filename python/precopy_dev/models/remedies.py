@@ -1,0 +1,120 @@
+"""What would keep the limit of a migration, as `specs/Remedies.antt` of `predictions` defines it, by plans page by page.
+
+It shares no code with the crate. The numbers in the crate's tests come from here.
+"""
+
+from typing import NamedTuple
+
+from precopy_dev.models.redrawn import Outcome, Scale, Settings, planned
+
+MOST = 2**64 - 1
+
+
+class Limits(NamedTuple):
+    """Bytes a second of the link and of the first round, and microseconds of the downtime and the reserve."""
+
+    link: int
+    downtime: int
+    first: int | None = None
+    reserve: int = 0
+
+
+class Others(NamedTuple):
+    """The settings that limits do not make, and the increment, if it is given."""
+
+    rounds: int = 30
+    start: int = 0
+    skip: bool = False
+    base: int | None = None
+    increment: int | None = None
+
+
+class Trial(NamedTuple):
+    """A migration that is tried."""
+
+    scale: Scale
+    limits: Limits
+    others: Others
+
+
+class Remedies(NamedTuple):
+    """Whether the limit is kept, and Kbit of the link, microseconds, and per cent of the guest's speed that keep it."""
+
+    is_kept: bool
+    link: int | None
+    downtime: int | None
+    speed: int | None
+
+
+def rate(scale: Scale, link: int) -> int:
+    return link * scale.tick * scale.sampled // (1_000 * scale.page * scale.guest)
+
+
+def settings(trial: Trial) -> Settings | None:
+    """The settings that limits make, if they are in range."""
+    scale, limits, others = trial
+    if not (1 <= scale.tick <= 1_000_000 and limits.link <= MOST and limits.downtime <= MOST):
+        return None
+    most = rate(scale, limits.link)
+    least = rate(scale, limits.link if limits.first is None else limits.first)
+    if not 1 <= least <= most <= 1_000_000 or limits.reserve > limits.downtime:
+        return None
+    threshold = (limits.downtime - limits.reserve) // scale.tick * most // 1_000 + 1
+    if threshold > 65_536:
+        return None
+    increment = (most - least) // 10 if others.increment is None else others.increment
+    return Settings(least, most, increment, threshold, others.rounds, others.start, others.skip, others.base)
+
+
+def ends_well(trial: Trial, plan: Outcome, last: int) -> bool:
+    downtime = plan.down * trial.scale.tick + trial.limits.reserve
+    return plan.reason == "few" and plan.stop <= last and downtime <= trial.limits.downtime
+
+
+def keeps(guest: list[list[int]], trial: Trial) -> bool:
+    """Whether a trial keeps its limit, over a guest of which it is known when each page is written."""
+    made = settings(trial)
+    last = max((ticks[-1] for ticks in guest if ticks), default=0)
+    return made is not None and ends_well(trial, planned(guest, made), last)
+
+
+def with_link(trial: Trial, kbit: int) -> Trial:
+    return trial._replace(limits=trial.limits._replace(link=kbit * 125))
+
+
+def with_downtime(trial: Trial, micros: int) -> Trial:
+    return trial._replace(limits=trial.limits._replace(downtime=micros))
+
+
+def slowed(trial: Trial, percent: int) -> Trial:
+    return trial._replace(scale=trial.scale._replace(tick=trial.scale.tick * 100 // percent))
+
+
+def turn(answers, is_kept: bool, amounts: list[int]) -> tuple[int, int] | None:
+    """The first amount after the first of all with another answer, and the amount before it."""
+    pairs = zip(amounts, amounts[1:])
+    return next(((before, at) for before, at in pairs if answers(at) != is_kept), None)
+
+
+def least(answers, start: int) -> int | None:
+    """The least amount that keeps the limit, near a start."""
+    is_kept = answers(start)
+    way = [start >> n if is_kept else min(start << n, MOST) for n in range(7)]
+    found = turn(answers, is_kept, way)
+    if found is None:
+        return way[-1] if is_kept else None
+    for _ in range(2):
+        low, high = found
+        found = turn(answers, is_kept, [(low * (16 - n) + high * n) // 16 for n in range(17)])
+    return found[0] if is_kept else found[1]
+
+
+def remedies(guest: list[list[int]], trial: Trial) -> Remedies:
+    is_kept = keeps(guest, trial)
+    slower = None if is_kept else turn(lambda n: keeps(guest, slowed(trial, n)), False, list(range(100, 0, -5)))
+    return Remedies(
+        is_kept,
+        least(lambda n: keeps(guest, with_link(trial, n)), -(-trial.limits.link // 125)),
+        least(lambda n: keeps(guest, with_downtime(trial, n)), trial.limits.downtime),
+        slower[1] if slower else None,
+    )

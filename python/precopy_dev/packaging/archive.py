@@ -1,0 +1,53 @@
+"""A tarball of all that is installed, for systems without Debian's packages, and its checksum."""
+
+import gzip
+import hashlib
+import io
+import os
+import platform
+import tarfile
+
+from precopy_dev.packaging import contents, debian, library
+
+INSTALL = """\
+precopy {version}, for Linux on {machine} with the C library glibc {libc} or later.
+The tools need Python {python} or later.
+
+It runs in place: bin/precopy, bin/precopy-view and bin/precopy-record, .. To install it for all users:
+
+    cp -R bin include lib share /usr/local/
+
+share/doc/precopy/README.md says what it does.
+"""
+
+
+def add(tar, name, entry, moment):
+    told = tarfile.TarInfo(f"{name}/{entry.place}")
+    told.mtime, told.mode, told.uname, told.gname = moment, entry.mode, "root", "root"
+    if entry.link is not None:
+        told.type, told.linkname, told.mode = tarfile.SYMTYPE, entry.link, 0o777
+    else:
+        told.size = len(entry.data)
+    tar.addfile(told, io.BytesIO(entry.data))
+
+
+def build(folder):
+    """Writes the tarball and its checksum into a folder, and returns their paths."""
+    version, machine = contents.version.VERSION, platform.machine()
+    told = library.config("${pcfiledir}/../..", "${prefix}/lib", "${prefix}/include")
+    places = contents.places_below("")
+    entries = [*contents.contents(places), *library.entries(places, told)]
+    libc = debian.needed_by_programs(entries).partition("(>= ")[2].partition(")")[0]
+    text = INSTALL.format(version=version, machine=machine, libc=libc, python=debian.LEAST_PYTHON)
+    entries.append(contents.Entry("INSTALL", text.encode()))
+    name = f"precopy-{version}-linux-{machine}"
+    packed = io.BytesIO()
+    with tarfile.open(fileobj=packed, mode="w", format=tarfile.GNU_FORMAT) as tar:
+        for entry in sorted(entries, key=lambda entry: entry.place):
+            add(tar, name, entry, debian.moment(contents.version.DATE))
+    data = gzip.compress(packed.getvalue(), 9, mtime=0)
+    sum_line = f"{hashlib.sha256(data).hexdigest()}  {name}.tar.gz\n"
+    for path, what in ((f"{name}.tar.gz", data), (f"{name}.tar.gz.sha256", sum_line.encode())):
+        with open(os.path.join(folder, path), "wb") as file:
+            file.write(what)
+        yield os.path.join(folder, path)

@@ -1,0 +1,66 @@
+"""The documents as they are installed: programs and tools have their installed names, and what only sources have is
+left out. Documents for those who change precopy, and the README of the crate for Rust, stay as they are.
+"""
+
+import re
+
+# A part of a document, from the line that begins so up to the line that begins so.
+ONLY_SOURCES = {
+    "README.md": [("**A package** installs", "## Four commands"), ("`make install PREFIX", None)],
+    "docs/COMMANDS.md": [("## The script `./precopy`", "## Large pages")],
+    "docs/LIBRARY.md": [("    make lib ", "## A plan in C")],
+    "docs/REAL-GUESTS.md": [("## Checks", None)],
+    "docs/RELIABILITY.md": [("## How it is tested", "## What is not covered")],
+}
+OF_BUILDERS = {
+    "CHANGELOG.md",
+    "CONTRIBUTING.md",
+    "bindings/rust/README.md",
+    "docs/ARCHITECTURE.md",
+    "docs/DECISIONS.md",
+    "docs/EDITS.md",
+    "docs/INDEX.md",
+    "docs/MEASUREMENTS.md",
+    "docs/PROOF.md",
+    "docs/READING.md",
+}
+# What is called otherwise where it is installed.
+RENAMED = {
+    "`make page` writes `out/precopy.html`": "`precopy-page` prints where `precopy.html` is",
+    "`make lib` builds a static and a shared library": "the package `libprecopy-dev` has the library",
+    "`make deb` makes `python3-precopy`": "the package `python3-precopy` has the module",
+    "`./precopy` and installed programs add": "Programs add",
+    "    $ examples/left_out.py": "    $ python3 examples/left_out.py",
+    "need the built `precopy-view`; `README.md` says how long that takes.": "need `precopy-view`.",
+    "machine code in the\npackage, and in the sources after `make scan`, which needs a C compiler": "machine code",
+    "needs `precopy` on its path": "needs the package",
+}
+PROGRAM = re.compile(r"(?<![\w/.])\./(precopy(?:-view)?)(?![\w-])")
+
+
+class Differs(Exception):
+    """A document is not as this script knows it; the text says in what."""
+
+
+def without(path: str, text: str, begin: str, end: str | None) -> str:
+    lines = text.split("\n")
+    first = next((at for at, line in enumerate(lines) if line.startswith(begin)), None)
+    if first is None:
+        raise Differs(f"{path} has no line that begins with {begin!r}: python/precopy_dev/packaging/documents.py leaves that part out")
+    later = range(first + 1, len(lines))
+    last = next((at for at in later if end and lines[at].startswith(end)), len(lines) if end is None else None)
+    if last is None:
+        raise Differs(f"{path} has no line after that which begins with {end!r}")
+    return "\n".join(lines[:first] + lines[last:]).rstrip("\n") + "\n"
+
+
+def installed(path: str, text: str, tools: tuple[str, ...]) -> str:
+    """A document by its path in the sources, with the names of what is installed."""
+    if path in OF_BUILDERS or not path.endswith(".md"):
+        return text
+    for begin, end in ONLY_SOURCES.get(path, []):
+        text = without(path, text, begin, end)
+    for name, other in RENAMED.items():
+        text = text.replace(name, other)
+    text = PROGRAM.sub(r"\1", text)
+    return re.sub(rf"(?<![\w/.-])tools/({'|'.join(tools)})(?![\w.-])", r"precopy-\1", text)

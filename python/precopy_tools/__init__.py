@@ -1,0 +1,1 @@
+"""The commands that users run beside the programs: precopy-record, precopy-predict and others."""

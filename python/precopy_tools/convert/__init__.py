@@ -1,0 +1,1 @@
+"""Traces into other forms, and other forms into traces."""

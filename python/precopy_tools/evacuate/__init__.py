@@ -1,0 +1,1 @@
+"""Schedules that empty a host."""

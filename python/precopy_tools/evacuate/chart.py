@@ -1,0 +1,135 @@
+"""A picture, in SVG, of the schedule of an evacuation: a bar a guest over time, with its rounds and its downtime."""
+
+import html
+import math
+
+from precopy_tools.evacuate.schedules import Placed
+from precopy_tools.quantities import moment_text, size_text, time_text
+
+WIDTH, LEFT, RIGHT, TOP, BELOW = 900, 170, 90, 76, 44
+# Rows are lower if there are many guests, and have no texts if those would touch.
+ROW, ROWS, LEAST_ROW, LEAST_TEXT = 26, 3000, 2, 13
+LEAST_DOWN = 2.0
+STYLE = """<style>
+.paper { fill: #ffffff } text { fill: #1f2328 } .note { fill: #57606a } .grid { stroke: #d8dee4 }
+.moving { fill: #54aeff } .missed { fill: #e3a008 } .unknown { fill: #b6bfc9 } .down { fill: #cf222e }
+.round { stroke: #ffffff } .limit { stroke: #cf222e; stroke-dasharray: 5 3 }
+.end { fill: #57606a; stroke: #ffffff; stroke-width: 3; paint-order: stroke }
+@media (prefers-color-scheme: dark) {
+.paper { fill: #0d1117 } text { fill: #e6edf3 } .note { fill: #8b949e } .grid { stroke: #30363d }
+.moving { fill: #388bfd } .missed { fill: #d29922 } .unknown { fill: #6e7681 } .down { fill: #ff7b72 }
+.round { stroke: #0d1117 } .limit { stroke: #ff7b72 } .end { fill: #8b949e; stroke: #0d1117 }
+}
+</style>"""
+KEYS = {
+    "moving": ("moves; lines end rounds", 190), "missed": ("misses a limit", 110),
+    "unknown": ("its record is too short", 155), "down": ("downtime, drawn at least two dots wide", 0),
+}
+
+
+def step_of(seconds: float) -> float:
+    """A round length of time, of which at most ten go into these seconds: 1, 2 or 5 times a power of ten."""
+    power = 10.0 ** math.floor(math.log10(max(seconds, 1e-3) / 10))
+    return next(times * power for times in (1, 2, 5, 10) if times * power * 10 >= seconds * (1 - 1e-9))
+
+
+def ellipsis(name: str, most: int = 22) -> str:
+    return name if len(name) <= most else f"{name[: most - 1]}…"
+
+
+def kind_of(move: Placed) -> str:
+    """How a guest's bar is drawn."""
+    if move.cost.converges == "unknown":
+        return "unknown"
+    return "moving" if move.cost.kept else "missed"
+
+
+class Rows:
+    """Where things are: the times of all rows, which end with the last move, and their height."""
+
+    def __init__(self, moves: list[Placed]):
+        self.end = max(move.end for move in moves) or 1
+        self.height = min(ROW, max(LEAST_ROW, ROWS / len(moves)))
+        self.bar = max(1, self.height * 0.62 if self.height >= LEAST_TEXT else self.height - 1)
+        self.bottom = TOP + self.height * len(moves)
+
+    def x_of(self, at: float) -> float:
+        return LEFT + at / self.end * (WIDTH - LEFT - RIGHT)
+
+    def y_of(self, number: int) -> float:
+        return TOP + self.height * number + (self.height - self.bar) / 2
+
+
+def upright(kind: str, x: float, top: float, bottom: float) -> str:
+    return f'<line class="{kind}" x1="{x:.1f}" x2="{x:.1f}" y1="{top:.1f}" y2="{bottom:.1f}"/>'
+
+
+def rectangle(kind: str, x: float, y: float, width: float, height: float) -> str:
+    return f'<rect class="{kind}" x="{x:.1f}" y="{y:.1f}" width="{width:.1f}" height="{height:.1f}"/>'
+
+
+def bar(move: Placed, ends: list[int], rows: Rows, y: float) -> list[str]:
+    """One guest: its name, its bar with a line at the end of each round, its downtime, and when it ends."""
+    name, cost = move.guest.name, move.cost
+    begin, end, stop = (rows.x_of(at) for at in (move.start, move.end, move.end - cost.downtime))
+    told = (f"{name}: {moment_text(move.start)} to {moment_text(move.end)}, {size_text(cost.sent)}, "
+            f"downtime {time_text(cost.downtime)}" + (f"; {cost.why}" if cost.why else ""))
+    down = min(stop, end - LEAST_DOWN)
+    lines = [
+        f"<g><title>{html.escape(told)}</title>",
+        rectangle(kind_of(move), begin, y, max(end - begin, LEAST_DOWN), rows.bar),
+        *(upright("round", rows.x_of(at), y, y + rows.bar) for at in ends if begin < rows.x_of(at) < stop),
+        rectangle("down", down, y, end - down, rows.bar),
+    ]
+    if rows.height >= LEAST_TEXT:
+        at = y + rows.bar / 2 + 4
+        lines.append(f'<text x="{LEFT - 8}" y="{at:.1f}" text-anchor="end">{html.escape(ellipsis(name))}</text>')
+        lines.append(f'<text class="end" x="{end + 5:.1f}" y="{at:.1f}">{moment_text(move.end)}</text>')
+    return [*lines, "</g>"]
+
+
+def keys(kinds: set[str]) -> list[str]:
+    """What the colors mean, of those that are there."""
+    lines, x = [], float(LEFT)
+    for kind, (told, width) in KEYS.items():
+        if kind in kinds:
+            lines += [rectangle(kind, x, 36, 10, 10), f'<text class="note" x="{x + 15:g}" y="45">{told}</text>']
+            x += width
+    return lines
+
+
+def axis(rows: Rows) -> list[str]:
+    """A line for each round number of seconds."""
+    lines, step, at = [], step_of(rows.end / 1e6), 0.0
+    while at <= rows.end / 1e6 * (1 + 1e-9):
+        x = rows.x_of(at * 1e6)
+        lines.append(upright("grid", x, TOP - 6, rows.bottom))
+        lines.append(f'<text class="note" x="{x:.1f}" y="{rows.bottom + 18:g}" text-anchor="middle">{at:g}</text>')
+        at = round(at + step, 9)
+    end = f'x="{WIDTH - RIGHT:g}" y="{rows.bottom + 36:g}" text-anchor="end"'
+    return [*lines, f'<text class="note" {end}>seconds</text>']
+
+
+def limit(rows: Rows, deadline: int) -> list[str]:
+    """The deadline, if there is one and it is within the picture."""
+    if not 0 < deadline <= rows.end:
+        return []
+    x = rows.x_of(deadline)
+    told = f'<text class="note" x="{x:.1f}" y="{TOP - 9}" text-anchor="middle">deadline</text>'
+    return [upright("limit", x, TOP - 6, rows.bottom), told]
+
+
+def drawn(moves: list[Placed], ends: dict[str, list[int]], title: str, deadline: int) -> str:
+    """The picture of some moves: at least one. `ends` are those of each guest's rounds, in microseconds; a deadline of
+    0 is none."""
+    rows = Rows(moves)
+    bars = [bar(move, ends.get(move.guest.name, []), rows, rows.y_of(number)) for number, move in enumerate(moves)]
+    height = math.ceil(rows.bottom + BELOW)
+    head = (f'<svg xmlns="http://www.w3.org/2000/svg" width="{WIDTH}" height="{height}" '
+            f'viewBox="0 0 {WIDTH} {height}" font-family="sans-serif" font-size="12">')
+    return "\n".join([
+        head, STYLE, '<rect class="paper" width="100%" height="100%"/>',
+        f'<text x="{LEFT}" y="24" font-size="15">{html.escape(title)}</text>',
+        *keys({"down", *map(kind_of, moves)}), *axis(rows), *limit(rows, deadline),
+        *(line for each in bars for line in each), "</svg>", "",
+    ])

@@ -1,0 +1,275 @@
+"""What the migration of each of several guests costs at each share of a link, by the proved `precopy-view`.
+
+It is what `json predict` tells; if a record ends before its migration does, it is the plan of `json report`.
+
+A record is a trace that tools/record has made, with NAME.json beside it, or a whole trace without that, whose guest is
+named by the file. Times are whole microseconds, and sizes bytes.
+"""
+
+import concurrent.futures
+import json
+import math
+import os
+import re
+from typing import NamedTuple
+
+from precopy_tools import refusals
+from precopy_tools.formats import samples, traces
+from precopy_tools.predict import plans
+from precopy_tools.predict.forecast import Forecast, Link
+from precopy_tools.quantities import micros_of, time_text
+from precopy_tools.refusals import Refused
+
+FORMAT = "precopy costs 1"
+LIGHT = ".light.pcwt"
+STAMP = re.compile(r"\.\d{8}T\d{6}Z$")
+MOST_MICROS = 1 << 53
+VERDICTS = ("yes", "no", "unknown")
+
+
+class Wanted(NamedTuple):
+    """What one guest may take: its limits, and the tick of its copy at the destination, if there is one."""
+
+    downtime: float
+    link: float | None = None
+    time: float | None = None
+    base: int | None = None
+    domain: str | None = None
+
+
+class Cost(NamedTuple):
+    """What the migration of one guest costs at one share, if it begins where its recording does.
+
+    `least` and `most` are the shortest and the longest time over all starts whose migration ends within the recording,
+    and `quiet` is the least bytes of them. `converges` is yes, no, or unknown if the recording ends before the
+    migration does: then the cost is that of a guest that writes no more. It is kept if the guest's limits are, and
+    `why` says what is not.
+    """
+
+    at_once: int
+    share: float
+    time: int
+    sent: int
+    downtime: int
+    least: int
+    most: int
+    quiet: int
+    converges: str
+    kept: bool
+    why: str
+
+
+class Guest(NamedTuple):
+    """A guest: its name, its record, what that was taken of, and its costs by the number at once.
+
+    At a share that no plan can have there is no cost, but a reason.
+    """
+
+    name: str
+    record: str
+    taken_of: str
+    digest: str
+    limits: Wanted
+    costs: dict[int, Cost]
+    unplanned: dict[int, str]
+
+
+class Asked(NamedTuple):
+    """What is asked of each record."""
+
+    program: str
+    link: float
+    numbers: tuple[int, ...]
+    tick: float
+
+
+def name_of(path: str) -> str:
+    """The guest of a record: the name of the file, without the time of a segment."""
+    name = os.path.basename(path).removesuffix(".pcwt").removesuffix(".light")
+    return STAMP.sub("", name)
+
+
+def is_name(name: object) -> bool:
+    """Whether this can be the name of a guest, also in a comment between commands."""
+    return isinstance(name, str) and name != "" and name.isprintable()
+
+
+def whole(path: str, trace: traces.Trace, written: list[tuple[int, int]], tick: float) -> samples.Sample:
+    """The sample of all pages of a trace that has no file beside it."""
+    last = written[-1][0] if written else 0
+    return samples.Sample(
+        format=samples.FORMAT, trace_sha256=samples.digest(trace.text), trace_pages=trace.pages,
+        trace_writes=trace.writes, first_tick=0, last_tick=last, tick_seconds=tick, interval_seconds=tick,
+        guest_pages=trace.pages, guest_nonzero=trace.pages, counted_pages=trace.pages, sampled_pages=trace.pages,
+        sampled_nonzero=trace.pages, seed=0, method="trace", samples=1, late=0, taken_at=samples.now(),
+        taken_of=f"trace {os.path.basename(path)}",
+    )
+
+
+def planner_of(path: str, asked: Asked, base: int | None) -> Forecast:
+    """The plans of one record, to a destination with a copy if there is one."""
+    trace, records = traces.read_file(path)
+    written = [record[:2] for record in records]
+    if path.endswith(LIGHT) or os.path.exists(samples.path_beside(path)):
+        sample = samples.read(path, trace, written)
+    else:
+        sample = whole(path, trace, written, asked.tick)
+    if base is not None and base > sample.first_tick:
+        begins = f"which begins at tick {sample.first_tick:,}"
+        raise Refused(f"{path}: a copy of tick {base:,} is newer than the record, {begins}")
+    forecast = Forecast(asked.program, sample, trace.size, written)
+    forecast.begin_with(base)
+    return forecast
+
+
+def micros(seconds: float) -> int:
+    return min(micros_of(seconds), MOST_MICROS)
+
+
+def over(name: str, seconds: float, limit: float) -> str:
+    return f"{name} {time_text(micros_of(seconds))} over {time_text(micros_of(limit))}"
+
+
+def missed(told: dict, limits: Wanted) -> str:
+    """Which of a guest's limits a migration does not keep, and by what."""
+    if told["converges"] == "unknown":
+        return "the recording ends before the migration"
+    migration, found = told["migration"], []
+    if told["kept"] == "no":
+        found.append(over("downtime", migration["down_seconds"], limits.downtime))
+    if limits.time is not None and migration["time_seconds"] > limits.time:
+        found.append(over("time", migration["time_seconds"], limits.time))
+    return " and ".join(found)
+
+
+def numbers(told: dict) -> tuple[int, int, int]:
+    """Time, bytes and downtime."""
+    return micros(told["time_seconds"]), told["sent_bytes"], micros(told["down_seconds"])
+
+
+def numbers_of_plan(told: dict) -> tuple[int, int, int]:
+    """The same of a plan."""
+    stop = told["stop"]
+    time = stop["at_seconds"] - told["rounds"][0]["from_seconds"] + stop["down_seconds"]
+    return micros(time), stop["total_bytes"], micros(stop["down_seconds"])
+
+
+def cost_of(planner: Forecast, asked: Asked, limits: Wanted, at_once: int) -> Cost:
+    share = asked.link / at_once
+    link = Link(min(share, limits.link or share), limits.downtime)
+    told = planner.told(link)
+    cost = numbers(told["migration"]) if "migration" in told else numbers_of_plan(planner.plan(link))
+    ranges = told.get("starts")
+    least, most = (numbers(ranges[end]) if ranges else cost for end in ("least", "greatest"))
+    why = missed(told, limits)
+    return Cost(at_once, link.bandwidth, *cost, least[0], most[0], least[1], told["converges"], not why, why)
+
+
+def guest_of(path: str, asked: Asked, limits: Wanted) -> Guest:
+    """The costs of one record."""
+    name = name_of(path)
+    if not is_name(name):
+        raise Refused(f"{path!r}: the name of its guest is empty, or cannot be printed in a line")
+    planner, costs, unplanned = planner_of(path, asked, limits.base), {}, {}
+    for at_once in asked.numbers:
+        try:
+            costs[at_once] = cost_of(planner, asked, limits, at_once)
+        except plans.NoRate as fault:
+            unplanned[at_once] = str(fault)
+    sample = planner.sample
+    return Guest(name, path, sample.taken_of, sample.trace_sha256, limits, costs, unplanned)
+
+
+def try_guest(path: str, asked: Asked, limits: Wanted) -> Guest | str:
+    """The costs of one record, or why it is refused."""
+    try:
+        return guest_of(path, asked, limits)
+    except plans.Failed as fault:
+        return f"{path}: {fault}"
+    except (OSError, Refused) as fault:
+        return traces.told(fault)
+
+
+def side_by_side(jobs: int, function, rows: list[tuple]) -> list:
+    """What a function makes of each row, by this many processes."""
+    if min(jobs, len(rows)) < 2:
+        return [function(*row) for row in rows]
+    with concurrent.futures.ProcessPoolExecutor(min(jobs, len(rows))) as pool:
+        waiting = [pool.submit(function, *row) for row in rows]
+        return [each.result() for each in waiting]
+
+
+def guests_of(paths: list[str], asked: Asked, limits_of, jobs: int) -> list[Guest | str]:
+    """The costs of each record, or why it is refused."""
+    return side_by_side(jobs, try_guest, [(path, asked, limits_of(name_of(path))) for path in paths])
+
+
+def rounds_of(path: str, asked: Asked, share: float, limits: Wanted) -> list[int]:
+    """When the rounds of one guest end, in microseconds from its start on. A record that is elsewhere has none."""
+    if not os.path.exists(path):
+        return []
+    rounds = planner_of(path, asked, limits.base).plan(Link(share, limits.downtime))["rounds"]
+    return [micros(each["to_seconds"] - rounds[0]["from_seconds"]) for each in rounds]
+
+
+def line(guest: Guest, asked: Asked) -> str:
+    """The costs of a guest as one line of JSON, for another run of the tool."""
+    fields = guest._asdict()
+    fields["limits"] = guest.limits._asdict()
+    fields["costs"] = [cost._asdict() for cost in guest.costs.values()]
+    return json.dumps({"format": FORMAT, "link": asked.link, **fields})
+
+
+def lines_of(path: str, asked: Asked, limits_of) -> list[Guest | str]:
+    """The guest of each line of such a file, or why the line is refused. All must be of the same link, limits and
+    numbers at once, or the file is refused."""
+    found = []
+    with open(path, "rb") as lines:
+        for number, text in enumerate(lines, 1):
+            where = f"{path}: line {number}"
+            try:
+                guest, rate = parsed(refusals.json_of(where, text))
+            except Refused as fault:
+                found.append(str(fault))
+            except (ValueError, KeyError, TypeError, AttributeError) as fault:
+                found.append(f"{where} has no costs of a guest: {fault}")
+            else:
+                expect_same(where, guest, rate, asked, limits_of)
+                found.append(guest)
+    return found
+
+
+def parsed(fields: dict) -> tuple[Guest, float]:
+    """A guest and the link of its costs; or a ValueError or another one that says what is wrong."""
+    if fields["format"] != FORMAT:
+        raise ValueError(f"format {fields['format']!r} is not {FORMAT!r}")
+    costs = {cost.at_once: cost for cost in (Cost(**each) for each in fields["costs"])}
+    unplanned = {int(number): str(why) for number, why in fields["unplanned"].items()}
+    texts = [fields[name] for name in ("name", "record", "taken_of", "digest")]
+    if not all(isinstance(text, str) for text in texts) or not is_name(texts[0]):
+        raise ValueError("a name is none")
+    for cost in costs.values():
+        expect_kinds(cost)
+    return Guest(*texts, Wanted(**fields["limits"]), costs, unplanned), float(fields["link"])
+
+
+def expect_kinds(cost: Cost) -> None:
+    """The fields of costs from elsewhere are of their kinds, and whole numbers are such as precopy-schedule reads."""
+    for name, kind in Cost.__annotations__.items():
+        value = getattr(cost, name)
+        if type(value) is not kind or kind is int and not 0 <= value < 1 << 64:
+            raise ValueError(f"{name} is {value!r}")
+    if not 0 < cost.share < math.inf:
+        raise ValueError(f"share is {cost.share!r}")
+    if cost.converges not in VERDICTS:
+        raise ValueError(f"converges is {cost.converges!r}")
+
+
+def expect_same(where: str, guest: Guest, rate: float, asked: Asked, limits_of) -> None:
+    if rate != asked.link:
+        raise Refused(f"{where}: its link is {rate:g} bytes a second, and not {asked.link:g}")
+    if guest.limits != limits_of(guest.name):
+        raise Refused(f"{where}: the limits of {guest.name} were other ones")
+    left = [at_once for at_once in asked.numbers if at_once not in guest.costs and at_once not in guest.unplanned]
+    if left:
+        raise Refused(f"{where}: there are no costs with {left[0]} at once")

@@ -1,0 +1,139 @@
+"""Predicts the migration of a guest, from a sample of its pages that tools/record or tools/thin has made.
+
+    tools/predict NAME.light.pcwt --link 10Gbit --downtime 300ms
+    tools/predict NAME.light.pcwt .. --link 10Gbit --downtime 300ms [--picture NAME.svg]
+
+It reads NAME.json beside the trace, asks `precopy-view predict`, and prints what that answers of the whole guest.
+--link is what the migration really reaches: measure it, since all answers depend on it. The lines at half and twice the
+link show how much. docs/REAL-GUESTS.md says where hypervisors differ from a plan.
+
+Several traces have a line each, and so have the segments of a series, named as tools/record was told: its best and its
+worst start are those of `precopy-view when`. --picture writes what a migration costs by the time of day at which it
+begins, as SVG, from at most --starts of each trace. Times are in UTC.
+
+The status is 0 if each plan keeps the downtime limit, 3 if one does not, 4 if a recording ends before its migration
+does, 1 if a file is refused, and 2 if the words are.
+"""
+
+import argparse
+import os
+import sys
+
+from precopy_tools import places, printed, version, words
+from precopy_tools.formats import traces
+from precopy_tools.predict import day_chart, plans, texts
+from precopy_tools.predict.forecast import Forecast, Link, forecast_of
+from precopy_tools.record import series
+from precopy_tools.refusals import Refused
+
+PROGRAM = places.program("precopy-view")
+STATUSES = {"yes": 0, "no": 3, "unknown": 4}
+
+
+def options_of(given: list[str]) -> argparse.Namespace:
+    parser = argparse.ArgumentParser(
+        prog="predict", description=__doc__, formatter_class=argparse.RawDescriptionHelpFormatter, allow_abbrev=False
+    )
+    version.add_to(parser)
+    add = parser.add_argument
+    add("traces", metavar="TRACE", nargs="+", help="a trace of drawn pages, or the name of a series")
+    add("--link", metavar="RATE", type=words.link, required=True, help="a second: 10Gbit, 1250MB, 128MiB")
+    add("--downtime", metavar="TIME", type=words.seconds, default=0.3, help="limit (300ms)")
+    add("--start", metavar="TIME", type=words.seconds, default=0.0, help="begin so long after the first look")
+    add("--picture", metavar="PATH", help="write what a migration costs by time of day, as SVG")
+    add("--starts", metavar="N", type=words.count, default=60, help="of each trace, at most 4,096 (60)")
+    add("--program", metavar="PATH", default=PROGRAM, help="the built precopy-view")
+    options = parser.parse_args(given)
+    if options.starts > 4096:
+        parser.error("--starts: at most 4,096")
+    if not os.access(options.program, os.X_OK):
+        parser.error(f"there is no program {options.program}; {version.whence('precopy-view')}")
+    return options
+
+
+def asked(options: argparse.Namespace, path: str) -> tuple[Forecast, Link]:
+    """The question about one recording."""
+    forecast = forecast_of(options.program, path)
+    forecast.begin_after(options.start)
+    return forecast, Link(options.link, options.downtime)
+
+
+def named(traces_or_series: list[str]) -> list[str]:
+    """The traces of some words: a file by its name, and the segments of a series by that of the series."""
+    found = []
+    for word in traces_or_series:
+        segments = [] if os.path.exists(word) or not os.path.isdir(os.path.dirname(os.path.abspath(word))) \
+            else series.Series(word).paths()
+        found += segments or [word]
+    return found
+
+
+def show_each(options: argparse.Namespace, path: str) -> tuple[int, list[day_chart.Start]]:
+    """Prints the line of one of several traces. Returns its status, and the starts whose migration ends within it."""
+    forecast, link = asked(options, path)
+    told, when = forecast.told(link), forecast.starts(link, options.starts)
+    moments = {name: (forecast.moment(when[name]["start_seconds"]), when[name])
+               for name in ("best", "worst") if name in when}
+    print(texts.of_several(told, forecast.moment(options.start), moments, forecast.sample), flush=True)
+    return STATUSES[told["kept"]], [
+        day_chart.Start(forecast.moment(it["start_seconds"]), it["sent_bytes"], it["time_seconds"], it["down_seconds"],
+                        it["kept"] == "yes")
+        for it in when["starts"] if it["kept"] != "unknown"
+    ]
+
+
+def predict_each(options: argparse.Namespace, paths: list[str]) -> int:
+    """A line for each trace, and a picture of all. A trace that is refused has its line on standard error."""
+    found, statuses = [], {0}
+    for path in paths:
+        try:
+            status, starts = show_each(options, path)
+        except (OSError, Refused, plans.Failed) as fault:
+            version.complain("predict", traces.told(fault))
+            statuses.add(1)
+            continue
+        found += starts
+        statuses.add(status)
+    if options.picture:
+        write_picture(options, found)
+    return 1 if 1 in statuses else max(statuses)
+
+
+def write_picture(options: argparse.Namespace, starts: list[day_chart.Start]) -> None:
+    if not starts:
+        raise plans.Failed("no picture: no migration ends within its trace")
+    link = f"{options.link / (1 << 20):.2f} MiB a second, downtime limit {texts.time(options.downtime)}"
+    with traces.Pending(options.picture) as file:
+        file.write(day_chart.drawn(starts, f"What a migration costs at {link}").encode())
+        file.finish()
+
+
+def predict(options: argparse.Namespace) -> int:
+    paths = named(options.traces)
+    if len(paths) > 1 or options.picture:
+        return predict_each(options, paths)
+    forecast, link = asked(options, paths[0])
+    status, lines = forecast.lines(link)
+    print("\n".join([*texts.of_sample(forecast.sample, forecast.page_size), texts.of_link(options.link), *lines]))
+    for name, times in (("half", 0.5), ("twice", 2.0)):
+        try:
+            told = ", ".join(texts.cost(forecast.told(link._replace(bandwidth=link.bandwidth * times))))
+        except plans.NoRate as fault:
+            told = f"no plan, since {fault}"
+        print(f"at {name} the link: {told}")
+    for line in texts.warnings(forecast.sample):
+        print(line)
+    return status
+
+
+def main(given: list[str]) -> int:
+    options = options_of(given)
+    try:
+        return predict(options)
+    except (OSError, Refused, plans.Failed) as fault:
+        version.complain("predict", traces.told(fault))
+        return 1
+
+
+if __name__ == "__main__":
+    sys.exit(printed.run("predict", main, loses=True))

@@ -1,0 +1,58 @@
+"""What tools/predict says beside the lines of `precopy-view predict`: of the sample, of other links, of one of several
+traces."""
+
+import datetime
+
+from precopy_tools.formats import samples
+from precopy_tools.quantities import error_text, micros_of, size_text, time_text
+
+SHORT = "unknown, the recording ends before the migration does"
+
+
+def time(seconds: float) -> str:
+    return time_text(micros_of(seconds))
+
+
+def error(seconds: float) -> str:
+    return error_text(micros_of(seconds))
+
+
+def cost(told: dict) -> list[str]:
+    """Bytes, time and downtime of a migration, with the standard errors that there are, and whether it converges."""
+    if not (migration := told.get("migration")):
+        return [SHORT]
+    errors, parts = migration.get("errors", {}), []
+    for name, text, of_error in (
+        ("sent_bytes", size_text, size_text), ("time_seconds", time, error), ("down_seconds", time, error)
+    ):
+        parts.append(text(migration[name]) + (f" +- {of_error(errors[name])}" if name in errors else ""))
+    return [*parts, "converges" if told["converges"] == "yes" else "does not converge"]
+
+
+def of_sample(sample: samples.Sample, page_size: int) -> list[str]:
+    """What was recorded, and how."""
+    whole, part = sample.guest_pages, sample.sampled_pages
+    length = (sample.last_tick - sample.first_tick) * sample.tick_seconds
+    return [
+        f"guest: {size_text(whole * page_size)} in {whole:,} pages, about {sample.guest_nonzero:,} not zero",
+        f"sample: {part:,} pages, {sample.sampled_nonzero:,} not zero; each stands for {sample.weight:.2f}",
+        f"taken: of {sample.taken_of}, {sample.taken_at}, for {time(length)}, by {sample.method}",
+    ]
+
+
+def of_link(bandwidth: float) -> str:
+    return f"link: {bandwidth * 8 / 1e9:.3g} Gbit/s, {bandwidth / (1 << 20):,.2f} MiB a second"
+
+
+def warnings(sample: samples.Sample) -> list[str]:
+    """What speaks against a sample."""
+    late = f"warning: {sample.late} of {sample.samples} looks at the guest were late: the plan is too low"
+    values = "warning: taken by values: it misses writes of the value that stood there, so the plan is too low"
+    return [late] * (sample.late * 10 > sample.samples) + [values] * (sample.method == "values")
+
+
+def of_several(told: dict, begun: datetime.datetime, starts: dict, sample: samples.Sample) -> str:
+    """The line of one of several traces: when the migration begins, what it costs, the best and the worst start."""
+    parts = [f"{begun:%Y-%m-%d %H:%M:%S}", *cost(told)]
+    parts += [f"{name} {moment:%H:%M:%S} {size_text(start['sent_bytes'])}" for name, (moment, start) in starts.items()]
+    return "  ".join(parts + [f"{sample.late} of {sample.samples} looks late"] * (sample.late > 0))

@@ -1,0 +1,1 @@
+"""QEMU: its monitor, guests for trials, and migrations to compare with."""

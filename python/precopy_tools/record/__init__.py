@@ -1,0 +1,1 @@
+"""Recording the memory of a running guest."""

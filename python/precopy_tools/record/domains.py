@@ -1,0 +1,84 @@
+"""Guests of libvirt: their process and their monitor, by `virsh`.
+
+libvirt keeps the monitor of a guest to itself, so its questions go through `virsh qemu-monitor-command`. libvirt marks
+a domain that was asked so as tainted (custom-monitor) until it ends, and does nothing else. The environment variable
+LIBVIRT_DEFAULT_URI says which libvirt it is, as for all of virsh.
+"""
+
+import json
+import os
+import subprocess
+import uuid
+
+from precopy_tools.qemu import qmp
+
+SECONDS = 60
+
+
+def virsh(*words: str) -> str:
+    """What virsh prints, or its complaint."""
+    command = ["virsh", "--quiet", *words]
+    try:
+        done = subprocess.run(
+            command, stdin=subprocess.DEVNULL, capture_output=True, text=True, errors="replace", timeout=SECONDS
+        )
+    except FileNotFoundError as fault:
+        raise qmp.Fault("there is no virsh on the path: the package libvirt-clients has it") from fault
+    except subprocess.TimeoutExpired as fault:
+        raise qmp.Fault(f"virsh {words[0]}: no answer within {SECONDS} s") from fault
+    if done.returncode:
+        told = done.stderr.strip().removeprefix("error: ").replace("\nerror: ", ": ") or f"status {done.returncode}"
+        raise qmp.Fault(f"virsh {words[0]}: {told}")
+    return done.stdout
+
+
+def command_words(process: int) -> list[str]:
+    try:
+        with open(f"/proc/{process}/cmdline", "rb") as file:
+            return file.read().decode(errors="replace").split("\0")
+    except OSError:
+        return []
+
+
+def processes_of(identity: uuid.UUID) -> list[int]:
+    """The processes whose words name this guest. libvirt starts each QEMU with `-uuid`."""
+    found = []
+    for process in (int(name) for name in os.listdir("/proc") if name.isdigit()):
+        words = command_words(process)
+        if ("-uuid", str(identity)) in zip(words, words[1:]):
+            found.append(process)
+    return sorted(found)
+
+
+class Domain:
+    """A guest of libvirt by its name, number or UUID. It answers what a monitor does."""
+
+    def __init__(self, name: str):
+        self.name = name
+        told = virsh("domuuid", "--domain", name).strip()
+        try:
+            self.identity = uuid.UUID(told)
+        except ValueError as fault:
+            raise qmp.Fault(f"virsh domuuid: no UUID: {told[:80]!r}") from fault
+
+    def process(self) -> int:
+        found = processes_of(self.identity)
+        if not found:
+            raise qmp.Fault(f"domain {self.name}: no process of {self.identity} is here; is it running, on this host?")
+        if len(found) > 1:
+            raise qmp.Fault(f"domain {self.name}: processes {', '.join(map(str, found))} are of {self.identity}")
+        return found[0]
+
+    def ask(self, command: str, **arguments):
+        told = virsh("qemu-monitor-command", "--domain", self.name, "--cmd", qmp.command_line(command, arguments))
+        try:
+            answer = json.loads(told)
+        except (ValueError, RecursionError) as fault:
+            raise qmp.Fault(f"domain {self.name}: {command}: no JSON: {told[:80]!r}") from fault
+        return qmp.returned(f"domain {self.name}", command, answer)
+
+    def __enter__(self):
+        return self
+
+    def __exit__(self, *_):
+        """Nothing is held."""
