@@ -43,8 +43,13 @@ def compared():
         wanted = name if place.endswith("error.rt") else table.get(name)
         yield words == wanted, f"{place} says of {name}: {words}; docs/FORMATS.md: {wanted}"
     every = [f"E{number}" for number in range(1, 18)]
-    wanted = {"crates/trace_codec/src/error.rt": every, "crates/precopy_view/src/faults.rt": every,
-              "web/refusals.js": every, "packaging/messages.c": OF_LIBRARY, "include/precopy.h": [*OF_LIBRARY, "E16"]}
+    wanted = {
+        "crates/trace_codec/src/error.rt": every,
+        "crates/precopy_view/src/faults.rt": every,
+        "web/refusals.js": every,
+        "packaging/messages.c": OF_LIBRARY,
+        "include/precopy.h": [*OF_LIBRARY, "E16"],
+    }
     for place, names in wanted.items():
         told = sorted(map(str, found.get(place, [])))
         yield told == sorted(names), f"{place} has words for {told}"

@@ -28,7 +28,10 @@ def names(tally, folder):
     """No document that a user reads names what only the sources have, and each other name stands for one in them."""
     sources = [pages.read(path) for path, _ in pages_below(folder)]
     for name in documents.RENAMED:
-        tally.add(any(name in text for text in sources), f"python/precopy_dev/packaging/documents.py has a name for {name!r} of no page")
+        tally.add(
+            any(name in text for text in sources),
+            f"python/precopy_dev/packaging/documents.py has a name for {name!r} of no page",
+        )
     for path, text in pages_below(folder):
         for line in text.split("\n"):
             tally.add(not OF_SOURCES.search(line), f"the installed {path} says: {line}")
@@ -58,8 +61,13 @@ def runner(folder, prefix):
         if not os.path.isdir(place):
             shutil.copytree(shared, place)
         done = subprocess.run(
-            words, cwd=place, env=environment, stdin=subprocess.DEVNULL, stdout=subprocess.PIPE,
-            stderr=subprocess.STDOUT, timeout=SECONDS,
+            words,
+            cwd=place,
+            env=environment,
+            stdin=subprocess.DEVNULL,
+            stdout=subprocess.PIPE,
+            stderr=subprocess.STDOUT,
+            timeout=SECONDS,
         )
         return done.returncode, done.stdout.decode(errors="replace")
 

@@ -1,4 +1,4 @@
-"""Trials of `make install`, `make uninstall` and dev/edits, and of what help, manuals and documents say about options."""
+"""Trials of `make install`, `make uninstall` and dev/edits, and of what help, manuals and documents say of options."""
 
 import os
 import re

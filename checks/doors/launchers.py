@@ -173,7 +173,7 @@ def start_otherwise(tally, it, folder):
     line = f"PATH='{links}':$PATH precopy"
     ran = it.run(["sh", "-c", line], path="/bin/sh")
     tally.add(ran[0] == 0 and it.heard("process"), f"the launcher on the path: {ran}")
-    hide = ["unshare", "--mount", "sh", "-c", "mount -t tmpfs none /proc && exec \"$0\"", f"{links}/other"]
+    hide = ["unshare", "--mount", "sh", "-c", 'mount -t tmpfs none /proc && exec "$0"', f"{links}/other"]
     probe = subprocess.run([*hide[:-1], "true"], stderr=subprocess.PIPE, check=False)
     if probe.returncode:
         left_out("a launcher without /proc", probe.stderr.decode().strip())

@@ -64,7 +64,7 @@ def try_tarball(tally, folder):
     tally.add(len(owners) == 1, f"the tarball has files of several owners or times: {owners}")
     (top,) = (os.path.join(tree, name) for name in os.listdir(tree))
     line = "bin/precopy image < share/doc/precopy/examples/gzip.pcwt | wc -c; bin/precopy-record --version"
-    line += "; bin/precopy-view --version; head -c 15 \"$(bin/precopy-page)\""
+    line += '; bin/precopy-view --version; head -c 15 "$(bin/precopy-page)"'
     ran = run("sh", "-c", line, cwd=top, env={"PATH": os.environ["PATH"]})
     wanted = "".join(f"precopy-{name} (precopy) {contents.version.VERSION}\n" for name in ("record", "view"))
     wanted = f"102400\n{wanted}<!doctype html>"

@@ -153,7 +153,8 @@ class Compiler:
         # Most errors are told of the very line that an edit wrote.
         places = {place for place, _ in told}
         near = [edit for edit in edits if places & {*edit.changed_lines(TOP)}]
-        near = near or [edit for edit in edits if f"crates/{edit.crate}/" in " ".join(path for path, _ in places)] or edits
+        seen = " ".join(path for path, _ in places)
+        near = near or [edit for edit in edits if f"crates/{edit.crate}/" in seen] or edits
         found = {}
         for edit in near:
             found.update(self.refused([edit]))

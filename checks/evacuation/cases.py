@@ -48,8 +48,13 @@ def random_plans(draw: random.Random) -> list[tuple[int, int, list[model.Move]]]
     """Plans of one set of guests: small numbers, so that many are equal, or great ones."""
     most = draw.choice([3, 50, (1 << 64) - 1])
     guests = [
-        model.Move(draw.randint(0, most), draw.randint(0, most), draw.randint(0, most), int(draw.random() < 0.9),
-                   draw.choice([0, 0, 0, 1, 2]))
+        model.Move(
+            draw.randint(0, most),
+            draw.randint(0, most),
+            draw.randint(0, most),
+            int(draw.random() < 0.9),
+            draw.choice([0, 0, 0, 1, 2]),
+        )
         for _ in range(draw.randrange(0, 12))
     ]
     found = []
@@ -73,8 +78,23 @@ def tables_that_are_none(programs: Programs, _: str) -> None:
     line = "is no plan: slots, a deadline, and five numbers for each guest"
     cases = [
         (wrong, f"line 2 {line}")
-        for wrong in ("0 0", "65537 0", "1", "1 0 2", "1 0 2 3 4 5 x", "1  0", "", "a", "1 0 -1 1 1 1 1", " 1 0",
-                      "1 0 ", "1 0 18446744073709551616 1 1 1 1", "1 0 1.5 1 1 1 1", "1\t0", "1 0 1 2 3 4 5 6")
+        for wrong in (
+            "0 0",
+            "65537 0",
+            "1",
+            "1 0 2",
+            "1 0 2 3 4 5 x",
+            "1  0",
+            "",
+            "a",
+            "1 0 -1 1 1 1 1",
+            " 1 0",
+            "1 0 ",
+            "1 0 18446744073709551616 1 1 1 1",
+            "1 0 1.5 1 1 1 1",
+            "1\t0",
+            "1 0 1 2 3 4 5 6",
+        )
     ]
     for wrong, told in cases:
         for text in f"{good}{wrong}\n", f"{good}{wrong}\n{good}":
@@ -118,12 +138,26 @@ def write_record(folder: str, name: str, guest: model.Guest, **changed) -> str:
     with open(path, "rb") as file:
         text = file.read()
     fields = {
-        "format": samples.FORMAT, "trace_sha256": samples.digest(text), "trace_pages": guest.pages,
-        "trace_writes": guest.pages + len(guest.writes), "first_tick": guest.first, "last_tick": guest.last,
-        "tick_seconds": 0.001, "interval_seconds": 0.1, "guest_pages": guest.guest,
-        "guest_nonzero": guest.pages * (guest.guest // guest.sampled), "counted_pages": guest.sampled,
-        "sampled_pages": guest.sampled, "sampled_nonzero": guest.pages, "seed": 1, "method": "writes", "samples": 10,
-        "late": 0, "taken_at": "2026-11-27T05:00:00+00:00", "taken_of": f"domain {name}", **changed,
+        "format": samples.FORMAT,
+        "trace_sha256": samples.digest(text),
+        "trace_pages": guest.pages,
+        "trace_writes": guest.pages + len(guest.writes),
+        "first_tick": guest.first,
+        "last_tick": guest.last,
+        "tick_seconds": 0.001,
+        "interval_seconds": 0.1,
+        "guest_pages": guest.guest,
+        "guest_nonzero": guest.pages * (guest.guest // guest.sampled),
+        "counted_pages": guest.sampled,
+        "sampled_pages": guest.sampled,
+        "sampled_nonzero": guest.pages,
+        "seed": 1,
+        "method": "writes",
+        "samples": 10,
+        "late": 0,
+        "taken_at": "2026-11-27T05:00:00+00:00",
+        "taken_of": f"domain {name}",
+        **changed,
     }
     with open(samples.path_beside(path), "w", encoding="utf-8") as file:
         json.dump(fields, file)
@@ -177,8 +211,13 @@ def expected_schedules(told: dict, groups: dict[str, int], deadline: int) -> lis
     found = []
     for schedule in told["schedules"]:
         moves = [
-            model.Move(round(1e6 * cost["time_seconds"]), cost["sent_bytes"], round(1e6 * cost["down_seconds"]),
-                       int(cost["kept"]), groups.get(name, 0))
+            model.Move(
+                round(1e6 * cost["time_seconds"]),
+                cost["sent_bytes"],
+                round(1e6 * cost["down_seconds"]),
+                int(cost["kept"]),
+                groups.get(name, 0),
+            )
             for name, cost in ((name, costs[name][schedule["at_once"]]) for name in schedule["guests"])
         ]
         rows = model.placed(schedule["at_once"], moves)
@@ -204,14 +243,30 @@ def whole_runs(programs: Programs, folder: str) -> None:
     records = four_guests(folder)
     with open(f"{folder}/settings.json", "w", encoding="utf-8") as file:
         json.dump({"apart": [["web", "cache"]], "guests": {"db": {"downtime": "200ms", "domain": "db one"}}}, file)
-    text, fault = run_tool(programs, *records, "--link", LINK, "--json", f"{folder}/told.json", "--settings",
-                           f"{folder}/settings.json", "--picture", f"{folder}/host.svg", "--to", "qemu+ssh://b/system")
+    text, fault = run_tool(
+        programs,
+        *records,
+        "--link",
+        LINK,
+        "--json",
+        f"{folder}/told.json",
+        "--settings",
+        f"{folder}/settings.json",
+        "--picture",
+        f"{folder}/host.svg",
+        "--to",
+        "qemu+ssh://b/system",
+    )
     expect(fault == "", fault)
     told = document_of(folder)
     expected = expected_schedules(told, {"web": 1, "cache": 1}, 0)
     for schedule, (cost, _) in zip(told["schedules"], expected, strict=True):
-        found = (int(not schedule["kept"]), micros(schedule["time_seconds"]), schedule["sent_bytes"],
-                 micros(schedule["down_seconds"]))
+        found = (
+            int(not schedule["kept"]),
+            micros(schedule["time_seconds"]),
+            schedule["sent_bytes"],
+            micros(schedule["down_seconds"]),
+        )
         expect(found == cost, f"{schedule}: {found} in place of {cost}")
     best = min(range(len(expected)), key=lambda number: expected[number][0][:3])
     expect(told["best"]["schedule"] == best, f"best is {told['best']['schedule']} in place of {best}")
@@ -324,19 +379,26 @@ def settings(programs: Programs, folder: str) -> None:
     def with_settings(fields: object, status: int) -> tuple[str, str]:
         with open(path, "w", encoding="utf-8") as file:
             file.write(fields if isinstance(fields, str) else json.dumps(fields))
-        return run_tool(programs, web, db, "--link", LINK, "--settings", path, "--json", f"{folder}/told.json",
-                        status=status)
+        return run_tool(
+            programs, web, db, "--link", LINK, "--settings", path, "--json", f"{folder}/told.json", status=status
+        )
 
     for fields, told in (
-        ("{", "is no JSON"), ("[" * 100_000, "is no JSON"), ("[]", "is no JSON object"),
+        ("{", "is no JSON"),
+        ("[" * 100_000, "is no JSON"),
+        ("[]", "is no JSON object"),
         ({"reserv": "1Gbit"}, "there is no setting reserv"),
         ({"reserve": "1Gbit"}, "the reserve leaves nothing of the link"),
-        ({"apart": [["web"]]}, "apart is no list of lists"), ({"apart": [["web", "web"]]}, "web stands there twice"),
-        ({"apart": [["web", "mail"]]}, "there is no record of the guest mail"), ({"guests": []}, "guests is no JSON"),
+        ({"apart": [["web"]]}, "apart is no list of lists"),
+        ({"apart": [["web", "web"]]}, "web stands there twice"),
+        ({"apart": [["web", "mail"]]}, "there is no record of the guest mail"),
+        ({"guests": []}, "guests is no JSON"),
         ({"guests": {"mail": {}}}, "there is no record of the guest mail"),
         ({"guests": {"web": {"size": 1}}}, "web: there is no setting size"),
-        ({"guests": {"web": {"downtime": "1"}}}, "web: downtime"), ({"guests": {"web": {"copy": -1}}}, "web: copy"),
-        ({"guests": {"web": {"domain": ""}}}, "web: domain"), ({"guests": {"web": {"time": 3}}}, "web: time"),
+        ({"guests": {"web": {"downtime": "1"}}}, "web: downtime"),
+        ({"guests": {"web": {"copy": -1}}}, "web: copy"),
+        ({"guests": {"web": {"domain": ""}}}, "web: domain"),
+        ({"guests": {"web": {"time": 3}}}, "web: time"),
         ({"guests": {"web": {"copy": 1001}}}, "web.light.pcwt: a copy of tick 1,001 is newer than the"),
     ):
         _, fault = with_settings(fields, 1)
@@ -390,12 +452,19 @@ def damaged_lines(programs: Programs, folder: str, records: list[str], words: li
         return json.dumps({**fields, "costs": [{**first, **changed}, *rest]})
 
     for wrong, told in (
-        ('{"format": "precopy costs 2"}', "has no costs of a guest"), (good[: len(good) // 2], "is no JSON"),
-        ("[" * 100_000, "is no JSON"), ("[]", "has no costs"), (with_cost(time="1"), "time is '1'"),
-        (with_cost(sent=-1), "sent is -1"), (with_cost(kept=1), "kept is 1"), (with_cost(more=1), "more"),
-        (with_cost(share=1e999), "share is inf"), (with_cost(downtime=1 << 64), "downtime is"),
+        ('{"format": "precopy costs 2"}', "has no costs of a guest"),
+        (good[: len(good) // 2], "is no JSON"),
+        ("[" * 100_000, "is no JSON"),
+        ("[]", "has no costs"),
+        (with_cost(time="1"), "time is '1'"),
+        (with_cost(sent=-1), "sent is -1"),
+        (with_cost(kept=1), "kept is 1"),
+        (with_cost(more=1), "more"),
+        (with_cost(share=1e999), "share is inf"),
+        (with_cost(downtime=1 << 64), "downtime is"),
         (with_cost(converges="so"), "converges is 'so'"),
-        (json.dumps({**fields, "name": 1}), "name"), (json.dumps({**fields, "name": "a\nb"}), "name"),
+        (json.dumps({**fields, "name": 1}), "name"),
+        (json.dumps({**fields, "name": "a\nb"}), "name"),
     ):
         with open(f"{folder}/some.jsonl", "w", encoding="utf-8") as file:
             file.write("\n".join([others[0], wrong, *others[1:], ""]))
@@ -406,8 +475,15 @@ def damaged_lines(programs: Programs, folder: str, records: list[str], words: li
 def refused_words(programs: Programs, folder: str) -> None:
     web, *_ = four_guests(folder)
     link = ["--link", LINK]
-    for words in (["--link", "fast"], [], [*link, "--at-once", "0"], [*link, "--downtime", "300"], [*link, "--costs"],
-                  [*link, "--lines", "ssh"], [*link, "--program", "none"]):
+    for words in (
+        ["--link", "fast"],
+        [],
+        [*link, "--at-once", "0"],
+        [*link, "--downtime", "300"],
+        [*link, "--costs"],
+        [*link, "--lines", "ssh"],
+        [*link, "--program", "none"],
+    ):
         run_tool(programs, web, *words, status=2)
 
 
@@ -430,6 +506,15 @@ def spent() -> float:
 
 
 CASES = (
-    random_tables, tables_that_are_none, a_lost_reader, random_costs, whole_runs, deadlines, refusals, settings,
-    costs_of_other_hosts, refused_words, a_hundred_guests,
+    random_tables,
+    tables_that_are_none,
+    a_lost_reader,
+    random_costs,
+    whole_runs,
+    deadlines,
+    refusals,
+    settings,
+    costs_of_other_hosts,
+    refused_words,
+    a_hundred_guests,
 )

@@ -38,15 +38,19 @@ def answer(plans: list[tuple[int, int, list[Move]]]) -> str:
     rows = [placed(slots, moves) for slots, _, moves in plans]
     costs = [cost(deadline, moves, each) for (_, deadline, moves), each in zip(plans, rows)]
     best = min(range(len(plans)), key=lambda number: costs[number][:3])
-    lines = [f"time {time} bytes {sent} downtime {down} {'missed' if missed else 'kept'}\n"
-             for missed, time, sent, down in costs]
+    lines = [
+        f"time {time} bytes {sent} downtime {down} {'missed' if missed else 'kept'}\n"
+        for missed, time, sent, down in costs
+    ]
     lines.append(f"best {best}\n")
     return "".join([*lines, *(f"start {start} end {end} slot {slot}\n" for start, end, slot in rows[best])])
 
 
 def table(plans: list[tuple[int, int, list[Move]]]) -> str:
-    return "".join(" ".join(map(str, [slots, deadline, *(number for move in moves for number in move)])) + "\n"
-                   for slots, deadline, moves in plans)
+    return "".join(
+        " ".join(map(str, [slots, deadline, *(number for move in moves for number in move)])) + "\n"
+        for slots, deadline, moves in plans
+    )
 
 
 class Guest(NamedTuple):
@@ -141,5 +145,13 @@ def costs(guest: Guest, bandwidth: float, downtime: int, base: int | None) -> tu
     plans = [planned(guest, found, start, base) for start in range(first, last + 1, every)]
     cold, known = plans[0], [plan for plan in plans if plan.is_known] or plans[:1]
     times = [plan.time for plan in known]
-    return (cold.time, cold.sent, cold.down, min(times), max(times), min(plan.sent for plan in known), cold.verdict(),
-            cold.is_known and cold.kept)
+    return (
+        cold.time,
+        cold.sent,
+        cold.down,
+        min(times),
+        max(times),
+        min(plan.sent for plan in known),
+        cold.verdict(),
+        cold.is_known and cold.kept,
+    )

@@ -6,13 +6,18 @@ LONGEST_MILLIS = 2_000_000
 
 def host_lines(link: int, millis: int) -> list[str]:
     """The lines for hypervisors, of a link in bytes a second and a downtime for pages."""
-    return [f"QEMU: migrate_set_parameter max-bandwidth {link}B",
-            f"QEMU: migrate_set_parameter downtime-limit {millis}" if millis <= LONGEST_MILLIS
-            else "QEMU: takes a downtime of at most 2,000 s",
-            f"libvirt: virsh migrate-setspeed DOMAIN {link >> 20}" if link >> 20
-            else "libvirt: takes whole MiB a second, and the link has less than one",
-            f"libvirt: virsh migrate-setmaxdowntime DOMAIN {millis}" if 1 <= millis <= LONGEST_MILLIS
-            else "libvirt: takes a downtime of 1 ms to 2,000 s"]
+    return [
+        f"QEMU: migrate_set_parameter max-bandwidth {link}B",
+        f"QEMU: migrate_set_parameter downtime-limit {millis}"
+        if millis <= LONGEST_MILLIS
+        else "QEMU: takes a downtime of at most 2,000 s",
+        f"libvirt: virsh migrate-setspeed DOMAIN {link >> 20}"
+        if link >> 20
+        else "libvirt: takes whole MiB a second, and the link has less than one",
+        f"libvirt: virsh migrate-setmaxdowntime DOMAIN {millis}"
+        if 1 <= millis <= LONGEST_MILLIS
+        else "libvirt: takes a downtime of 1 ms to 2,000 s",
+    ]
 
 
 def is_command(line: str) -> bool:

@@ -1,4 +1,5 @@
-"""What is enough for the limit of a migration, by the model of python/precopy_dev/models/remedies.py, which makes plans page by page."""
+"""What is enough for the limit of a migration, by the model of python/precopy_dev/models/remedies.py, which makes plans
+page by page."""
 
 
 from precopy_dev.models.remedies import Remedies, Trial, remedies

@@ -136,7 +136,9 @@ def check_example(tally, folder, source, target, environment, program):
         done = run(built, input=trace)
         tally.add(done.stdout == program_says(program, ["report"], trace), f"examples/rust of {path}: {done.stderr!r}")
         done = run(built, "memory", "2000", input=trace)
-        tally.add(done.stdout == trace_bytes.memory_before(trace, 2000), f"examples/rust of {path}, memory: {done.stderr!r}")
+        tally.add(
+            done.stdout == trace_bytes.memory_before(trace, 2000), f"examples/rust of {path}, memory: {done.stderr!r}"
+        )
         words, stream = receive(tally, folder, path, trace)
         done = run(built, "receive", *words, input=stream)
         wanted = program_says(program, ["image"], trace)

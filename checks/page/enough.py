@@ -15,7 +15,7 @@ MOST_OF_PAGE = 1 << 53
 
 
 def remedies_of(asked, first, increment):
-    """What keeps the limit by `python/precopy_dev/models/remedies.py`, the link in bytes a second. `first` and `increment` may be None."""
+    """What keeps the limit by the model, the link in bytes a second. `first` and `increment` may be None."""
     link, _, downtime, reserve = asked.limits()
     others = Others(asked.rounds, asked.start, bool(asked.skip), asked.base, increment)
     scale = redrawn.Scale(asked.tick, asked.page, asked.sampled, asked.guest)

@@ -22,8 +22,17 @@ STATUSES = {"yes": 0, "no": 3, "unknown": 4}
 REFUSED = (1, 2)
 # The statuses of the library for a question that is out of its range, or that is not about such a trace.
 QUESTION_REFUSED = (*range(21, 31), *range(81, 90))
-KINDS = ("converges: ", "total time: ", "sent: ", "downtime: ", "standard errors: ", "warning: ", "enough: ", "QEMU: ",
-         "libvirt: ")
+KINDS = (
+    "converges: ",
+    "total time: ",
+    "sent: ",
+    "downtime: ",
+    "standard errors: ",
+    "warning: ",
+    "enough: ",
+    "QEMU: ",
+    "libvirt: ",
+)
 
 
 class Programs(NamedTuple):
@@ -75,8 +84,12 @@ class Lines(Door):
         return answered(status, faults) and [status, *known(text.splitlines())]
 
     def wanted(self, asked: Asked, answer: Answer) -> object:
-        return [STATUSES[answer.kept], *lines_of(asked.question, answer), *enough_lines(answer.enough),
-                *host_lines(asked.question.link, asked.question.millis_for_pages())]
+        return [
+            STATUSES[answer.kept],
+            *lines_of(asked.question, answer),
+            *enough_lines(answer.enough),
+            *host_lines(asked.question.link, asked.question.millis_for_pages()),
+        ]
 
 
 class Document(Door):
@@ -132,8 +145,10 @@ class Page(Door):
         return "" if os.path.exists(programs.module) else f"there is no {programs.module}; make page builds it"
 
     def all_told(self, some: list[Asked]) -> list[object]:
-        questions = [{name: str(value) if type(value) is int else value for name, value in vars(asked.question).items()}
-                     for asked in some]
+        questions = [
+            {name: str(value) if type(value) is int else value for name, value in vars(asked.question).items()}
+            for asked in some
+        ]
         script, module = os.path.join(self.programs.web, "predictions.mjs"), self.programs.module
         command = [*self.programs.node, "--no-warnings", script, module, some[0].trace.path]
         done = subprocess.run(command, input=json.dumps(questions), capture_output=True, text=True, check=False)
@@ -143,8 +158,13 @@ class Page(Door):
 
     def wanted(self, asked: Asked, answer: Answer) -> object:
         """Large numbers are words."""
-        plain = {"rounds": answer.rounds, "reason": answer.why, "left": answer.left, "converges": answer.converges,
-                 "kept": answer.kept}
+        plain = {
+            "rounds": answer.rounds,
+            "reason": answer.why,
+            "left": answer.left,
+            "converges": answer.converges,
+            "kept": answer.kept,
+        }
         large = {"time": answer.time, "bytes": answer.sent, "downtime": answer.downtime, "recorded": answer.recorded}
         errors = answer.errors and dict(zip(("bytes", "time", "downtime"), map(str, answer.errors)))
         large = {name: str(number) for name, number in large.items()}

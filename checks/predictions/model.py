@@ -14,10 +14,14 @@ from precopy_dev.models import redrawn, remedies
 
 REASONS = {
     "few": ("yes, rounds: ", ""),
-    "fast": ("no, the guest writes faster than the link sends; rounds: ",
-             "the plan ends with `fast`, so nothing bounds the downtime; give more of the link"),
-    "rounds": ("no, all rounds that are allowed are done; rounds: ",
-               "the plan ends with `rounds`, so nothing bounds the downtime; allow more rounds"),
+    "fast": (
+        "no, the guest writes faster than the link sends; rounds: ",
+        "the plan ends with `fast`, so nothing bounds the downtime; give more of the link",
+    ),
+    "rounds": (
+        "no, all rounds that are allowed are done; rounds: ",
+        "the plan ends with `rounds`, so nothing bounds the downtime; allow more rounds",
+    ),
 }
 ERRORS = ("sent_bytes", "time_seconds", "down_seconds")
 
@@ -66,9 +70,16 @@ class Question:
 
     def words(self) -> list[str]:
         """The same as options of precopy-view."""
-        given = {"link": rate_word(self.link), "downtime": f"{self.downtime}us", "reserve": f"{self.reserve}us",
-                 "tick": f"{self.tick}us", "page": self.page, "sampled": f"{self.sampled}/{self.guest}",
-                 "rounds": self.rounds, "start": self.start}
+        given = {
+            "link": rate_word(self.link),
+            "downtime": f"{self.downtime}us",
+            "reserve": f"{self.reserve}us",
+            "tick": f"{self.tick}us",
+            "page": self.page,
+            "sampled": f"{self.sampled}/{self.guest}",
+            "rounds": self.rounds,
+            "start": self.start,
+        }
         given |= {"first": rate_word(self.first)} if self.first is not None else {}
         given |= {"inc": self.increment} if self.increment is not None else {}
         given |= {"base": self.base} if self.base is not None else {}
@@ -130,8 +141,13 @@ def answer_of(asked: Question, trace: Trace) -> Optional[Answer]:
     return Answer(
         "unknown" if is_late else "yes" if plan.reason == "few" else "no",
         "unknown" if is_late else "yes" if down <= asked.downtime else "no",
-        plan.reason, plan.rounds, (plan.stop - asked.start) * asked.tick + down, asked.bytes_of(plan.total), down,
-        plan.left, max(0, trace.last - asked.start) * asked.tick,
+        plan.reason,
+        plan.rounds,
+        (plan.stop - asked.start) * asked.tick + down,
+        asked.bytes_of(plan.total),
+        down,
+        plan.left,
+        max(0, trace.last - asked.start) * asked.tick,
         redrawn.errors(trace.guest, settings, scale) if has_errors else None,
         remedy_model.found_of(trace.guest, asked.trial(), is_late),
     )
@@ -147,12 +163,18 @@ def rate_word(size: int) -> str:
 def lines_of(asked: Question, told: Answer) -> list[str]:
     """The lines of `precopy-view predict`."""
     if told.kept == "unknown":
-        return ["converges: unknown, the trace ends before the migration does; record longer",
-                f"total time: more than {time_text(told.recorded)}"]
+        return [
+            "converges: unknown, the trace ends before the migration does; record longer",
+            f"total time: more than {time_text(told.recorded)}",
+        ]
     ends, warning = REASONS[told.why]
     down = f"{time_text(told.downtime)}, limit: {time_text(asked.downtime)}"
-    lines = [f"converges: {ends}{told.rounds}", f"total time: {time_text(told.time)}", f"sent: {size_text(told.sent)}",
-             f"downtime: {down}, {'kept' if told.kept == 'yes' else 'not kept'}"]
+    lines = [
+        f"converges: {ends}{told.rounds}",
+        f"total time: {time_text(told.time)}",
+        f"sent: {size_text(told.sent)}",
+        f"downtime: {down}, {'kept' if told.kept == 'yes' else 'not kept'}",
+    ]
     if told.errors:
         sent, time, down = told.errors
         lines.append(f"standard errors: sent {size_text(sent)}, time {error_text(time)}, downtime {error_text(down)}")
@@ -162,6 +184,7 @@ def lines_of(asked: Question, told: Answer) -> list[str]:
 
 def document_of(asked: Question, told: Answer) -> dict:
     """The members of `precopy-view json predict`, with times as fractions of a second."""
+
     def time(micros: int) -> Fraction:
         return Fraction(micros, 1_000_000)
 
@@ -169,21 +192,44 @@ def document_of(asked: Question, told: Answer) -> dict:
     first = {} if asked.first is None else {"first_bytes": asked.first}
     base = {} if asked.base is None else {"base": asked.base}
     document = {
-        "units": {"tick_seconds": time(asked.tick), "page_bytes": asked.page, "sampled_pages": asked.sampled,
-                  "guest_pages": asked.guest},
-        "limits": {"link_bytes": asked.link, **first, "down_seconds": time(asked.downtime),
-                   "reserve_seconds": time(asked.reserve)},
-        "settings": {"min": settings.least, "max": settings.greatest, "inc": settings.increment,
-                     "threshold": settings.threshold, "limit": settings.rounds, "skip": settings.skip,
-                     "start": settings.start, **base},
-        "converges": told.converges, "kept": told.kept, "recorded_seconds": time(told.recorded),
+        "units": {
+            "tick_seconds": time(asked.tick),
+            "page_bytes": asked.page,
+            "sampled_pages": asked.sampled,
+            "guest_pages": asked.guest,
+        },
+        "limits": {
+            "link_bytes": asked.link,
+            **first,
+            "down_seconds": time(asked.downtime),
+            "reserve_seconds": time(asked.reserve),
+        },
+        "settings": {
+            "min": settings.least,
+            "max": settings.greatest,
+            "inc": settings.increment,
+            "threshold": settings.threshold,
+            "limit": settings.rounds,
+            "skip": settings.skip,
+            "start": settings.start,
+            **base,
+        },
+        "converges": told.converges,
+        "kept": told.kept,
+        "recorded_seconds": time(told.recorded),
         "enough": remedy_model.enough_member(told.enough, time),
         "hosts": hosts_member(asked.link, asked.millis_for_pages()),
     }
     if told.kept == "unknown":
         return document
-    migration = {"why": told.why, "rounds": told.rounds, "time_seconds": time(told.time), "sent_bytes": told.sent,
-                 "down_seconds": time(told.downtime), "left_pages": told.left}
+    migration = {
+        "why": told.why,
+        "rounds": told.rounds,
+        "time_seconds": time(told.time),
+        "sent_bytes": told.sent,
+        "down_seconds": time(told.downtime),
+        "left_pages": told.left,
+    }
     if told.errors:
         sent, time_error, down_error = told.errors
         migration["errors"] = dict(zip(ERRORS, (sent, time(time_error), time(down_error))))
@@ -201,14 +247,18 @@ def in_longer_ticks(asked: Question, record: dict, trace: Trace) -> tuple[Questi
     which more than 65,535 pages go is the longest in which no more do.
     """
     rate = Fraction(asked.link * asked.tick * asked.sampled, 1000 * asked.page * asked.guest)
-    fitting = [each for each in (1, 2, 5, 10, 20)
-               if asked.downtime % (asked.tick * each) == 0 and asked.tick * each <= 1_000_000] or [1]
+    fitting = [
+        each
+        for each in (1, 2, 5, 10, 20)
+        if asked.downtime % (asked.tick * each) == 0 and asked.tick * each <= 1_000_000
+    ] or [1]
     factor = next((each for each in fitting if rate * each >= 500), fitting[-1])
     longer = replace(asked, tick=asked.tick * factor, start=asked.start // factor)
     most = (1000 * 65_536 - 1) // max(1, longer.rate(asked.link)) * longer.tick
     longer = replace(longer, downtime=min(asked.downtime, most))
     first = record["first_tick"]
-    writes = sorted({((tick - first) // factor, page) for page, ticks in enumerate(trace.guest) for tick in ticks
-                     if tick >= first})
+    writes = sorted(
+        {((tick - first) // factor, page) for page, ticks in enumerate(trace.guest) for tick in ticks if tick >= first}
+    )
     last = (record["last_tick"] - first) // factor
     return longer, writes + [(last, 0)] * (not writes or writes[-1][0] < last)

@@ -55,7 +55,7 @@ def is_fit(text: bytes) -> bool:
 
 def shapes_of(seed: int) -> list[bytes]:
     """Traces of random shapes, without the corners, which are first."""
-    return page_shapes.shapes(100, seed)[len(page_shapes.corners()):]
+    return page_shapes.shapes(100, seed)[len(page_shapes.corners()) :]
 
 
 def shapes(folder: str, seed: int) -> list[str]:
@@ -88,11 +88,25 @@ def recorded(draw: random.Random, path: str) -> str:
     guest = sampled * draw.choice([1, draw.randrange(1, 300)])
     last, tick = trace.last + draw.choice([0, draw.randrange(2_000)]), draw.choice([0.0001, 0.001, 0.001, 0.02])
     told = samples.Sample(
-        format=samples.FORMAT, trace_sha256=samples.digest(text), trace_pages=pages,
-        trace_writes=struct.unpack_from("<I", text, 12)[0], first_tick=draw.randrange(trace.last // 4 + 1),
-        last_tick=last, tick_seconds=tick, interval_seconds=1.0, guest_pages=guest,
-        guest_nonzero=draw.randrange(pages, guest + 1), counted_pages=guest, sampled_pages=sampled,
-        sampled_nonzero=pages, seed=0, method="trace", samples=1, late=0, taken_at=samples.now(), taken_of="no guest",
+        format=samples.FORMAT,
+        trace_sha256=samples.digest(text),
+        trace_pages=pages,
+        trace_writes=struct.unpack_from("<I", text, 12)[0],
+        first_tick=draw.randrange(trace.last // 4 + 1),
+        last_tick=last,
+        tick_seconds=tick,
+        interval_seconds=1.0,
+        guest_pages=guest,
+        guest_nonzero=draw.randrange(pages, guest + 1),
+        counted_pages=guest,
+        sampled_pages=sampled,
+        sampled_nonzero=pages,
+        seed=0,
+        method="trace",
+        samples=1,
+        late=0,
+        taken_at=samples.now(),
+        taken_of="no guest",
     )
     with open(samples.path_beside(path), "wb") as file:
         file.write(told.text())
@@ -117,8 +131,15 @@ def drawn(draw: random.Random, trace: Trace) -> Question:
     first = draw.choice([None, None, max(125, asked.link * draw.randrange(10, 101) // 100 // 125 * 125)])
     increment = draw.choice([None, None, draw.randrange(1 + min(1_000_000, asked.rate(asked.link)))])
     reserve = draw.choice([0, 0, draw.randrange(1 + 2 * asked.downtime)])
-    return replace(asked, start=start, base=base, first=first, increment=increment, reserve=reserve,
-                   downtime=asked.downtime + reserve * draw.choice([0, 1, 1, 1, 1, 1]))
+    return replace(
+        asked,
+        start=start,
+        base=base,
+        first=first,
+        increment=increment,
+        reserve=reserve,
+        downtime=asked.downtime + reserve * draw.choice([0, 1, 1, 1, 1, 1]),
+    )
 
 
 def limited(draw: random.Random, asked: Question, trace: Trace) -> Question:

@@ -4,9 +4,9 @@
 
 PROGRAM is crates/precopy/out/precopy of this repository if none is given, and VIEW its precopy-view. The former makes
 the image of each trace, which must be the memory that was recorded; the latter plans. The process that writes is
-checks/recording/known_writes.py. The last line is 'N passed, M failed'; the status is 0 if something was tried and nothing
-failed. It takes two to five minutes. If the kernel reports no writes, or root is needed for it, cases that need them
-are left out, and a line says so.
+checks/recording/known_writes.py. The last line is 'N passed, M failed'; the status is 0 if something was tried and
+nothing failed. It takes two to five minutes. If the kernel reports no writes, or root is needed for it, cases that need
+them are left out, and a line says so.
 """
 
 import json

@@ -113,8 +113,13 @@ def damaged_fields(_, folder):
     for name in fields:
         said = refusal(json.dumps({other: fields[other] for other in fields if other != name}))
         expect(f"{name} is missing" in said, f"without {name}: {said!r}")
-    for text, said in (("", "no JSON"), ("[1]", "no JSON object"), ('{"a": 1}', "no field a"), ("{", "no JSON"),
-                       ("[" * 100_000, "no JSON")):
+    for text, said in (
+        ("", "no JSON"),
+        ("[1]", "no JSON object"),
+        ('{"a": 1}', "no field a"),
+        ("{", "no JSON"),
+        ("[" * 100_000, "no JSON"),
+    ):
         expect(said in refusal(text), f"{text!r} is not refused")
     expect(count > 180, f"{count} damages")
 
@@ -272,8 +277,26 @@ def converted(_, folder):
         writer.append([(*write, 0, b"\x01") for write in found + later])
         text = writer.seal(12, 3)
         sample = samples.Sample(
-            samples.FORMAT, samples.digest(text), 3, 9, 1000, 1050, 0.001, 0.1, 900, 30, 90, 30, 3, 0, "writes", 10, 0,
-            "2026-11-26T00:00:00+00:00", "a process")
+            samples.FORMAT,
+            samples.digest(text),
+            3,
+            9,
+            1000,
+            1050,
+            0.001,
+            0.1,
+            900,
+            30,
+            90,
+            30,
+            3,
+            0,
+            "writes",
+            10,
+            0,
+            "2026-11-26T00:00:00+00:00",
+            "a process",
+        )
         with samples.pending(path, sample) as beside:
             writer.finish(12, 3)
             beside.finish()
@@ -440,7 +463,7 @@ def pictures_of_any_starts(_, folder):
             for _ in range(draws.randrange(1, 40))
         ]
         with open(path, "w", encoding="utf-8") as file:
-            file.write(day_chart.drawn(starts, f"<{seed}> & \"others\""))
+            file.write(day_chart.drawn(starts, f'<{seed}> & "others"'))
         dots = pictured(path)
         expect(len(dots) == 3 * len(starts), f"seed {seed}: {len(dots)} dots")
         for number, (x, y, _, text) in enumerate(dots):

@@ -69,8 +69,9 @@ class Guest:
             self.nodes.append(Node(name, kind, pages, at))
             at += pages * PAGE
         self.to_plug = layout.get("plugged")
-        self.others = {name: Node(name, kind, layout.get(name, 1)) for name, kind in
-                       (("code", "code"), ("video", "private"))}
+        self.others = {
+            name: Node(name, kind, layout.get(name, 1)) for name, kind in (("code", "code"), ("video", "private"))
+        }
 
     def plug(self):
         self.plugged.append(Node(*self.to_plug, ADDRESS_OF_PLUGGED))

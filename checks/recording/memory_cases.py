@@ -58,7 +58,12 @@ class Known:
     def __init__(self, folder, layout, *words, name="monitor"):
         self.socket = os.path.join(folder, name)
         words = ["-qmp", f"unix:{self.socket},server=on", *words]
-        command = [sys.executable, os.path.join(TOP, "checks", "recording", "known_guest.py"), self.socket, json.dumps(layout)]
+        command = [
+            sys.executable,
+            os.path.join(TOP, "checks", "recording", "known_guest.py"),
+            self.socket,
+            json.dumps(layout),
+        ]
         self.process = subprocess.Popen([*command, *words], stdin=subprocess.PIPE, stdout=subprocess.PIPE, text=True)
         self.pid = self.process.pid
         self.told = json.loads(self.process.stdout.readline())
@@ -319,7 +324,7 @@ HOSTILE = {
     "a line without end": (AGREED, b"[" * (1 << 20)),
     "lists without end": AGREED + b"[" * 200_000 + b"\n",
     "no JSON": AGREED + b"\x00\xff\xfe\n",
-    "no object": AGREED + b"[]\n7\nnull\n\"return\"\n",
+    "no object": AGREED + b'[]\n7\nnull\n"return"\n',
     "an error": AGREED + b'{"error": {"class": "X", "desc": "not today"}}\n',
     "no error": AGREED + b'{"error": 5}\n',
     "no greeting": b'{"return": {}}\n',
@@ -407,8 +412,7 @@ def guests_that_end(_, folder):
 def virsh_in(folder, known, identity, garbled=False):
     """An environment with a `virsh` that speaks to the monitor of the stand-in."""
     programs = tempfile.mkdtemp(prefix="programs", dir=folder)
-    text = VIRSH.format(python=sys.executable, identity=str(identity),
-                        socket=known.socket, garbled=garbled)
+    text = VIRSH.format(python=sys.executable, identity=str(identity), socket=known.socket, garbled=garbled)
     path = os.path.join(programs, "virsh")
     with open(path, "w", encoding="utf-8") as file:
         file.write(text)

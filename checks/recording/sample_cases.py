@@ -160,8 +160,10 @@ def killed_recorder_while_opening(_, folder):
     """As before, in the milliseconds in which the process is stopped for its system call."""
     with Pages("shared") as pages:
         for number in range(30):
-            waiting = "import time; from precopy_tools.record import remote; print(flush=True); time.sleep(0.001); " \
+            waiting = (
+                "import time; from precopy_tools.record import remote; print(flush=True); time.sleep(0.001); "
                 f"remote.open_userfaultfd({pages.process.pid})"
+            )
             opener = subprocess.Popen([sys.executable, "-c", waiting], stdout=subprocess.PIPE)
             opener.stdout.readline()
             time.sleep(0.0002 * number)
@@ -207,6 +209,7 @@ def memory_runs_out(_, folder):
     statuses = set()
     with Pages("private", 1 << 14) as pages:
         for limit in (400, 64, 48, 40, 36, 34, 32, 30, 28):
+
             def limited(most=limit << 20):
                 resource.setrlimit(resource.RLIMIT_AS, (most, most))
                 # Python 3.11 unwinds for ever if it lacks the memory for a number meanwhile: then the kernel ends it.
@@ -264,8 +267,10 @@ def other_userfaultfd(_, folder):
 
 def traced_already(_, folder):
     with Pages("private") as pages:
-        trace = "import ctypes, sys, time; ctypes.CDLL(None).ptrace(0x4206, int(sys.argv[1]), None, None); " \
+        trace = (
+            "import ctypes, sys, time; ctypes.CDLL(None).ptrace(0x4206, int(sys.argv[1]), None, None); "
             "print(flush=True); time.sleep(60)"
+        )
         tracer = subprocess.Popen([sys.executable, "-c", trace, str(pages.process.pid)], stdout=subprocess.PIPE)
         tracer.stdout.readline()
         falls_back(folder, pages, f"process {tracer.pid} traces it")

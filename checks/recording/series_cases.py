@@ -22,8 +22,14 @@ SEGMENT = re.compile(
 )
 STEPS, STEP = 14, 40
 PAUSES = 0.06, 0.5
-OTHERS = ("guest.light.json", "guest.20260101T000000Z.light.pcwt.old", "guest2.20260101T000000Z.light.pcwt",
-          "xguest.20260101T000000Z.light.pcwt", "guest.2026.light.pcwt", ".guest.20260101T000000Z.light.pcwt.part")
+OTHERS = (
+    "guest.light.json",
+    "guest.20260101T000000Z.light.pcwt.old",
+    "guest2.20260101T000000Z.light.pcwt",
+    "xguest.20260101T000000Z.light.pcwt",
+    "guest.2026.light.pcwt",
+    ".guest.20260101T000000Z.light.pcwt.part",
+)
 
 
 class Segments(Run):

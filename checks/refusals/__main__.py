@@ -2,8 +2,8 @@
 
     checks/run refusals [PROGRAM]
 
-PROGRAM is crates/precopy/out/precopy of this repository if none is given. checks/refusals/refuse.c is put between the program
-and the C library. It is compiled here, so a C compiler `cc` is needed, and `nm` for names of functions.
+PROGRAM is crates/precopy/out/precopy of this repository if none is given. checks/refusals/refuse.c is put between the
+program and the C library. It is compiled here, so a C compiler `cc` is needed, and `nm` for names of functions.
 docs/RELIABILITY.md says what is promised and tried. The last line is 'N passed, M failed'; the status is 0 if something
 was tried and nothing failed.
 """
@@ -76,7 +76,8 @@ def check(runner, tally, job, refused, lines, output=b"", may_answer=None):
     """One run that is refused something, and one right after it that is not. Answers whether something was refused.
 
     A run that was refused nothing must give its whole output. One that was refused must end with one of `lines`, or of
-    those that `lines` gives for the run; or, if `may_answer` of the run says why that is right, with the whole output."""
+    those that `lines` gives for the run; or, if `may_answer` of the run says why that is right, with the whole output.
+    """
     run = runner.run(job, **refused)
     was_refused = run.counts["refused"] > 0
     told = " ".join(f"{name}={value}" for name, value in refused.items())

@@ -1,4 +1,4 @@
-"""Runs a built program with checks/refusals/refuse.c between it and the C library, and counts what passed and failed."""
+"""Runs a built program with refuse.c between it and the C library, and counts what passed and failed."""
 
 import os
 import shutil

@@ -1,4 +1,5 @@
-"""Which growths were refused, as checks/refusals/refuse.c reports it, and after which of them the output may still come."""
+"""Which growths were refused, as checks/refusals/refuse.c reports it, and after which of them the output may still
+come."""
 
 import bisect
 import re

@@ -5,8 +5,8 @@
 PROGRAM is crates/precopy/out/precopy of this repository if none is given. The memory that the sender had at the stop
 shows that its trace is true: the library and the program make the same of it. The destination must have this memory
 too, and nothing is wrong in its streams by checks/lib/stream_model.py. Then five bugs are planted in the engine
-(checks/sending/bugs.py), and each must be found by its own sign, in every run. Four migrations run at a time, with up to
-eight threads that write.
+(checks/sending/bugs.py), and each must be found by its own sign, in every run. Four migrations run at a time, with up
+to eight threads that write.
 
 Protections of pages are taken away by the kernel, or by a thread. What this kernel does not offer is left out, and a
 line says so. It needs `cc`; `make lib` builds the library if need be. The last line is 'N passed, M failed'; the status

@@ -9,10 +9,10 @@ must have its bars and texts inside, and no text over another, also with 1, 30 a
 of reports and starts are read back, each mark to the numbers that it may stand for. For advice, the cases of the grid
 that it prints are planned by `precopy sweep`, and the choice is made again from those lines. What `predict` and `when`
 say is computed again from `precopy report` and `precopy sweep` with the settings that limits make by the rules of
-docs/COMMANDS.md, over 1,000 random cases; so are the times and bytes of `json report`, `json sweep` and `advise`.
-Words of limits are tried at the ends of their ranges, and with misspellings; times, rates and sizes as words are those
-of checks/view/quantities.tsv and random decimals, for the program and for the tools. The last line is 'N passed, M failed';
-the status is 0 if something was tried and nothing failed.
+docs/COMMANDS.md, over 1,000 random cases; so are the times and bytes of `json report`, `json sweep` and `advise`. Words
+of limits are tried at the ends of their ranges, and with misspellings; times, rates and sizes as words are those of
+checks/view/quantities.tsv and random decimals, for the program and for the tools. The last line is 'N passed, M
+failed'; the status is 0 if something was tried and nothing failed.
 """
 
 import glob
@@ -64,19 +64,19 @@ def rows_below(lines, name):
     """Returns the numbers of the rows of a table whose first column has this name."""
     head = next(number for number, line in enumerate(lines) if line.split()[:1] == [name])
     columns = lines[head].split()
-    rows = itertools.takewhile(str.strip, lines[head + 1:])
+    rows = itertools.takewhile(str.strip, lines[head + 1 :])
     return [dict(zip(columns, map(int, row.split()[: len(columns)]))) for row in rows]
 
 
 def check_hot(lines, width, pages, hot):
     """The runs of hot pages are the first of them, and the strip shows in which cells there are any."""
     head = next(number for number, line in enumerate(lines) if line.startswith("hot pages, in "))
-    below = list(itertools.takewhile(str.strip, lines[head + 1:]))
+    below = list(itertools.takewhile(str.strip, lines[head + 1 :]))
     listed = " ".join(line for line in below if not line.startswith((" |", " and ")))
     runs = re.findall("([0-9]+)(?:-([0-9]+))?", listed)
     shown = [page for first, last in runs for page in range(int(first), int(last or first) + 1)]
     more = sum(int(line.split()[1]) for line in below if line.startswith(" and "))
-    if not lines[head].endswith(f": {len(hot)}") or shown != hot[:len(shown)] or len(shown) + more != len(hot):
+    if not lines[head].endswith(f": {len(hot)}") or shown != hot[: len(shown)] or len(shown) + more != len(hot):
         raise Failure(f"hot pages {shown} and {more} more in place of {hot}")
     if hot:
         cells = min(width - 3, pages)
@@ -154,7 +154,7 @@ def passed_of(tries, view, precopy):
 
 def main():
     built = [os.path.join(TOP, "crates", name, "out", name) for name in ("precopy_view", "precopy")]
-    view, precopy = [os.path.abspath(word) for word in sys.argv[1:3]] + built[len(sys.argv) - 1:]
+    view, precopy = [os.path.abspath(word) for word in sys.argv[1:3]] + built[len(sys.argv) - 1 :]
     tries = []
     for trace in sorted(glob.glob(os.path.join(TOP, "examples", "*.pcwt"))):
         tries += [(check_document, "report", words, trace) for words in SETTINGS]

@@ -116,8 +116,12 @@ def check_measured_sweep(view, precopy, limits, cases, known):
     words = [word for word in limits.words if word.split("=")[0] in ("--tick", "--page", "--sampled")]
     found = document_of("sweep", told(view, ["json", "sweep", *words, *cases], known.path))
     wanted = sweep_facts(told(precopy, ["sweep", *cases], known.path))
-    wanted["units"] = {"tick_seconds": limits.tick / 1e6, "page_bytes": limits.page, "sampled_pages": limits.sampled,
-                       "guest_pages": limits.guest}
+    wanted["units"] = {
+        "tick_seconds": limits.tick / 1e6,
+        "page_bytes": limits.page,
+        "sampled_pages": limits.sampled,
+        "guest_pages": limits.guest,
+    }
     for case in wanted["cases"]:
         case["at_seconds"], case["down_seconds"] = case["at"] * limits.tick / 1e6, case["down"] * limits.tick / 1e6
         case["total_bytes"] = limits.bytes(case["total"])
@@ -132,8 +136,19 @@ def advice_tries(trace):
 
 def random_case(draw):
     least = draw.randrange(1, 5000)
-    return ",".join(map(str, [least, draw.randrange(least, 10_000), draw.randrange(1000), draw.randrange(1, 100),
-                              draw.randrange(1, 31), draw.randrange(2)]))
+    return ",".join(
+        map(
+            str,
+            [
+                least,
+                draw.randrange(least, 10_000),
+                draw.randrange(1000),
+                draw.randrange(1, 100),
+                draw.randrange(1, 31),
+                draw.randrange(2),
+            ],
+        )
+    )
 
 
 def measured_tries(paths):

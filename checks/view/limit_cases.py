@@ -10,8 +10,17 @@ from checks.lib.view_texts import Failure, document_of, ran, report_facts, sweep
 from precopy_dev.models import redrawn, remedies
 
 TIMES = {"us": 1, "ms": 1_000, "s": 1_000_000}
-RATES = {"Kbit": 125, "Mbit": 125_000, "Gbit": 125_000_000, "KB": 1_000, "MB": 10**6, "GB": 10**9,
-         "KiB": 1 << 10, "MiB": 1 << 20, "GiB": 1 << 30}
+RATES = {
+    "Kbit": 125,
+    "Mbit": 125_000,
+    "Gbit": 125_000_000,
+    "KB": 1_000,
+    "MB": 10**6,
+    "GB": 10**9,
+    "KiB": 1 << 10,
+    "MiB": 1 << 20,
+    "GiB": 1 << 30,
+}
 CASES_OF_LIMITS = 600
 CASES_OF_STARTS = 400
 
@@ -51,8 +60,13 @@ class Limits:
         self.first = draw.choice([None, self._rate(draw)])
         self.reserve = draw.choice([0, draw.randrange(100_000)])
         self.downtime = self.reserve + draw.randrange(500_000)
-        self.words = [f"--tick={self.tick}us", f"--page={page}", f"--link={self.link[0]}",
-                      f"--downtime={self.downtime}us", f"--reserve={self.reserve}us"]
+        self.words = [
+            f"--tick={self.tick}us",
+            f"--page={page}",
+            f"--link={self.link[0]}",
+            f"--downtime={self.downtime}us",
+            f"--reserve={self.reserve}us",
+        ]
         if self.first:
             self.words.append(f"--first={self.first[0]}")
         if self.guest > 1:
@@ -90,18 +104,30 @@ def predicted_lines(limits, report, start, last):
     stop = report["stop"]
     if stop["at"] > last:
         recorded = max(0, last - start) * limits.tick
-        return ["converges: unknown, the trace ends before the migration does; record longer",
-                f"total time: more than {time_text(recorded)}"], 0, 4
+        return (
+            [
+                "converges: unknown, the trace ends before the migration does; record longer",
+                f"total time: more than {time_text(recorded)}",
+            ],
+            0,
+            4,
+        )
     time, down, sent = costs_of(limits, start, stop)
     kept = down <= limits.downtime
-    ends = {"few": "yes", "fast": "no, the guest writes faster than the link sends",
-            "rounds": "no, all rounds that are allowed are done"}[stop["why"]]
+    ends = {
+        "few": "yes",
+        "fast": "no, the guest writes faster than the link sends",
+        "rounds": "no, all rounds that are allowed are done",
+    }[stop["why"]]
     if stop["why"] == "few" and not kept:
         raise Failure("few pages are left, and yet the limit is not kept")
     separator = "," if stop["why"] == "few" else ";"
-    lines = [f"converges: {ends}{separator} rounds: {len(report['rounds'])}", f"total time: {time_text(time)}",
-             f"sent: {size_text(sent)}",
-             f"downtime: {time_text(down)}, limit: {time_text(limits.downtime)}, {'kept' if kept else 'not kept'}"]
+    lines = [
+        f"converges: {ends}{separator} rounds: {len(report['rounds'])}",
+        f"total time: {time_text(time)}",
+        f"sent: {size_text(sent)}",
+        f"downtime: {time_text(down)}, limit: {time_text(limits.downtime)}, {'kept' if kept else 'not kept'}",
+    ]
     warnings = [stop["pages"] < 100, stop["why"] != "few"]
     return lines, sum(warnings), 0 if kept else 3
 
@@ -148,19 +174,36 @@ class Ranges:
     def lines(self):
         if not self.known:
             return []
-        spans = [f"{text(min(numbers))} to {text(max(numbers))}" for text, numbers in
-                 ((size_text, self.sizes), (time_text, self.times), (time_text, self.downs))]
-        return [f"starts: {self.count}, known: {len(self.known)}, converging: {self.converging}, "
-                f"limit kept: {self.kept}",
-                f"over known starts: sent {spans[0]}, time {spans[1]}, downtime {spans[2]}"]
+        spans = [
+            f"{text(min(numbers))} to {text(max(numbers))}"
+            for text, numbers in ((size_text, self.sizes), (time_text, self.times), (time_text, self.downs))
+        ]
+        return [
+            f"starts: {self.count}, known: {len(self.known)}, converging: {self.converging}, "
+            f"limit kept: {self.kept}",
+            f"over known starts: sent {spans[0]}, time {spans[1]}, downtime {spans[2]}",
+        ]
 
     def member(self):
         if not self.known:
             return {}
-        costs = {name: {"time_seconds": of(self.times) / 1e6, "sent_bytes": of(self.sizes),
-                        "down_seconds": of(self.downs) / 1e6} for name, of in (("least", min), ("greatest", max))}
-        return {"starts": {"count": self.count, "known": len(self.known), "converging": self.converging,
-                           "kept": self.kept, **costs}}
+        costs = {
+            name: {
+                "time_seconds": of(self.times) / 1e6,
+                "sent_bytes": of(self.sizes),
+                "down_seconds": of(self.downs) / 1e6,
+            }
+            for name, of in (("least", min), ("greatest", max))
+        }
+        return {
+            "starts": {
+                "count": self.count,
+                "known": len(self.known),
+                "converging": self.converging,
+                "kept": self.kept,
+                **costs,
+            }
+        }
 
 
 def predicted_document(limits, report, asked, last, errors, ranges, enough):
@@ -170,25 +213,45 @@ def predicted_document(limits, report, asked, last, errors, ranges, enough):
     settings = {name: int(value) for name, value in (word[2:].split("=") for word in limits.settings())}
     first = {"first_bytes": limits.first[1]} if limits.first else {}
     warm = {} if base is None else {"base": base}
-    migration = {"why": stop["why"], "rounds": len(report["rounds"]), "time_seconds": time / 1e6, "sent_bytes": sent,
-                 "down_seconds": down / 1e6, "left_pages": stop["pages"]}
+    migration = {
+        "why": stop["why"],
+        "rounds": len(report["rounds"]),
+        "time_seconds": time / 1e6,
+        "sent_bytes": sent,
+        "down_seconds": down / 1e6,
+        "left_pages": stop["pages"],
+    }
     if errors:
-        migration["errors"] = {"sent_bytes": errors[0], "time_seconds": errors[1] / 1e6,
-                               "down_seconds": errors[2] / 1e6}
+        migration["errors"] = {
+            "sent_bytes": errors[0],
+            "time_seconds": errors[1] / 1e6,
+            "down_seconds": errors[2] / 1e6,
+        }
     is_known = stop["at"] <= last
 
     def answer(holds):
         return "unknown" if not is_known else "yes" if holds else "no"
 
     return {
-        "units": {"tick_seconds": limits.tick / 1e6, "page_bytes": limits.page, "sampled_pages": limits.sampled,
-                  "guest_pages": limits.guest},
-        "limits": {"link_bytes": limits.link[1], **first, "down_seconds": limits.downtime / 1e6,
-                   "reserve_seconds": limits.reserve / 1e6},
+        "units": {
+            "tick_seconds": limits.tick / 1e6,
+            "page_bytes": limits.page,
+            "sampled_pages": limits.sampled,
+            "guest_pages": limits.guest,
+        },
+        "limits": {
+            "link_bytes": limits.link[1],
+            **first,
+            "down_seconds": limits.downtime / 1e6,
+            "reserve_seconds": limits.reserve / 1e6,
+        },
         "settings": {**settings, "limit": 30, "skip": False, "start": start, **warm},
-        "converges": answer(stop["why"] == "few"), "kept": answer(down <= limits.downtime),
-        "recorded_seconds": max(0, last - start) * limits.tick / 1e6, **({"migration": migration} if is_known else {}),
-        **ranges.member(), "enough": remedy_model.enough_member(enough, lambda micros: micros / 1e6),
+        "converges": answer(stop["why"] == "few"),
+        "kept": answer(down <= limits.downtime),
+        "recorded_seconds": max(0, last - start) * limits.tick / 1e6,
+        **({"migration": migration} if is_known else {}),
+        **ranges.member(),
+        "enough": remedy_model.enough_member(enough, lambda micros: micros / 1e6),
         "hosts": hosts_member(limits.link[1], (limits.downtime - limits.reserve) // 1_000),
     }
 
@@ -227,7 +290,7 @@ def check_prediction(view, precopy, limits, asked, known):
     live = " ".join(["precopy live", *settings[:4], "--rounds 30", *pace]).replace("=", " ")
     hosts = host_lines(limits.link[1], (limits.downtime - limits.reserve) // 1_000)
     rest = [*ranges.lines(), *remedy_model.enough_lines(enough), live, *hosts]
-    if found[len(lines) + warnings:] != rest:
+    if found[len(lines) + warnings :] != rest:
         raise Failure(f"{words}: {found[len(lines) + warnings:]} in place of {rest}")
     status, text, _ = ran(view, ["json", "predict", *words], known.path)
     document = predicted_document(limits, report, asked, known.last, errors, ranges, enough)
@@ -237,8 +300,11 @@ def check_prediction(view, precopy, limits, asked, known):
 
 # ---- Reports in times and bytes.
 
-UNITS = {"window": ["bytes"], "round": ["from_seconds", "to_seconds", "sent_bytes", "dirtied_bytes", "link_share"],
-         "stop": ["at_seconds", "bytes", "down_seconds", "total_bytes"]}
+UNITS = {
+    "window": ["bytes"],
+    "round": ["from_seconds", "to_seconds", "sent_bytes", "dirtied_bytes", "link_share"],
+    "stop": ["at_seconds", "bytes", "down_seconds", "total_bytes"],
+}
 
 
 def without(members, names):
@@ -254,21 +320,53 @@ def check_measured(view, precopy, limits, start, known):
     wanted = report_facts(told(precopy, ["report", *settings, f"--start={start}"], known.path))
     most = limits.rate(limits.link[1])
     tick = limits.tick / 1e6
-    plain = {"trace": found["trace"], "windows": [without(window, UNITS["window"]) for window in found["windows"]],
-             "hot": found["hot"], "rounds": [without(some, UNITS["round"]) for some in found["rounds"]],
-             "stop": without(found["stop"], UNITS["stop"])}
+    plain = {
+        "trace": found["trace"],
+        "windows": [without(window, UNITS["window"]) for window in found["windows"]],
+        "hot": found["hot"],
+        "rounds": [without(some, UNITS["round"]) for some in found["rounds"]],
+        "stop": without(found["stop"], UNITS["stop"]),
+    }
     if plain != wanted:
         raise Failure(f"{plain} in place of {wanted}")
-    pairs = [(found["units"], {"tick_seconds": tick, "window_seconds": 1_000 * tick, "page_bytes": limits.page,
-                               "sampled_pages": limits.sampled, "guest_pages": limits.guest})]
+    pairs = [
+        (
+            found["units"],
+            {
+                "tick_seconds": tick,
+                "window_seconds": 1_000 * tick,
+                "page_bytes": limits.page,
+                "sampled_pages": limits.sampled,
+                "guest_pages": limits.guest,
+            },
+        )
+    ]
     pairs += [(window, {"bytes": limits.bytes(window["pages"])}) for window in found["windows"]]
     for some in found["rounds"]:
-        pairs.append((some, {"from_seconds": some["from"] * tick, "to_seconds": some["to"] * tick,
-                             "sent_bytes": limits.bytes(some["sent"]), "dirtied_bytes": limits.bytes(some["dirtied"]),
-                             "link_share": some["rate"] * 1_000_000 // most / 1e6}))
+        pairs.append(
+            (
+                some,
+                {
+                    "from_seconds": some["from"] * tick,
+                    "to_seconds": some["to"] * tick,
+                    "sent_bytes": limits.bytes(some["sent"]),
+                    "dirtied_bytes": limits.bytes(some["dirtied"]),
+                    "link_share": some["rate"] * 1_000_000 // most / 1e6,
+                },
+            )
+        )
     stop = found["stop"]
-    pairs.append((stop, {"at_seconds": stop["at"] * tick, "bytes": limits.bytes(stop["pages"]),
-                         "down_seconds": stop["down"] * tick, "total_bytes": limits.bytes(stop["total"])}))
+    pairs.append(
+        (
+            stop,
+            {
+                "at_seconds": stop["at"] * tick,
+                "bytes": limits.bytes(stop["pages"]),
+                "down_seconds": stop["down"] * tick,
+                "total_bytes": limits.bytes(stop["total"]),
+            },
+        )
+    )
     for members, more in pairs:
         for name, value in more.items():
             if abs(members[name] - value) > abs(value) * 1e-12:
@@ -286,8 +384,17 @@ def start_costs(precopy, limits, ticks, known):
     for tick in ticks:
         plan = sweep_facts(told(precopy, ["sweep", f"--start={tick}", case], known.path))["cases"][0]
         time, down, sent = costs_of(limits, tick, plan)
-        costs.append({"start": tick, "rounds": plan["rounds"], "time": time, "sent": sent, "down": down,
-                      "kept": down <= limits.downtime, "known": plan["at"] <= known.last})
+        costs.append(
+            {
+                "start": tick,
+                "rounds": plan["rounds"],
+                "time": time,
+                "sent": sent,
+                "down": down,
+                "kept": down <= limits.downtime,
+                "known": plan["at"] <= known.last,
+            }
+        )
     return costs
 
 
@@ -299,8 +406,13 @@ def preference(cost):
 
 def row_of(limits, cost):
     mark = "unknown" if not cost["known"] else "kept" if cost["kept"] else "not kept"
-    cells = [str(cost["start"]), moment_text(cost["start"] * limits.tick), time_text(cost["time"]),
-             size_text(cost["sent"]), time_text(cost["down"])]
+    cells = [
+        str(cost["start"]),
+        moment_text(cost["start"] * limits.tick),
+        time_text(cost["time"]),
+        size_text(cost["sent"]),
+        time_text(cost["down"]),
+    ]
     return "".join(f" {cell:>13}" for cell in cells) + f"  {mark}"
 
 
@@ -309,14 +421,22 @@ def choice_of(limits, name, cost):
         return f"{name} none, since no migration ends within the trace; record longer"
     mark = "kept" if cost["kept"] else "not kept"
     moment = moment_text(cost["start"] * limits.tick)
-    return (f"{name} {moment}, --start {cost['start']}: time {time_text(cost['time'])}, "
-            f"sent {size_text(cost['sent'])}, downtime {time_text(cost['down'])}, {mark}")
+    return (
+        f"{name} {moment}, --start {cost['start']}: time {time_text(cost['time'])}, "
+        f"sent {size_text(cost['sent'])}, downtime {time_text(cost['down'])}, {mark}"
+    )
 
 
 def object_of(limits, cost):
-    return {"start": cost["start"], "start_seconds": cost["start"] * limits.tick / 1e6, "rounds": cost["rounds"],
-            "time_seconds": cost["time"] / 1e6, "sent_bytes": cost["sent"], "down_seconds": cost["down"] / 1e6,
-            "kept": "unknown" if not cost["known"] else "yes" if cost["kept"] else "no"}
+    return {
+        "start": cost["start"],
+        "start_seconds": cost["start"] * limits.tick / 1e6,
+        "rounds": cost["rounds"],
+        "time_seconds": cost["time"] / 1e6,
+        "sent_bytes": cost["sent"],
+        "down_seconds": cost["down"] / 1e6,
+        "kept": "unknown" if not cost["known"] else "yes" if cost["kept"] else "no",
+    }
 
 
 def start_ticks(draw, last):
@@ -344,8 +464,12 @@ def check_starts(view, precopy, limits, starts, workers, known):
     best = min(within, key=preference, default=None)
     worst = max(within, key=preference, default=None)
     heading = "".join(name.rjust(14) for name in ("tick", "start", "time", "sent", "downtime"))
-    lines = [heading, *(row_of(limits, cost) for cost in costs), choice_of(limits, "best: ", best),
-             choice_of(limits, "worst:", worst)]
+    lines = [
+        heading,
+        *(row_of(limits, cost) for cost in costs),
+        choice_of(limits, "best: ", best),
+        choice_of(limits, "worst:", worst),
+    ]
     wanted = 4 if best is None else 0 if best["kept"] else 3
     if status != wanted or text.splitlines() != lines:
         raise Failure(f"{words}: status {status}, {text.splitlines()} in place of {lines}")
@@ -384,12 +508,43 @@ def check_words(view, _, words, status, trace):
         raise Failure(f"{words}: status {found}, {faults!r}")
 
 
-TAKEN = ["--tick=1us", "--tick=1s", "--tick=1.5ms", "--tick=1000000us", "--sampled=1/1", "--sampled=+25/0100",
-         "--sampled=4294967296/4294967296", "--sampled=65536/4294967296", "--page=4096"]
-REFUSED = ["--tick=0us", "--tick=0.9us", "--tick=1000001us", "--tick=1.000001s", "--tick=2s", "--tick=1m", "--tick=1",
-           "--reserve=1", "--first=1", "--sampled=0/1", "--sampled=2/1", "--sampled=1/4294967297", "--sampled=1",
-           "--sampled=1/", "--sampled=/1", "--sampled=1/2/3", "--sampled=1:2", "--sampled=1.5/2", "--page=15",
-           "--page=4097", "--link=1GB", "--downtime=1s", "--first=1GB", "--reserve=1s"]
+TAKEN = [
+    "--tick=1us",
+    "--tick=1s",
+    "--tick=1.5ms",
+    "--tick=1000000us",
+    "--sampled=1/1",
+    "--sampled=+25/0100",
+    "--sampled=4294967296/4294967296",
+    "--sampled=65536/4294967296",
+    "--page=4096",
+]
+REFUSED = [
+    "--tick=0us",
+    "--tick=0.9us",
+    "--tick=1000001us",
+    "--tick=1.000001s",
+    "--tick=2s",
+    "--tick=1m",
+    "--tick=1",
+    "--reserve=1",
+    "--first=1",
+    "--sampled=0/1",
+    "--sampled=2/1",
+    "--sampled=1/4294967297",
+    "--sampled=1",
+    "--sampled=1/",
+    "--sampled=/1",
+    "--sampled=1/2/3",
+    "--sampled=1:2",
+    "--sampled=1.5/2",
+    "--page=15",
+    "--page=4097",
+    "--link=1GB",
+    "--downtime=1s",
+    "--first=1GB",
+    "--reserve=1s",
+]
 
 
 def word_tries(trace):
@@ -397,7 +552,15 @@ def word_tries(trace):
     tries += [(check_words, [word], 2, trace) for word in REFUSED]
     for link, status in (("3KiB", 2), ("4KiB", 0), ("4000000KiB", 0), ("4000004KiB", 2)):
         tries.append((check_words, [f"--link={link}", "--downtime=0s"], status, trace))
-    for more, status in (("--reserve=1ms", 0), ("--reserve=2ms", 2), ("--first=1GB", 0), ("--first=2GB", 2),
-                         ("--max=5", 2), ("--min=5", 2), ("--threshold=5", 2), ("--inc=1000000", 0)):
+    for more, status in (
+        ("--reserve=1ms", 0),
+        ("--reserve=2ms", 2),
+        ("--first=1GB", 0),
+        ("--first=2GB", 2),
+        ("--max=5", 2),
+        ("--min=5", 2),
+        ("--threshold=5", 2),
+        ("--inc=1000000", 0),
+    ):
         tries.append((check_words, ["--link=1GB", "--downtime=1ms", more], status, trace))
     return tries

@@ -8,8 +8,13 @@ from checks.view.quantity_cases import tool_words
 
 DRAWN = 120
 PLAIN = {"link": "1GB", "downtime": "1ms", "tick": "1ms"}
-KINDS = {"tick": tool_words.TIMES, "link": tool_words.RATES, "first": tool_words.RATES, "downtime": tool_words.TIMES,
-         "reserve": tool_words.TIMES}
+KINDS = {
+    "tick": tool_words.TIMES,
+    "link": tool_words.RATES,
+    "first": tool_words.RATES,
+    "downtime": tool_words.TIMES,
+    "reserve": tool_words.TIMES,
+}
 REFUSAL = r"precopy-view: --([a-z]+) (\S+): .*; the (?:nearest|most) is (\S+)\n"
 
 
@@ -64,8 +69,10 @@ def drawn(draw):
     name = draw.choice(["link-low", "link-high", "first-low", "first-high", "downtime", "reserve"])
     low, high = max(0, int(draw.random() / share) - 1), int((1_000_002 + 10 ** draw.randrange(8)) / share) + 1
     changed = {
-        "link-low": {"link": spelled("link", low)}, "link-high": {"link": spelled("link", high)},
-        "first-low": {"first": spelled("link", low)}, "first-high": {"first": spelled("link", rate + high)},
+        "link-low": {"link": spelled("link", low)},
+        "link-high": {"link": spelled("link", high)},
+        "first-low": {"first": spelled("link", low)},
+        "first-high": {"first": spelled("link", rate + high)},
         "downtime": {"downtime": "400000000s", "reserve": f"{draw.randrange(10**6)}us"},
         "reserve": {"downtime": f"{draw.randrange(10**6)}us", "reserve": "100s"},
     }[name]
@@ -78,7 +85,15 @@ def nearest_tries(trace):
     tries = [(check_nearest, *drawn(draw), trace) for _ in range(DRAWN)]
     tries += [(check_nearest, "tick", {**PLAIN, "tick": word}, trace) for word in ("0us", "0.9us", "1.1s", "2m", "9h")]
     tries += [(check_nearest, "page", {**PLAIN, "page": word}, trace) for word in ("0", "15", "4097", "65536")]
-    tries += [(check_sample, asked, nearest, trace) for asked, nearest in (
-        ("0/30", "1/30"), ("31/30", "30/30"), ("0/0", "1/1"), ("7/0", "1/1"), ("30/4294967297", "30/4294967296"),
-        ("5000000000/6000000000", "4294967296/4294967296"))]
+    tries += [
+        (check_sample, asked, nearest, trace)
+        for asked, nearest in (
+            ("0/30", "1/30"),
+            ("31/30", "30/30"),
+            ("0/0", "1/1"),
+            ("7/0", "1/1"),
+            ("30/4294967297", "30/4294967296"),
+            ("5000000000/6000000000", "4294967296/4294967296"),
+        )
+    ]
     return tries

@@ -178,8 +178,10 @@ def read_rounds(pages, rates, axis, report):
     expect(pages.most == max([1, *(max(some["pages"], some["dirtied"]) for some in rounds)]), "the most pages")
     expect(rates.most == max([1, *(some["rate"] for some in rounds)]), "the greatest rate")
     columns = [parted(axis.place(some["from"]), axis.place(some["to"])) for some in rounds]
-    read_stacks(pages, [(*at, {"sent": some["sent"], "skipped": some["pages"] - some["sent"]})
-                        for at, some in zip(columns, rounds)])
+    read_stacks(
+        pages,
+        [(*at, {"sent": some["sent"], "skipped": some["pages"] - some["sent"]}) for at, some in zip(columns, rounds)],
+    )
     read_stacks(rates, [(*at, {"rate": some["rate"]}) for at, some in zip(columns, rounds)])
     marks = pages.marks("dirtied")
     expect(len(marks) == len(rounds), f"{len(marks)} marks of dirtied pages")
@@ -194,14 +196,20 @@ def read_rounds(pages, rates, axis, report):
 
 def report_lines(report, length, limits):
     trace, stop = report["trace"], report["stop"]
-    head = (f"A trace of {trace['pages']} pages of {trace['size']} bytes, {trace['writes']} writes; "
-            f"windows of {length} ticks")
-    feet = [f"Stop ({stop['why']}) at tick {stop['at']}; downtime {stop['down']} ticks for {stop['pages']} pages; "
-            f"{stop['total']} pages sent in all"]
+    head = (
+        f"A trace of {trace['pages']} pages of {trace['size']} bytes, {trace['writes']} writes; "
+        f"windows of {length} ticks"
+    )
+    feet = [
+        f"Stop ({stop['why']}) at tick {stop['at']}; downtime {stop['down']} ticks for {stop['pages']} pages; "
+        f"{stop['total']} pages sent in all"
+    ]
     if limits:
         at, down = moment_text(stop["at"] * limits.tick), time_text(stop["down"] * limits.tick)
-        feet.append(f"Stop at {at}; downtime {down} for {size_text(limits.bytes(stop['pages']))}; "
-                    f"{size_text(limits.bytes(stop['total']))} sent in all")
+        feet.append(
+            f"Stop at {at}; downtime {down} for {size_text(limits.bytes(stop['pages']))}; "
+            f"{size_text(limits.bytes(stop['total']))} sent in all"
+        )
     return [head], feet
 
 
@@ -237,8 +245,11 @@ def micros(number):
     return round(number * 1_000_000)
 
 
-QUANTITIES = [lambda at: micros(at["down_seconds"]) // 1_000, lambda at: micros(at["time_seconds"]) // 1_000,
-              lambda at: at["sent_bytes"] >> 20]
+QUANTITIES = [
+    lambda at: micros(at["down_seconds"]) // 1_000,
+    lambda at: micros(at["time_seconds"]) // 1_000,
+    lambda at: at["sent_bytes"] >> 20,
+]
 
 
 def read_curve(panel, axis, points, starts, number_of):
@@ -251,8 +262,10 @@ def read_curve(panel, axis, points, starts, number_of):
 
 def start_line(name, at, tick):
     down, time = time_text(micros(at["down_seconds"])), time_text(micros(at["time_seconds"]))
-    return (f"{name} start at {moment_text(at['start'] * tick)}: downtime {down}, time {time}, "
-            f"{size_text(at['sent_bytes'])} sent")
+    return (
+        f"{name} start at {moment_text(at['start'] * tick)}: downtime {down}, time {time}, "
+        f"{size_text(at['sent_bytes'])} sent"
+    )
 
 
 def read_starts(picture, axis, document, limit):
@@ -301,8 +314,10 @@ def random_trace(draw, folder, number):
     pages = draw.choice([1, 3, 64, 700])
     last = draw.choice([0, 5, 900, 10**5, 10**9])
     hot = draw.randrange(pages)
-    writes = sorted((draw.choice([0, last, draw.randrange(last + 1)]), draw.choice([hot, draw.randrange(pages)]))
-                    for _ in range(draw.choice([1, 2, 40, 1_500])))
+    writes = sorted(
+        (draw.choice([0, last, draw.randrange(last + 1)]), draw.choice([hot, draw.randrange(pages)]))
+        for _ in range(draw.choice([1, 2, 40, 1_500]))
+    )
     with open(path, "wb") as file:
         file.write(b"PCWT" + bytes([1, 12, 0, 0]) + struct.pack("<II", pages, len(writes)))
         for tick, page in writes:
@@ -317,8 +332,14 @@ def random_window(draw, last):
 def random_pace(draw):
     least = draw.choice([1, 20, 700, 40_000])
     most = draw.choice([least, min(1_000_000, least * draw.choice([2, 9, 100]))])
-    return [f"--min={least}", f"--max={most}", f"--inc={draw.randrange(most)}", f"--threshold={draw.randrange(1, 80)}",
-            f"--rounds={draw.choice([1, 2, 8, 64])}", *draw.choice([[], ["--skip"]])]
+    return [
+        f"--min={least}",
+        f"--max={most}",
+        f"--inc={draw.randrange(most)}",
+        f"--threshold={draw.randrange(1, 80)}",
+        f"--rounds={draw.choice([1, 2, 8, 64])}",
+        *draw.choice([[], ["--skip"]]),
+    ]
 
 
 def random_starts(draw, last):
@@ -333,8 +354,12 @@ def picture_tries(folder):
     known = [Known(random_trace(draw, folder, number)) for number in range(40)]
     for number in range(REPORTS + STARTS):
         some = draw.choice(known)
-        words = {"start": draw.choice([0, some.last, draw.randrange(some.last + 2)]), "pace": random_pace(draw),
-                 "window": random_window(draw, some.last), "starts": random_starts(draw, some.last)}
+        words = {
+            "start": draw.choice([0, some.last, draw.randrange(some.last + 2)]),
+            "pace": random_pace(draw),
+            "window": random_window(draw, some.last),
+            "starts": random_starts(draw, some.last),
+        }
         limits = Limits(draw, some)
         while limits.settings() is None:
             limits = Limits(draw, some)

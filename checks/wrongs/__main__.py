@@ -2,10 +2,10 @@
 
     checks/run wrongs [--calls CALLS] [PROGRAM [WRONG ...]]
 
-PROGRAM is crates/precopy/out/precopy of this repository if none is given, and CALLS that of crates/refused_calls.
-The wrongs are those of checks/wrongs/wrong.c, by name; all of them if none is named. Those whose names begin with CALL_ are
-for calls. Each line has how many cases passed and failed; a check ends early if much fails. The last line is
-'N passed, M failed': a wrong program passes if a case of it failed. It takes up to half a minute for each.
+PROGRAM is crates/precopy/out/precopy of this repository if none is given, and CALLS that of crates/refused_calls. The
+wrongs are those of checks/wrongs/wrong.c, by name; all of them if none is named. Those whose names begin with CALL_ are
+for calls. Each line has how many cases passed and failed; a check ends early if much fails. The last line is 'N passed,
+M failed': a wrong program passes if a case of it failed. It takes up to half a minute for each.
 """
 
 import argparse

@@ -134,7 +134,9 @@ def outside(some: dict[str, Shares]) -> list[str]:
 
 
 def main() -> int:
-    parser = argparse.ArgumentParser(prog="bench/coverage", description=__doc__, formatter_class=argparse.RawDescriptionHelpFormatter)
+    parser = argparse.ArgumentParser(
+        prog="bench/coverage", description=__doc__, formatter_class=argparse.RawDescriptionHelpFormatter
+    )
     folder = os.path.join(tempfile.gettempdir(), "precopy-bench")
     parser.add_argument("names", nargs="*", metavar="NAME", default=NAMES, help="traces of bench/workloads")
     parser.add_argument("--traces", default=folder, metavar="DIR", help=f"where they go, {folder} by default")
@@ -159,8 +161,10 @@ def main() -> int:
         print(row("all", name, shares) if name in KINDS else row(name, "", shares))
     cells = outside({f"{name} {kind}": shares for (name, kind), shares in found.items()})
     at_means = outside(of_kinds)
-    print(f"outside {LOW:.0%} to {HIGH:.0%}: {len(cells)} of {len(WHAT) * len(cases)} cells; means: "
-          + ("; ".join(at_means) or "none"))
+    print(
+        f"outside {LOW:.0%} to {HIGH:.0%}: {len(cells)} of {len(WHAT) * len(cases)} cells; means: "
+        + ("; ".join(at_means) or "none")
+    )
     return 1 if cells or at_means else 0
 
 

@@ -191,16 +191,20 @@ def show(number, kind, schedule, moves, seconds):
     setup = sum(move.real.setup for move in moves) / 1000
     plan_sent, plan = schedule["sent_bytes"] / MIB, schedule["time_seconds"]
     how = f"{kind}: {schedule['at_once']} at once, {schedule['order']}"
-    print(f"| {number} | {how} | **all** | {plan_sent:,.0f} | {sent:,.0f} | {100 * (plan_sent / sent - 1):+.1f} "
-          f"| {plan:.1f} | {seconds:.1f} | {100 * (plan / seconds - 1):+.1f} | {setup:.1f} s of set-up |")
+    print(
+        f"| {number} | {how} | **all** | {plan_sent:,.0f} | {sent:,.0f} | {100 * (plan_sent / sent - 1):+.1f} "
+        f"| {plan:.1f} | {seconds:.1f} | {100 * (plan / seconds - 1):+.1f} | {setup:.1f} s of set-up |"
+    )
     for move in moves:
         sent_apart, time_apart = move.apart()
         real, cost = move.real, move.planned
         note = f"{real.reached() / MIB:.1f} of {cost['link_bytes_per_second'] / MIB:.1f} MiB/s, {real.downtime} ms down"
         note += f", {move.differ:,} pages differ" if move.differ else ""
-        print(f"| {number} | | `{move.name}` | {cost['sent_bytes'] / MIB:,.0f} | {real.sent * 4096 / MIB:,.0f} "
-              f"| {sent_apart:+.1f} | {cost['time_seconds']:.1f} | {real.milliseconds / 1000:.1f} "
-              f"| {time_apart:+.1f} | {note} |")
+        print(
+            f"| {number} | | `{move.name}` | {cost['sent_bytes'] / MIB:,.0f} | {real.sent * 4096 / MIB:,.0f} "
+            f"| {sent_apart:+.1f} | {cost['time_seconds']:.1f} | {real.milliseconds / 1000:.1f} "
+            f"| {time_apart:+.1f} | {note} |"
+        )
     sys.stdout.flush()
 
 
@@ -242,8 +246,10 @@ def main(given):
         host = Host(options, folder, memory_path)
         try:
             host.boot()
-            print(f"{options.guests} guests of {options.memory // MIB} MiB, {options.link / MIB:g} MiB/s, limit "
-                  f"{1000 * options.downtime:g} ms; load {os.getloadavg()[0]:.1f}\n")
+            print(
+                f"{options.guests} guests of {options.memory // MIB} MiB, {options.link / MIB:g} MiB/s, limit "
+                f"{1000 * options.downtime:g} ms; load {os.getloadavg()[0]:.1f}\n"
+            )
             print("| Run | Schedule | Guest | MiB planned | sent | off, % | s planned | taken | off, % | |")
             print("|---|---|---|---|---|---|---|---|---|---|", flush=True)
             differ = sum(one_run(number, host, options, folder) for number in range(1, options.runs + 1))

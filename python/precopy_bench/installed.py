@@ -42,7 +42,9 @@ ROWS = [
 
 
 def asked_for():
-    parser = argparse.ArgumentParser(prog="bench/installed", description=__doc__, formatter_class=argparse.RawDescriptionHelpFormatter)
+    parser = argparse.ArgumentParser(
+        prog="bench/installed", description=__doc__, formatter_class=argparse.RawDescriptionHelpFormatter
+    )
     folder = os.path.join(tempfile.gettempdir(), "precopy-bench")
     program = os.path.join(TOP, "crates", "precopy", "out", "precopy")
     parser.add_argument("-n", type=int, default=4, metavar="RUNS", help="runs of each program, 4 by default")

@@ -113,8 +113,15 @@ def run(folder, *command):
     """Runs a command in a folder, and looks at its memory meanwhile."""
     before, began = resource.getrusage(resource.RUSAGE_CHILDREN), time.monotonic()
     seen = [0]
-    with subprocess.Popen(command, cwd=folder, stdout=subprocess.PIPE, stderr=subprocess.PIPE, text=True,
-                          start_new_session=True, env=environment(folder)) as process:
+    with subprocess.Popen(
+        command,
+        cwd=folder,
+        stdout=subprocess.PIPE,
+        stderr=subprocess.PIPE,
+        text=True,
+        start_new_session=True,
+        env=environment(folder),
+    ) as process:
         watcher = threading.Thread(target=watch, args=(process, seen))
         watcher.start()
         try:
@@ -153,7 +160,18 @@ def over_hosts(folder, holders, options, *more):
     """The costs by GNU parallel over two hosts. A refused record is no reason to try its folder again."""
     costs = f"precopy-evacuate {{}}/*.light.pcwt --costs {shlex.join(options.words)} --jobs 2 || test $? = 1"
     spread = ["--sshlogin", "1/one,1/two", "--transferfile", "{}", "--cleanup", "--retries", "3", "--joblog", "log"]
-    command = [os.path.join(TOP, "dev", "two-hosts"), "--for", "1h", *more, "parallel", "--will-cite", *spread, costs, ":::", *holders]
+    command = [
+        os.path.join(TOP, "dev", "two-hosts"),
+        "--for",
+        "1h",
+        *more,
+        "parallel",
+        "--will-cite",
+        *spread,
+        costs,
+        ":::",
+        *holders,
+    ]
     return run(folder, *command)
 
 
@@ -178,8 +196,12 @@ def try_hosts(folder, holders, options, damaged, here):
 
 def measure(folder, options):
     holders, damaged = make(folder, options.records)
-    records = [os.path.join(holder, name) for holder in holders
-               for name in sorted(os.listdir(os.path.join(folder, holder))) if name.endswith(".pcwt")]
+    records = [
+        os.path.join(holder, name)
+        for holder in holders
+        for name in sorted(os.listdir(os.path.join(folder, holder)))
+        if name.endswith(".pcwt")
+    ]
     print(f"{options.records:,} records; {' '.join(options.words)}; load {os.getloadavg()[0]:.1f}\n")
     print("| What | Seconds | Processor s | MB |\n|---|---|---|---|")
     here = run(folder, TOOLS["evacuate"], *records, "--costs", *options.words)

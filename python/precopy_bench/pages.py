@@ -26,7 +26,9 @@ LIMIT = 300
 
 
 def asked_for():
-    parser = argparse.ArgumentParser(prog="bench/pages", description=__doc__, formatter_class=argparse.RawDescriptionHelpFormatter)
+    parser = argparse.ArgumentParser(
+        prog="bench/pages", description=__doc__, formatter_class=argparse.RawDescriptionHelpFormatter
+    )
     folder = os.path.join(tempfile.gettempdir(), "precopy-bench")
     program = os.path.join(TOP, "crates", "live_counts", "out", "live_counts")
     parser.add_argument("-n", type=int, default=6, metavar="RUNS", help="runs of each program, 6 by default")

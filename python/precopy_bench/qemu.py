@@ -27,7 +27,9 @@ UNLIMITED = 1 << 40
 
 
 def asked_for():
-    parser = argparse.ArgumentParser(prog="bench/qemu", description=__doc__, formatter_class=argparse.RawDescriptionHelpFormatter)
+    parser = argparse.ArgumentParser(
+        prog="bench/qemu", description=__doc__, formatter_class=argparse.RawDescriptionHelpFormatter
+    )
     parser.add_argument("--size", type=int, default=2048, metavar="MIB", help="the guest's memory, 2048 by default")
     parser.add_argument("--channels", default="0,4", metavar="N,N..", help="0 is one plain stream; 0,4 by default")
     parser.add_argument("-n", type=int, default=5, metavar="RUNS", help="runs of each, 5 by default")

@@ -42,7 +42,9 @@ BUSY = 0.3
 
 
 def asked_for():
-    parser = argparse.ArgumentParser(prog="bench/run", description=__doc__, formatter_class=argparse.RawDescriptionHelpFormatter)
+    parser = argparse.ArgumentParser(
+        prog="bench/run", description=__doc__, formatter_class=argparse.RawDescriptionHelpFormatter
+    )
     program = os.path.join(TOP, "crates", "precopy", "out", "precopy")
     folder = os.path.join(tempfile.gettempdir(), "precopy-bench")
     parser.add_argument("-n", type=int, default=5, metavar="RUNS", help="measured runs of each program, 5 by default")

@@ -315,7 +315,9 @@ def make_all(names, seed, folder):
 
 
 def main():
-    parser = argparse.ArgumentParser(prog="bench/workloads", description=__doc__, formatter_class=argparse.RawDescriptionHelpFormatter)
+    parser = argparse.ArgumentParser(
+        prog="bench/workloads", description=__doc__, formatter_class=argparse.RawDescriptionHelpFormatter
+    )
     folder = os.path.join(tempfile.gettempdir(), "precopy-bench")
     parser.add_argument("names", nargs="*", metavar="NAME", help="traces to make")
     parser.add_argument("--traces", default=folder, metavar="DIR", help=f"where they go, {folder} by default")

@@ -35,10 +35,26 @@ DISK_OF_A_BUILD = 3 << 30  # bytes
 SILENCE = 60  # seconds, after which a build says what it works on
 # Seconds of a processor that the slower proofs take, and each of the others, as `dev/measured rt ci` tells them.
 SLOWER = {
-    "trace_views": 287, "live_engine": 280, "page_versions": 262, "predictions": 256, "view_commands": 256,
-    "report_pictures": 251, "trace_codec": 185, "precopy_c": 167, "round_planner": 154, "trace_readers": 148,
-    "job_commands": 140, "sweep_report": 128, "dirty_core": 104, "live_tasks": 103, "precopy_schedule": 103,
-    "precopy_view": 95, "dirty_words": 88, "browser_planner": 88, "migration_jobs": 79, "stream_lanes": 78,
+    "trace_views": 287,
+    "live_engine": 280,
+    "page_versions": 262,
+    "predictions": 256,
+    "view_commands": 256,
+    "report_pictures": 251,
+    "trace_codec": 185,
+    "precopy_c": 167,
+    "round_planner": 154,
+    "trace_readers": 148,
+    "job_commands": 140,
+    "sweep_report": 128,
+    "dirty_core": 104,
+    "live_tasks": 103,
+    "precopy_schedule": 103,
+    "precopy_view": 95,
+    "dirty_words": 88,
+    "browser_planner": 88,
+    "migration_jobs": 79,
+    "stream_lanes": 78,
     "precopy": 77,
 }
 OTHERS = 45

@@ -77,7 +77,7 @@ def light(path):
     """A trace with its ticks and pages, and one byte for each write."""
     trace, records = traces.read_file(os.path.join(TOP, path))
     writes = (traces.RECORD.pack(tick, page, 0, 1) + b"\1" for tick, page, _, _ in records)
-    return trace.text[:traces.HEADER] + b"".join(writes)
+    return trace.text[: traces.HEADER] + b"".join(writes)
 
 
 def packed(data):
@@ -93,8 +93,10 @@ def replaced(text, old, new):
 def page_of(module):
     script = joined_script("page.js")
     style = "\n" + COMMENT.sub("", "".join(read("web", name) for name in STYLES))
-    policy = (f"default-src 'none'; script-src {hash_of(script)} 'wasm-unsafe-eval'; style-src {hash_of(style)}; "
-              "worker-src blob:; img-src data:; connect-src 'none'; form-action 'none'; base-uri 'none'")
+    policy = (
+        f"default-src 'none'; script-src {hash_of(script)} 'wasm-unsafe-eval'; style-src {hash_of(style)}; "
+        "worker-src blob:; img-src data:; connect-src 'none'; form-action 'none'; base-uri 'none'"
+    )
     embedded = {"planner-module": module}
     embedded |= {name: light(path) for name, path in EXAMPLES.items()}
     embedded |= {name: read(path).encode() for name, path in RECORDS.items()}

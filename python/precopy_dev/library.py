@@ -60,7 +60,9 @@ def toolchain():
     command = shutil.which("rt")
     if not command:
         raise Differs("has no command rt on the path")
-    spec = importlib.util.spec_from_file_location("rtlib", os.path.join(os.path.dirname(os.path.realpath(command)), "rtlib.py"))
+    spec = importlib.util.spec_from_file_location(
+        "rtlib", os.path.join(os.path.dirname(os.path.realpath(command)), "rtlib.py")
+    )
     module = importlib.util.module_from_spec(spec)
     try:
         spec.loader.exec_module(module)

@@ -28,8 +28,13 @@ from precopy_tools import version, words
 
 HOSTS = ("one", "two")
 PROGRAMS = {
-    "sshd": "openssh-server", "ssh": "openssh-client", "ssh-keygen": "openssh-client", "ip": "iproute2",
-    "unshare": "util-linux", "nsenter": "util-linux", "mount": "mount",
+    "sshd": "openssh-server",
+    "ssh": "openssh-client",
+    "ssh-keygen": "openssh-client",
+    "ip": "iproute2",
+    "unshare": "util-linux",
+    "nsenter": "util-linux",
+    "mount": "mount",
 }
 INSIDE = "PRECOPY_TWO_HOSTS"
 SECONDS_TO_START = 10

@@ -1,4 +1,4 @@
-"""The commands by name. pip gives each of them a script that calls `run`; the launchers in tools/ name their modules."""
+"""The commands by name. pip gives each of them a script that calls `run`; the launchers in tools/ name the modules."""
 
 import os
 import runpy

@@ -6,8 +6,15 @@ import re
 
 TIMES = {"us": 1, "ms": 1_000, "s": 1_000_000, "m": 60_000_000, "h": 3_600_000_000}
 RATES = {
-    "Kbit": 125, "Mbit": 125_000, "Gbit": 125_000_000, "KB": 1_000, "MB": 1_000_000, "GB": 1_000_000_000,
-    "KiB": 1 << 10, "MiB": 1 << 20, "GiB": 1 << 30,
+    "Kbit": 125,
+    "Mbit": 125_000,
+    "Gbit": 125_000_000,
+    "KB": 1_000,
+    "MB": 1_000_000,
+    "GB": 1_000_000_000,
+    "KiB": 1 << 10,
+    "MiB": 1 << 20,
+    "GiB": 1 << 30,
 }
 SIZES = {f"{letter}{rest}": 1 << power for letter, power in zip("KMGT", (10, 20, 30, 40)) for rest in ("", "iB")}
 DIGITS_BELOW = 1 << 64

@@ -25,8 +25,8 @@ class Settings(NamedTuple):
 
 
 class Outcome(NamedTuple):
-    """How many rounds there are, why they end and at which tick, the ticks of the downtime, the pages that are sent, and
-    those of them that are left at the stop."""
+    """How many rounds there are, why they end and at which tick, the ticks of the downtime, the pages that are
+    sent, and those of them that are left at the stop."""
 
     rounds: int
     reason: str

@@ -1,4 +1,5 @@
-"""What would keep the limit of a migration, as `specs/Remedies.antt` of `predictions` defines it, by plans page by page.
+"""What would keep the limit of a migration, as `specs/Remedies.antt` of `predictions` defines it, by plans page by
+page.
 
 It shares no code with the crate. The numbers in the crate's tests come from here.
 """

@@ -72,7 +72,8 @@ PACKAGES = [
         name="precopy",
         section="utils",
         depends=needed_by_programs,
-        suggests="busybox-static, gcc, libc6-dev, linux-image-amd64, parallel, python3-precopy, qemu-system-x86, valgrind",
+        suggests="busybox-static, gcc, libc6-dev, linux-image-amd64, parallel, python3-precopy, qemu-system-x86, "
+        "valgrind",
         summary="plan and perform pre-copy live migrations of recorded guests",
         text="""\
  precopy reads a trace of the writes of a guest. It tells the writable
@@ -94,7 +95,10 @@ PACKAGES = [
         suggests="precopy",
         summary="plans and memory of recorded guests, as a library",
         text=f"{OF_THE_LIBRARY} This package has what a program needs that is linked with it.\n",
-        parts={"shlibs": f"libprecopy {library.INTERFACE} {library.RUNTIME}\n", "triggers": "activate-noawait ldconfig\n"},
+        parts={
+            "shlibs": f"libprecopy {library.INTERFACE} {library.RUNTIME}\n",
+            "triggers": "activate-noawait ldconfig\n",
+        },
     ),
     Package(
         name=library.DEVELOPMENT,

@@ -28,11 +28,25 @@ def base_of(path: str, trace: traces.Trace, records: list, options: argparse.Nam
         return samples.read(path, trace, [record[:2] for record in records])
     last = max([options.start, *(record[0] for record in records[-1:])])
     return samples.Sample(
-        format=samples.FORMAT, trace_sha256=samples.digest(trace.text), trace_pages=trace.pages,
-        trace_writes=trace.writes, first_tick=options.start, last_tick=last, tick_seconds=options.tick,
-        interval_seconds=options.tick, guest_pages=trace.pages, guest_nonzero=trace.pages, counted_pages=trace.pages,
-        sampled_pages=trace.pages, sampled_nonzero=trace.pages, seed=options.seed, method="trace", samples=1, late=0,
-        taken_at=samples.now(), taken_of=f"trace {os.path.basename(path)}",
+        format=samples.FORMAT,
+        trace_sha256=samples.digest(trace.text),
+        trace_pages=trace.pages,
+        trace_writes=trace.writes,
+        first_tick=options.start,
+        last_tick=last,
+        tick_seconds=options.tick,
+        interval_seconds=options.tick,
+        guest_pages=trace.pages,
+        guest_nonzero=trace.pages,
+        counted_pages=trace.pages,
+        sampled_pages=trace.pages,
+        sampled_nonzero=trace.pages,
+        seed=options.seed,
+        method="trace",
+        samples=1,
+        late=0,
+        taken_at=samples.now(),
+        taken_of=f"trace {os.path.basename(path)}",
     )
 
 

@@ -22,8 +22,10 @@ STYLE = """<style>
 }
 </style>"""
 KEYS = {
-    "moving": ("moves; lines end rounds", 190), "missed": ("misses a limit", 110),
-    "unknown": ("its record is too short", 155), "down": ("downtime, drawn at least two dots wide", 0),
+    "moving": ("moves; lines end rounds", 190),
+    "missed": ("misses a limit", 110),
+    "unknown": ("its record is too short", 155),
+    "down": ("downtime, drawn at least two dots wide", 0),
 }
 
 
@@ -72,8 +74,10 @@ def bar(move: Placed, ends: list[int], rows: Rows, y: float) -> list[str]:
     """One guest: its name, its bar with a line at the end of each round, its downtime, and when it ends."""
     name, cost = move.guest.name, move.cost
     begin, end, stop = (rows.x_of(at) for at in (move.start, move.end, move.end - cost.downtime))
-    told = (f"{name}: {moment_text(move.start)} to {moment_text(move.end)}, {size_text(cost.sent)}, "
-            f"downtime {time_text(cost.downtime)}" + (f"; {cost.why}" if cost.why else ""))
+    told = (
+        f"{name}: {moment_text(move.start)} to {moment_text(move.end)}, {size_text(cost.sent)}, "
+        f"downtime {time_text(cost.downtime)}" + (f"; {cost.why}" if cost.why else "")
+    )
     down = min(stop, end - LEAST_DOWN)
     lines = [
         f"<g><title>{html.escape(told)}</title>",
@@ -125,11 +129,21 @@ def drawn(moves: list[Placed], ends: dict[str, list[int]], title: str, deadline:
     rows = Rows(moves)
     bars = [bar(move, ends.get(move.guest.name, []), rows, rows.y_of(number)) for number, move in enumerate(moves)]
     height = math.ceil(rows.bottom + BELOW)
-    head = (f'<svg xmlns="http://www.w3.org/2000/svg" width="{WIDTH}" height="{height}" '
-            f'viewBox="0 0 {WIDTH} {height}" font-family="sans-serif" font-size="12">')
-    return "\n".join([
-        head, STYLE, '<rect class="paper" width="100%" height="100%"/>',
-        f'<text x="{LEFT}" y="24" font-size="15">{html.escape(title)}</text>',
-        *keys({"down", *map(kind_of, moves)}), *axis(rows), *limit(rows, deadline),
-        *(line for each in bars for line in each), "</svg>", "",
-    ])
+    head = (
+        f'<svg xmlns="http://www.w3.org/2000/svg" width="{WIDTH}" height="{height}" '
+        f'viewBox="0 0 {WIDTH} {height}" font-family="sans-serif" font-size="12">'
+    )
+    return "\n".join(
+        [
+            head,
+            STYLE,
+            '<rect class="paper" width="100%" height="100%"/>',
+            f'<text x="{LEFT}" y="24" font-size="15">{html.escape(title)}</text>',
+            *keys({"down", *map(kind_of, moves)}),
+            *axis(rows),
+            *limit(rows, deadline),
+            *(line for each in bars for line in each),
+            "</svg>",
+            "",
+        ]
+    )

@@ -113,8 +113,10 @@ def costs_of(options: argparse.Namespace, settings: host_settings.Settings) -> t
     told = [path for path in options.records if path.endswith(".jsonl")]
     count = len(paths) + sum(lines_in(path) for path in told)
     asked = host_costs.Asked(
-        options.program, options.link - settings.reserve,
-        options.at_once or host_schedules.numbers_up_to(max(count, 1)), options.tick,
+        options.program,
+        options.link - settings.reserve,
+        options.at_once or host_schedules.numbers_up_to(max(count, 1)),
+        options.tick,
     )
     found: list[tuple[str, Guest | str]] = []
     for path in told:
@@ -220,42 +222,63 @@ def show(options: argparse.Namespace, guests: list[Guest], answer: Answer) -> No
     print(f"{'at once':>7}  {'order':<18}{'time':>13}{'sent':>13}{'downtime':>13}  limits")
     for each in answer.schedules:
         mark = "  <- best" if each is answer.best else ""
-        print(f"{each.at_once:>7}  {each.order:<18}{time_text(each.time):>13}{size_text(each.sent):>13}"
-              f"{time_text(each.downtime):>13}  {misses(each, options.deadline)}{mark}")
+        print(
+            f"{each.at_once:>7}  {each.order:<18}{time_text(each.time):>13}{size_text(each.sent):>13}"
+            f"{time_text(each.downtime):>13}  {misses(each, options.deadline)}{mark}"
+        )
     for line in doubts(guests, dict.fromkeys(each.at_once for each in answer.schedules)):
         print(line)
     print(f"\nbest: {answer.best.at_once} at once, {answer.best.order}")
     width = max(len("guest"), *(len(move.guest.name) for move in answer.moves))
-    print(f"{'guest':<{width}}{'start':>15}{'end':>15}{'share, Gbit/s':>15}{'sent':>13}{'downtime':>13}  "
-          "time by start")
+    print(
+        f"{'guest':<{width}}{'start':>15}{'end':>15}{'share, Gbit/s':>15}{'sent':>13}{'downtime':>13}  " "time by start"
+    )
     for move in answer.moves:
         cost = move.cost
         note = f"  {cost.why}" if cost.why else ""
-        print(f"{move.guest.name:<{width}}{moment_text(move.start):>15}{moment_text(move.end):>15}"
-              f"{gigabits(cost.share):>15}{size_text(cost.sent):>13}{time_text(cost.downtime):>13}"
-              f"  {time_text(cost.least)} to {time_text(cost.most)}{note}")
+        print(
+            f"{move.guest.name:<{width}}{moment_text(move.start):>15}{moment_text(move.end):>15}"
+            f"{gigabits(cost.share):>15}{size_text(cost.sent):>13}{time_text(cost.downtime):>13}"
+            f"  {time_text(cost.least)} to {time_text(cost.most)}{note}"
+        )
     print("\n".join(["", *lines.lines(options.lines, answer.moves, options.to)]))
 
 
 def cost_document(cost: host_costs.Cost) -> dict:
     return {
-        "at_once": cost.at_once, "link_bytes_per_second": cost.share, "time_seconds": cost.time / 1e6,
-        "least_time_seconds": cost.least / 1e6, "most_time_seconds": cost.most / 1e6, "sent_bytes": cost.sent,
-        "down_seconds": cost.downtime / 1e6, "converges": cost.converges, "kept": cost.kept, "missed": cost.why,
+        "at_once": cost.at_once,
+        "link_bytes_per_second": cost.share,
+        "time_seconds": cost.time / 1e6,
+        "least_time_seconds": cost.least / 1e6,
+        "most_time_seconds": cost.most / 1e6,
+        "sent_bytes": cost.sent,
+        "down_seconds": cost.downtime / 1e6,
+        "converges": cost.converges,
+        "kept": cost.kept,
+        "missed": cost.why,
     }
 
 
 def schedule_document(schedule: Schedule, deadline: float | None) -> dict:
     return {
-        "at_once": schedule.at_once, "order": schedule.order, "time_seconds": schedule.time / 1e6,
-        "sent_bytes": schedule.sent, "down_seconds": schedule.downtime / 1e6, "kept": schedule.kept,
-        "limits": misses(schedule, deadline), "guests": [guest.name for guest in schedule.guests],
+        "at_once": schedule.at_once,
+        "order": schedule.order,
+        "time_seconds": schedule.time / 1e6,
+        "sent_bytes": schedule.sent,
+        "down_seconds": schedule.downtime / 1e6,
+        "kept": schedule.kept,
+        "limits": misses(schedule, deadline),
+        "guests": [guest.name for guest in schedule.guests],
     }
 
 
 def move_document(move: Placed) -> dict:
-    return {"guest": move.guest.name, "start_seconds": move.start / 1e6, "end_seconds": move.end / 1e6,
-            "slot": move.slot}
+    return {
+        "guest": move.guest.name,
+        "start_seconds": move.start / 1e6,
+        "end_seconds": move.end / 1e6,
+        "slot": move.slot,
+    }
 
 
 def document(options: argparse.Namespace, guests: list[Guest], answer: Answer, refused: list[Refusal]) -> dict:
@@ -266,13 +289,18 @@ def document(options: argparse.Namespace, guests: list[Guest], answer: Answer, r
         "downtime_seconds": options.downtime,
         **({"deadline_seconds": options.deadline} if options.deadline else {}),
         "guests": [
-            {"name": guest.name, "record": guest.record, "downtime_seconds": guest.limits.downtime,
-             "costs": [cost_document(cost) for cost in guest.costs.values()]}
+            {
+                "name": guest.name,
+                "record": guest.record,
+                "downtime_seconds": guest.limits.downtime,
+                "costs": [cost_document(cost) for cost in guest.costs.values()],
+            }
             for guest in guests
         ],
         "schedules": [schedule_document(each, options.deadline) for each in answer.schedules],
         "best": {
-            "schedule": answer.schedules.index(answer.best), "moves": [move_document(each) for each in answer.moves],
+            "schedule": answer.schedules.index(answer.best),
+            "moves": [move_document(each) for each in answer.moves],
         },
         "refused": [{"record": path, "why": why} for path, why in refused],
     }

@@ -98,10 +98,24 @@ def whole(path: str, trace: traces.Trace, written: list[tuple[int, int]], tick: 
     """The sample of all pages of a trace that has no file beside it."""
     last = written[-1][0] if written else 0
     return samples.Sample(
-        format=samples.FORMAT, trace_sha256=samples.digest(trace.text), trace_pages=trace.pages,
-        trace_writes=trace.writes, first_tick=0, last_tick=last, tick_seconds=tick, interval_seconds=tick,
-        guest_pages=trace.pages, guest_nonzero=trace.pages, counted_pages=trace.pages, sampled_pages=trace.pages,
-        sampled_nonzero=trace.pages, seed=0, method="trace", samples=1, late=0, taken_at=samples.now(),
+        format=samples.FORMAT,
+        trace_sha256=samples.digest(trace.text),
+        trace_pages=trace.pages,
+        trace_writes=trace.writes,
+        first_tick=0,
+        last_tick=last,
+        tick_seconds=tick,
+        interval_seconds=tick,
+        guest_pages=trace.pages,
+        guest_nonzero=trace.pages,
+        counted_pages=trace.pages,
+        sampled_pages=trace.pages,
+        sampled_nonzero=trace.pages,
+        seed=0,
+        method="trace",
+        samples=1,
+        late=0,
+        taken_at=samples.now(),
         taken_of=f"trace {os.path.basename(path)}",
     )
 

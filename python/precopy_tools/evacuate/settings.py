@@ -77,7 +77,8 @@ def read(path: str) -> Settings:
         raise Refused(f"{path}: guests is no JSON object")
     reserve = quantity(path, "reserve", fields["reserve"], words.link) if "reserve" in fields else 0.0
     return Settings(
-        reserve, apart_of(path, fields.get("apart", [])),
+        reserve,
+        apart_of(path, fields.get("apart", [])),
         {name: guest_of(path, name, each) for name, each in guests.items()},
     )
 

@@ -130,8 +130,10 @@ def rules_of(sample: Sample, trace: traces.Trace, written: list[tuple[int, int]]
         ("trace_pages is the number of the trace", sample.trace_pages == trace.pages),
         ("trace_writes is the number of the trace", sample.trace_writes == trace.writes),
         ("trace_sha256 is the SHA-256 of the trace", digest_fits),
-        ("first_tick is at most last_tick, and no write but those of tick 0 is before it",
-         sample.first_tick <= sample.last_tick and not early),
+        (
+            "first_tick is at most last_tick, and no write but those of tick 0 is before it",
+            sample.first_tick <= sample.last_tick and not early,
+        ),
         ("last_tick is not before the last write", last <= sample.last_tick),
         ("interval_seconds is tick_seconds or more", sample.interval_seconds >= sample.tick_seconds),
         ("sampled_pages is from trace_pages up to guest_pages", trace.pages <= sampled <= min(guest, MOST_PAGES)),
@@ -177,7 +179,11 @@ def thinned(base: Sample, records: list, one_in: int, seed: int) -> tuple[Sample
     pages = max(1, len(number_of))
     found = {page for tick, page, *_ in kept if tick < base.first_tick}
     thin = dataclasses.replace(
-        base, trace_pages=pages, trace_writes=len(kept), sampled_pages=len(drawn), seed=seed,
+        base,
+        trace_pages=pages,
+        trace_writes=len(kept),
+        sampled_pages=len(drawn),
+        seed=seed,
         sampled_nonzero=pages if base.method == "trace" else len(found),
     )
     return thin, kept

@@ -62,8 +62,11 @@ def named(traces_or_series: list[str]) -> list[str]:
     """The traces of some words: a file by its name, and the segments of a series by that of the series."""
     found = []
     for word in traces_or_series:
-        segments = [] if os.path.exists(word) or not os.path.isdir(os.path.dirname(os.path.abspath(word))) \
+        segments = (
+            []
+            if os.path.exists(word) or not os.path.isdir(os.path.dirname(os.path.abspath(word)))
             else series.Series(word).paths()
+        )
         found += segments or [word]
     return found
 
@@ -72,13 +75,20 @@ def show_each(options: argparse.Namespace, path: str) -> tuple[int, list[day_cha
     """Prints the line of one of several traces. Returns its status, and the starts whose migration ends within it."""
     forecast, link = asked(options, path)
     told, when = forecast.told(link), forecast.starts(link, options.starts)
-    moments = {name: (forecast.moment(when[name]["start_seconds"]), when[name])
-               for name in ("best", "worst") if name in when}
+    moments = {
+        name: (forecast.moment(when[name]["start_seconds"]), when[name]) for name in ("best", "worst") if name in when
+    }
     print(texts.of_several(told, forecast.moment(options.start), moments, forecast.sample), flush=True)
     return STATUSES[told["kept"]], [
-        day_chart.Start(forecast.moment(it["start_seconds"]), it["sent_bytes"], it["time_seconds"], it["down_seconds"],
-                        it["kept"] == "yes")
-        for it in when["starts"] if it["kept"] != "unknown"
+        day_chart.Start(
+            forecast.moment(it["start_seconds"]),
+            it["sent_bytes"],
+            it["time_seconds"],
+            it["down_seconds"],
+            it["kept"] == "yes",
+        )
+        for it in when["starts"]
+        if it["kept"] != "unknown"
     ]
 
 

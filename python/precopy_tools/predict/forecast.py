@@ -65,9 +65,7 @@ class Forecast:
         """What a trace in longer ticks stands for. Its pages are drawn from those of the guest that are not zero, whose
         number NAME.json has from a larger count; so chance does not move how many of them there are."""
         pages = self.sample.trace_pages
-        return plans.Scale(
-            self.tick() * factor, self.page_size, pages, max(pages, round(pages * self.sample.weight))
-        )
+        return plans.Scale(self.tick() * factor, self.page_size, pages, max(pages, round(pages * self.sample.weight)))
 
     def factor(self, link: Link) -> int:
         """By how much ticks are made longer: for a rate of 500 or more, if they fit the downtime limit."""

@@ -23,7 +23,9 @@ def cost(told: dict) -> list[str]:
         return [SHORT]
     errors, parts = migration.get("errors", {}), []
     for name, text, of_error in (
-        ("sent_bytes", size_text, size_text), ("time_seconds", time, error), ("down_seconds", time, error)
+        ("sent_bytes", size_text, size_text),
+        ("time_seconds", time, error),
+        ("down_seconds", time, error),
     ):
         parts.append(text(migration[name]) + (f" +- {of_error(errors[name])}" if name in errors else ""))
     return [*parts, "converges" if told["converges"] == "yes" else "does not converge"]

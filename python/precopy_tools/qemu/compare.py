@@ -107,8 +107,11 @@ def workload_of(options):
 
 def set_capabilities(client, options):
     """What both processes are to do alike: how pages are sent."""
-    wanted = {"multifd": bool(options.multifd), "compress": options.compress and not options.multifd,
-              "auto-converge": options.auto_converge}
+    wanted = {
+        "multifd": bool(options.multifd),
+        "compress": options.compress and not options.multifd,
+        "auto-converge": options.auto_converge,
+    }
     asked = [{"capability": name, "state": True} for name, is_wanted in wanted.items() if is_wanted]
     if asked:
         client.ask("migrate-set-capabilities", capabilities=asked)
@@ -309,7 +312,9 @@ def compare(options, folder, memory_folder, guests):
 
 def parser_of():
     parser = argparse.ArgumentParser(
-        prog="compare-qemu", description=__doc__, formatter_class=argparse.RawDescriptionHelpFormatter,
+        prog="compare-qemu",
+        description=__doc__,
+        formatter_class=argparse.RawDescriptionHelpFormatter,
         allow_abbrev=False,
     )
     version.add_to(parser)

@@ -242,12 +242,16 @@ def recorder_of(options, writer):
     pages = sum(end - begin for begin, end in whole.ranges()) // memory.PAGE
     if options.compact or pages <= samples.MOST_PAGES:
         if is_light_name(options) and not options.light:
-            raise WordsRefused(f"all {pages:,} pages fit a trace, which has their bytes: its name does not end in "
-                               f".light.pcwt. --pages {samples.DEFAULT_PAGES} draws pages, --light leaves bytes out")
+            raise WordsRefused(
+                f"all {pages:,} pages fit a trace, which has their bytes: its name does not end in "
+                f".light.pcwt. --pages {samples.DEFAULT_PAGES} draws pages, --light leaves bytes out"
+            )
         return WholeRecorder(whole, writer, options)
     if not is_light_name(options):
-        raise WordsRefused(f"{pages:,} pages are more than the {samples.MOST_PAGES:,} of a trace, so pages are drawn. "
-                           f"{LIGHT_NAME}. --compact tries all pages that are not zero")
+        raise WordsRefused(
+            f"{pages:,} pages are more than the {samples.MOST_PAGES:,} of a trace, so pages are drawn. "
+            f"{LIGHT_NAME}. --compact tries all pages that are not zero"
+        )
     options.is_sampled = True
     sampled_options(options, refused)
     return SampleRecorder(SampledGuest(options, source), writer, options)

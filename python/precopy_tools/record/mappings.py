@@ -50,7 +50,10 @@ class Mapping(NamedTuple):
     def follows(self, before: "Mapping") -> bool:
         """Whether it goes on where another one ends, in the same memory."""
         if (before.end, before.rights, before.device, before.inode) != (
-            self.begin, self.rights, self.device, self.inode
+            self.begin,
+            self.rights,
+            self.device,
+            self.inode,
         ) or before.name != self.name:
             return False
         return not self.inode or self.offset == before.offset + before.size
@@ -131,7 +134,9 @@ def listed_ranges(process: int, ranges: list[tuple[int, int]]) -> str:
     """Lines of the mappings, as far as they are in the ranges."""
     parts = [
         it._replace(begin=max(it.begin, begin), end=min(it.end, end))
-        for it in memory_of(process) for begin, end in ranges if it.begin < end and begin < it.end
+        for it in memory_of(process)
+        for begin, end in ranges
+        if it.begin < end and begin < it.end
     ]
     return listed(parts)
 
