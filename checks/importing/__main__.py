@@ -56,8 +56,6 @@ def expect(holds, told):
 
 
 def run(command, text=b""):
-    if command[0] in (IMPORT, EXPORT, RELEASE):
-        command = [sys.executable, *command]
     return subprocess.run(command, input=text, capture_output=True, timeout=SECONDS)
 
 
