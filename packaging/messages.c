@@ -2,16 +2,12 @@
 #include "precopy.h"
 
 #ifndef PRECOPY_VERSION
-#error "PRECOPY_VERSION is the version of python/precopy_tools/version.py: python/precopy_dev/packaging/library.py gives it"
+#error "PRECOPY_VERSION is the version of precopy_tools/version.py: packaging/library.py gives it"
 #endif
 
-const char *precopy_version(void) {
-    return PRECOPY_VERSION;
-}
+const char *precopy_version(void) { return PRECOPY_VERSION; }
 
-uint32_t precopy_abi(void) {
-    return PRECOPY_ABI;
-}
+uint32_t precopy_abi(void) { return PRECOPY_ABI; }
 
 const char *precopy_strerror(uint32_t status) {
     switch (status) {

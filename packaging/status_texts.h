@@ -1,4 +1,5 @@
 /* Made by dev/interface from include/precopy.h: the cases of precopy_strerror. */
+/* clang-format off */
     case PRECOPY_OK:
         return "done";
     case PRECOPY_SHORT_HEADER:

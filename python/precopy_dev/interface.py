@@ -87,7 +87,8 @@ def read_header(text: str) -> Interface:
 def texts_in_c(interface: Interface) -> str:
     cases = (f'    case PRECOPY_{it.constant}:\n        return "{it.line()}";\n' for it in interface.statuses)
     first = '    case PRECOPY_OK:\n        return "done";\n'
-    return f"/* Made by dev/interface from {HEADER}: the cases of precopy_strerror. */\n{first}{''.join(cases)}"
+    head = f"/* Made by dev/interface from {HEADER}: the cases of precopy_strerror. */\n/* clang-format off */\n"
+    return f"{head}{first}{''.join(cases)}"
 
 
 def statuses_in_rust(interface: Interface) -> str:
