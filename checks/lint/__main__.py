@@ -42,6 +42,10 @@ def texts() -> list[str]:
     return [path for path in sources() if path.endswith(ends) and not path.startswith(left_out)]
 
 
+def rust() -> list[str]:
+    return [path for path in sources() if path.endswith(".rs") and not path.startswith("bench/")]
+
+
 # A command, Debian's package of it, the words before the files, and the files.
 TOOLS = (
     ("flake8", "flake8", [], ending(".py")),
@@ -50,7 +54,7 @@ TOOLS = (
     ("shellcheck", "shellcheck", ["-x"], shell_scripts),
     ("codespell", "codespell", [], texts),
     ("clang-format", "clang-format", ["--dry-run", "--Werror"], ending(".c", ".h")),
-    ("rustfmt", "rustfmt", ["--check", "--config", "max_width=120"], ending(".rs")),
+    ("rustfmt", "rustfmt", ["--check", "--config", "max_width=120"], rust),
 )
 
 

@@ -48,9 +48,10 @@ from ._refusals import check_over as _check_over
 __all__ = [
     "Amounts", "BufferRefused", "Errors", "Finding", "FlatMemory", "Frame", "FrameRefused", "NoMemory", "PlaceRefused",
     "Prediction", "Question", "QuestionRefused", "Reason", "Refused", "Round", "Settings", "SettingsRefused", "Sizes",
-    "StreamCheck", "Sums", "Taken", "TraceRefused", "Verdict", "Write", "check_settings", "check_streams", "check_trace",
-    "decode_frame", "encode_frame", "enough", "is_zero", "memory", "memory_before", "memory_step", "page_at",
-    "page_writes", "plan", "predict", "report", "rounds", "sweep", "version", "version_after", "writes_before",
+    "StreamCheck", "Sums", "Taken", "TraceRefused", "Verdict", "Write", "check_settings", "check_streams",
+    "check_trace", "decode_frame", "encode_frame", "enough", "is_zero", "memory", "memory_before", "memory_step",
+    "page_at", "page_writes", "plan", "predict", "report", "rounds", "sweep", "version", "version_after",
+    "writes_before",
 ]  # fmt: skip
 
 
