@@ -17,7 +17,7 @@ import errno
 import os
 import sys
 
-from precopy_dev.packaging import archive, compilers, contents, debian, documents, library, options
+from precopy_dev.packaging import archive, compilers, contents, debian, documents, library, notices, options
 from precopy_dev.tree import TOP
 
 # The lists of what an installation put where, in the folder of the tools: of all, and of the library alone.
@@ -160,7 +160,7 @@ def main(words):
     asked = options_of(words)
     try:
         WORK.get(asked.what, pack)(asked)
-    except (contents.NotBuilt, compilers.Lacks, documents.Differs, options.Unread) as fault:
+    except (contents.NotBuilt, compilers.Lacks, documents.Differs, notices.Lacks, options.Unread) as fault:
         print(f"make: {fault}", file=sys.stderr)
         return 1
     except OSError as fault:
