@@ -60,6 +60,19 @@ fn main(rt: HostRuntime) -> io::Result<()> {
     Ok(())
 }
 """
+# Refuses every word, as a program that has none.
+WORDLESS = """\
+//! A program for a trial of the build.
+#![tactic(auto)]
+
+use low::next;
+use std::process::ExitCode;
+
+fn main(rt: HostRuntime) -> ExitCode {
+    let number = next(2) as u8;
+    ExitCode::from(number)
+}
+"""
 # Takes the place of precopy_view, and prints what it was given.
 VIEW = """\
 #!/bin/sh
@@ -168,6 +181,16 @@ def build_at_first(tally, tree):
     ran = tree.run()
     tally.add(ran.output == "number 7\n" and not ran.faults, f"the second run: {ran}")
     tally.add(time.monotonic() - begun < 5, "the second run builds again")
+
+
+def refuse_words(tally, tree):
+    """A program is built whatever it answers to a word that it does not have."""
+    tree.write("crates/precopy/src/main.rt", WORDLESS)
+    ran = tree.run("dev/build")
+    tally.add(ran.status == 0 and "precopy is built, " in ran.faults, f"a program that refuses --help: {ran}")
+    ran = tree.run("./precopy", "word")
+    tally.add(ran.status == 3 and not ran.faults, f"a program that refuses its words: {ran}")
+    tree.set_program(8)
 
 
 def tell_after_silence(tally, tree):
@@ -328,6 +351,7 @@ def check(tally, folder):
     run_without_rights(tally, tree)
     build_twice_at_once(tally, tree)
     edit_meanwhile(tally, tree)
+    refuse_words(tally, tree)
     tell_after_silence(tally, tree)
     fail(tally, tree)
     for number in (signal.SIGINT, signal.SIGTERM, signal.SIGHUP):

@@ -53,6 +53,9 @@ def run_from_there(tally, prefix):
     tally.add(told.startswith(b'{"trace":{"pages":4,"size":16,"writes":5}'), f"the installed precopy-view: {told[:80]}")
     told = shell("precopy-view --version")
     tally.add(told.decode() == f"precopy-view (precopy) {version.VERSION}\n", f"precopy-view --version tells {told!r}")
+    for name in contents.HELPERS:
+        told = output_of(os.path.join(prefix, "lib", "precopy", name), "--version").decode()
+        tally.add(told == f"{name} (precopy) {version.VERSION}\n", f"{name} --version tells {told!r}")
     back = shell(f"precopy-export '{trace}' - | precopy-import - - | cmp - '{trace}' && echo same")
     tally.add(back == b"same\n", f"installed precopy-export and precopy-import: {back}")
     where = "import places; print(places.program())"

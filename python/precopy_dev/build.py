@@ -7,6 +7,10 @@ proved stays in crates/*/out, so a build that was stopped goes on with the crate
 error. The status is 0 if all is built, 1 if not, 2 if the words are refused, and 128 and the number of the signal if
 one stopped the build.
 
+The toolchain has no command that builds a program and does not run it. So each program is run once it is built, with
+`--help` and no input. What it answers is not judged, since a program may have no such word: the build fails only if a
+signal stops it.
+
 With --if-needed nothing is done if no source is newer than what is built. --proved is for a tree that `rt ci` has just
 passed: it takes the libraries that this left, and does not prove them once more. With --below only the libraries below
 NAME are built, as for a build of it for another machine.
@@ -58,6 +62,8 @@ SLOWER = {
     "precopy": 77,
 }
 OTHERS = 45
+RUNS = b"rt: running out/"  # what rt says when a program is built, before it runs it
+SIGNALS = 128  # what rt adds to the number of a signal that stopped the program
 # What a shell or Python makes of a process that was killed, which the kernel does when memory runs out.
 KILLED = (-signal.SIGKILL, 128 + signal.SIGKILL, 256 - signal.SIGKILL)
 
@@ -320,15 +326,22 @@ def build_top(name, began):
     with tempfile.TemporaryFile() as log:
         how = {"cwd": f"{TOP}/crates/{name}", "stdin": subprocess.DEVNULL, "stdout": log, "stderr": subprocess.STDOUT}
         status = ended(subprocess.Popen(["rt", *words], **how), name)
-        if status:
-            log.seek(0)
-            sys.stderr.write(log.read().decode(errors="replace"))
+        log.seek(0)
+        told = log.read()
+        if not is_well(status, told):
+            sys.stderr.write(told.decode(errors="replace"))
             say(f"the crate {name} could not be built")
             tell_what_to_do(name, status)
             return False
     os.utime(file_of(name), (began, began))
     say(f"{name} is built, {VOICE.clock()}")
     return True
+
+
+def is_well(status, told):
+    """Returns whether rt built what it was asked for, by its status and what was told. A program that it ran may have
+    answered with any status, but no signal may have stopped it."""
+    return status == 0 or (RUNS in told and 0 < status < SIGNALS)
 
 
 def ended(process, name):

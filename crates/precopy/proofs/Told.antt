@@ -1,5 +1,5 @@
 -- What an error of words says of them.
-use Rattle.std.proofs.Common.{◌≡◌, ℕ, List, subst, sym}
+use Rattle.std.proofs.Common.{ℕ, List}
 use Rattle.job_commands.specs.Commands.{AskForHelp, WordsFail}
 use Rattle.job_commands.specs.declared.command.WordsError.{WordsError}
 use Rattle.job_commands.specs.declared.command.WordsError.TheVariants.{Help, Memory, Refused, Usage}
@@ -12,7 +12,3 @@ asked_for words (Help shown) text asks is = asks
 asked_for words Memory text asks is = absurd is
 asked_for words (Usage shown) text asks is = absurd is
 asked_for words (Refused refusal) text asks is = absurd is
-
--- lack of memory has no help text
-pub no_text : (e : WordsError) → e ≡ Memory → (text : List ℕ) → ¬ IsHelpText e text
-no_text e is text = subst (λ (x : WordsError). ¬ IsHelpText x text) (sym is) (λ none. none)

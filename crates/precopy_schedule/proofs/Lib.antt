@@ -3,3 +3,4 @@ pub mod ScheduleLemmas
 pub mod Orders
 pub mod TableLemmas
 pub mod EndLemmas
+pub mod WordLemmas

@@ -1,6 +1,5 @@
 -- How the program ends.
-use Rattle.std.specs.Prelude.{◌≡◌, ◌≢◌, ◌⊎◌, ◌^◌, ◌<◌, ◌≤◌, ◌++◌, ◌∷◌, [], ℕ, Bool, true, List, length, ⊤, Option}
-use Rattle.std.specs.Prelude.{IfSome, codes}
+use Rattle.std.specs.Prelude.{◌≡◌, ◌≢◌, ◌↔◌, ◌^◌, ◌<◌, ◌≤◌, [], ℕ, Bool, true, List, length, ⊤, Option, IfSome}
 use Rattle.std.specs.Io.KnownBytes.{Appends}
 use Rattle.byte_sinks.specs.Sink.{AppendsPart}
 use Rattle.precopy_schedule.specs.Answers.{IsAnswerText}
@@ -38,19 +37,21 @@ RefusesBytes bytes (errors.Line number) = (length bytes ≤ 2 ^ 28) × RefusesTa
 abbrev pub IsRefused : Option (List ℕ) → TableError → Type 0
 IsRefused known e = IfSome known (λ bytes. RefusesBytes bytes e)
 
--- a text was written that answers the bytes of the source, if they are known
+-- a text that answers the bytes of the source, if they are known, or a prefix of it, was added to what a sink held
 abbrev pub WritesAnswer : Option (List ℕ) → Option (List ℕ) → Option (List ℕ) → Type 0
 WritesAnswer known old new = (text : List ℕ) × Appends old new text × IfSome known (Answers text)
 
--- a run failed for some error, and nothing was written unless that was a write
-abbrev pub FailsFor : Option (List ℕ) → Type 0 → Type 0
-FailsFor known kept = (e : TableError) × IsRefused known e × (e ≢ errors.Write → kept)
+abbrev pub WritesAnswerPart : Option (List ℕ) → Option (List ℕ) → Option (List ℕ) → Type 0
+WritesAnswerPart known old new = (text : List ℕ) × AppendsPart old new text × IfSome known (Answers text)
 
--- the name of the program, a cause of which nothing is said, and a newline
-abbrev pub FaultLine : List ℕ → Type 0
-FaultLine line = (cause : List ℕ) × (line ≡ codes "precopy-schedule: " ++ (cause ++ 10 ∷ []))
-
--- a fault line was written, or a prefix of it before a write failed
-abbrev pub TellsFault : Option (List ℕ) → Option (List ℕ) → Bool → Type 0
-TellsFault old new has_failed = (line : List ℕ) × FaultLine line
-    × (Appends old new line ⊎ ((has_failed ≡ true) × AppendsPart old new line))
+-- A run failed for a cause, which was told. `unread` and `unwritten` say whether the source and the sink failed. The
+-- sink holds a prefix of the answer if a write failed, and is otherwise as it was: `is_kept`.
+pub record HasFailed (known : Option (List ℕ)) (unread unwritten : Bool) (old new : Option (List ℕ))
+    (is_kept : Type 0) (tells : TableError → Type 0) : Type 0 where
+  pub error : TableError
+  pub cause : IsRefused known error
+  pub read_failed : (error ≡ errors.Read) ↔ (unread ≡ true)
+  pub write_failed : (error ≡ errors.Write) ↔ (unwritten ≡ true)
+  pub part : error ≡ errors.Write → WritesAnswerPart known old new
+  pub kept : error ≢ errors.Write → is_kept
+  pub told : tells error

@@ -5,3 +5,5 @@ pub mod Choices
 pub mod Tables
 pub mod Answers
 pub mod Ends
+pub mod Faults
+pub mod Words

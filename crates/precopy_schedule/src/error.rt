@@ -5,7 +5,6 @@ ghost use Rattle.precopy_schedule.specs.declared.error.PlanError.TheVariants as 
 ghost use Rattle.precopy_schedule.specs.declared.error.TableError.TheVariants as table_errors;
 
 use std::alloc::{AllocError, AllocFailed};
-use thiserror::Error;
 
 /// Why a line is no plan.
 #[derive(Clone, Copy, Debug, PartialEq, Eq)]
@@ -32,29 +31,22 @@ impl<T: Drop> From<AllocFailed<T>> for PlanError {
     }
 }
 
-/// Why a table has no answer. It follows `precopy-schedule: ` in a fault line.
-#[derive(Clone, Copy, Debug, PartialEq, Eq, Error)]
+/// Why a table has no answer.
+#[derive(Clone, Copy, Debug, PartialEq, Eq)]
 pub enum TableError {
     /// Memory ran out.
-    #[error("memory")]
     Memory,
     /// A read failed.
-    #[error("read")]
     Read,
     /// A write failed.
-    #[error("write")]
     Write,
     /// There are more than `2^28` bytes.
-    #[error("more than 268,435,456 bytes")]
     TooLong,
     /// The bytes are no text.
-    #[error("the table is no text")]
     NoText,
     /// There is no plan.
-    #[error("there is no plan")]
     NoPlans,
     /// The line of this number, from 1 on, is no plan.
-    #[error("line {0} is no plan: slots, a deadline, and five numbers for each guest")]
     Line(usize),
 }
 

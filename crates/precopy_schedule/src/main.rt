@@ -3,8 +3,10 @@
 
 mod answers;
 mod choosing;
+mod command;
 mod costs;
 mod error;
+mod faults;
 mod moves;
 mod plans;
 #[cfg(test)]
@@ -18,6 +20,8 @@ mod words;
 
 use crate::starting::start;
 use byte_sinks::FromWrite;
+use job_commands::words;
+use program_messages::{Program, refuse};
 use std::process::ExitCode;
 use trace_codec::FromRead;
 
@@ -25,5 +29,9 @@ fn main(rt: HostRuntime) -> ExitCode {
     let mut source = FromRead::new(rt.stdin());
     let mut sink = FromWrite::new(rt.stdout());
     let mut faults = FromWrite::new(rt.stderr());
-    ExitCode::from(start(rt.alloc(), &mut source, &mut sink, &mut faults))
+    let status = match words(&rt) {
+        Ok(words) => start(rt.alloc(), words, &mut source, &mut sink, &mut faults),
+        Err(error) => refuse(Program::PrecopySchedule, error, &mut sink, &mut faults),
+    };
+    ExitCode::from(status)
 }

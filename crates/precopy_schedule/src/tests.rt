@@ -14,13 +14,26 @@ fn sink(alloc: Global) -> TestSink
     TestSink::new(Vec::new(alloc), usize::MAX, None, false)
 }
 
-/// What the program does with a table: its status, output and faults.
-fn told(alloc: Global, table: &[u8]) -> Result<(u8, TestSink, TestSink), AllocError> {
+/// What the program does with a word and a table: its status, output and faults.
+fn answered(
+    alloc: Global,
+    word: Option<&str>,
+    table: &[u8],
+) -> Result<(u8, TestSink, TestSink), AllocError> {
+    let mut words = vec![in alloc; "precopy-schedule".to_string(alloc)?]?;
+    if let Some(word) = word {
+        words.push(word.to_string(alloc)?)?;
+    }
     let mut source = TestSource::new(Vec::from_slice(alloc, table)?, 7, None);
     let mut output = sink(alloc);
     let mut faults = sink(alloc);
-    let status = start(alloc, &mut source, &mut output, &mut faults);
+    let status = start(alloc, words, &mut source, &mut output, &mut faults);
     Ok((status, output, faults))
+}
+
+/// What the program does with a table: its status, output and faults.
+fn told(alloc: Global, table: &[u8]) -> Result<(u8, TestSink, TestSink), AllocError> {
+    answered(alloc, None, table)
 }
 
 /// Five moves in two slots take 7, in one slot 12; a deadline of 11 keeps the one, and the shorter is better. The last
@@ -75,5 +88,32 @@ fn refuses_no_text_and_no_plans(rt: HostRuntime) -> Result<(), Fail> {
     let no_text = "precopy-schedule: the table is no text\n";
     assert!(rt; fails(rt.alloc(), &[49, 32, 255], no_text)?);
     assert!(rt; fails(rt.alloc(), &[], "precopy-schedule: there is no plan\n")?);
+    Ok(())
+}
+
+#[test]
+fn tells_its_version(rt: HostRuntime) -> Result<(), Fail> {
+    let (status, output, faults) = answered(rt.alloc(), Some("--version"), &[])?;
+    assert!(rt; status == 0 && faults.bytes().is_empty());
+    assert!(rt; output.bytes() == "precopy-schedule (precopy) 0.6.0\n".as_bytes());
+    Ok(())
+}
+
+#[test]
+fn shows_help(rt: HostRuntime) -> Result<(), Fail> {
+    let (status, output, faults) = answered(rt.alloc(), Some("--help"), &[])?;
+    assert!(rt; status == 0 && !output.bytes().is_empty() && faults.bytes().is_empty());
+    Ok(())
+}
+
+#[test]
+fn takes_no_other_word(rt: HostRuntime) -> Result<(), Fail> {
+    let (status, output, faults) = answered(rt.alloc(), Some("table"), "1 0\n".as_bytes())?;
+    assert!(rt; status == 2 && output.bytes().is_empty());
+    assert!(rt;
+        faults
+            .bytes()
+            .starts_with(b"error: unexpected argument 'table' found\n")
+    );
     Ok(())
 }

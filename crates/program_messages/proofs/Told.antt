@@ -1,9 +1,11 @@
 -- What was told.
-use Rattle.std.proofs.Common.{◌≡◌, ℕ, Bool, true, List, Option, inl, inr}
+use Rattle.std.proofs.Common.{◌≡◌, ℕ, Bool, true, List, Option, inl, inr, subst, sym}
 use Rattle.std.specs.Prelude.{Result, Ok, Err, OnErr, OnOk}
 use Rattle.std.specs.Io.KnownBytes.{Appends}
 use Rattle.byte_sinks.specs.Sink.{AppendsPart}
-use Rattle.program_messages.specs.Ends.{IsTold}
+use Rattle.job_commands.specs.declared.command.WordsError.{WordsError}
+use Rattle.job_commands.specs.declared.command.WordsError.TheVariants.{Memory}
+use Rattle.program_messages.specs.Ends.{IsHelpText, IsTold}
 
 -- a text was told, whatever became of its write
 pub told : {T E : Type 0} (old new : Option (List ℕ)) (has_failed : Bool) (text : List ℕ) (r : Result T E)
@@ -11,3 +13,7 @@ pub told : {T E : Type 0} (old new : Option (List ℕ)) (has_failed : Bool) (tex
     → IsTold text old new has_failed
 told old new has_failed text (Ok x) all part failed = inl all
 told old new has_failed text (Err e) all part failed = inr (failed, part)
+
+-- lack of memory has no help text
+pub no_text : (e : WordsError) → e ≡ Memory → (text : List ℕ) → ¬ IsHelpText e text
+no_text e is text = subst (λ (x : WordsError). ¬ IsHelpText x text) (sym is) (λ none. none)

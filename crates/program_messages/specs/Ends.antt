@@ -28,6 +28,7 @@ IsTold text old new has_failed = Appends old new text ⊎ ((has_failed ≡ true)
 abbrev pub name_of : Program → List ℕ
 name_of programs.Precopy = codes "precopy"
 name_of programs.PrecopyView = codes "precopy-view"
+name_of programs.PrecopySchedule = codes "precopy-schedule"
 
 -- a fault line: the name of the program, a cause, and a newline
 abbrev pub line_of : Program → List ℕ → List ℕ

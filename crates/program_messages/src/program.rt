@@ -10,17 +10,20 @@ pub enum Program {
     Precopy,
     /// `precopy-view`.
     PrecopyView,
+    /// `precopy-schedule`.
+    PrecopySchedule,
 }
 
 impl Program {
     /// Returns the name of the program.
     pub fn name(self) -> &'static str
         ensures name { result.now ≡ name_of self }
-        ensures short { length result.now ≤ 12 }
+        ensures short { length result.now ≤ 16 }
     {
         match self {
             Program::Precopy => "precopy",
             Program::PrecopyView => "precopy-view",
+            Program::PrecopySchedule => "precopy-schedule",
         }
     }
 }

@@ -1,5 +1,6 @@
 use Rattle.std.proofs.Common.{arith, inl, inr, map, refl, string_bytes}
-use Rattle.precopy.proofs.Told.{asked_for, no_text}
+use Rattle.program_messages.proofs.Told.{no_text}
+use Rattle.precopy.proofs.Told.{asked_for}
 use Rattle.precopy.proofs.starting.start.Goals as goal
 
 pub returns-clause-written : goal.returns-clause-written
