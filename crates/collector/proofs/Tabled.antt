@@ -141,6 +141,11 @@ taken_newer shape old put frame page stamp part view low own kept lt is =
     ∙ ap (λ (o : Option PageCopy). set (copies_of shape old) frame.page (later o (Some copy))) (sym before))
     ∙ ap (λ (p : GuestPart). with_frame p frame) view
 
+pub tabled_grown : (shape : GuestShape) (old new : List (Option PageFrame)) (page : ℕ) → IsTable shape old
+    → Grows old new page → length new ≤ shape.pages → IsTable shape new
+tabled_grown shape old new page tabled grows few =
+    record { few = few; own = λ n. grind (arith, common_steps, tabled.own n, grows.items) }
+
 pub tabled_new : (shape : GuestShape) (old new put : List (Option PageFrame)) (frame : PageFrame) (page : ℕ)
     → IsTable shape old → Grows old new page
     → length new ≤ shape.pages → page ≡ frame.page → IsFrame shape frame → put ≡ set new page (Some frame)

@@ -1,9 +1,10 @@
-use Rattle.std.proofs.Common.{◌≡◌, ◌≤◌, ap, sym, length, arith, ◌∙◌}
+use Rattle.std.proofs.Common.{◌≡◌, ◌≤◌, ap, sym, subst, length, arith, ◌∙◌}
 use Rattle.std.proofs.lemmas.Result.{err_from_is_err_and}
-use Rattle.migration_model.specs.Frames.{PageFrame}
+use Rattle.migration_model.specs.Frames.{GuestShape, PageFrame, IsFrame}
 use Rattle.migration_model.specs.Parts.{part_with, GuestPart}
 use Rattle.page_message.specs.Shapes.{shape_of}
-use Rattle.collector.proofs.Tabled.{taken_new, taken_newer, same_part-grown}
+use Rattle.collector.proofs.Tabled.{Grows-nothing, taken_new, taken_newer, same_part-grown}
+use Rattle.collector.proofs.Tabled.{tabled_grown, tabled_new}
 use Rattle.collector.proofs.part.Part.exchange.Goals as goal
 
 pub returns-in_err-make_place-in-None-clause-unchanged :
@@ -40,3 +41,33 @@ returns-in-Some-clause-kept c =
     c.frame.inside.page c.in-Some.stamp c.args.self.now
     c.self.view_is (omega (arith, c.in-Some.ensures.within, c.deref.ensures.len, c.self.inside.frames.ok.0)) own
     (rw c.deref.ensures.value at (sym c.in-Some.ensures.stamp)) (omega arith) c.swap_frame.ensures.put
+
+pub invariant_of-self : goal.invariant_of-self
+invariant_of-self c =
+    let grows = c.in_err-make_place-in-None.ensures.grows in
+    let own : c.frame.inside.page ≡ c.args.frame.page = ap (λ (f : PageFrame). f.page) c.frame.view_is in
+    let pages : c.self.inside.shape.pages ≡ c.args.self.now.shape.pages =
+    ap (λ (g : GuestPart). g.shape.pages) c.self.view_is in
+    tabled_grown (shape_of c.self.inside.shape) c.self.inside.frames.items c.make_place.new.table.items
+    c.frame.inside.page c.self.invariant grows (omega (arith, grows.bound, c.self.invariant.few, c.requires.page))
+
+pub invariant_of-self-in-None : goal.invariant_of-self-in-None
+invariant_of-self-in-None c =
+    let grows = c.in_ok-make_place-in-None.ensures.grows in
+    let own : c.frame.inside.page ≡ c.args.frame.page = ap (λ (f : PageFrame). f.page) c.frame.view_is in
+    let shape = ap (λ (g : GuestPart). g.shape) c.self.view_is in
+    let pages : c.self.inside.shape.pages ≡ c.args.self.now.shape.pages =
+    ap (λ (g : GuestPart). g.shape.pages) c.self.view_is in
+    tabled_new (shape_of c.self.inside.shape) c.self.inside.frames.items c.make_place.new.table.items
+    c.put_frame.new.table.items c.args.frame c.frame.inside.page c.self.invariant grows
+    (omega (arith, grows.bound, c.self.invariant.few, c.requires.page)) own
+    (subst (λ (s : GuestShape). IsFrame s c.args.frame) (sym shape) c.requires) c.put_frame.ensures
+
+pub invariant_of-self-then-stamp-frame : goal.invariant_of-self-then-stamp-frame
+invariant_of-self-then-stamp-frame c =
+    let old = c.self.inside.frames.items in
+    let own : c.frame.inside.page ≡ c.args.frame.page = ap (λ (f : PageFrame). f.page) c.frame.view_is in
+    let shape = ap (λ (g : GuestPart). g.shape) c.self.view_is in
+    tabled_new (shape_of c.self.inside.shape) old old c.swap_frame.new.table.items c.args.frame c.frame.inside.page
+    c.self.invariant (Grows-nothing old c.frame.inside.page) c.self.invariant.few own
+    (subst (λ (s : GuestShape). IsFrame s c.args.frame) (sym shape) c.requires) c.swap_frame.ensures.put
