@@ -9,7 +9,7 @@ import functools
 import os
 import re
 
-from checks.lib.pages import TOP, read
+from checks.lib.pages import INDEX, TOP, read
 from precopy_dev import contracts
 
 PAIR = re.compile(r"`([\w:]+)`: (`\w+`(?:(?:,| and) `\w+`(?!:))*)")
@@ -65,6 +65,8 @@ def types_and_crates():
 
 
 def is_known(word):
+    if word in (INDEX, os.path.basename(INDEX)):
+        return True
     if word in known("calls") or word in known("definitions") or word in facts() or word in types_and_crates():
         return True
     paths = [os.path.join(TOP, *parts, word) for parts in ((), ("crates",), ("docs",))]
@@ -81,9 +83,32 @@ def pairs_in(page, text):
             yield clause in facts_of(name), f"{page}: {name} has no clause or fact {clause}"
 
 
+def theorem_table():
+    return read("README.md").split("| Claim | Contract |")[-1].split("\n\n")[0]
+
+
+def in_index(page):
+    """Yields whether the index has each call that is named with a clause, and that clause beside one call of its name."""
+    heads = re.findall(r"^- `([^`]+)`(?: \(([^)]*)\))?", re.sub(r"\n +(?!- )", " ", page), re.M)
+    clauses = {}
+    for name, facts in heads:
+        for short in {name, name.rpartition("::")[2]}:
+            clauses.setdefault(short, set()).update(CODE.findall(facts))
+    for path, text in (("README.md", theorem_table()), ("docs/PROOF.md", " ".join(read("docs/PROOF.md").split()))):
+        for name, facts in PAIR.findall(text):
+            # A relation that no contract cites is in the index only if another crate needs it.
+            for fact in CODE.findall(facts) if name in known("calls") else ():
+                # A fact of a relation that the call ensures stands at the relation.
+                good = name in clauses and (fact in clauses[name] or fact in facts_of(name))
+                yield good, f"the index has no {name} with {fact}, which {path} names"
+    for crate in contracts.crates():
+        if contracts.calls(crate) and not contracts.OF_TESTS.fullmatch(crate):
+            yield f"\n## {crate}\n" in page, f"the index has no part for {crate}"
+
+
 def named():
     """Yields whether each thing that is named is there, and what to say if not."""
-    table = read("README.md").split("| Claim | Contract |")[-1].split("\n\n")[0]
+    table = theorem_table()
     yield from pairs_in("README.md", table)
     text = " ".join(read("docs/PROOF.md").split())
     yield from pairs_in("docs/PROOF.md", text)
