@@ -6,6 +6,7 @@ definition, a clause, a fact, a type, a refusal, a path from the top or from cra
 docs/ARCHITECTURE.md has each crate once; its recipes also name functions and constants within crates."""
 
 import functools
+import glob
 import os
 import re
 
@@ -61,7 +62,8 @@ def all_sources():
 @functools.lru_cache(maxsize=None)
 def types_and_crates():
     types = set(re.findall(r"^pub (?:struct|enum|trait) (\w+)", all_sources(), re.M))
-    return types | set(re.findall(r"\w+", contracts.read(os.path.join(TOP, "crates.txt"))))
+    lines = contracts.read(os.path.join(TOP, "crates.txt")).split("\n")
+    return types | {word for line in lines for word in re.findall(r"\w+", line.partition("#")[0])}
 
 
 def is_known(word):
@@ -73,8 +75,20 @@ def is_known(word):
     return any(map(os.path.exists, paths)) or OTHER.fullmatch(word) or any(word in name for name in wrong_bodies())
 
 
+@functools.lru_cache(maxsize=None)
+def other_sources():
+    """What tools, checks, the planner and bindings say, and the header of the library."""
+    kinds = ("include/*.h", "bindings/**/*.rs", "web/*.js", "*/**/*.py")
+    paths = [path for kind in kinds for path in glob.glob(os.path.join(TOP, kind), recursive=True)]
+    return "\n".join(map(contracts.read, paths))
+
+
 def is_within(word):
-    return re.search(rf"\b(?:fn|const) {word.rpartition('::')[2]}\b", all_sources())
+    """Whether some source begins a function, a constant or a type of this name."""
+    name = re.escape(word.rpartition("::")[2])
+    if re.search(rf"\b(?:fn|const|struct|enum) {name}\b", all_sources()):
+        return True
+    return re.search(rf"\b(?:fn|def|class|struct|function|define) {name}\b|^{name}\b.* = |\b{name}\(", other_sources(), re.M)
 
 
 def pairs_in(page, text):
