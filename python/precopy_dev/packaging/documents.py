@@ -9,7 +9,6 @@ ONLY_SOURCES = {
     "README.md": [("**A package** installs", "## Four commands")],
     "docs/COMMANDS.md": [("## The script `./precopy`", "## Large pages")],
     "docs/LIBRARY.md": [("    make lib ", "## A plan in C")],
-    "docs/REAL-GUESTS.md": [("## Checks", None)],
 }
 OF_BUILDERS = {
     "CHANGELOG.md",
