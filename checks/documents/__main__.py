@@ -9,8 +9,8 @@ running guest or GNU parallel are left out. A block of code that is headed by th
 What docs/PROOF.md, the theorem's table in README.md and the recipes of docs/ARCHITECTURE.md name exists, and that page
 has each crate once. What docs/DECISIONS.md and README.md tell of differences and proof has lost no head. The index that
 dev/index makes has each clause that README.md and docs/PROOF.md name. A refused trace has one sentence in programs and
-pages. A sentence has at most 40 words, unless it is quoted; a line has at most 120 characters, and README.md is short.
-The last line is 'N passed, M failed'; the status is 0 if something was tried and nothing failed.
+pages. A sentence has at most 40 words, unless it is quoted; a line has at most 120 characters. README.md is short, and
+all of docs/ has a bound. The last line is 'N passed, M failed'; the status is 0 if something was tried and nothing failed.
 """
 
 import fnmatch
@@ -30,6 +30,8 @@ SECONDS = 120
 MOST_WORDS = 40
 MOST_COLUMNS = 120
 README_LINES, README_BYTES = 140, 9216
+OF_USERS = ("README.md", "CONTRIBUTING.md")
+WORDS_IN_ALL = 36_000
 # What a command begins with that is not run here.
 LEFT_OUT = ("tools/compare-qemu", "parallel", "export")
 # Words that look like files and are none of the repository's.
@@ -232,6 +234,8 @@ def size(tally):
     tally.add(count <= README_LINES, f"README.md has {count} lines, and {README_LINES} at most")
     count = len(text.encode())
     tally.add(count <= README_BYTES, f"README.md has {count} bytes, and {README_BYTES} at most")
+    count = sum(len(read(page).split()) for page in pages() if page in OF_USERS or page.startswith("docs/"))
+    tally.add(count <= WORDS_IN_ALL, f"{', '.join(OF_USERS)} and docs have {count} words, and {WORDS_IN_ALL} at most")
 
 
 def main(words):
