@@ -10,7 +10,8 @@ What docs/PROOF.md, the theorem's table in README.md and the recipes of docs/ARC
 has each crate once. What docs/DECISIONS.md and README.md tell of differences and proof has lost no head. The index that
 dev/index makes has each clause that README.md and docs/PROOF.md name. A refused trace has one sentence in programs and
 pages. A sentence has at most 40 words, unless it is quoted; a line has at most 120 characters. README.md is short, and
-all of docs/ has a bound. The last line is 'N passed, M failed'; the status is 0 if something was tried and nothing failed.
+all of docs/ has a bound. The last line is 'N passed, M failed'; the status is 0 if something was tried and nothing
+failed.
 """
 
 import fnmatch
@@ -33,7 +34,7 @@ README_LINES, README_BYTES = 140, 9216
 OF_USERS = ("README.md", "CONTRIBUTING.md")
 WORDS_IN_ALL = 36_000
 # What a command begins with that is not run here.
-LEFT_OUT = ("tools/compare-qemu", "parallel", "export")
+LEFT_OUT = ("tools/compare-qemu", "tools/record", "parallel", "export")
 # Words that look like files and are none of the repository's.
 NO_FILES = {"crates/precopy/out/precopy", "manifest.json"}
 FILE = re.compile(r"[\w.*-]+(?:/[\w.*-]+)*/?")

@@ -1,7 +1,7 @@
-"""What differs from what was asked, and what is proved, tested and trusted: each head that the documents once had is there.
+"""What differs from what was asked, and what is proved, tested and trusted: each head that the documents had is there.
 
-A page that becomes shorter loses sentences that nobody misses and that a reader needs. So the heads are listed here, and
-one that is no longer true leaves this list and the page in one commit, which says why.
+A document that becomes shorter loses sentences that nobody misses and that a reader needs. So the heads are listed
+here, and one that is no longer true leaves this list and the document in one commit, which says why.
 """
 
 import re

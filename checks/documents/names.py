@@ -3,7 +3,8 @@
 `call`: `clause`, .. and `relation`: `fact`, .. name clauses of a public call and facts of a relation. A clause of a
 call is one that it ensures, or a fact of a relation that it ensures. Every other word is a crate, a public call, a
 definition, a clause, a fact, a type, a refusal, a path from the top or from crates/, or part of a wrong body's name.
-docs/ARCHITECTURE.md has each crate once; its recipes also name functions and constants within crates."""
+docs/ARCHITECTURE.md has each crate once; its recipes also name functions, types and constants within crates, tools,
+checks, the planner and bindings."""
 
 import functools
 import glob
@@ -88,7 +89,8 @@ def is_within(word):
     name = re.escape(word.rpartition("::")[2])
     if re.search(rf"\b(?:fn|const|struct|enum) {name}\b", all_sources()):
         return True
-    return re.search(rf"\b(?:fn|def|class|struct|function|define) {name}\b|^{name}\b.* = |\b{name}\(", other_sources(), re.M)
+    begins = rf"\b(?:fn|def|class|struct|function|define) {name}\b|^{name}\b.* = |\b{name}\("
+    return re.search(begins, other_sources(), re.M)
 
 
 def pairs_in(page, text):
@@ -102,7 +104,7 @@ def theorem_table():
 
 
 def in_index(page):
-    """Yields whether the index has each call that is named with a clause, and that clause beside one call of its name."""
+    """Yields whether the index has each call that is named with a clause, and the clause beside a call of that name."""
     heads = re.findall(r"^- `([^`]+)`(?: \(([^)]*)\))?", re.sub(r"\n +(?!- )", " ", page), re.M)
     clauses = {}
     for name, facts in heads:
@@ -113,7 +115,8 @@ def in_index(page):
             # A relation that no contract cites is in the index only if another crate needs it.
             for fact in CODE.findall(facts) if name in known("calls") else ():
                 # A fact of a relation that the call ensures stands at the relation.
-                good = name in clauses and (fact in clauses[name] or fact in facts_of(name))
+                own = {clause for call in known("calls")[name] for clause, _ in call.facts}
+                good = name in clauses and (fact not in own or fact in clauses[name])
                 yield good, f"the index has no {name} with {fact}, which {path} names"
     for crate in contracts.crates():
         if contracts.calls(crate) and not contracts.OF_TESTS.fullmatch(crate):
