@@ -16,6 +16,7 @@ DIFFERS = (
     "A call that a signal interrupts is tried again",
     "Later versions of a page are made from copies of the trace's writes",
     "Memory is written in pieces",
+    "What was asked of `precopy` stands in crates below it",
     "`start` belongs to the program's crate",
     "A page's bytes are borrowed from the cache",
     "The first part is joined to that of stream 0 when its lanes are drained",
