@@ -26,7 +26,6 @@ DIFFERS = (
 PROOF_OF = (
     "Proved",
     "Proved of calls",
-    "Proved of a program",
     "Proved of a live run",
     "Only tested",
     "Only tested of views",
