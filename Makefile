@@ -4,6 +4,7 @@
 #     make lib                        builds the library for C in out/library, in the same way
 #     make scan                       builds the recorder's loop of system calls, out/scan.so, with a C compiler
 #     make page                       builds the planner as one page, out/precopy.html, and its WebAssembly module
+#     make docs                       makes docs/INDEX.md from the sources: public calls, clauses and definitions
 #     make install PREFIX=/usr        installs below PREFIX: programs, tools, manuals, completions, documents, examples,
 #                                     the page, the library with its header, and precopy.pc for pkg-config
 #     make install-lib PREFIX=/usr    installs the library alone: archive, shared library, header, precopy.pc, and the
@@ -39,6 +40,9 @@ page:
 	dev/page-module --if-needed out/browser_planner.wasm
 	dev/join-page out/browser_planner.wasm out/precopy.html
 
+docs:
+	dev/index
+
 install: all lib page
 	$(PACK) install $(WHERE)
 
@@ -54,4 +58,4 @@ deb dist: all lib page
 release: all lib page
 	$(PACK) $@ --output out/release $(if $(MAINTAINER),--maintainer "$(MAINTAINER)")
 
-.PHONY: all lib scan page install install-lib uninstall uninstall-lib deb dist release
+.PHONY: all lib scan page docs install install-lib uninstall uninstall-lib deb dist release

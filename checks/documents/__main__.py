@@ -7,9 +7,11 @@ with `$`; the lines below it are all that it prints, and `...` stands for any li
 blocks of Python, run one after another in a folder of their own, with the repository's files. Commands that need a
 running guest or GNU parallel are left out. A block of code that is headed by the path of a file occurs in that file.
 What docs/PROOF.md, the theorem's table in README.md and the recipes of docs/ARCHITECTURE.md name exists, and that page
-has each crate once. docs/INDEX.md is what dev/index makes. A refused trace has one sentence in programs and pages. A
-sentence has at most 40 words, unless it is quoted or in the index; a line has at most 120 characters, and README.md is
-short. The last line is 'N passed, M failed'; the status is 0 if something was tried and nothing failed.
+has each crate once. What docs/DECISIONS.md and README.md tell of differences and proof has lost no head. The index that
+dev/index makes has each clause that README.md and docs/PROOF.md name. A refused trace has one sentence in programs and
+pages. A sentence has at most 40 words, unless it is quoted; a line has at most 120 characters. README.md is short, and
+all of docs/ has a bound. The last line is 'N passed, M failed'; the status is 0 if something was tried and nothing
+failed.
 """
 
 import fnmatch
@@ -19,8 +21,8 @@ import subprocess
 import sys
 import tempfile
 
-from checks.documents import names, refusal_words
-from checks.lib.pages import agrees, manuals, pages, quotes, read, steps
+from checks.documents import heads, links, names, refusal_words
+from checks.lib.pages import INDEX, agrees, manuals, pages, quotes, read, steps
 from checks.lib.tally import Tally
 from precopy_dev.tree import TOP
 
@@ -29,8 +31,10 @@ SECONDS = 120
 MOST_WORDS = 40
 MOST_COLUMNS = 120
 README_LINES, README_BYTES = 140, 9216
+OF_USERS = ("README.md", "CONTRIBUTING.md")
+WORDS_IN_ALL = 36_000
 # What a command begins with that is not run here.
-LEFT_OUT = ("tools/compare-qemu", "parallel", "export")
+LEFT_OUT = ("tools/compare-qemu", "tools/record", "parallel", "export")
 # Words that look like files and are none of the repository's.
 NO_FILES = {"crates/precopy/out/precopy", "manifest.json"}
 FILE = re.compile(r"[\w.*-]+(?:/[\w.*-]+)*/?")
@@ -88,7 +92,7 @@ def repository_files():
         paths = [os.path.join(at, name) for at, _, inside in os.walk(TOP) for name in inside]
         names = [os.path.relpath(path, TOP) for path in paths]
     folders = {"/".join(name.split("/")[:depth]) + "/" for name in names for depth in range(1, name.count("/") + 1)}
-    return [name for name in names if name] + sorted(folders)
+    return [INDEX, *filter(None, names), *sorted(folders)]
 
 
 def is_named_file(word, programs):
@@ -137,11 +141,25 @@ def interface(tally):
     tally.add(made.returncode == 0, f"dev/interface would write other files: {made.stdout}{made.stderr}")
 
 
+def kept_heads(tally):
+    for good, told in heads.compared():
+        tally.add(good, told)
+
+
+def anchors(tally):
+    for good, told in links.compared():
+        tally.add(good, told)
+
+
 def index(tally):
     words = [os.path.join(TOP, "dev", "index"), "--print"]
     made = subprocess.run(words, capture_output=True, text=True, timeout=SECONDS)
-    good = made.returncode == 0 and made.stdout == read("docs/INDEX.md")
-    tally.add(good, f"docs/INDEX.md is not what dev/index makes; it writes the page anew. {made.stderr}")
+    tally.add(made.returncode == 0, f"dev/index failed: {made.stderr}")
+    for good, told in names.in_index(made.stdout):
+        tally.add(good, told)
+    tally.add(not FOREIGN.findall(made.stdout), f"the index has {FOREIGN.findall(made.stdout)}")
+    longest = max(map(len, made.stdout.split("\n")))
+    tally.add(longest <= MOST_COLUMNS, f"the index has a line of {longest} characters")
 
 
 # ---- Sentences.
@@ -190,8 +208,7 @@ def sentences(block):
 
 
 def lengths(tally):
-    # A line of the index is a name with its clauses, and what the source says of it.
-    for page in [*(page for page in pages() if page != "docs/INDEX.md"), *manuals()]:
+    for page in [*pages(), *manuals()]:
         blocks = blocks_of_manual if page.endswith(".1") else blocks_of_markdown
         for block in blocks(read(page)):
             for sentence in sentences(block):
@@ -218,6 +235,8 @@ def size(tally):
     tally.add(count <= README_LINES, f"README.md has {count} lines, and {README_LINES} at most")
     count = len(text.encode())
     tally.add(count <= README_BYTES, f"README.md has {count} bytes, and {README_BYTES} at most")
+    count = sum(len(read(page).split()) for page in pages() if page in OF_USERS or page.startswith("docs/"))
+    tally.add(count <= WORDS_IN_ALL, f"{', '.join(OF_USERS)} and docs have {count} words, and {WORDS_IN_ALL} at most")
 
 
 def main(words):
@@ -228,7 +247,8 @@ def main(words):
         print(f"checks/documents: there is no program {program}; ./precopy builds it\n0 passed, 1 failed")
         return 1
     all_passed = all_failed = 0
-    for check in (commands, files, quotations, proofs, refusals, index, interface, lengths, widths, foreign, size):
+    checks = (commands, files, anchors, quotations, proofs, kept_heads, refusals, index, interface)
+    for check in (*checks, lengths, widths, foreign, size):
         tally = Tally()
         check(tally, program) if check is commands else check(tally)
         print(f"{check.__name__}: {tally.passed} passed, {tally.failed} failed", flush=True)

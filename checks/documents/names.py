@@ -3,13 +3,15 @@
 `call`: `clause`, .. and `relation`: `fact`, .. name clauses of a public call and facts of a relation. A clause of a
 call is one that it ensures, or a fact of a relation that it ensures. Every other word is a crate, a public call, a
 definition, a clause, a fact, a type, a refusal, a path from the top or from crates/, or part of a wrong body's name.
-docs/ARCHITECTURE.md has each crate once; its recipes also name functions and constants within crates."""
+docs/ARCHITECTURE.md has each crate once; its recipes also name functions, types and constants within crates, tools,
+checks, the planner and bindings."""
 
 import functools
+import glob
 import os
 import re
 
-from checks.lib.pages import TOP, read
+from checks.lib.pages import INDEX, TOP, read
 from precopy_dev import contracts
 
 PAIR = re.compile(r"`([\w:]+)`: (`\w+`(?:(?:,| and) `\w+`(?!:))*)")
@@ -61,18 +63,34 @@ def all_sources():
 @functools.lru_cache(maxsize=None)
 def types_and_crates():
     types = set(re.findall(r"^pub (?:struct|enum|trait) (\w+)", all_sources(), re.M))
-    return types | set(re.findall(r"\w+", contracts.read(os.path.join(TOP, "crates.txt"))))
+    lines = contracts.read(os.path.join(TOP, "crates.txt")).split("\n")
+    return types | {word for line in lines for word in re.findall(r"\w+", line.partition("#")[0])}
 
 
 def is_known(word):
+    if word in (INDEX, os.path.basename(INDEX)):
+        return True
     if word in known("calls") or word in known("definitions") or word in facts() or word in types_and_crates():
         return True
     paths = [os.path.join(TOP, *parts, word) for parts in ((), ("crates",), ("docs",))]
     return any(map(os.path.exists, paths)) or OTHER.fullmatch(word) or any(word in name for name in wrong_bodies())
 
 
+@functools.lru_cache(maxsize=None)
+def other_sources():
+    """What tools, checks, the planner and bindings say, and the header of the library."""
+    kinds = ("include/*.h", "bindings/**/*.rs", "web/*.js", "*/**/*.py")
+    paths = [path for kind in kinds for path in glob.glob(os.path.join(TOP, kind), recursive=True)]
+    return "\n".join(map(contracts.read, paths))
+
+
 def is_within(word):
-    return re.search(rf"\b(?:fn|const) {word.rpartition('::')[2]}\b", all_sources())
+    """Whether some source begins a function, a constant or a type of this name."""
+    name = re.escape(word.rpartition("::")[2])
+    if re.search(rf"\b(?:fn|const|struct|enum) {name}\b", all_sources()):
+        return True
+    begins = rf"\b(?:fn|def|class|struct|function|define) {name}\b|^{name}\b.* = |\b{name}\("
+    return re.search(begins, other_sources(), re.M)
 
 
 def pairs_in(page, text):
@@ -81,9 +99,33 @@ def pairs_in(page, text):
             yield clause in facts_of(name), f"{page}: {name} has no clause or fact {clause}"
 
 
+def theorem_table():
+    return read("README.md").split("| Claim | Contract |")[-1].split("\n\n")[0]
+
+
+def in_index(page):
+    """Yields whether the index has each call that is named with a clause, and the clause beside a call of that name."""
+    heads = re.findall(r"^- `([^`]+)`(?: \(([^)]*)\))?", re.sub(r"\n +(?!- )", " ", page), re.M)
+    clauses = {}
+    for name, facts in heads:
+        for short in {name, name.rpartition("::")[2]}:
+            clauses.setdefault(short, set()).update(CODE.findall(facts))
+    for path, text in (("README.md", theorem_table()), ("docs/PROOF.md", " ".join(read("docs/PROOF.md").split()))):
+        for name, facts in PAIR.findall(text):
+            # A relation that no contract cites is in the index only if another crate needs it.
+            for fact in CODE.findall(facts) if name in known("calls") else ():
+                # A fact of a relation that the call ensures stands at the relation.
+                own = {clause for call in known("calls")[name] for clause, _ in call.facts}
+                good = name in clauses and (fact not in own or fact in clauses[name])
+                yield good, f"the index has no {name} with {fact}, which {path} names"
+    for crate in contracts.crates():
+        if contracts.calls(crate) and not contracts.OF_TESTS.fullmatch(crate):
+            yield f"\n## {crate}\n" in page, f"the index has no part for {crate}"
+
+
 def named():
     """Yields whether each thing that is named is there, and what to say if not."""
-    table = read("README.md").split("| Claim | Contract |")[-1].split("\n\n")[0]
+    table = theorem_table()
     yield from pairs_in("README.md", table)
     text = " ".join(read("docs/PROOF.md").split())
     yield from pairs_in("docs/PROOF.md", text)

@@ -10,7 +10,7 @@ from precopy_dev.packaging import documents
 
 SECONDS = 120
 # What a command begins with that is not run here: it needs a running guest, or GNU parallel.
-LEFT_OUT = ("precopy-compare-qemu", "parallel", "export ")
+LEFT_OUT = ("precopy-compare-qemu", "precopy-record", "parallel", "export ")
 OF_SOURCES = re.compile(r"(?<![\w/.])\./precopy|(?<![\w/.-])tools/[a-z]|`make ")
 
 

@@ -6,11 +6,17 @@ import re
 
 from precopy_dev.tree import TOP
 
+# Made from the sources by `make docs`, and no part of them.
+INDEX = "docs/INDEX.md"
+
 
 def pages():
+    """The documents that somebody wrote."""
     names = sorted(os.path.basename(path) for path in glob.glob(os.path.join(TOP, "docs", "*.md")))
-    others = ["CHANGELOG.md", "CONTRIBUTING.md", "bench/README.md", "examples/README.md"]
-    return ["README.md", *(f"docs/{name}" for name in names), *others]
+    others = ["CHANGELOG.md", "CONTRIBUTING.md", "SECURITY.md"]
+    others += ["bench/README.md", "checks/README.md", "examples/README.md"]
+    others += sorted(os.path.relpath(path, TOP) for path in glob.glob(os.path.join(TOP, "bench", "results", "*.md")))
+    return ["README.md", *(page for page in (f"docs/{name}" for name in names) if page != INDEX), *others]
 
 
 def manuals():

@@ -294,7 +294,7 @@ def check_c(tally, folder, program):
 
 
 def check_page(tally, folder):
-    """The programs in C and Python of docs/LIBRARY.md, whose output is below them, and the migration with a bug."""
+    """The programs of docs/LIBRARY.md and README.md, whose output is below them, and the migration with a bug."""
     page = read("docs/LIBRARY.md", "r")
     source = re.search(r"```c\n(.*?)```", page, re.S)[1]
     with open(os.path.join(folder, "page.c"), "w", encoding="utf-8") as file:
@@ -304,10 +304,12 @@ def check_page(tally, folder):
     if is_done(tally, done, "the program of docs/LIBRARY.md is compiled"):
         done = run(built, input=read("examples/gzip.pcwt"))
         tally.add(done.stdout and done.stdout.decode() in page, f"docs/LIBRARY.md does not tell what it prints: {done}")
-    for block in re.findall(r"```python\n(.*?)```", page, re.S):
-        done = run(sys.executable, "-c", block, cwd=TOP)
-        shown = all(f"    {line}\n" in page for line in done.stdout.decode().splitlines())
-        tally.add(done.returncode == 0 and shown, f"docs/LIBRARY.md does not tell what this prints: {done}\n{block}")
+    for name in ("docs/LIBRARY.md", "README.md"):
+        page = read(name, "r")
+        for block in re.findall(r"```python\n(.*?)```", page, re.S):
+            done = run(sys.executable, "-c", block, cwd=TOP)
+            shown = all(f"    {line}\n" in page for line in done.stdout.decode().splitlines())
+            tally.add(done.returncode == 0 and shown, f"{name} does not tell what this prints: {done}\n{block}")
     bug = [sys.executable, f"{TOP}/examples/left_out.py", f"{TOP}/examples/gzip.pcwt"]
     done = run(*bug)
     tally.add(done.returncode == 1 and b"page" in done.stdout, f"examples/left_out.py finds nothing: {done}")

@@ -4,8 +4,8 @@
 
 PROGRAM is crates/precopy/out/precopy of this repository if none is given. checks/refusals/refuse.c is put between the
 program and the C library. It is compiled here, so a C compiler `cc` is needed, and `nm` for names of functions.
-docs/RELIABILITY.md says what is promised and tried. The last line is 'N passed, M failed'; the status is 0 if something
-was tried and nothing failed.
+docs/RELIABILITY.md says what is promised, and checks/README.md what is tried. The last line is 'N passed, M failed';
+the status is 0 if something was tried and nothing failed.
 """
 
 import argparse

@@ -5,8 +5,8 @@
 PROGRAM is crates/refused_calls/out/refused_calls of this repository if none is given. It makes one call between two
 lines of output, and only what is asked for in between is refused (checks/refusals/refuse.c). So a C compiler `cc` is
 needed, and `nm` for names of functions. checks/refused_calls/jobs.py has what must be printed. docs/RELIABILITY.md says
-what is promised and tried. The last line is 'N passed, M failed'; the status is 0 if something was tried and nothing
-failed.
+what is promised, and checks/README.md what is tried. The last line is 'N passed, M failed'; the status is 0 if
+something was tried and nothing failed.
 """
 
 import argparse

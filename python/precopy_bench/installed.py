@@ -2,7 +2,7 @@
 
     bench/installed [-n RUNS] [--only REGEX] [--traces DIR] [--program PATH]
 
-Prints the table "As installed" of docs/MEASUREMENTS.md: wall ms, processor ms and MB, the least of RUNS, 4 by default,
+Prints the table "As installed" of bench/results: wall ms, processor ms and MB, the least of RUNS, 4 by default,
 but of memory the most. Output goes nowhere, and programs run in turn. An installation of the launcher and the program
 is made in a temporary folder. It needs cargo and a C compiler; build the program first with `./precopy --help`.
 """

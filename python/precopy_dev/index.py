@@ -10,14 +10,15 @@ from precopy_dev import contracts
 from precopy_dev.tree import TOP
 from precopy_tools import version
 
-PAGE = os.path.join(TOP, "docs", "INDEX.md")
+# From the top. Sources are kept without it.
+PATH = "docs/INDEX.md"
 COLUMNS = 120
 # The crate whose definitions all others cite.
 MODEL = "migration_model"
 HEAD = """# Index
 
-`dev/index` makes this page from the sources, and `checks/documents` compares it. Crates come lowest first, files and
-names as they stand there. A line is the first sentence of the comment in the source.
+`make docs` makes this page from the sources. Crates come lowest first, files and names as they stand there. A line is
+the first sentence of the comment in the source.
 
 - **Calls**, by file of `src/`: what a caller outside of the crate sees. In brackets stand the clauses that a call
   ensures; one without a name is `result`. An indented line is what a comment says of clauses.
@@ -114,7 +115,7 @@ def main():
     if parser.parse_args().prints:
         sys.stdout.write(page())
         return
-    with open(PAGE, "w", encoding="utf-8") as file:
+    with open(os.path.join(TOP, PATH), "w", encoding="utf-8") as file:
         file.write(page())
 
 

@@ -12,6 +12,7 @@ import tempfile
 from dataclasses import dataclass
 from typing import Iterator, NamedTuple, Optional
 
+from precopy_dev import index
 from precopy_dev.packaging import compilers, completions, documents, launcher, manuals, notices, options
 from precopy_dev.tree import TOP
 from precopy_tools import version
@@ -220,7 +221,10 @@ def texts(places) -> Iterator[Entry]:
     yield Entry(os.path.join(places.doc, "NOTICES"), notices.notices().encode())
     for folder in ("docs", "examples", "bindings"):
         for path in sources_below(folder):
-            yield document(places, path)
+            if path != index.PATH:
+                yield document(places, path)
+    # It is made of the sources as they are now, also if an older one lies in docs/.
+    yield Entry(os.path.join(places.doc, index.PATH), index.page().encode())
 
 
 def sources_below(folder) -> Iterator[str]:

@@ -6,11 +6,9 @@ import re
 
 # A part of a document, from the line that begins so up to the line that begins so.
 ONLY_SOURCES = {
-    "README.md": [("**A package** installs", "## Four commands"), ("`make install PREFIX", None)],
+    "README.md": [("**A package** installs", "## Four commands")],
     "docs/COMMANDS.md": [("## The script `./precopy`", "## Large pages")],
     "docs/LIBRARY.md": [("    make lib ", "## A plan in C")],
-    "docs/REAL-GUESTS.md": [("## Checks", None)],
-    "docs/RELIABILITY.md": [("## How it is tested", "## What is not covered")],
 }
 OF_BUILDERS = {
     "CHANGELOG.md",
@@ -26,6 +24,9 @@ OF_BUILDERS = {
 }
 # What is called otherwise where it is installed.
 RENAMED = {
+    "They read a trace from standard input.": "They read a trace from standard input. Copy the folder `examples` here\n"
+    "to where you may write, and run them there.",
+    " (made by `make docs`)": "",
     "`make page` writes `out/precopy.html`": "`precopy-page` prints where `precopy.html` is",
     "`make lib` builds a static and a shared library": "the package `libprecopy-dev` has the library",
     "`make deb` makes `python3-precopy`": "the package `python3-precopy` has the module",

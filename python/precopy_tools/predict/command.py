@@ -4,8 +4,9 @@
     tools/predict NAME.light.pcwt .. --link 10Gbit --downtime 300ms [--picture NAME.svg]
 
 It reads NAME.json beside the trace, asks `precopy-view predict`, and prints what that answers of the whole guest.
---link is what the migration really reaches: measure it, since all answers depend on it. The lines at half and twice the
-link show how much. docs/REAL-GUESTS.md says where hypervisors differ from a plan.
+--link is the rate at which pages of this guest are sent. It is less than what the card says, and depends on the guest
+and the machine. The lines at half and twice the link show how much all answers depend on it. docs/REAL-GUESTS.md says
+where hypervisors differ from a plan.
 
 Several traces have a line each, and so have the segments of a series, named as tools/record was told: its best and its
 worst start are those of `precopy-view when`. --picture writes what a migration costs by the time of day at which it
