@@ -1,7 +1,7 @@
 """Tells what the proof of each function of a crate costs, most expensive first.
 
-    tools/profile [--lines N] CRATE..         each crate from nothing, by one process
-    tools/profile [--lines N] -- COMMAND..    each crate that the command proves from nothing, as `rt ci`
+    dev/profile [--lines N] CRATE..         each crate from nothing, by one process
+    dev/profile [--lines N] -- COMMAND..    each crate that the command proves from nothing, as `rt ci`
 
 The prover writes a file for each part of a function's proof as it ends with it. `MB` is the size of these files, and is
 exact. `Seconds` are processor seconds between the end of one file and of the next, and their sum is the process's. Its
