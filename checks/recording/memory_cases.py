@@ -2,7 +2,6 @@
 
 import json
 import os
-import random
 import signal
 import socket
 import stat
@@ -13,9 +12,11 @@ import threading
 import time
 import uuid
 
+from checks.lib import harness
 from checks.lib.amount_texts import size_text
+from checks.lib.harness import expect
 from checks.recording import known_guest
-from checks.recording.recorder_runs import RECORD, SECONDS, TOP, expect, read_until_recording
+from checks.recording.recorder_runs import RECORD, SECONDS, TOP, read_until_recording
 from checks.recording.sample_runs import Drawn
 from precopy_tools.formats import samples, traces
 from precopy_tools.qemu import qmp
@@ -110,7 +111,7 @@ def expect_recorded(folder, source, known, *said, **more):
 def asked_by_monitor(_, folder):
     """Layouts at random, also after memory was plugged in: exactly the nodes are recorded."""
     for seed in range(LAYOUTS):
-        draws = random.Random(seed)
+        draws = harness.draws(f"layout {seed}")
         with Known(folder, layout_of(draws)) as known:
             if draws.random() < 0.5:
                 known.ask("plug")
@@ -169,7 +170,7 @@ def plugged_in_meanwhile(_, folder):
 def never_the_guest(_, folder):
     """All nodes may be the guest's memory; code, stacks, and the data of libraries never are."""
     for seed in range(LAYOUTS):
-        with Known(folder, layout_of(random.Random(f"words {seed}"))) as known:
+        with Known(folder, layout_of(harness.draws(f"words {seed}"))) as known:
             taken = []
 
             def overlap(begin, end):
@@ -296,7 +297,7 @@ def lying_monitors(_, __):
     refused = right = other = 0
     for seed in range(MUTATIONS):
         try:
-            ranges = guest_memory.checked(os.getpid(), guest_memory.asked(Lying(guest, random.Random(seed))))
+            ranges = guest_memory.checked(os.getpid(), guest_memory.asked(Lying(guest, harness.draws(f"lies {seed}"))))
         except (qmp.Fault, ValueError) as fault:
             refused += 1
             expect(str(fault).strip(), f"seed {seed}: refused without a word")
@@ -386,7 +387,7 @@ def hostile_sockets(_, folder):
 
 def guests_that_end(_, folder):
     """Killed at any moment while it is asked and recorded: a whole trace, or none and words."""
-    draws, statuses = random.Random(66), set()
+    draws, statuses = harness.draws("ends"), set()
     for number in range(KILLED):
         with Known(folder, layout_of(draws)) as known:
             timer = threading.Timer(draws.uniform(0, 0.9), known.process.kill)
@@ -422,7 +423,7 @@ def virsh_in(folder, known, identity, garbled=False):
 
 def asked_by_domain(_, folder):
     identity = uuid.uuid4()
-    with Known(folder, layout_of(random.Random(7)), "-uuid", str(identity)) as known:
+    with Known(folder, layout_of(harness.draws("domain")), "-uuid", str(identity)) as known:
         known.ask("plug")
         environment = virsh_in(folder, known, identity)
         expect_recorded(folder, ["--domain", "known"], known, "memory: dimm, ", "left out: ", env=environment)

@@ -5,12 +5,13 @@ And amounts as texts: the tools and the page write them as checks/lib/amount_tex
 import json
 import math
 import os
-import random
 import re
 from fractions import Fraction
 
 from checks.lib.amount_texts import error_text, moment_text, size_text, time_text
-from checks.lib.view_texts import TOP, Failure, ran
+from checks.lib.harness import draws
+from checks.lib.tally import Failure
+from checks.lib.view_texts import TOP, ran
 from checks.view.limit_cases import RATES, TIMES
 from precopy_tools import quantities as tool_texts
 from precopy_tools import words as tool_words
@@ -18,7 +19,11 @@ from precopy_tools import words as tool_words
 UNITS = {"time": {**TIMES, "m": 60 * TIMES["s"], "h": 3_600 * TIMES["s"]}, "rate": RATES}
 DRAWN = 60
 PAGE_BYTES = 4_096
-MISSPELLED = "a number and its unit, "
+UNITS_OF_RATES = "Kbit, Mbit, Gbit, KB, MB, GB, KiB, MiB or GiB, per second, as in 10Gbit"
+MISSPELLED = {
+    "time": (2, "", "precopy-view: --downtime: a number and its unit, us, ms, s, m or h, as in 300ms or 0.3s\n"),
+    "rate": (2, "", f"precopy-view: --link: a number and its unit, {UNITS_OF_RATES}\n"),
+}
 TOO_MUCH = 1 << 53
 
 
@@ -32,7 +37,7 @@ def table():
 
 def drawn():
     """Random decimals in each unit: what they come to is worked out by fractions."""
-    draw = random.Random(645)
+    draw = draws("quantities")
     for kind, units in UNITS.items():
         for _ in range(DRAWN):
             unit, places = draw.choice(sorted(units)), draw.randrange(7)
@@ -47,7 +52,7 @@ def quantities():
 
 def amounts():
     """Amounts on both sides of those at which a form changes, and random ones."""
-    draw = random.Random(646)
+    draw = draws("amounts")
     edges = [*(10**power for power in range(10)), *(1 << power for power in (10, 20, 30, 40))]
     some = (int(10 ** (draw.random() * 13)) for _ in range(DRAWN))
     return sorted({*(edge + step for edge in edges for step in (-1, 0, 1)), *some})
@@ -67,14 +72,14 @@ def words_for(kind, word, amount):
 
 
 def check_program(view, _, kind, word, amount, trace):
-    status, text, faults = ran(view, ["json", "predict", *words_for(kind, word, amount)], trace)
+    status, text, faults = ran(view, ["json", "predict", *words_for(kind, word, amount)], trace.path)
     if amount is None:
-        option = {"time": "--downtime", "rate": "--link"}[kind]
-        if status != 2 or text or not faults.startswith(f"precopy-view: {option}: {MISSPELLED}"):
+        if (status, text, faults) != MISSPELLED[kind]:
             raise Failure(f"{word!r}: status {status}, {text[:80]!r}, {faults!r}")
         return
     if amount >= TOO_MUCH:
-        if status != 2 or MISSPELLED in faults:
+        option = {"time": "--downtime ", "rate": "--link "}[kind]
+        if status != 2 or not faults.startswith(f"precopy-view: {option}"):
             raise Failure(f"{word!r}: status {status}, {faults!r}")
         return
     if status not in (0, 3, 4):
@@ -86,7 +91,7 @@ def check_program(view, _, kind, word, amount, trace):
         raise Failure(f"{word!r}: {found} in place of {amount}")
 
 
-def check_tool(_, __, kind, word, amount, ___):
+def check_tool(_, __, kind, word, amount):
     units = {"time": tool_words.TIMES, "rate": tool_words.RATES, "size": tool_words.SIZES}[kind]
     found = tool_words.amount(word, units)
     if found != amount:
@@ -103,5 +108,5 @@ def check_texts(_, __, amount):
 def quantity_tries(trace):
     """Returns the tries of amounts, and those of words over a trace with pages of 4,096 bytes."""
     tries = [(check_texts, amount) for amount in amounts()]
-    tries += [(check_tool, *row, trace) for row in quantities()]
+    tries += [(check_tool, *row) for row in quantities()]
     return tries + [(check_program, *row, trace) for row in quantities() if row[0] != "size"]
