@@ -12,6 +12,8 @@
 #     make deb                        makes packages for Debian in out/: the programs, the library, its header. After
 #                                     ./precopy it takes 26 minutes of a processor, and more for the page's module
 #     make dist                       makes a tarball for other systems in out/, and its checksum
+#     make release                    makes all that users get of a version in out/release/, with checksums, and tags the
+#                                     commit; the tree must have no changes
 #
 # DESTDIR stands in front of each path of an installation. BINDIR, LIBDIR, MANDIR, DOCDIR, BASHDIR, ZSHDIR, SYSTEMDDIR,
 # LIBRARYDIR, INCLUDEDIR and SHAREDIR name single folders, and MAINTAINER who answers for a package.
@@ -49,4 +51,7 @@ uninstall uninstall-lib:
 deb dist: all lib page
 	$(PACK) $@ $(if $(MAINTAINER),--maintainer "$(MAINTAINER)")
 
-.PHONY: all lib scan page install install-lib uninstall uninstall-lib deb dist
+release: all lib page
+	$(PACK) $@ --output out/release $(if $(MAINTAINER),--maintainer "$(MAINTAINER)")
+
+.PHONY: all lib scan page install install-lib uninstall uninstall-lib deb dist release

@@ -75,10 +75,10 @@ enum precopy_status {
     PRECOPY_SHORT_HEADER = 1,       /* E1: it has fewer than the 16 bytes of a header */
     PRECOPY_BAD_MAGIC = 2,          /* E2: it does not begin with PCWT */
     PRECOPY_BAD_VERSION = 3,        /* E3: its version is not 1 or 2 */
-    PRECOPY_BAD_SHIFT = 4,          /* E4: its pages do not have 16 to 4,096 bytes; so too in struct precopy_sizes */
+    PRECOPY_BAD_SHIFT = 4,          /* E4: its pages do not have 16 to 4,096 bytes (so too in struct precopy_sizes) */
     PRECOPY_BAD_RESERVED = 5,       /* E5: byte 6 or 7 is not 0 */
-    PRECOPY_BAD_PAGES = 6,          /* E6: it does not have 1 to 65,536 pages; so too in struct precopy_sizes */
-    PRECOPY_TOO_MANY_WRITES = 7,    /* E7: it has more than 1,048,576 writes; so too in struct precopy_sizes */
+    PRECOPY_BAD_PAGES = 6,          /* E6: it does not have 1 to 65,536 pages (so too in struct precopy_sizes) */
+    PRECOPY_TOO_MANY_WRITES = 7,    /* E7: it has more than 1,048,576 writes (so too in struct precopy_sizes) */
     PRECOPY_SHORT_RECORD = 8,       /* E8: it ends within this record */
     PRECOPY_TICK_ORDER = 9,         /* E9: the tick is below that of the previous record */
     PRECOPY_TICK_TOO_LARGE = 10,    /* E10: the tick is 2^40 or more */
@@ -88,9 +88,9 @@ enum precopy_status {
     PRECOPY_TRAILING_BYTES = 14,    /* E14: bytes follow the last record */
     PRECOPY_TOO_LONG = 15,          /* E15: it has more than 2^28 bytes */
 
-    PRECOPY_NO_MEMORY = 16, /* E16: memory ran out; malloc returned null */
+    PRECOPY_NO_MEMORY = 16, /* E16: memory ran out (malloc returned null) */
 
-    /* Settings are refused. */
+    /* Settings are refused, for another size before all else. */
     PRECOPY_BAD_MIN = 21,       /* S1: min is not 1 to 1,000,000 */
     PRECOPY_BAD_MAX = 22,       /* S2: max is not min to 1,000,000 */
     PRECOPY_BAD_INCREMENT = 23, /* S3: increment is more than 1,000,000 */
@@ -100,7 +100,7 @@ enum precopy_status {
     PRECOPY_BAD_HOT = 27,       /* S7: hot is not 1 to 1,048,576 */
     PRECOPY_BAD_START = 28,     /* S8: start is 2^40 or more */
     PRECOPY_BAD_BASE = 30,      /* S10: base is after start */
-    PRECOPY_BAD_SIZE = 31,      /* size is not that of the struct that begins with it; it is tested first */
+    PRECOPY_BAD_SIZE = 31,      /* a struct of settings or of a question has another size than the library knows */
 
     /* A frame is refused. */
     PRECOPY_FRAME_SHORT = 41, /* F1: a frame is cut off */
@@ -122,24 +122,24 @@ enum precopy_status {
     PRECOPY_BACKWARDS = 68, /* a step ends before it begins */
 
     /* Streams are not what they must be. */
-    PRECOPY_NO_VERSION = 71,  /* a stamp is not 0, and no write to the page has that place */
-    PRECOPY_AFTER_STOP = 72,  /* a stamp is of a write after the stop */
+    PRECOPY_NO_VERSION = 71,  /* no write to the page has the place of the stamp (0 needs no write) */
+    PRECOPY_AFTER_STOP = 72,  /* the stamp is of a write after the stop */
     PRECOPY_OLDER = 73,       /* a frame of the page with a greater stamp came before in the stream */
     PRECOPY_OTHER_BYTES = 74, /* the bytes are not those of the page at the stamp */
     PRECOPY_PAGE_BEHIND = 75, /* a page is not at its version at the stop */
 
     /* A question is refused. One that makes settings which are out of their range is refused for these, S1 to S10. */
-    PRECOPY_BAD_TICK = 81,     /* tick is not 1 to 1,000,000 */
-    PRECOPY_BAD_PAGE = 82,     /* page is not 16 to 4,096 */
-    PRECOPY_BAD_SAMPLE = 83,   /* sampled is not 1 to guest, or guest is more than 2^32 */
-    PRECOPY_BAD_LINK = 84,     /* link is not 1 to 1,000,000 pages per 1,000 ticks; another tick may do */
-    PRECOPY_BAD_FIRST = 85,    /* first is not 1 page per 1,000 ticks to the rate of link */
-    PRECOPY_BAD_RESERVE = 86,  /* reserve is more than downtime */
-    PRECOPY_BAD_DOWNTIME = 87, /* more than 65,535 pages go over the link within downtime */
+    PRECOPY_BAD_TICK = 81,     /* a tick is not 1 microsecond to 1 second */
+    PRECOPY_BAD_PAGE = 82,     /* a page does not have 16 to 4,096 bytes */
+    PRECOPY_BAD_SAMPLE = 83,   /* not 1 page to all of the guest were sampled, or it has more than 2^32 */
+    PRECOPY_BAD_LINK = 84,     /* the rate of the link is not 1 to 1,000,000 pages per 1,000 ticks; take another tick */
+    PRECOPY_BAD_FIRST = 85,    /* the rate of the first round is not 1 page per 1,000 ticks to that of the link */
+    PRECOPY_BAD_RESERVE = 86,  /* the reserve is longer than the downtime */
+    PRECOPY_BAD_DOWNTIME = 87, /* more than 65,535 pages go over the link within the downtime */
 
     /* A trace is not as a question says. */
-    PRECOPY_OTHER_PAGES = 88, /* its pages do not have so many bytes */
-    PRECOPY_MORE_PAGES = 89   /* it has more pages than were sampled */
+    PRECOPY_OTHER_PAGES = 88, /* the pages of the trace have another size than the question says */
+    PRECOPY_MORE_PAGES = 89   /* the trace has more pages than the question says were sampled */
 };
 
 /* A line about a status, in English. It never returns null, and the text stays. */

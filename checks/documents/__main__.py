@@ -132,8 +132,13 @@ def refusals(tally):
         tally.add(good, told)
 
 
+def interface(tally):
+    made = subprocess.run([os.path.join(TOP, "dev", "interface"), "--compare"], capture_output=True, text=True)
+    tally.add(made.returncode == 0, f"dev/interface would write other files: {made.stdout}{made.stderr}")
+
+
 def index(tally):
-    words = [os.path.join(TOP, "tools", "index"), "--print"]
+    words = [os.path.join(TOP, "dev", "index"), "--print"]
     made = subprocess.run(words, capture_output=True, text=True, timeout=SECONDS)
     good = made.returncode == 0 and made.stdout == read("docs/INDEX.md")
     tally.add(good, f"docs/INDEX.md is not what dev/index makes; it writes the page anew. {made.stderr}")
@@ -223,7 +228,7 @@ def main(words):
         print(f"checks/documents: there is no program {program}; ./precopy builds it\n0 passed, 1 failed")
         return 1
     all_passed = all_failed = 0
-    for check in (commands, files, quotations, proofs, refusals, index, lengths, widths, foreign, size):
+    for check in (commands, files, quotations, proofs, refusals, index, interface, lengths, widths, foreign, size):
         tally = Tally()
         check(tally, program) if check is commands else check(tally)
         print(f"{check.__name__}: {tally.passed} passed, {tally.failed} failed", flush=True)

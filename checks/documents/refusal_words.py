@@ -3,10 +3,11 @@
 import re
 
 from checks.lib.pages import manuals, pages, read
+from precopy_dev import interface
 
 ROW = re.compile(r"^\| (E\d+) \| `(\w+)(?:\(record\))?` \| ([^|]+?) \|", re.M)
-# Those that the library has a status of its own for; it says of any lack of memory that memory ran out.
-OF_LIBRARY = [f"E{number}" for number in range(1, 16)]
+# Those that the library has a status for.
+OF_LIBRARY = [f"E{number}" for number in range(1, 17)]
 
 
 def words_by_name():
@@ -22,10 +23,9 @@ def said_elsewhere():
     path = "crates/precopy_view/src/faults.rt"
     for variant, words in re.findall(r'TraceError::(\w+)(?:\(_\))? => "([^"]*)"', read(path)):
         yield path, variants.get(variant), words
-    for name, words in re.findall(r'return "trace (E\d+): ([^"]*)"', read("packaging/messages.c")):
-        yield "packaging/messages.c", name, words
-    for name, words in re.findall(r"/\* (E\d+): ([^;*]*?)(?:;[^*]*)? \*/", read("include/precopy.h")):
-        yield "include/precopy.h", name, words
+    for status in interface.read_header(read(interface.HEADER)).statuses:
+        if status.name and status.name.startswith("E"):
+            yield interface.HEADER, status.name, status.text
     table = read("web/refusals.js").split("const TRACE_REFUSALS = {")[1].split("};")[0]
     for number, words in re.findall(r'^  (\d+): "([^"]*)"', table, re.M):
         yield "web/refusals.js", f"E{number}", words
@@ -47,8 +47,7 @@ def compared():
         "crates/trace_codec/src/error.rt": every,
         "crates/precopy_view/src/faults.rt": every,
         "web/refusals.js": every,
-        "packaging/messages.c": OF_LIBRARY,
-        "include/precopy.h": [*OF_LIBRARY, "E16"],
+        interface.HEADER: OF_LIBRARY,
     }
     for place, names in wanted.items():
         told = sorted(map(str, found.get(place, [])))

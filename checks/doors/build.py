@@ -154,7 +154,7 @@ def copies_of_sources(tree):
 def build_at_first(tally, tree):
     ran = tree.run()
     tally.add(ran.status == 0 and ran.output == "number 7\n", f"the first run: {ran}")
-    parts = "some 2 minutes of a processor; later runs", "1 of 1 libraries", "low; left: a minute of a processor"
+    parts = "some 2 minutes of a processor; later runs", "1 of 1 libraries", "low; left here: a minute"
     for told in (*parts, "building precopy, the last part", "precopy is built, "):
         tally.add(told in ran.faults, f"the first run does not tell {told!r}: {ran}")
     left = [name for _, _, names in os.walk(tree.cache) for name in names]

@@ -7,11 +7,13 @@ import subprocess
 import sys
 import time
 
+import tomllib
+
 from checks.doors import documents
 from checks.lib.tally import has
 from precopy_dev.packaging import contents, launcher, options
 from precopy_dev.tree import TOP
-from precopy_tools import version
+from precopy_tools import commands, version
 
 SECONDS = 120
 
@@ -178,8 +180,16 @@ def check_program(tally, program):
 
 
 def check_tools(tally):
-    """Each tool that is installed can be run, and has --version."""
+    """Each tool that is installed can be run, and has --version; those that pip installs are the same."""
+    with open(os.path.join(TOP, "pyproject.toml"), "rb") as file:
+        scripts = tomllib.load(file)["project"]["scripts"]
+    expected = [f"precopy-{name}" for name in contents.TOOLS]
+    tally.add(sorted(scripts) == expected, f"pyproject.toml has {sorted(scripts)}")
     for name in contents.TOOLS:
+        with open(os.path.join(TOP, "tools", name), encoding="utf-8") as file:
+            launched = re.search(r"python\" (\S+) ", file.read())
+        good = launched and launched[1] == commands.MODULES.get(name)
+        tally.add(good, f"tools/{name} runs {launched}, and pip {commands.MODULES.get(name)}")
         told = output_of(os.path.join(TOP, "tools", name), "--version").decode()
         tally.add(told == f"{name} (precopy) {version.VERSION}\n", f"tools/{name} --version tells {told!r}")
 

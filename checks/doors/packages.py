@@ -27,7 +27,7 @@ def run(*command, **how):
 def make(what, folder):
     """Makes a package in a folder, and returns the files that are there."""
     os.makedirs(folder)
-    ran = run(os.path.join(TOP, "packaging", "make"), what, "--output", folder)
+    ran = run(os.path.join(TOP, "dev", "package"), what, "--output", folder)
     return ran, sorted(os.listdir(folder))
 
 

@@ -47,9 +47,7 @@ LACKEY_STORES = [(0, 0, 0xFE8, 8), (1, 1, 0xFFE, 2), (1, 2, 0, 2), (2, 0, 0xF00,
 
 
 def run(command, text=b""):
-    return harness.run(
-        [sys.executable, *command] if command[0] in (IMPORT, EXPORT, RELEASE) else command, text, SECONDS
-    )
+    return harness.run(command, text, SECONDS)
 
 
 def records_of(trace):

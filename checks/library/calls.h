@@ -110,9 +110,9 @@ static uint32_t check_piece(const struct guest *g, struct outputs *out) {
     struct precopy_finding found;
     size_t first = g->lengths.length ? *(const size_t *)(const void *)g->lengths.at : 0;
     memset(out->told.at, 0, out->told.length);
-    uint32_t status = precopy_check_piece(g->trace.at, g->trace.length, g->streams.at, first, &progress,
-                                          (void *)out->told.at, out->told.length / sizeof(struct precopy_page), &found,
-                                          (void *)out->record.at);
+    uint32_t status =
+        precopy_check_piece(g->trace.at, g->trace.length, g->streams.at, first, &progress, (void *)out->told.at,
+                            out->told.length / sizeof(struct precopy_page), &found, (void *)out->record.at);
     if (status != PRECOPY_OK && precopy_is_zero(out->told.at, out->told.length)) {
         memset(out->told.at, PATTERN, out->told.length);
     }

@@ -86,8 +86,7 @@ static void nulls_of_frames(void) {
     ROW(precopy_check_piece(trace, sizeof trace, NULL, 0, &progress, states, 2, &found, &record) == PRECOPY_OK);
     ROW(precopy_check_piece(trace, 20, NULL, 0, &progress, states, 1, &found, &record) == PRECOPY_SHORT_RECORD
         && forget() == 0);
-    ROW(precopy_check_pages(trace, 20, &progress, states, 1, &found, &record) == PRECOPY_SHORT_RECORD
-        && forget() == 0);
+    ROW(precopy_check_pages(trace, 20, &progress, states, 1, &found, &record) == PRECOPY_SHORT_RECORD && forget() == 0);
     ROW(precopy_check_pages(NULL, 0, &progress, NULL, 0, &found, &record) == PRECOPY_SHORT_HEADER);
     ROW(precopy_check_pages(trace, sizeof trace, &progress, NULL, 0, &found, &record) == PRECOPY_PAGE_COUNT);
     ROW(precopy_missing(NULL, 0, &needed) == PRECOPY_OK && needed == 25);

@@ -46,9 +46,7 @@ static struct room input_of(const void *bytes, size_t length) {
     return room;
 }
 
-static void drop(struct room *room) {
-    munmap(room->mapped, room->whole);
-}
+static void drop(struct room *room) { munmap(room->mapped, room->whole); }
 
 /* Whether the bytes beside a buffer are untouched, and those from `from` on. */
 static int is_untouched(const struct room *room, size_t from) {

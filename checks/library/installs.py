@@ -9,7 +9,7 @@ from checks.lib.tally import left_out, why_not
 from precopy_tools import version
 
 # What of the sources an installation of the library needs besides what is built: no program, and no crate.
-ENOUGH = ("packaging", "tools", "include", "bindings", "out/library")
+ENOUGH = ("dev", "packaging", "python", "include", "bindings", "out/library")
 SOURCES = ("share/precopy/rust/Cargo.toml", "share/precopy/rust/build.rs", "share/precopy/rust/src/lib.rs")
 
 
@@ -61,7 +61,7 @@ def check_library_alone(tally, folder):
     sources, root = os.path.join(folder, "sources"), os.path.join(folder, "a root")
     for path in ENOUGH:
         shutil.copytree(os.path.join(TOP, path), os.path.join(sources, path), symlinks=True)
-    words = os.path.join(sources, "packaging", "make"), "install-lib", "--prefix", "/usr", "--destdir", root
+    words = os.path.join(sources, "dev", "package"), "install-lib", "--prefix", "/usr", "--destdir", root
     if not is_done(tally, run(*words), "the library is installed alone"):
         return
     found, prefix = files_below(root), os.path.join(root, "usr")

@@ -42,9 +42,7 @@ void *__real_malloc(size_t size);
 void *__real_realloc(void *old, size_t size);
 void __real_free(void *old);
 
-static int is_refused(void) {
-    return atomic_fetch_add(&asked, 1) + 1 == atomic_load(&refused_at);
-}
+static int is_refused(void) { return atomic_fetch_add(&asked, 1) + 1 == atomic_load(&refused_at); }
 
 void *__wrap_malloc(size_t size) {
     void *made = is_refused() ? NULL : __real_malloc(size);
@@ -195,8 +193,8 @@ static size_t append_frames(uint8_t *stream, size_t length, const struct precopy
     size_t size = (size_t)1 << sizes->shift;
     for (uint32_t page = 0; page < sizes->pages; page++) {
         size_t needed = 0;
-        uint32_t status = precopy_encode_frame(sizes, page, stamp, bytes + page * size, size, stream + length,
-                                               size + 9, &needed);
+        uint32_t status =
+            precopy_encode_frame(sizes, page, stamp, bytes + page * size, size, stream + length, size + 9, &needed);
         expect(status == PRECOPY_OK, "encode_frame", "of a page");
         length += needed;
     }
@@ -324,9 +322,9 @@ static struct precopy_question question_of(uint64_t size, uint64_t pages) {
 
 /* Each call over a trace that is refused: the same number and record, and nothing else written. */
 static void try_refused(const struct guest *guest, uint32_t status, const struct room *record) {
-    call_of *calls[] = {plan,          rounds,        report,      sweep,         predict, enough,      memory,
-                        memory_before, writes_before, memory_step, version_after, page_at, page_writes, check_streams,
-                        check_piece,   check_pages};
+    call_of *calls[] = {plan,        rounds,        report,        sweep,       predict,       enough,
+                        memory,      memory_before, writes_before, memory_step, version_after, page_at,
+                        page_writes, check_streams, check_piece,   check_pages};
     for (size_t i = 0; i < sizeof calls / sizeof *calls; i++) {
         struct outputs out = outputs_of(1920, sizeof(struct precopy_prediction) + sizeof(struct precopy_errors));
         uint32_t told = calls[i](guest, &out);

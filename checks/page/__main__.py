@@ -52,10 +52,10 @@ def built_page(folder, module):
     if not module:
         module = os.path.join(TOP, "out", "browser_planner.wasm")
         if not os.path.exists(module):
-            subprocess.run([os.path.join(TOP, "tools", "page-module"), module], check=True)
+            subprocess.run([os.path.join(TOP, "dev", "page-module"), module], check=True)
     page = os.path.join(folder, "precopy.html")
     for path in (os.path.join(folder, "again.html"), page):
-        subprocess.run([os.path.join(TOP, "tools", "join-page"), module, path], check=True)
+        subprocess.run([os.path.join(TOP, "dev", "join-page"), module, path], check=True)
     return os.path.abspath(module), page
 
 

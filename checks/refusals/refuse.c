@@ -187,15 +187,11 @@ void *calloc(size_t count, size_t size) {
     return REFUSES(count * size, 0) ? OUT_OF_MEMORY : __libc_calloc(count, size);
 }
 
-void *realloc(void *old, size_t size) {
-    return REFUSES(size, old != NULL) ? OUT_OF_MEMORY : __libc_realloc(old, size);
-}
+void *realloc(void *old, size_t size) { return REFUSES(size, old != NULL) ? OUT_OF_MEMORY : __libc_realloc(old, size); }
 
 void *memalign(size_t step, size_t size) { return REFUSES(size, 0) ? OUT_OF_MEMORY : __libc_memalign(step, size); }
 
-void *aligned_alloc(size_t step, size_t size) {
-    return REFUSES(size, 0) ? OUT_OF_MEMORY : __libc_memalign(step, size);
-}
+void *aligned_alloc(size_t step, size_t size) { return REFUSES(size, 0) ? OUT_OF_MEMORY : __libc_memalign(step, size); }
 
 int posix_memalign(void **place, size_t step, size_t size) {
     void *room = REFUSES(size, 0) ? NULL : __libc_memalign(step, size);

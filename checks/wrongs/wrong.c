@@ -145,13 +145,20 @@ static int is_named(const char *name, int wanted) { return getenv(name) && atoi(
 /* Whether the whole output is to come in place of what came. */
 static int answers(int is_refused) {
     switch (WRONG) {
-    case MEMORY_ANSWERED: return tells("precopy: memory\n");
-    case E16_ANSWERED: return tells("precopy: trace E16\n");
-    case LIVE_ANSWERED: return tells("precopy: live L1\n") || tells("precopy: live L2\n");
-    case ONE_ANSWERED: return is_refused && is_named("REFUSE_GROWTH", 30) && !is_named("REFUSE_ON", 1);
-    case READ_ANSWERED: return tells("precopy: trace E17\n");
-    case CALL_ANSWERED: return is_refused_call();
-    default: return 0;
+    case MEMORY_ANSWERED:
+        return tells("precopy: memory\n");
+    case E16_ANSWERED:
+        return tells("precopy: trace E16\n");
+    case LIVE_ANSWERED:
+        return tells("precopy: live L1\n") || tells("precopy: live L2\n");
+    case ONE_ANSWERED:
+        return is_refused && is_named("REFUSE_GROWTH", 30) && !is_named("REFUSE_ON", 1);
+    case READ_ANSWERED:
+        return tells("precopy: trace E17\n");
+    case CALL_ANSWERED:
+        return is_refused_call();
+    default:
+        return 0;
     }
 }
 

@@ -30,8 +30,7 @@ struct stream {
 /* Reads bytes of a stream, and keeps them. Returns how many there were. */
 static size_t take(struct stream *stream, void *into, size_t length) {
     size_t came = fread(into, 1, length, stream->socket);
-    if (fwrite(into, 1, came, stream->copy) != came)
-        err(1, "a stream's file");
+    if (fwrite(into, 1, came, stream->copy) != came) err(1, "a stream's file");
     return came;
 }
 
@@ -42,15 +41,12 @@ static void *take_frames(void *argument) {
     while ((came = take(stream, head, HEAD)) == HEAD) {
         uint32_t page;
         memcpy(&page, head, sizeof page);
-        if (page >= stream->pages || head[8] > 1)
-            errx(1, "a frame has page %u and kind %u", page, head[8]);
+        if (page >= stream->pages || head[8] > 1) errx(1, "a frame has page %u and kind %u", page, head[8]);
         memset(bytes, 0, PAGE);
-        if (head[8] == 1 && take(stream, bytes, PAGE) != PAGE)
-            errx(1, "a frame of page %u is cut off", page);
+        if (head[8] == 1 && take(stream, bytes, PAGE) != PAGE) errx(1, "a frame of page %u is cut off", page);
         memcpy(stream->memory + page * PAGE, bytes, PAGE);
     }
-    if (came != 0)
-        errx(1, "a frame is cut off");
+    if (came != 0) errx(1, "a frame is cut off");
     if (fclose(stream->copy) != 0 || write(fileno(stream->socket), "", 1) != 1 || fclose(stream->socket) != 0)
         err(1, "the end of a stream");
     return NULL;
@@ -67,8 +63,7 @@ static void start(struct stream *stream, int listener, uint32_t number) {
 }
 
 int main(int argc, char **argv) {
-    if (argc != 4)
-        errx(2, "usage: destination FOLDER PAGES STREAMS");
+    if (argc != 4) errx(2, "usage: destination FOLDER PAGES STREAMS");
     uint32_t pages = (uint32_t)atoi(argv[2]), count = (uint32_t)atoi(argv[3]);
     if (pages - 1 >= MOST_PAGES || count - 1 >= MOST_STREAMS)
         errx(2, "it takes 1 to 65,536 pages, and 1 to 16 streams");
@@ -83,11 +78,9 @@ int main(int argc, char **argv) {
         streams[i] = (struct stream){.pages = pages, .memory = memory};
         start(&streams[i], listener, i);
     }
-    for (uint32_t i = 0; i < count; i++)
-        pthread_join(streams[i].thread, NULL);
+    for (uint32_t i = 0; i < count; i++) pthread_join(streams[i].thread, NULL);
     FILE *file = fopen("memory", "wb");
-    if (!file || fwrite(memory, PAGE, pages, file) != pages || fclose(file) != 0)
-        err(1, "memory");
+    if (!file || fwrite(memory, PAGE, pages, file) != pages || fclose(file) != 0) err(1, "memory");
     unlink("socket");
     free(memory);
     return 0;

@@ -75,7 +75,7 @@ struct record {
 
 static uint32_t pages, stream_count, writer_count;
 static uint8_t *memory;
-static int watcher, pagemap; /* a userfaultfd, and /proc/self/pagemap */
+static int watcher, pagemap;                      /* a userfaultfd, and /proc/self/pagemap */
 static uint32_t listed[MOST_PAGES], listed_count; /* the pages of a round */
 static FILE *streams[MOST_THREADS];
 static pthread_t writers[MOST_THREADS], senders[MOST_THREADS];
@@ -86,7 +86,7 @@ static pthread_mutex_t locks[MOST_PAGES];
 static uint32_t stamps[MOST_PAGES];
 static struct record records[MOST_WRITES];
 static atomic_uint places, last_place; /* last_place: the threads wait there for the next round */
-static uint64_t began; /* milliseconds of the clock */
+static uint64_t began;                 /* milliseconds of the clock */
 
 static uint64_t milliseconds(void) {
     struct timespec now;
@@ -96,8 +96,7 @@ static uint64_t milliseconds(void) {
 
 static pthread_t started(void *(*run)(void *), void *argument) {
     pthread_t thread;
-    if (pthread_create(&thread, NULL, run, argument) != 0)
-        errx(1, "a thread did not start");
+    if (pthread_create(&thread, NULL, run, argument) != 0) errx(1, "a thread did not start");
     return thread;
 }
 
@@ -119,8 +118,7 @@ static void *write_until_stopped(void *seed) {
             struct record write = {.length = (uint16_t)(1 + nrand48(state) % 16)};
             write.page = (uint32_t)(erand48(state) * erand48(state) * erand48(state) * pages);
             write.offset = (uint16_t)(nrand48(state) % (PAGE - 15));
-            for (int i = 0; i < write.length; i++)
-                write.bytes[i] = (uint8_t)nrand48(state);
+            for (int i = 0; i < write.length; i++) write.bytes[i] = (uint8_t)nrand48(state);
             write_memory(write);
         }
         usleep(500);
@@ -130,42 +128,36 @@ static void *write_until_stopped(void *seed) {
 
 static void start_writers(uintptr_t seed) {
     atomic_store(&stopping, false);
-    for (uint32_t i = 0; i < writer_count; i++)
-        writers[i] = started(write_until_stopped, (void *)(seed + i));
+    for (uint32_t i = 0; i < writer_count; i++) writers[i] = started(write_until_stopped, (void *)(seed + i));
 }
 
 /* Lets the threads write, and waits until they have done so this often, however little time they get. */
 static void await_writes(uint32_t count) {
     uint32_t enough = places + count;
     last_place = places + MOST_IN_ROUND;
-    while (places < enough)
-        usleep(100);
+    while (places < enough) usleep(100);
 }
 
 static void stop_writers(void) {
     atomic_store(&stopping, true);
-    for (uint32_t i = 0; i < writer_count; i++)
-        pthread_join(writers[i], NULL);
+    for (uint32_t i = 0; i < writer_count; i++) pthread_join(writers[i], NULL);
 }
 
 static void write_trace(const char *name) {
     uint32_t header[4] = {0x54574350 /* PCWT */, 12 << 8 | 1 /* pages of 2^12 bytes, version 1 */, pages, places};
     uint64_t latest = 0;
     FILE *file = fopen(name, "wb");
-    if (!file || fwrite(header, sizeof header, 1, file) != 1)
-        err(1, "%s", name);
+    if (!file || fwrite(header, sizeof header, 1, file) != 1) err(1, "%s", name);
     for (struct record *record = records; record < records + places; record++) {
         latest = record->tick = record->tick > latest ? record->tick : latest;
         fwrite(record, offsetof(struct record, bytes) + record->length, 1, file);
     }
-    if (ferror(file) | fclose(file))
-        err(1, "%s", name);
+    if (ferror(file) | fclose(file)) err(1, "%s", name);
 }
 
 static void protect(uint64_t page, uint64_t mode) {
     struct uffdio_writeprotect ask = {{(uintptr_t)memory + page * PAGE, PAGE}, mode};
-    if (ioctl(watcher, UFFDIO_WRITEPROTECT, &ask) != 0)
-        err(1, "UFFDIO_WRITEPROTECT");
+    if (ioctl(watcher, UFFDIO_WRITEPROTECT, &ask) != 0) err(1, "UFFDIO_WRITEPROTECT");
 }
 
 static void *answer_faults(void *unused) {
@@ -195,8 +187,7 @@ static void list_written(void) {
         err(1, "/proc/self/pagemap");
     listed_count = 0;
     for (uint32_t page = 0; page < pages; page++) {
-        if (!(entries[page] >> PROTECTED & 1))
-            listed[listed_count++] = page;
+        if (!(entries[page] >> PROTECTED & 1)) listed[listed_count++] = page;
     }
 }
 
@@ -215,8 +206,7 @@ static void send_page(FILE *stream, uint32_t page) {
 static void *send_listed(void *stream) {
     size_t number = (uintptr_t)stream;
     for (size_t at = 0; at < listed_count; at++) {
-        if (listed[at] % stream_count == number)
-            send_page(streams[number], listed[at]);
+        if (listed[at] % stream_count == number) send_page(streams[number], listed[at]);
     }
     return NULL;
 }
@@ -224,12 +214,9 @@ static void *send_listed(void *stream) {
 /* Sends what was written since the last round, and returns how many pages that are. */
 static size_t send_round(void) {
     list_written();
-    for (size_t at = 0; at < listed_count; at++)
-        protect(listed[at], UFFDIO_WRITEPROTECT_MODE_WP);
-    for (size_t i = 0; i < stream_count; i++)
-        senders[i] = started(send_listed, (void *)i);
-    for (size_t i = 0; i < stream_count; i++)
-        pthread_join(senders[i], NULL);
+    for (size_t at = 0; at < listed_count; at++) protect(listed[at], UFFDIO_WRITEPROTECT_MODE_WP);
+    for (size_t i = 0; i < stream_count; i++) senders[i] = started(send_listed, (void *)i);
+    for (size_t i = 0; i < stream_count; i++) pthread_join(senders[i], NULL);
     return listed_count;
 }
 
@@ -237,8 +224,7 @@ static FILE *connected(void) {
     struct sockaddr_un to = {AF_UNIX, "socket"};
     int made = socket(AF_UNIX, SOCK_STREAM | SOCK_CLOEXEC, 0);
     for (int tries = 0; connect(made, (struct sockaddr *)&to, sizeof to) != 0; tries++) {
-        if (tries == 500)
-            err(1, "the destination does not listen");
+        if (tries == 500) err(1, "the destination does not listen");
         usleep(10000);
     }
     return fdopen(made, "wb");
@@ -247,8 +233,7 @@ static FILE *connected(void) {
 /* Returns the number of rounds before the stop. */
 static int migrate(void) {
     int rounds = 1;
-    for (; send_round() > FEW && rounds < MOST_ROUNDS; rounds++)
-        await_writes(200);
+    for (; send_round() > FEW && rounds < MOST_ROUNDS; rounds++) await_writes(200);
     stop_writers();
     send_round();
     for (size_t i = 0; i < stream_count; i++) {
@@ -264,19 +249,14 @@ int main(int argc, char **argv) {
         pages = (uint32_t)atoi(argv[2]), stream_count = (uint32_t)atoi(argv[3]), writer_count = (uint32_t)atoi(argv[4]);
     if (pages - 1 >= MOST_PAGES || stream_count - 1 >= MOST_THREADS || writer_count - 1 >= MOST_THREADS)
         errx(2, "usage: sender FOLDER PAGES STREAMS WRITERS [kernel|thread], up to 65,536 pages, and 16 of the others");
-    if (sysconf(_SC_PAGESIZE) != PAGE)
-        errx(3, "pages of this kernel do not have 4,096 bytes");
+    if (sysconf(_SC_PAGESIZE) != PAGE) errx(3, "pages of this kernel do not have 4,096 bytes");
     memory = mmap(NULL, pages * PAGE, PROT_READ | PROT_WRITE, MAP_PRIVATE | MAP_ANONYMOUS | MAP_POPULATE, -1, 0);
-    if (memory == MAP_FAILED || chdir(argv[1]) != 0)
-        err(1, "%s", argv[1]);
+    if (memory == MAP_FAILED || chdir(argv[1]) != 0) err(1, "%s", argv[1]);
     for (tracking = argc == 6 && !strcmp(argv[5], trackings[THREAD]) ? THREAD : KERNEL; !watch_memory(); tracking++) {
-        if (argc == 6 || tracking == THREAD)
-            return 3;
+        if (argc == 6 || tracking == THREAD) return 3;
     }
-    for (uint32_t page = 0; page < pages; page++)
-        pthread_mutex_init(&locks[page], NULL);
-    for (uint32_t i = 0; i < stream_count; i++)
-        streams[i] = connected();
+    for (uint32_t page = 0; page < pages; page++) pthread_mutex_init(&locks[page], NULL);
+    for (uint32_t i = 0; i < stream_count; i++) streams[i] = connected();
     signal(SIGPIPE, SIG_IGN);
     began = milliseconds();
     start_writers(1);
@@ -285,11 +265,9 @@ int main(int argc, char **argv) {
     uint32_t stop = places;
     uint64_t tick = milliseconds() + 1;
     FILE *source = fopen("source", "wb");
-    if (!source || fwrite(memory, PAGE, pages, source) != pages || fclose(source) != 0)
-        err(1, "source");
+    if (!source || fwrite(memory, PAGE, pages, source) != pages || fclose(source) != 0) err(1, "source");
     /* The source goes on for a while. What is written now is none of the migration's. */
-    while (milliseconds() < tick)
-        usleep(500);
+    while (milliseconds() < tick) usleep(500);
     start_writers(1 + MOST_THREADS);
     await_writes(1000);
     stop_writers();

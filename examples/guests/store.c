@@ -20,38 +20,33 @@ enum { SWEEP_MS = 10000 };
 
 static uint64_t state = 66;
 
-static uint64_t draw(void)
-{
+static uint64_t draw(void) {
     state ^= state << 13;
     state ^= state >> 7;
     state ^= state << 17;
     return state;
 }
 
-static int64_t milliseconds(void)
-{
+static int64_t milliseconds(void) {
     struct timespec now;
     clock_gettime(CLOCK_MONOTONIC, &now);
     return now.tv_sec * 1000LL + now.tv_nsec / 1000000;
 }
 
 /* The place of a value: of the cube of a number from 0 to 1 small ones are frequent. They are all over the memory. */
-static size_t place(size_t values)
-{
+static size_t place(size_t values) {
     double part = (double)(draw() >> 11) / (1ULL << 53);
     return (size_t)(part * part * part * (double)values) * 2654435761U % values;
 }
 
-int main(int count, char **words)
-{
+int main(int count, char **words) {
     size_t bytes = count == 3 ? strtoul(words[1], NULL, 10) << 20 : 0, updates = count == 3 ? atol(words[2]) : 0;
     char *values = bytes ? malloc(bytes) : NULL, *log = malloc(LOG);
     if (!values || !log || !updates) {
         fprintf(stderr, "usage: store MIB UPDATES, both from 1, with memory for them\n");
         return 2;
     }
-    for (size_t at = 0; at < bytes; at += 8)
-        memcpy(values + at, &(uint64_t){draw()}, 8);
+    for (size_t at = 0; at < bytes; at += 8) memcpy(values + at, &(uint64_t){draw()}, 8);
     memset(log, 1, LOG);
     printf("READY\n");
     fflush(stdout);
@@ -63,8 +58,7 @@ int main(int count, char **words)
             logged = (logged + ENTRY) % LOG;
         }
         if (due - swept >= SWEEP_MS) {
-            for (size_t at = 0; at < bytes; at += SWEPT * PAGE)
-                values[at + VALUE - 1]++;
+            for (size_t at = 0; at < bytes; at += SWEPT * PAGE) values[at + VALUE - 1]++;
             swept = due;
         }
         int64_t late = milliseconds() - due - STEP_MS;

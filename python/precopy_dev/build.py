@@ -80,8 +80,11 @@ class Voice:
         self.spoke = time.monotonic()
         print(f"precopy: {text}", file=sys.stderr, flush=True)
 
+    def seconds(self):
+        return time.monotonic() - self.began
+
     def clock(self):
-        minutes, seconds = divmod(int(time.monotonic() - self.began), 60)
+        minutes, seconds = divmod(int(self.seconds()), 60)
         return f"{minutes} min {seconds:02} s"
 
     def say_after_silence(self, names):
@@ -267,6 +270,13 @@ def told_time(names):
     return f"some {minutes} minutes of a processor" if minutes > 1 else "a minute of a processor"
 
 
+def told_rest(to_prove, built):
+    """Returns how long the rest takes on this machine if it goes on as it went until now, in words."""
+    done = sum(map(seconds_of, to_prove & built))
+    minutes = round(sum(map(seconds_of, to_prove - built)) * VOICE.seconds() / done / 60)
+    return f"some {minutes} minutes" if minutes > 1 else "a minute"
+
+
 def build_libraries(program, needed, running, folder, taken):
     """Builds all libraries but those that are taken as they are, at most as many at once as there are lanes. Returns
     whether all went well."""
@@ -276,6 +286,7 @@ def build_libraries(program, needed, running, folder, taken):
     if left:
         count = f"{len(left)} libraries, up to {len(lanes)} at once"
         say(f"proving and building {count}; {told_time(to_prove)}; later runs start at once")
+        say("a program is built from its proofs, so the first build waits for them; a package needs none of it")
     for lane in lanes:
         copy_sources(lane)
     while left or running:
@@ -294,7 +305,7 @@ def build_libraries(program, needed, running, folder, taken):
             keep(name, lane)
             lanes.append(lane)
             built.add(name)
-            rest = f"; left: {told_time(to_prove - built)}" if name in to_prove else ""
+            rest = f"; left here: {told_rest(to_prove, built)}" if name in to_prove else ""
             say(f"{len(built)} of {len(needed)} libraries, {VOICE.clock()}: {name}{rest}")
     return True
 

@@ -25,7 +25,7 @@ import threading
 from dataclasses import dataclass, fields
 from typing import Any, List, Optional, Sequence, Tuple
 
-from . import _calls
+from . import _calls, _interface
 from ._calls import LIBRARY as _LIBRARY
 from ._calls import lent as _lent
 from ._calls import number as _number
@@ -48,10 +48,12 @@ from ._refusals import check_over as _check_over
 __all__ = [
     "Amounts", "BufferRefused", "Errors", "Finding", "FlatMemory", "Frame", "FrameRefused", "NoMemory", "PlaceRefused",
     "Prediction", "Question", "QuestionRefused", "Reason", "Refused", "Round", "Settings", "SettingsRefused", "Sizes",
-    "StreamCheck", "Sums", "Taken", "TraceRefused", "Verdict", "Write", "check_settings", "check_streams", "check_trace",
-    "decode_frame", "encode_frame", "enough", "is_zero", "memory", "memory_before", "memory_step", "page_at",
-    "page_writes", "plan", "predict", "report", "rounds", "sweep", "version", "version_after", "writes_before",
+    "StreamCheck", "Sums", "Taken", "TraceRefused", "Verdict", "Write", "check_settings", "check_streams",
+    "check_trace", "decode_frame", "encode_frame", "enough", "is_zero", "memory", "memory_before", "memory_step",
+    "page_at", "page_writes", "plan", "predict", "report", "rounds", "sweep", "version", "version_after",
+    "writes_before",
 ]  # fmt: skip
+
 
 @dataclass(frozen=True)
 class Sizes:
@@ -63,18 +65,18 @@ class Sizes:
     writes: int
 
     def __post_init__(self) -> None:
-        sizes, nothing, taken = self._as_c(), ctypes.create_string_buffer(1), _calls.Taken()
+        sizes, nothing, taken = self._as_c(), ctypes.create_string_buffer(1), _interface.Taken()
         # The sizes are tested first, and no memory of a guest has no bytes.
-        status = _LIBRARY.precopy_accept(sizes, nothing, 0, nothing, 0, (_calls.Page * 1)(), 0, taken)
-        if status != _calls.MEMORY_LENGTH:
+        status = _LIBRARY.precopy_accept(sizes, nothing, 0, nothing, 0, (_interface.Page * 1)(), 0, taken)
+        if status != _interface.MEMORY_LENGTH:
             _check(status)
 
     @property
     def page_length(self) -> int:
         return 1 << self.shift
 
-    def _as_c(self) -> _calls.Sizes:
-        return _calls.Sizes(*(_number(it.name, getattr(self, it.name), 32) for it in fields(self)))
+    def _as_c(self) -> _interface.Sizes:
+        return _interface.Sizes(*(_number(it.name, getattr(self, it.name), 32) for it in fields(self)))
 
 
 @dataclass(frozen=True)
@@ -96,12 +98,12 @@ class Settings:
     def __post_init__(self) -> None:
         self._as_c()
 
-    def _as_c(self) -> _calls.Settings:
+    def _as_c(self) -> _interface.Settings:
         asked = {it.name: getattr(self, it.name) for it in fields(self)}
         asked["base"] = 0 if self.base is None else self.base
         skip = _number("skip", asked.pop("skip"), 1)
         numbers = (_number(name, value, 64) for name, value in asked.items())
-        return _calls.Settings(ctypes.sizeof(_calls.Settings), *numbers, self.base is not None, skip)
+        return _interface.Settings(ctypes.sizeof(_interface.Settings), *numbers, self.base is not None, skip)
 
 
 @dataclass(frozen=True)
@@ -173,7 +175,7 @@ class Finding:
     @property
     def place(self) -> str:
         """Where it is in the streams."""
-        if self.status in (_calls.PAGE_MISSING, _calls.PAGE_BEHIND):
+        if self.status in (_interface.PAGE_MISSING, _interface.PAGE_BEHIND):
             return "at the stop"
         return f"stream {self.stream}, frame {self.frame}, byte {self.offset}"
 
@@ -192,7 +194,7 @@ def version() -> str:
 
 def check_trace(trace: Bytes) -> Sizes:
     """Returns the sizes of a trace, or raises `TraceRefused`."""
-    sizes = _calls.Sizes()
+    sizes = _interface.Sizes()
     _check_over(_LIBRARY.precopy_check_trace, trace, sizes)
     return Sizes(sizes.shift, sizes.pages, sizes.writes)
 
@@ -202,22 +204,22 @@ def check_settings(settings: Settings) -> None:
     _check(_LIBRARY.precopy_check_settings(settings._as_c()))
 
 
-def _sums(found: _calls.Sums) -> Sums:
+def _sums(found: _interface.Sums) -> Sums:
     return Sums(found.rounds, Reason(found.reason), found.stop, found.down, found.total)
 
 
 def plan(trace: Bytes, settings: Settings) -> Sums:
     """Returns the sums of the plan of a trace."""
-    found = _calls.Sums()
+    found = _interface.Sums()
     _check_over(_LIBRARY.precopy_plan, trace, settings._as_c(), found)
     return _sums(found)
 
 
 def rounds(trace: Bytes, settings: Settings) -> List[Round]:
     """Returns the rounds of the plan of a trace, in order."""
-    found, count = (_calls.Round * _calls.MOST_ROUNDS)(), ctypes.c_size_t()
+    found, count = (_interface.Round * _calls.MOST_ROUNDS)(), ctypes.c_size_t()
     _check_over(_LIBRARY.precopy_rounds, trace, settings._as_c(), found, _calls.MOST_ROUNDS, count)
-    return [Round(*(getattr(it, name) for name, _ in _calls.Round._fields_)) for it in found[: count.value]]
+    return [Round(*(getattr(it, name) for name, _ in _interface.Round._fields_)) for it in found[: count.value]]
 
 
 def _longest_report(trace_length: int) -> int:
@@ -235,7 +237,7 @@ def report(trace: Bytes, settings: Settings) -> str:
         try:
             room = mmap.mmap(-1, _longest_report(length), mmap.MAP_PRIVATE | mmap.MAP_ANONYMOUS)
         except OSError as fault:
-            raise NoMemory(_calls.NO_MEMORY) from fault
+            raise NoMemory(_interface.NO_MEMORY) from fault
     with room:
         with _lent(room, _calls.WRITABLE) as (text, text_length):
             _check_over(_LIBRARY.precopy_report, trace, settings._as_c(), text, text_length, needed)
@@ -244,8 +246,8 @@ def report(trace: Bytes, settings: Settings) -> str:
 
 def sweep(trace: Bytes, cases: Sequence[Settings]) -> Tuple[List[Sums], int]:
     """Returns the sums of the plan of each case, and the number of the best case."""
-    asked, best = (_calls.Settings * len(cases))(*(case._as_c() for case in cases)), ctypes.c_size_t()
-    found = (_calls.Sums * len(cases))()
+    asked, best = (_interface.Settings * len(cases))(*(case._as_c() for case in cases)), ctypes.c_size_t()
+    found = (_interface.Sums * len(cases))()
     _check_over(_LIBRARY.precopy_sweep, trace, asked, len(cases), found, len(cases), best)
     return [_sums(it) for it in found], best.value
 
@@ -301,11 +303,11 @@ def page_at(trace: Bytes, page: int, stamp: int) -> bytes:
 
 def page_writes(trace: Bytes, page: int) -> List[Write]:
     """Returns the writes to a page, in their order."""
-    where, count, found = _number("page", page, 32), ctypes.c_size_t(), (_calls.Write * 0)()
+    where, count, found = _number("page", page, 32), ctypes.c_size_t(), (_interface.Write * 0)()
     try:
         _check_over(_LIBRARY.precopy_page_writes, trace, where, found, 0, count)
     except BufferRefused:
-        found = (_calls.Write * count.value)()
+        found = (_interface.Write * count.value)()
         _check_over(_LIBRARY.precopy_page_writes, trace, where, found, len(found), count)
     return [Write(it.place, it.tick, it.offset, it.size) for it in found]
 
@@ -313,7 +315,7 @@ def page_writes(trace: Bytes, page: int) -> List[Write]:
 def check_streams(trace: Bytes, stop: int, streams: Sequence[Bytes]) -> Optional[Finding]:
     """Returns what is wrong first in the streams of a migration that stops its guest after the first `stop` writes of a
     trace, or None. It takes memory for a copy of the streams."""
-    sizes, found = (ctypes.c_size_t * len(streams))(*(memoryview(it).nbytes for it in streams)), _calls.Finding()
+    sizes, found = (ctypes.c_size_t * len(streams))(*(memoryview(it).nbytes for it in streams)), _interface.Finding()
     where = _number("stop", stop, 32)
     with _lent(b"".join(streams)) as (start, total):
         words = (where, start, total, sizes, len(sizes), found)
@@ -321,7 +323,7 @@ def check_streams(trace: Bytes, stop: int, streams: Sequence[Bytes]) -> Optional
     if status not in _calls.WRONG:
         _check(status)
         return None
-    return Finding(status, *(getattr(found, name) for name, _ in _calls.Finding._fields_))
+    return Finding(status, *(getattr(found, name) for name, _ in _interface.Finding._fields_))
 
 
 class StreamCheck:
@@ -330,17 +332,17 @@ class StreamCheck:
 
     def __init__(self, trace: Bytes, stop: int) -> None:
         self._trace, self._left = trace, b""
-        self._progress = _calls.Progress(stop=_number("stop", stop, 32))
-        self._states = (_calls.Page * (2 * check_trace(trace).pages))()
+        self._progress = _interface.Progress(stop=_number("stop", stop, 32))
+        self._states = (_interface.Page * (2 * check_trace(trace).pages))()
 
     def _finding(self, call: Any, *words: Any) -> Optional[Finding]:
-        found = _calls.Finding()
+        found = _interface.Finding()
         states = self._states, len(self._states)
         status = _call_over(call, self._trace, *words, self._progress, *states, found)
         if status not in _calls.WRONG:
             _check(status)
             return None
-        return Finding(status, *(getattr(found, name) for name, _ in _calls.Finding._fields_))
+        return Finding(status, *(getattr(found, name) for name, _ in _interface.Finding._fields_))
 
     def take(self, data: Bytes) -> Optional[Finding]:
         """Takes the next bytes of a stream, and returns the first frame that is wrong, or None."""
@@ -374,7 +376,7 @@ def encode_frame(sizes: Sizes, page: int, stamp: int, content: Bytes) -> bytes:
 
 def decode_frame(sizes: Sizes, data: Bytes) -> Frame:
     """Returns the frame at the front of some bytes."""
-    head, room = _calls.Frame(), ctypes.create_string_buffer(sizes.page_length)
+    head, room = _interface.Frame(), ctypes.create_string_buffer(sizes.page_length)
     with _lent(data) as (start, length):
         _check(_LIBRARY.precopy_decode_frame(sizes._as_c(), start, length, head, room, len(room)))
     return Frame(head.page, head.stamp, head.size, room.raw)
@@ -394,12 +396,12 @@ class FlatMemory:
         self.sizes = sizes
         #: the bytes of all pages, one page after the other
         self.memory = bytearray(sizes.pages << sizes.shift)
-        self._pages = (_calls.Page * sizes.pages)()
+        self._pages = (_interface.Page * sizes.pages)()
         self._only_call = threading.Lock()
 
     def accept(self, stream: Bytes) -> Taken:
         """Takes a stream of frames. `FrameRefused` says in `taken` what came before the bytes that are no frame."""
-        taken, sizes = _calls.Taken(), self.sizes._as_c()
+        taken, sizes = _interface.Taken(), self.sizes._as_c()
         with self._only_call, _lent(stream) as (start, length), _lent(self.memory, _calls.WRITABLE) as (room, size):
             if start < room + size and room < start + length:
                 # A stream that is a part of this memory would change as it is taken.
@@ -418,7 +420,7 @@ class FlatMemory:
     def stamp(self, page: int) -> Optional[int]:
         """Returns the stamp of a page, or None if it did not come."""
         if _number("page", page, 32) >= len(self._pages):
-            raise FrameRefused(_calls.FRAME_PAGE)
+            raise FrameRefused(_interface.FRAME_PAGE)
         state = self._pages[page]
         return state.stamp if state.came else None
 
@@ -427,4 +429,4 @@ class FlatMemory:
         page = ctypes.c_size_t()
         with self._only_call:
             status = _LIBRARY.precopy_missing(self._pages, len(self._pages), page)
-        return page.value if status == _calls.PAGE_MISSING else None
+        return page.value if status == _interface.PAGE_MISSING else None

@@ -1,4 +1,4 @@
-"""The functions of include/precopy.h for ctypes: structures, the library itself, and bytes lent to a call."""
+"""The library itself, and bytes lent to a call."""
 
 from __future__ import annotations
 
@@ -8,138 +8,17 @@ import operator
 import os
 from typing import Any, Iterator, Tuple
 
+from ._interface import CALLS, FRAME_SHORT, FRAME_ZEROS, NO_VERSION, PAGE_BEHIND, PAGE_MISSING
+
 ABI_NUMBER = 2
 ABI = f"libprecopy.so.{ABI_NUMBER}"
-NO_MEMORY, FRAME_PAGE, SHORT_BUFFER, MEMORY_LENGTH, PAGE_MISSING = 16, 42, 61, 63, 65
 # The statuses of what is wrong in streams.
-NO_VERSION, PAGE_BEHIND = 71, 75
-NO_FRAME = range(41, 46)
+NO_FRAME = range(FRAME_SHORT, FRAME_ZEROS + 1)
 WRONG = (*NO_FRAME, PAGE_MISSING, *range(NO_VERSION, PAGE_BEHIND + 1))
 MOST_ROUNDS = 64
 # No trace has a record of this number.
 NO_RECORD = 0xFFFFFFFF
 WRITABLE = 1  # CPython's PyBUF_WRITABLE
-
-
-class Sizes(ctypes.Structure):
-    _fields_ = [("shift", ctypes.c_uint32), ("pages", ctypes.c_uint32), ("writes", ctypes.c_uint32)]
-
-
-class Settings(ctypes.Structure):
-    _fields_ = [
-        *((name, ctypes.c_uint64) for name in "size min max increment threshold rounds start window hot base".split()),
-        ("has_base", ctypes.c_uint32),
-        ("skip", ctypes.c_uint32),
-    ]
-
-
-class Sums(ctypes.Structure):
-    _fields_ = [(name, ctypes.c_uint64) for name in "rounds reason stop down total".split()]
-
-
-class Question(ctypes.Structure):
-    _fields_ = [
-        *(
-            (name, ctypes.c_uint64)
-            for name in "size link first downtime reserve tick page sampled guest increment rounds start base".split()
-        ),
-        *((name, ctypes.c_uint32) for name in "has_first has_increment has_base skip".split()),
-    ]
-
-
-class Prediction(ctypes.Structure):
-    _fields_ = [
-        *(
-            (name, ctypes.c_uint64)
-            for name in "rounds reason stop down total left time bytes downtime recorded".split()
-        ),
-        ("converges", ctypes.c_uint32),
-        ("kept", ctypes.c_uint32),
-    ]
-
-
-class Errors(ctypes.Structure):
-    _fields_ = [*((name, ctypes.c_uint64) for name in "bytes time downtime".split()), ("has_errors", ctypes.c_uint32)]
-
-
-class Amounts(ctypes.Structure):
-    _fields_ = [
-        *((name, ctypes.c_uint64) for name in "link downtime speed".split()),
-        *((name, ctypes.c_uint32) for name in "has_link has_downtime has_speed is_kept".split()),
-    ]
-
-
-class Round(ctypes.Structure):
-    _fields_ = [(name, ctypes.c_uint64) for name in "start end rate pages sent dirtied".split()]
-
-
-class Frame(ctypes.Structure):
-    _fields_ = [("page", ctypes.c_uint32), ("stamp", ctypes.c_uint32), ("size", ctypes.c_size_t)]
-
-
-class Page(ctypes.Structure):
-    _fields_ = [("came", ctypes.c_uint32), ("stamp", ctypes.c_uint32)]
-
-
-class Taken(ctypes.Structure):
-    _fields_ = [("frames", ctypes.c_size_t), ("bytes", ctypes.c_size_t)]
-
-
-class Finding(ctypes.Structure):
-    _fields_ = [
-        *((name, ctypes.c_size_t) for name in "stream frame offset".split()),
-        ("tick", ctypes.c_uint64),
-        *((name, ctypes.c_uint32) for name in "page stamp wanted missing".split()),
-    ]
-
-
-class Progress(ctypes.Structure):
-    _fields_ = [
-        *((name, ctypes.c_size_t) for name in "stream frames bytes".split()),
-        ("stop", ctypes.c_uint32),
-    ]
-
-
-class Write(ctypes.Structure):
-    _fields_ = [
-        ("tick", ctypes.c_uint64),
-        ("size", ctypes.c_size_t),
-        ("place", ctypes.c_uint32),
-        ("offset", ctypes.c_uint32),
-    ]
-
-
-_BYTES, _LENGTH, _NUMBER = ctypes.c_void_p, ctypes.c_size_t, ctypes.c_uint32
-_COUNT, _RECORD = ctypes.POINTER(ctypes.c_size_t), ctypes.POINTER(ctypes.c_uint32)
-_pointer = ctypes.POINTER
-
-_CALLS = {
-    "check_trace": [_BYTES, _LENGTH, _pointer(Sizes), _RECORD],
-    "check_settings": [_pointer(Settings)],
-    "plan": [_BYTES, _LENGTH, _pointer(Settings), _pointer(Sums), _RECORD],
-    "rounds": [_BYTES, _LENGTH, _pointer(Settings), _pointer(Round), _LENGTH, _COUNT, _RECORD],
-    "report": [_BYTES, _LENGTH, _pointer(Settings), _BYTES, _LENGTH, _COUNT, _RECORD],
-    "sweep": [_BYTES, _LENGTH, _pointer(Settings), _LENGTH, _pointer(Sums), _LENGTH, _COUNT, _RECORD],
-    "predict": [_BYTES, _LENGTH, _pointer(Question), _pointer(Prediction), _pointer(Errors), _RECORD],
-    "enough": [_BYTES, _LENGTH, _pointer(Question), _pointer(Amounts), _RECORD],
-    "memory": [_BYTES, _LENGTH, _BYTES, _LENGTH, _COUNT, _RECORD],
-    "memory_before": [_BYTES, _LENGTH, ctypes.c_uint64, _BYTES, _LENGTH, _COUNT, _RECORD],
-    "writes_before": [_BYTES, _LENGTH, ctypes.c_uint64, _pointer(_NUMBER), _RECORD],
-    "memory_step": [_BYTES, _LENGTH, _NUMBER, _NUMBER, _BYTES, _LENGTH, _RECORD],
-    "version_after": [_BYTES, _LENGTH, _NUMBER, _NUMBER, _pointer(_NUMBER), _RECORD],
-    "page_at": [_BYTES, _LENGTH, _NUMBER, _NUMBER, _BYTES, _LENGTH, _RECORD],
-    "page_writes": [_BYTES, _LENGTH, _NUMBER, _pointer(Write), _LENGTH, _COUNT, _RECORD],
-    "check_streams": [_BYTES, _LENGTH, _NUMBER, _BYTES, _LENGTH, _COUNT, _LENGTH, _pointer(Finding), _RECORD],
-    "check_piece": [
-        _BYTES, _LENGTH, _BYTES, _LENGTH, _pointer(Progress), _pointer(Page), _LENGTH, _pointer(Finding), _RECORD,
-    ],
-    "check_pages": [_BYTES, _LENGTH, _pointer(Progress), _pointer(Page), _LENGTH, _pointer(Finding), _RECORD],
-    "encode_frame": [_pointer(Sizes), _NUMBER, _NUMBER, _BYTES, _LENGTH, _BYTES, _LENGTH, _COUNT],
-    "decode_frame": [_pointer(Sizes), _BYTES, _LENGTH, _pointer(Frame), _BYTES, _LENGTH],
-    "accept": [_pointer(Sizes), _BYTES, _LENGTH, _BYTES, _LENGTH, _pointer(Page), _LENGTH, _pointer(Taken)],
-    "missing": [_pointer(Page), _LENGTH, _COUNT],
-    "is_zero": [_BYTES, _LENGTH],
-}
 
 
 def _place() -> str:
@@ -153,14 +32,14 @@ def _place() -> str:
 
 def _load() -> ctypes.CDLL:
     loaded = ctypes.CDLL(_place())
-    loaded.precopy_abi.argtypes, loaded.precopy_abi.restype = [], _NUMBER
+    loaded.precopy_abi.argtypes, loaded.precopy_abi.restype = [], ctypes.c_uint32
     if (found := loaded.precopy_abi()) != ABI_NUMBER:
         raise ImportError(f"{loaded._name} has interface {found}, and this module calls interface {ABI_NUMBER}")
-    for name, arguments in _CALLS.items():
+    for name, arguments in CALLS.items():
         call = getattr(loaded, f"precopy_{name}")
         call.argtypes, call.restype = arguments, ctypes.c_uint32
     loaded.precopy_is_zero.restype = ctypes.c_bool
-    loaded.precopy_strerror.argtypes, loaded.precopy_strerror.restype = [_NUMBER], ctypes.c_char_p
+    loaded.precopy_strerror.argtypes, loaded.precopy_strerror.restype = [ctypes.c_uint32], ctypes.c_char_p
     loaded.precopy_version.argtypes, loaded.precopy_version.restype = [], ctypes.c_char_p
     return loaded
 
@@ -195,8 +74,8 @@ class _View(ctypes.Structure):
 
 
 _lend, _give_back = ctypes.pythonapi.PyObject_GetBuffer, ctypes.pythonapi.PyBuffer_Release
-_lend.argtypes, _lend.restype = [ctypes.py_object, _pointer(_View), ctypes.c_int], ctypes.c_int
-_give_back.argtypes, _give_back.restype = [_pointer(_View)], None
+_lend.argtypes, _lend.restype = [ctypes.py_object, ctypes.POINTER(_View), ctypes.c_int], ctypes.c_int
+_give_back.argtypes, _give_back.restype = [ctypes.POINTER(_View)], None
 _NO_BYTES = ctypes.create_string_buffer(1)
 
 

@@ -7,7 +7,7 @@ import enum
 from dataclasses import dataclass, fields
 from typing import Optional
 
-from . import _calls
+from . import _interface
 from ._calls import LIBRARY as _LIBRARY
 from ._calls import number as _number
 from ._refusals import Bytes, check_over
@@ -53,8 +53,8 @@ class Question:
     def __post_init__(self) -> None:
         self._as_c()
 
-    def _as_c(self) -> _calls.Question:
-        asked = _calls.Question(size=ctypes.sizeof(_calls.Question), skip=_number("skip", self.skip, 1))
+    def _as_c(self) -> _interface.Question:
+        asked = _interface.Question(size=ctypes.sizeof(_interface.Question), skip=_number("skip", self.skip, 1))
         for name in (it.name for it in fields(self) if it.name != "skip"):
             value = getattr(self, name)
             if name in ("first", "increment", "base"):
@@ -96,9 +96,9 @@ class Prediction:
 
 def predict(trace: Bytes, question: Question) -> Prediction:
     """Returns what the migration of a trace will be with the limits of a question."""
-    found, errors = _calls.Prediction(), _calls.Errors()
+    found, errors = _interface.Prediction(), _interface.Errors()
     check_over(_LIBRARY.precopy_predict, trace, question._as_c(), found, errors)
-    told = {name: getattr(found, name) for name, _ in _calls.Prediction._fields_}
+    told = {name: getattr(found, name) for name, _ in _interface.Prediction._fields_}
     told |= {"reason": Reason(found.reason), "converges": Verdict(found.converges), "kept": Verdict(found.kept)}
     moved = Errors(errors.bytes, errors.time, errors.downtime) if errors.has_errors else None
     return Prediction(**told, errors=moved)
@@ -119,7 +119,7 @@ class Amounts:
 def enough(trace: Bytes, question: Question) -> Amounts:
     """Returns whether the migration of a trace keeps the limit of a question, and the least amounts that do: up from
     what is asked if it does not, and else down from it."""
-    found = _calls.Amounts()
+    found = _interface.Amounts()
     check_over(_LIBRARY.precopy_enough, trace, question._as_c(), found)
     amounts = {name: getattr(found, name) for name in ("link", "downtime", "speed")}
     told = {name: amount if getattr(found, f"has_{name}") else None for name, amount in amounts.items()}

@@ -1,4 +1,4 @@
-//! The functions and structs of include/precopy.h, as they are in C.
+//! The functions and structs of `include/precopy.h`, as they are in C. Made by `dev/interface`.
 
 use crate::{Page, Round, Taken, Write};
 use std::os::raw::c_char;
@@ -12,7 +12,7 @@ pub struct Sizes {
 }
 
 #[repr(C)]
-#[derive(Clone, Copy)]
+#[derive(Clone, Copy, Default)]
 pub struct Settings {
     pub size: u64,
     pub min: u64,
@@ -39,7 +39,7 @@ pub struct Sums {
 }
 
 #[repr(C)]
-#[derive(Clone, Copy)]
+#[derive(Clone, Copy, Default)]
 pub struct Question {
     pub size: u64,
     pub link: u64,
@@ -133,6 +133,13 @@ extern "C" {
     pub fn precopy_version() -> *const c_char;
     pub fn precopy_abi() -> u32;
     pub fn precopy_check_trace(trace: *const u8, trace_length: usize, sizes: *mut Sizes, record: *mut u32) -> u32;
+    pub fn precopy_writes_before(
+        trace: *const u8,
+        trace_length: usize,
+        tick: u64,
+        count: *mut u32,
+        record: *mut u32,
+    ) -> u32;
     pub fn precopy_check_settings(settings: *const Settings) -> u32;
     pub fn precopy_plan(
         trace: *const u8,
@@ -201,13 +208,6 @@ extern "C" {
         needed: *mut usize,
         record: *mut u32,
     ) -> u32;
-    pub fn precopy_writes_before(
-        trace: *const u8,
-        trace_length: usize,
-        tick: u64,
-        count: *mut u32,
-        record: *mut u32,
-    ) -> u32;
     pub fn precopy_memory_step(
         trace: *const u8,
         trace_length: usize,
@@ -243,6 +243,35 @@ extern "C" {
         count: *mut usize,
         record: *mut u32,
     ) -> u32;
+    pub fn precopy_encode_frame(
+        sizes: *const Sizes,
+        page: u32,
+        stamp: u32,
+        bytes: *const u8,
+        bytes_length: usize,
+        frame: *mut u8,
+        frame_length: usize,
+        needed: *mut usize,
+    ) -> u32;
+    pub fn precopy_decode_frame(
+        sizes: *const Sizes,
+        bytes: *const u8,
+        bytes_length: usize,
+        frame: *mut Frame,
+        content: *mut u8,
+        content_length: usize,
+    ) -> u32;
+    pub fn precopy_accept(
+        sizes: *const Sizes,
+        stream: *const u8,
+        stream_length: usize,
+        memory: *mut u8,
+        memory_length: usize,
+        pages: *mut Page,
+        pages_length: usize,
+        taken: *mut Taken,
+    ) -> u32;
+    pub fn precopy_missing(pages: *const Page, pages_length: usize, page: *mut usize) -> u32;
     pub fn precopy_check_streams(
         trace: *const u8,
         trace_length: usize,
@@ -274,34 +303,5 @@ extern "C" {
         found: *mut Finding,
         record: *mut u32,
     ) -> u32;
-    pub fn precopy_encode_frame(
-        sizes: *const Sizes,
-        page: u32,
-        stamp: u32,
-        bytes: *const u8,
-        bytes_length: usize,
-        frame: *mut u8,
-        frame_length: usize,
-        needed: *mut usize,
-    ) -> u32;
-    pub fn precopy_decode_frame(
-        sizes: *const Sizes,
-        bytes: *const u8,
-        bytes_length: usize,
-        frame: *mut Frame,
-        content: *mut u8,
-        content_length: usize,
-    ) -> u32;
-    pub fn precopy_accept(
-        sizes: *const Sizes,
-        stream: *const u8,
-        stream_length: usize,
-        memory: *mut u8,
-        memory_length: usize,
-        pages: *mut Page,
-        pages_length: usize,
-        taken: *mut Taken,
-    ) -> u32;
-    pub fn precopy_missing(pages: *const Page, pages_length: usize, page: *mut usize) -> u32;
     pub fn precopy_is_zero(bytes: *const u8, bytes_length: usize) -> bool;
 }

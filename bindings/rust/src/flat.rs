@@ -1,7 +1,7 @@
 //! Frames of pages, and memory into which they are taken.
 
-use crate::refusals::{checked, checked_buffer, status, Refused};
-use crate::{calls, room, Sizes};
+use crate::refusals::{checked, checked_buffer, Refused};
+use crate::{calls, room, status, Sizes};
 
 /// A page at a stamp, without its bytes.
 #[derive(Clone, Copy, Debug, PartialEq, Eq)]

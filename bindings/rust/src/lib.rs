@@ -7,6 +7,7 @@ mod places;
 mod predictions;
 mod refusals;
 mod room;
+pub mod status;
 mod streams;
 
 pub use flat::{
@@ -14,7 +15,7 @@ pub use flat::{
 };
 pub use places::{memory_step, page_at, page_at_into, page_writes, page_writes_into, version_after, Write};
 pub use predictions::{enough, predict, Amounts, Errors, Prediction, Question, Verdict};
-pub use refusals::{status, Refused};
+pub use refusals::Refused;
 pub use streams::{check_streams, writes_before, Finding, FramePlace, StreamCheck};
 
 use refusals::{checked, checked_buffer, with_record, NO_RECORD};

@@ -1,68 +1,8 @@
 //! Why calls refuse.
 
-use crate::{calls, Taken};
+use crate::{calls, status, Taken};
 use std::ffi::CStr;
 use std::fmt;
-
-/// The numbers of `enum precopy_status` in `include/precopy.h`, which says what each means.
-pub mod status {
-    #![allow(missing_docs)]
-
-    pub const OK: u32 = 0;
-    pub const SHORT_HEADER: u32 = 1;
-    pub const BAD_MAGIC: u32 = 2;
-    pub const BAD_VERSION: u32 = 3;
-    pub const BAD_SHIFT: u32 = 4;
-    pub const BAD_RESERVED: u32 = 5;
-    pub const BAD_PAGES: u32 = 6;
-    pub const TOO_MANY_WRITES: u32 = 7;
-    pub const SHORT_RECORD: u32 = 8;
-    pub const TICK_ORDER: u32 = 9;
-    pub const TICK_TOO_LARGE: u32 = 10;
-    pub const PAGE_OUT_OF_RANGE: u32 = 11;
-    pub const EMPTY_WRITE: u32 = 12;
-    pub const OUT_OF_PAGE: u32 = 13;
-    pub const TRAILING_BYTES: u32 = 14;
-    pub const TOO_LONG: u32 = 15;
-    pub const NO_MEMORY: u32 = 16;
-    pub const BAD_MIN: u32 = 21;
-    pub const BAD_MAX: u32 = 22;
-    pub const BAD_INCREMENT: u32 = 23;
-    pub const BAD_THRESHOLD: u32 = 24;
-    pub const BAD_ROUNDS: u32 = 25;
-    pub const BAD_WINDOW: u32 = 26;
-    pub const BAD_HOT: u32 = 27;
-    pub const BAD_START: u32 = 28;
-    pub const BAD_BASE: u32 = 30;
-    pub const BAD_SIZE: u32 = 31;
-    pub const FRAME_SHORT: u32 = 41;
-    pub const FRAME_PAGE: u32 = 42;
-    pub const FRAME_STAMP: u32 = 43;
-    pub const FRAME_KIND: u32 = 44;
-    pub const FRAME_ZEROS: u32 = 45;
-    pub const SHORT_BUFFER: u32 = 61;
-    pub const PAGE_LENGTH: u32 = 62;
-    pub const MEMORY_LENGTH: u32 = 63;
-    pub const PAGE_COUNT: u32 = 64;
-    pub const PAGE_MISSING: u32 = 65;
-    pub const STREAM_SIZES: u32 = 66;
-    pub const NO_PAGE: u32 = 67;
-    pub const BACKWARDS: u32 = 68;
-    pub const NO_VERSION: u32 = 71;
-    pub const AFTER_STOP: u32 = 72;
-    pub const OLDER: u32 = 73;
-    pub const OTHER_BYTES: u32 = 74;
-    pub const PAGE_BEHIND: u32 = 75;
-    pub const BAD_TICK: u32 = 81;
-    pub const BAD_PAGE: u32 = 82;
-    pub const BAD_SAMPLE: u32 = 83;
-    pub const BAD_LINK: u32 = 84;
-    pub const BAD_FIRST: u32 = 85;
-    pub const BAD_RESERVE: u32 = 86;
-    pub const BAD_DOWNTIME: u32 = 87;
-    pub const OTHER_PAGES: u32 = 88;
-    pub const MORE_PAGES: u32 = 89;
-}
 
 /// A call refused, with its status: a number of the module [`status`]. Its text says what the status means.
 #[derive(Clone, Copy, Debug, PartialEq, Eq)]

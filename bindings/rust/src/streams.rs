@@ -1,7 +1,7 @@
 //! Streams of a migration, checked against a trace.
 
-use crate::refusals::{checked, status, with_record, Refused, NO_RECORD};
-use crate::{calls, check_trace, room, Page};
+use crate::refusals::{checked, with_record, Refused, NO_RECORD};
+use crate::{calls, check_trace, room, status, Page};
 
 /// A frame of some streams.
 #[derive(Clone, Copy, Debug, PartialEq, Eq)]

@@ -4,7 +4,7 @@
     dev/package scan
     dev/package install | install-lib [--prefix DIR] [--destdir DIR]
     dev/package uninstall | uninstall-lib [--prefix DIR] [--destdir DIR]
-    dev/package deb | dist [--output DIR]
+    dev/package deb | dist | release [--output DIR]
 
 `lib` proves and builds what is not built yet, and `scan` builds out/scan.so, with which tools/record takes less time
 for a look. `install-lib` installs the library alone, and needs only that it is built. `install`, `deb` and `dist` need
@@ -17,7 +17,7 @@ import errno
 import os
 import sys
 
-from precopy_dev.packaging import archive, compilers, contents, debian, documents, library, options
+from precopy_dev.packaging import archive, compilers, contents, debian, documents, library, notices, options, release
 from precopy_dev.tree import TOP
 
 # The lists of what an installation put where, in the folder of the tools: of all, and of the library alone.
@@ -132,11 +132,15 @@ def build_scan(_):
 
 def pack(asked):
     os.makedirs(asked.output, exist_ok=True)
-    made = debian.build_all(asked.output, asked.maintainer) if asked.what == "deb" else archive.build(asked.output)
-    for path in made:
+    for path in PACKED[asked.what](asked):
         print(path)
 
 
+PACKED = {
+    "deb": lambda asked: debian.build_all(asked.output, asked.maintainer),
+    "dist": lambda asked: archive.build(asked.output),
+    "release": lambda asked: release.build(asked.output, asked.maintainer),
+}
 WORK = {"lib": library.make, "scan": build_scan, "install": install, "install-lib": install}
 WORK |= {"uninstall": uninstall, "uninstall-lib": uninstall}
 
@@ -146,7 +150,7 @@ def options_of(words):
         prog="make", description=__doc__, formatter_class=argparse.RawDescriptionHelpFormatter, allow_abbrev=False
     )
     add = parser.add_argument
-    add("what", metavar="WHAT", choices=(*WORK, "deb", "dist"), help="what to do")
+    add("what", metavar="WHAT", choices=(*WORK, *PACKED), help="what to do")
     add("--prefix", metavar="DIR", default="/usr/local", help="the folder to install below (/usr/local)")
     add("--destdir", metavar="DIR", default="", help="stands in front of each path")
     for name in contents.Places._fields:
@@ -160,7 +164,14 @@ def main(words):
     asked = options_of(words)
     try:
         WORK.get(asked.what, pack)(asked)
-    except (contents.NotBuilt, compilers.Lacks, documents.Differs, options.Unread) as fault:
+    except (
+        contents.NotBuilt,
+        compilers.Lacks,
+        documents.Differs,
+        notices.Lacks,
+        options.Unread,
+        release.NotClean,
+    ) as fault:
         print(f"make: {fault}", file=sys.stderr)
         return 1
     except OSError as fault:

@@ -12,7 +12,7 @@ import tempfile
 from dataclasses import dataclass
 from typing import Iterator, NamedTuple, Optional
 
-from precopy_dev.packaging import compilers, completions, documents, launcher, manuals, options
+from precopy_dev.packaging import compilers, completions, documents, launcher, manuals, notices, options
 from precopy_dev.tree import TOP
 from precopy_tools import version
 
@@ -217,6 +217,7 @@ def texts(places) -> Iterator[Entry]:
     """The documents and the examples, in folders as in the sources, so that the names in them lead to them."""
     for path in ("README.md", "CHANGELOG.md", "CONTRIBUTING.md", "LICENSE"):
         yield document(places, path)
+    yield Entry(os.path.join(places.doc, "NOTICES"), notices.notices().encode())
     for folder in ("docs", "examples", "bindings"):
         for path in sources_below(folder):
             yield document(places, path)

@@ -13,7 +13,7 @@ import textwrap
 from dataclasses import dataclass, field
 from typing import Callable, Dict, List
 
-from precopy_dev.packaging import contents, library, python_module
+from precopy_dev.packaging import contents, library, notices, python_module
 from precopy_dev.tree import TOP
 
 PLACES = contents.places_below("usr")._replace(zsh="usr/share/zsh/vendor-completions")
@@ -158,7 +158,13 @@ Copyright: 2026 the authors of precopy
 License: Apache-2.0
  On Debian systems the full text of this license is in
  /usr/share/common-licenses/Apache-2.0.
-"""
+Comment:
+{as_field(notices.notices())}"""
+
+
+def as_field(text):
+    """A text as lines of a field."""
+    return "".join(f" {line or '.'}\n" for line in text.rstrip("\n").split("\n"))
 
 
 def of_debian(entries, package, maintainer):

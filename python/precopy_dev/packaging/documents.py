@@ -46,9 +46,7 @@ def without(path: str, text: str, begin: str, end: str | None) -> str:
     lines = text.split("\n")
     first = next((at for at, line in enumerate(lines) if line.startswith(begin)), None)
     if first is None:
-        raise Differs(
-            f"{path} has no line that begins with {begin!r}: packaging/documents.py leaves that part out"
-        )
+        raise Differs(f"{path} has no line that begins with {begin!r}: packaging/documents.py leaves that part out")
     later = range(first + 1, len(lines))
     last = next((at for at in later if end and lines[at].startswith(end)), len(lines) if end is None else None)
     if last is None:

@@ -20,7 +20,8 @@ NAME = f"libprecopy.so.{INTERFACE}"
 # The packages that it goes into: for programs that are linked with it, and for those who link them.
 RUNTIME, DEVELOPMENT = f"libprecopy{INTERFACE}", "libprecopy-dev"
 # What it is made of besides the archive.
-PARTS = ("include/precopy.h", "packaging/messages.c", "packaging/library.map", "python/precopy_tools/version.py")
+PARTS = ("include/precopy.h", "packaging/messages.c", "packaging/status_texts.h", "packaging/library.map")
+PARTS += ("python/precopy_tools/version.py",)
 CRATE = "bindings/rust"
 CONFIG = """\
 prefix={prefix}

@@ -12,6 +12,7 @@ import sys
 import tempfile
 from typing import NamedTuple
 
+from precopy_tools.formats.causes import CAUSES
 from precopy_tools.refusals import Refused
 
 MAGIC = b"PCWT"
@@ -20,26 +21,6 @@ HEADER = 16
 RECORD = struct.Struct("<QIHH")
 TICKS = 1 << 40
 LEAST_SHIFT, GREATEST_SHIFT = 4, 12
-
-
-# Why a trace is refused, by the name of the refusal.
-CAUSES = {
-    "E1": "it has fewer than 16 bytes",
-    "E2": "it does not begin as a trace: bytes 0 to 3 are not PCWT",
-    "E3": "byte 4, the version, is not 1 or 2",
-    "E4": "byte 5, the size of pages, is not 4 to 12",
-    "E5": "byte 6 or byte 7 is not 0",
-    "E6": "the number of pages is not 1 to 65,536",
-    "E7": "the number of writes is more than 1,048,576",
-    "E8": "it ends before the record does",
-    "E9": "the tick is below that of the record before",
-    "E10": "the tick is 2^40 or more",
-    "E11": "the page is not below the number of pages",
-    "E12": "the length is 0, and the record is no release",
-    "E13": "offset plus length is more than the page size",
-    "E14": "bytes follow the last record",
-    "E15": "it has more than 2^28 bytes",
-}
 
 
 class Limits(NamedTuple):

@@ -20,22 +20,18 @@ enum { PAGE = 4096, WORDS = PAGE / 8, CHANGED = 8, STEP_MS = 10, STEPS = 1000 / 
 
 static uint64_t state = 2005;
 
-static uint64_t draw(void)
-{
+static uint64_t draw(void) {
     state ^= state << 13;
     state ^= state >> 7;
     state ^= state << 17;
     return state;
 }
 
-static void dirty(volatile uint64_t *page, uint64_t value, int same)
-{
-    for (int i = 0; i < CHANGED; i++)
-        page[i] = same ? page[i] : value + i;
+static void dirty(volatile uint64_t *page, uint64_t value, int same) {
+    for (int i = 0; i < CHANGED; i++) page[i] = same ? page[i] : value + i;
 }
 
-static size_t number(const char *word)
-{
+static size_t number(const char *word) {
     char *end;
     errno = 0;
     unsigned long value = strtoul(word, &end, 10);
@@ -46,15 +42,13 @@ static size_t number(const char *word)
     return value;
 }
 
-static int64_t milliseconds(void)
-{
+static int64_t milliseconds(void) {
     struct timespec now;
     clock_gettime(CLOCK_MONOTONIC, &now);
     return now.tv_sec * 1000LL + now.tv_nsec / 1000000;
 }
 
-int main(int count, char **words)
-{
+int main(int count, char **words) {
     if (count != 5 && !(count == 6 && !strcmp(words[5], "same"))) {
         fprintf(stderr, "usage: guest-writer HOT HOT_RATE COLD COLD_RATE [same]\n");
         return 2;
@@ -66,8 +60,7 @@ int main(int count, char **words)
         perror("guest-writer");
         return 1;
     }
-    for (size_t i = 0; i < pages * WORDS; i++)
-        memory[i] = draw();
+    for (size_t i = 0; i < pages * WORDS; i++) memory[i] = draw();
     printf("READY\n");
     fflush(stdout);
 
@@ -77,8 +70,7 @@ int main(int count, char **words)
         /* The rates need not be multiples of the steps in a second: each step makes up to its part of the whole. */
         size_t hot_writes = hot ? (step + 1) * hot_rate / STEPS - step * hot_rate / STEPS : 0;
         size_t cold_writes = cold ? (step + 1) * cold_rate / STEPS - step * cold_rate / STEPS : 0;
-        for (size_t i = 0; i < hot_writes; i++)
-            dirty(memory + draw() % hot * WORDS, ++writes << 8, count == 6);
+        for (size_t i = 0; i < hot_writes; i++) dirty(memory + draw() % hot * WORDS, ++writes << 8, count == 6);
         for (size_t i = 0; i < cold_writes; i++)
             dirty(memory + (hot + next++ % cold) * WORDS, ++writes << 8, count == 6);
         step++;

@@ -1,0 +1,129 @@
+"""Runs each command of a first run in a tree in which nothing was built before.
+
+    checks/run first_run [--all | COMMAND ..]
+
+The tree is a copy of the sources. Of what is built it has only what `rt ci` has proved, the libraries, and not a
+program; so a command that builds a program does so for the first time. With --all each command begins with the
+libraries alone. Without, it has all but what it is there to build, and one command is tried, in turn by the day; words
+name others. There is no terminal and no input, and the home folder is empty. The last line is 'N passed, M failed'; the
+status is 0 if something was tried and nothing failed.
+"""
+
+import argparse
+import datetime
+import os
+import shutil
+import subprocess
+import sys
+import tempfile
+from typing import NamedTuple
+
+from checks.lib.tally import Tally
+from precopy_dev.tree import TOP
+
+SECONDS = 3 * 3600
+# What a build leaves, by the crate or the name of the part.
+BUILT = {
+    "precopy": "crates/precopy/out",
+    "precopy_view": "crates/precopy_view/out",
+    "precopy_schedule": "crates/precopy_schedule/out",
+    "precopy_c": "crates/precopy_c/out",
+    "library": "out/library",
+    "page": "out/browser_planner.wasm",
+}
+GUESTS = "examples/guests/mid.light.pcwt examples/guests/sqlite.light.pcwt"
+PLAN = "-Iinclude examples/c/plan.c out/library/libprecopy.a"
+
+
+class FirstRun(NamedTuple):
+    """A command, the parts that it is there to build, and what must be there afterwards."""
+
+    words: str
+    builds: tuple[str, ...]
+    leaves: str
+
+
+COMMANDS = (
+    FirstRun("./precopy image < examples/gzip.pcwt > memory", ("precopy",), "memory"),
+    FirstRun("./precopy-view --help > help", ("precopy_view",), "help"),
+    FirstRun("make deb", ("precopy_schedule",), "out/*.deb"),
+    FirstRun("make dist", ("precopy_schedule",), "out/*.tar.gz"),
+    FirstRun("make", ("precopy_schedule",), "crates/precopy_schedule/out/precopy_schedule"),
+    FirstRun("make install DESTDIR=installed PREFIX=/usr", ("precopy_schedule",), "installed/usr/bin/precopy-evacuate"),
+    FirstRun("make lib", ("precopy_c", "library"), "out/library/libprecopy.so.*"),
+    FirstRun("make install-lib DESTDIR=installed PREFIX=/usr", ("library",), "installed/usr/include/precopy.h"),
+    FirstRun("make page", ("page",), "out/precopy.html"),
+    FirstRun(f"make lib && cc {PLAN} -o plan && ./plan examples/gzip.pcwt > said", ("library",), "said"),
+    FirstRun("make lib && cargo test --offline --manifest-path bindings/rust/Cargo.toml && touch done", (), "done"),
+    FirstRun("make lib && python3 -m venv of && of/bin/pip install ./bindings/python && touch done", (), "done"),
+    FirstRun("tools/export examples/gzip.pcwt said", (), "said"),
+    FirstRun("make && tools/predict examples/guests/mid.light.pcwt --link 1Gbit > said; [ $? -le 3 ]", (), "said"),
+    FirstRun(f"make && tools/evacuate {GUESTS} --link 10Gbit > said", ("precopy_schedule",), "said"),
+)
+
+
+def copy_tree(folder, without):
+    """The sources as git has them, with the proved libraries, and what is built but for some parts."""
+    listed = subprocess.run(["git", "ls-files", "-z"], cwd=TOP, capture_output=True, text=True, check=True).stdout
+    for path in listed.rstrip("\0").split("\0"):
+        if os.path.isfile(os.path.join(TOP, path)):
+            os.makedirs(os.path.dirname(os.path.join(folder, path)), exist_ok=True)
+            shutil.copy2(os.path.join(TOP, path), os.path.join(folder, path))
+    crates = os.listdir(os.path.join(TOP, "crates"))
+    kept = [f"crates/{crate}/out/rlib" for crate in crates] + [
+        path for part, path in BUILT.items() if part not in without
+    ]
+    for path in kept:
+        source, to = os.path.join(TOP, path), os.path.join(folder, path)
+        if os.path.isdir(source):
+            shutil.copytree(source, to, copy_function=shutil.copy2, dirs_exist_ok=True)
+        elif os.path.isfile(source):
+            os.makedirs(os.path.dirname(to), exist_ok=True)
+            shutil.copy2(source, to)
+
+
+def run(command, folder, home):
+    """The status of a command, and the end of what it says."""
+    environment = {**os.environ, "HOME": home, "XDG_CACHE_HOME": f"{home}/cache"}
+    environment.pop("PYTHONPATH", None)
+    how = {
+        "stdin": subprocess.DEVNULL,
+        "stdout": subprocess.PIPE,
+        "stderr": subprocess.STDOUT,
+        "start_new_session": True,
+    }
+    done = subprocess.run(["sh", "-c", command], cwd=folder, env=environment, timeout=SECONDS, text=True, **how)
+    return done.returncode, done.stdout[-2000:]
+
+
+def try_first(tally, first, without):
+    with tempfile.TemporaryDirectory(prefix="first-run-") as room:
+        folder, home = os.path.join(room, "tree"), os.path.join(room, "home")
+        os.makedirs(home)
+        copy_tree(folder, without)
+        begun = datetime.datetime.now()
+        status, said = run(first.words, folder, home)
+        there = subprocess.run(["sh", "-c", f"ls {first.leaves}"], cwd=folder, capture_output=True).returncode == 0
+        seconds = (datetime.datetime.now() - begun).seconds
+        print(f"{first.words}: status {status}, {seconds} s", flush=True)
+        tally.add(status == 0 and there, f"{first.words}: status {status}, {first.leaves} there: {there}\n{said}")
+
+
+def main(words):
+    parser = argparse.ArgumentParser(
+        prog="first_run", description=__doc__, formatter_class=argparse.RawDescriptionHelpFormatter
+    )
+    parser.add_argument("--all", action="store_true", help="each command, with nothing but the libraries")
+    parser.add_argument("command", metavar="COMMAND", nargs="*", help="words that a command contains")
+    asked = parser.parse_args(words)
+    of_today = COMMANDS[datetime.date.today().toordinal() % len(COMMANDS)]
+    chosen = [it for it in COMMANDS if any(word in it.words for word in asked.command)] or [of_today]
+    tally = Tally()
+    for first in COMMANDS if asked.all else chosen:
+        try_first(tally, first, set(BUILT) if asked.all else set(first.builds))
+    print(tally)
+    return 0 if tally.passed and not tally.failed else 1
+
+
+if __name__ == "__main__":
+    sys.exit(main(sys.argv[1:]))

@@ -1,0 +1,73 @@
+"""Reads scripts, C and Rust by the linters that Debian has, each with the settings at the top of the tree.
+
+    checks/run lint
+
+The tools are those of TOOLS. One that is missing and cannot be installed is left out with a line. The last line is 'N
+passed, M failed'; the status is 0 if something was tried and nothing failed.
+"""
+
+import os
+import re
+import subprocess
+import sys
+from collections.abc import Callable, Iterator
+
+from checks.lib.tally import Tally, has
+from precopy_dev.tree import TOP
+
+# Headers whose layout is by hand: a line for each status and field, with what it means.
+BY_HAND = ("include/precopy.h", "packaging/status_texts.h")
+SHELL = re.compile(rb"#!.*\b(?:sh|bash)\n")
+
+
+def sources() -> list[str]:
+    listed = subprocess.run(["git", "ls-files"], cwd=TOP, capture_output=True, text=True, check=True)
+    return [path for path in listed.stdout.splitlines() if os.path.isfile(os.path.join(TOP, path))]
+
+
+def ending(*ends: str) -> Callable[[], list[str]]:
+    return lambda: [path for path in sources() if path.endswith(ends) and path not in BY_HAND]
+
+
+def shell_scripts() -> Iterator[str]:
+    for path in sources():
+        with open(os.path.join(TOP, path), "rb") as file:
+            if SHELL.match(file.readline(100)):
+                yield path
+
+
+def texts() -> list[str]:
+    left_out = ("crates/", "web/", "bench/baselines/Cargo.lock")
+    ends = (".py", ".md", ".c", ".h", ".toml", ".1", ".json")
+    return [path for path in sources() if path.endswith(ends) and not path.startswith(left_out)]
+
+
+def rust() -> list[str]:
+    return [path for path in sources() if path.endswith(".rs") and not path.startswith("bench/")]
+
+
+# A command, Debian's package of it, the words before the files, and the files.
+TOOLS = (
+    ("flake8", "flake8", [], ending(".py")),
+    ("black", "black", ["--check", "--quiet", "--diff"], ending(".py")),
+    ("isort", "isort", ["--check-only", "--diff"], ending(".py")),
+    ("shellcheck", "shellcheck", ["-x"], shell_scripts),
+    ("codespell", "codespell", [], texts),
+    ("clang-format", "clang-format", ["--dry-run", "--Werror"], ending(".c", ".h")),
+    ("rustfmt", "rustfmt", ["--check", "--config", "max_width=120"], rust),
+)
+
+
+def main() -> int:
+    tally = Tally()
+    for command, package, words, files in TOOLS:
+        if has(command, package, "its rules"):
+            done = subprocess.run([command, *words, *files()], cwd=TOP, capture_output=True, text=True)
+            told = (done.stdout + done.stderr)[-3000:]
+            tally.add(done.returncode == 0, f"{command}:\n{told}")
+    print(tally)
+    return 0 if tally.passed and not tally.failed else 1
+
+
+if __name__ == "__main__":
+    sys.exit(main())

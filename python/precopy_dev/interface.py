@@ -1,0 +1,196 @@
+"""Makes what repeats include/precopy.h in other languages, or compares it.
+
+    dev/interface              writes the files
+    dev/interface --compare    says which differ from what it would write; the status is 1 if any does
+
+The header is the one table of the library's interface. A status is a line of `enum precopy_status`: its number, and its
+text as a comment, which may end with a note in parentheses that is not of the text. A field is a line of a struct. What
+is left to write by hand after a new one is told when the files are written.
+"""
+
+import argparse
+import os
+import re
+import sys
+from collections.abc import Callable
+from typing import NamedTuple
+
+from precopy_dev.tree import TOP
+
+HEADER = "include/precopy.h"
+# What stands before the text of a status in a line about it, by the first letter of its name in `precopy`.
+SUBJECTS = {"E": "trace", "S": "settings", "F": "frame"}
+QUESTIONS = range(81, 88)
+LINE = 120
+RUST = {"uint8_t": "u8", "uint32_t": "u32", "uint64_t": "u64", "size_t": "usize", "bool": "bool"}
+PYTHON = {"uint32_t": "ctypes.c_uint32", "uint64_t": "ctypes.c_uint64", "size_t": "ctypes.c_size_t"}
+# Structs that Rust's callers see as they are in C stand in its sources by hand, with what they mean.
+RUST_BY_HAND = {"Page", "Round", "Taken", "Write"}
+
+
+class Status(NamedTuple):
+    """A status of the library, with the name that `precopy` writes for the refusal, if it has one."""
+
+    constant: str
+    number: int
+    name: str | None
+    text: str
+
+    def line(self) -> str:
+        """What `precopy_strerror` says of it."""
+        if self.name and self.name != "E16":
+            return f"{SUBJECTS[self.name[0]]} {self.name}: {self.text}"
+        return f"question: {self.text}" if self.number in QUESTIONS else self.text
+
+
+class Variable(NamedTuple):
+    """A field of a struct, or an argument of a function."""
+
+    kind: str
+    name: str
+    is_pointer: bool
+    is_constant: bool
+
+
+class Interface(NamedTuple):
+    statuses: list[Status]
+    structs: dict[str, list[Variable]]
+    functions: dict[str, tuple[str, list[Variable]]]
+
+
+def camel(name: str) -> str:
+    return name.removeprefix("struct precopy_").title().replace("_", "")
+
+
+def variable(text: str) -> Variable:
+    found = re.fullmatch(r"(const )?((?:struct )?\w+) (\*?)(\w+)", " ".join(text.split()))
+    return Variable(found[2], found[4], bool(found[3]), bool(found[1]))
+
+
+def read_header(text: str) -> Interface:
+    lines = re.findall(r"^    PRECOPY_(\w+) = (\d+),? +/\* (?:([ESF]\d+): )?(.*?)(?: \([^()]*\))? \*/$", text, re.M)
+    statuses = [Status(constant, int(number), name or None, said) for constant, number, name, said in lines]
+    first, last = text.index("enum precopy_status {"), text.index("const char *precopy_strerror")
+    statuses = [it for it in statuses if first < text.index(f" PRECOPY_{it.constant} =") < last]
+    structs = {}
+    for name, body in re.findall(r"^struct precopy_(\w+) \{\n(.*?)^\};", text, re.M | re.S):
+        structs[camel(name)] = [variable(field) for field in re.findall(r"^    ([^;/]+);", body, re.M)]
+    functions = {}
+    for result, name, words in re.findall(r"^(uint32_t|bool) precopy_(\w+)\(([^)]*)\);", text, re.M):
+        functions[name] = (result, [] if words == "void" else [variable(word) for word in words.split(",")])
+    return Interface(statuses, structs, functions)
+
+
+# ---- The files, each by its text.
+
+
+def texts_in_c(interface: Interface) -> str:
+    cases = (f'    case PRECOPY_{it.constant}:\n        return "{it.line()}";\n' for it in interface.statuses)
+    first = '    case PRECOPY_OK:\n        return "done";\n'
+    head = f"/* Made by dev/interface from {HEADER}: the cases of precopy_strerror. */\n/* clang-format off */\n"
+    return f"{head}{first}{''.join(cases)}"
+
+
+def statuses_in_rust(interface: Interface) -> str:
+    lines = (f"pub const {it.constant}: u32 = {it.number};\n" for it in interface.statuses)
+    head = f"//! The numbers of `enum precopy_status` in `{HEADER}`, which says what each means.\n"
+    return f"{head}//! Made by `dev/interface`.\n#![allow(missing_docs)]\n\npub const OK: u32 = 0;\n{''.join(lines)}"
+
+
+def type_in_rust(it: Variable) -> str:
+    kind = camel(it.kind) if it.kind.startswith("struct") else RUST[it.kind]
+    return f"*{'const' if it.is_constant else 'mut'} {kind}" if it.is_pointer else kind
+
+
+def calls_in_rust(interface: Interface) -> str:
+    parts = [f"//! The functions and structs of `{HEADER}`, as they are in C. Made by `dev/interface`.\n\n"]
+    parts.append(f"use crate::{{{', '.join(sorted(RUST_BY_HAND))}}};\nuse std::os::raw::c_char;\n")
+    for name, fields in interface.structs.items():
+        if name not in RUST_BY_HAND:
+            lines = "".join(f"    pub {it.name}: {type_in_rust(it)},\n" for it in fields)
+            parts.append(f"\n#[repr(C)]\n#[derive(Clone, Copy, Default)]\npub struct {name} {{\n{lines}}}\n")
+    parts.append('\nextern "C" {\n    pub fn precopy_strerror(status: u32) -> *const c_char;\n')
+    parts.append("    pub fn precopy_version() -> *const c_char;\n")
+    parts += (call_in_rust(name, result, words) for name, (result, words) in interface.functions.items())
+    return "".join(parts) + "}\n"
+
+
+def call_in_rust(name: str, result: str, words: list[Variable]) -> str:
+    """A function, laid out as rustfmt does."""
+    told = [f"{it.name}: {type_in_rust(it)}" for it in words]
+    line = f"    pub fn precopy_{name}({', '.join(told)}) -> {RUST[result]};\n"
+    if len(line) <= LINE + 1:
+        return line
+    lines = "".join(f"        {word},\n" for word in told)
+    return f"    pub fn precopy_{name}(\n{lines}    ) -> {RUST[result]};\n"
+
+
+def type_in_python(it: Variable) -> str:
+    if it.kind == "uint8_t":
+        return "ctypes.c_void_p"
+    kind = camel(it.kind) if it.kind.startswith("struct") else PYTHON[it.kind]
+    return f"ctypes.POINTER({kind})" if it.is_pointer else kind
+
+
+def calls_in_python(interface: Interface) -> str:
+    head = f"The structs, statuses and functions of {HEADER}, for ctypes. Made by dev/interface."
+    parts = [f'"""{head}"""\n\nimport ctypes\n\n']
+    parts += [f"{it.constant} = {it.number}\n" for it in interface.statuses]
+    for name, fields in interface.structs.items():
+        lines = "".join(f'        ("{it.name}", {type_in_python(it)}),\n' for it in fields)
+        parts.append(f"\n\nclass {name}(ctypes.Structure):\n    _fields_ = [\n{lines}    ]\n")
+    parts.append("\n\n# The arguments of each function.\nCALLS = {\n")
+    for name, (_, words) in interface.functions.items():
+        lines = "".join(f"        {type_in_python(it)},\n" for it in words)
+        parts.append(f'    "{name}": [\n{lines}    ],\n')
+    return "".join(parts).replace("[\n    ]", "[]") + "}\n"
+
+
+def causes_for_tools(interface: Interface) -> str:
+    lines = (f'    "{it.name}": "{it.text}",\n' for it in interface.statuses if it.name and it.name[0] == "E")
+    head = f'"""Why a trace is refused, by the name of the refusal. Made by dev/interface from {HEADER}."""\n\n'
+    return f"{head}CAUSES = {{\n{''.join(lines)}}}\n"
+
+
+FILES: dict[str, Callable[[Interface], str]] = {
+    "packaging/status_texts.h": texts_in_c,
+    "bindings/rust/src/status.rs": statuses_in_rust,
+    "bindings/rust/src/calls.rs": calls_in_rust,
+    "bindings/python/precopy/_interface.py": calls_in_python,
+    "python/precopy_tools/formats/causes.py": causes_for_tools,
+}
+LEFT = """\
+Left to write by hand, after a new status: docs/FORMATS.md if `precopy` writes its name, the range of its kind in \
+bindings/rust/src/refusals.rs and bindings/python/precopy/_refusals.py, and a row in checks/library/rows.c. After a new
+field: crates/precopy_c (and crates/c_layout), and what callers see of it in bindings/.
+"""
+
+
+def read(path: str) -> str:
+    try:
+        with open(os.path.join(TOP, path), encoding="utf-8") as file:
+            return file.read()
+    except FileNotFoundError:
+        return ""
+
+
+def main(words: list[str]) -> int:
+    parser = argparse.ArgumentParser(
+        prog="interface", description=__doc__, formatter_class=argparse.RawDescriptionHelpFormatter
+    )
+    parser.add_argument("--compare", action="store_true", help="write nothing, and say what differs")
+    asked = parser.parse_args(words)
+    interface = read_header(read(HEADER))
+    differ = {path: text for path, make in FILES.items() if (text := make(interface)) != read(path)}
+    for path, text in differ.items():
+        print(f"{path} {'differs' if asked.compare else 'is written'}")
+        if not asked.compare:
+            with open(os.path.join(TOP, path), "w", encoding="utf-8") as file:
+                file.write(text)
+    if differ and not asked.compare:
+        print(LEFT, end="")
+    return int(bool(differ) and asked.compare)
+
+
+if __name__ == "__main__":
+    sys.exit(main(sys.argv[1:]))
