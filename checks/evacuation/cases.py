@@ -332,7 +332,7 @@ def refusals(programs: Programs, folder: str) -> None:
             with open(other[:-4] + suffix, "rb") as old, open(f"{folder}/{name}.light.{suffix}", "wb") as new:
                 new.write(old.read())
     text, fault = run_tool(programs, web, f"{folder}/old.light.pcwt", db, *link, status=1)
-    expect("old.light.pcwt: E2: it does not begin as a trace" in fault and "2 guests" in text, f"{fault!r} {text!r}")
+    expect("old.light.pcwt: E2: it does not begin with PCWT" in fault and "2 guests" in text, f"{fault!r} {text!r}")
     expect(not re.search(r"^ +3  ", text, re.M), f"three at once of two guests: {text!r}")
     twice = "two records of one guest"
     for second, told in (("web.20261127T030000Z", f"{twice}: web"), ("twin", twice)):

@@ -34,7 +34,7 @@ STATUSES = {"yes": 0, "no": 3, "unknown": 4}
 def rate_word(size: int) -> str:
     """A rate as a refusal tells it: in the greatest unit of bits in which it is whole, or in KB."""
     return next(
-        (f"{size // unit}{name}" for name, unit in UNITS if size and size % unit == 0),
+        (f"{size // unit}{name}" for name, unit in UNITS if (size or unit == 125) and size % unit == 0),
         f"{size // 1_000}.{size % 1_000:03}KB",
     )
 
@@ -131,9 +131,10 @@ class Question:
         wrong += ((8, self.start >= 1 << 40), (10, is_late))
         return next((Refusal(20 + number, 2, f"settings S{number}") for number, holds in wrong if holds), None)
 
-    def refusal(self, trace: Trace) -> Optional["Refusal"]:
-        """Why the question about a trace is refused, if it is."""
-        if told := self.limit_refusal() or self.setting_refusal():
+    def refusal(self, trace: Trace, by_library: bool = False) -> Optional["Refusal"]:
+        """Why the question about a trace is refused, if it is. The library tests limits before other settings."""
+        tests = (self.limit_refusal, self.setting_refusal)
+        if told := next(filter(None, (test() for test in (tests if by_library else tests[::-1]))), None):
             return told
         if self.page != trace.size:
             return Refusal(88, 1, f"a page of the trace has {trace.size} bytes; say so by --page")

@@ -20,7 +20,15 @@ from precopy_tools.predict import command
 
 LIBRARY = os.path.join(TOP, "out", "library")
 # Lines of tools/predict that are its own, and not those of precopy-view.
-OF_TOOL = ("guest: ", "sample: ", "link: ", "at half the link: ", "at twice the link: ", "a plan takes no longer limit")
+OF_TOOL = (
+    "taken: ",
+    "guest: ",
+    "sample: ",
+    "link: ",
+    "at half the link: ",
+    "at twice the link: ",
+    "a plan takes no longer limit",
+)
 # Members of answers of the library that say once more what others say.
 TWICE = ("size", "stop", "down", "total", "has_errors")
 
@@ -40,6 +48,8 @@ class Door:
     """A door: what it answers to a question, and what it should answer by the model. Refused is None."""
 
     name = ""
+    # Which of several things that are wrong is told.
+    is_of_library = True
 
     def __init__(self, programs: Programs):
         self.programs = programs
@@ -72,6 +82,7 @@ class Lines(Door):
     """The program's lines and its status."""
 
     name = "precopy-view predict"
+    is_of_library = False
 
     def told(self, asked: Asked) -> object:
         status, text, faults = ran(self.programs.view, ["predict", *asked.question.words()], asked.trace.path)
@@ -289,7 +300,7 @@ def without(members: dict) -> dict:
 
 def difference(door: Door, asked: Asked, found: object, answer: Optional[Answer]) -> str:
     """What differs at a door from what should be told, or nothing."""
-    refusal = asked.question.refusal(asked.trace)
+    refusal = asked.question.refusal(asked.trace, door.is_of_library)
     wanted = door.refused(asked, refusal) if refusal else door.wanted(asked, answer)
     return "" if found == wanted else f"{asked}, at {door.name}: {found} in place of {wanted}"
 

@@ -194,7 +194,7 @@ def thinned_pages(_, folder):
         ([whole, os.path.join(folder, "a.light.pcwt"), "--one-in", "2"], 2, ".light.pcwt"),
         ([whole, os.path.join(folder, "a.pcwt")], 2, "--one-in"),
         ([whole, os.path.join(folder, "none", "a.pcwt"), "--one-in", "2"], 1, "No such file"),
-        ([text, os.path.join(folder, "a.pcwt"), "--one-in", "2"], 1, f"{text}: E2: it does not begin as a trace"),
+        ([text, os.path.join(folder, "a.pcwt"), "--one-in", "2"], 1, f"{text}: E2: it does not begin with PCWT"),
     ):
         _, refused = run_thin(*words, status=status)
         expect(said in refused, refused)

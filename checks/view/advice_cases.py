@@ -1,15 +1,13 @@
 """Cases of checks/view about advice, in ticks and in time, and about sweeps: worked out again by a plain model."""
 
 import itertools
-from dataclasses import replace
 
 from checks.lib import migration_model
 from checks.lib.amount_texts import size_text, time_text
 from checks.lib.harness import draws
 from checks.lib.tally import expect
 from checks.lib.view_texts import facts, parsed, ran
-from checks.predictions.questions import drawn
-from checks.view.limit_cases import in_range, is_refused
+from checks.view.limit_cases import in_range, is_refused, some
 from precopy_dev.models import redrawn
 
 BUDGETS = [
@@ -80,7 +78,7 @@ def advised(trace, asked, down, total, question=None):
     outcomes = [redrawn.planned(trace.guest, it) for it in cases]
     plans = [migration_model.case_of(number, *it) for number, it in enumerate(zip(cases, outcomes))]
     chosen, reason = choice_of(plans, down, total)
-    shared = {"start": [asked.start], **({} if asked.base is None else {"base": [asked.base]}), **grid}
+    shared = {"start": [asked.start], **grid}
     lines = [f"budget down {down}" + ("" if total is None else f" total {total}")]
     lines += [" ".join(map(str, ["grid", name, *values])) for name, values in shared.items()]
     lines.append(reason)
@@ -151,9 +149,7 @@ def advice_tries(examples, traces):
     """The tries of advice, and of sweeps in times and bytes."""
     draw = draws("advice")
     yield from ((check_advice, words, trace) for trace in examples for words in BUDGETS)
-    for _ in range(ADVICE):
-        trace = draw.choice(traces)
-        asked = replace(drawn(draw, trace), rounds=30, skip=False, increment=None)
+    for trace, asked in some(draw, traces, ADVICE, rounds=30, skip=False, increment=None):
         yield check_measured_advice, asked, draw.choice([None, None, draw.randrange(200)]), trace
     for _ in range(SWEEPS):
         trace = draw.choice(traces)

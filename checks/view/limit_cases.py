@@ -1,5 +1,6 @@
 """Cases of checks/view about limits in time and bytes: reports and starts, worked out again by a plain model."""
 
+import itertools
 import random
 from dataclasses import replace
 from fractions import Fraction
@@ -25,14 +26,22 @@ RATES = {
     "MiB": 1 << 20,
     "GiB": 1 << 30,
 }
-REPORTS, STARTS = 200, 120
+REPORTS, STARTS, SELDOM = 200, 120, 8
 # A trace in a file.
 Known = Trace.at
 
 
-def in_range(draw: random.Random, trace: Trace) -> Question:
-    """A question about a trace that is not refused."""
-    return next(asked for asked in iter(lambda: drawn(draw, trace), None) if not asked.refusal(trace))
+def in_range(draw: random.Random, trace: Trace, is_refused: bool = False, **changed) -> Question:
+    """A question about a trace that is not refused, or one that is, with some of its numbers changed."""
+    asked = (replace(drawn(draw, trace), **changed) for _ in itertools.count())
+    return next(it for it in asked if (it.refusal(trace) is not None) == is_refused)
+
+
+def some(draw: random.Random, traces: list[Trace], count: int, **changed):
+    """So many traces, each with a question about it, of which one in SELDOM is refused."""
+    for number in range(count):
+        trace = draw.choice(traces)
+        yield trace, in_range(draw, trace, number % SELDOM == 0, **changed)
 
 
 def is_refused(view, command: list[str], asked: Question, words: list[str], trace: Trace) -> bool:
@@ -89,10 +98,9 @@ def check_measured(view, _, asked, length, hot, trace):
 def report_tries(traces):
     """The tries of random limits over some traces."""
     draw = draws("reports")
-    for _ in range(REPORTS):
-        trace = draw.choice(traces)
+    for trace, asked in some(draw, traces, REPORTS):
         length = max(1, (trace.last + 1) // draw.choice([1, 7, 60, 400]))
-        yield check_measured, drawn(draw, trace), length, draw.randrange(1, 4), trace
+        yield check_measured, asked, length, draw.randrange(1, 4), trace
 
 
 # ---- Starts.
@@ -148,9 +156,7 @@ def check_starts(view, _, asked, starts, workers, trace):
 def start_tries(traces):
     """The tries of random starts over some traces. The first start is the one of the words, and there is no copy."""
     draw = draws("starts")
-    for _ in range(STARTS):
-        trace = draw.choice(traces)
-        asked = replace(drawn(draw, trace), start=0, base=None)
+    for trace, asked in some(draw, traces, STARTS, start=0, base=None):
         yield check_starts, asked, start_ticks(draw, trace.last), draw.choice([1, 4]), trace
 
 

@@ -2,17 +2,16 @@
 
 And amounts as texts: the tools and the page write them as checks/lib/amount_texts.py does."""
 
-import json
 import math
 import os
-import re
+from dataclasses import replace
 from fractions import Fraction
 
 from checks.lib.amount_texts import error_text, moment_text, size_text, time_text
 from checks.lib.harness import draws
-from checks.lib.tally import Failure
-from checks.lib.view_texts import TOP, ran
-from checks.view.limit_cases import RATES, TIMES
+from checks.lib.tally import Failure, expect
+from checks.lib.view_texts import TOP, parsed, ran
+from checks.view.limit_cases import PLAIN, RATES, TIMES
 from precopy_tools import quantities as tool_texts
 from precopy_tools import words as tool_words
 
@@ -24,7 +23,6 @@ MISSPELLED = {
     "time": (2, "", "precopy-view: --downtime: a number and its unit, us, ms, s, m or h, as in 300ms or 0.3s\n"),
     "rate": (2, "", f"precopy-view: --link: a number and its unit, {UNITS_OF_RATES}\n"),
 }
-TOO_MUCH = 1 << 53
 
 
 def table():
@@ -63,32 +61,32 @@ def texts_of(amount):
     return [time_text(amount), error_text(amount), moment_text(amount), size_text(amount)]
 
 
-def words_for(kind, word, amount):
-    """Options that say a word where its amount, if it has one, is in its range."""
+def asked_for(kind, word, amount):
+    """Options that say a word, where its amount is in its range if there is such a place; and the question that they
+    ask."""
     if kind == "time":
-        return ["--link=0.005KB", f"--downtime={word}", "--tick=1s"]
+        return ["--link=0.005KB", f"--downtime={word}", "--tick=1s"], replace(
+            PLAIN, link=5, downtime=amount or 0, tick=10**6
+        )
     fits = (name for name, tick in TIMES.items() if 1 <= (amount or 0) * tick // (1_000 * PAGE_BYTES) <= 1_000_000)
-    return [f"--link={word}", "--downtime=0s", f"--tick=1{next(fits, 'ms')}"]
+    unit = next(fits, "ms")
+    asked = replace(PLAIN, link=amount or 0, downtime=0, tick=TIMES[unit])
+    return [f"--link={word}", "--downtime=0s", f"--tick=1{unit}"], asked
 
 
 def check_program(view, _, kind, word, amount, trace):
-    status, text, faults = ran(view, ["json", "predict", *words_for(kind, word, amount)], trace.path)
+    words, asked = asked_for(kind, word, amount)
+    found = status, text, faults = ran(view, ["json", "predict", *words], trace.path)
     if amount is None:
-        if (status, text, faults) != MISSPELLED[kind]:
-            raise Failure(f"{word!r}: status {status}, {text[:80]!r}, {faults!r}")
+        expect(found == MISSPELLED[kind], f"{word!r}: {found}")
         return
-    if amount >= TOO_MUCH:
-        option = {"time": "--downtime ", "rate": "--link "}[kind]
-        if status != 2 or not faults.startswith(f"precopy-view: {option}"):
-            raise Failure(f"{word!r}: status {status}, {faults!r}")
+    if refusal := asked.limit_refusal():
+        expect(list(found) == refusal.of_view(), f"{word!r}: {found} in place of {refusal}")
         return
-    if status not in (0, 3, 4):
-        raise Failure(f"{word!r}: status {status}, {faults!r}")
-    limits = json.loads(text)["limits"]
-    said = re.search(r'"down_seconds":([0-9]+)\.([0-9]{6})', text)
-    found = limits["link_bytes"] if kind == "rate" else int(said[1] + said[2])
-    if found != amount:
-        raise Failure(f"{word!r}: {found} in place of {amount}")
+    expect(status in (0, 3, 4) and not faults, f"{word!r}: status {status}, {faults!r}")
+    limits = parsed("predict", text)["limits"]
+    amounts_told = limits["link_bytes"], limits["down_seconds"] * 1_000_000
+    expect(amounts_told == (asked.link, asked.downtime), f"{word!r}: {amounts_told} in place of {amount}")
 
 
 def check_tool(_, __, kind, word, amount):
