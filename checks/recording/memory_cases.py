@@ -2,6 +2,7 @@
 
 import json
 import os
+import shutil
 import signal
 import socket
 import stat
@@ -418,7 +419,16 @@ def virsh_in(folder, known, identity, garbled=False):
     with open(path, "w", encoding="utf-8") as file:
         file.write(text)
     os.chmod(path, stat.S_IRWXU)
-    return {**os.environ, "PATH": programs, "PYTHONDONTWRITEBYTECODE": "1"}
+    return {**os.environ, "PATH": f"{programs}:{without_virsh(folder)}", "PYTHONDONTWRITEBYTECODE": "1"}
+
+
+def without_virsh(folder):
+    """A folder for a path on which there is what a tool begins with, and nothing else."""
+    links = tempfile.mkdtemp(prefix="programs", dir=folder)
+    for name in ("sh", "dirname", "readlink", "python3"):
+        found = sys.executable if name == "python3" else shutil.which(name)
+        os.symlink(os.path.realpath(found), os.path.join(links, name))
+    return links
 
 
 def asked_by_domain(_, folder):
@@ -432,7 +442,7 @@ def asked_by_domain(_, folder):
             ("known", "is it running, on this host?", virsh_in(folder, known, uuid.uuid4())),
             ("known", "no UUID", virsh_in(folder, known, "nothing")),
             ("known", "no JSON: 'no JSON", virsh_in(folder, known, identity, garbled=True)),
-            ("known", "libvirt-clients has it", {**environment, "PATH": folder}),
+            ("known", "libvirt-clients has it", {**environment, "PATH": without_virsh(folder)}),
         ):
             drawn = Drawn(folder, ["--domain", name], ["--pages", "9"], env=other)
             drawn.end()
