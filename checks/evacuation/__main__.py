@@ -15,7 +15,7 @@ from checks.lib.harness import run_cases, run_main
 
 def check(tally, given):
     programs = cases.Programs(given.precopy_schedule, given.precopy_view)
-    run_cases(tally, cases.CASES, programs, clocks={cases.a_hundred_guests}, only=given.only)
+    run_cases(tally, cases.CASES, programs, only=given.only)
 
 
 if __name__ == "__main__":

@@ -12,6 +12,7 @@ from typing import NamedTuple
 from checks.evacuation import model
 from checks.lib.amount_texts import time_text
 from checks.lib.harness import draws, expect, run
+from checks.lib.tally import expect_in_time
 from checks.lib.view_texts import keeps_schema
 from precopy_dev.tree import TOP
 from precopy_tools.evacuate import costs as host_costs
@@ -487,7 +488,8 @@ def a_hundred_guests(programs: Programs, folder: str) -> None:
     text, _ = run_tool(programs, *records, "--link", "10Gbit")
     took, processor = time.monotonic() - began, spent() - before
     print(f"  {GUESTS} guests: {took:.1f} s, {processor:.1f} s of a processor", flush=True)
-    expect(f"{GUESTS} guests" in text and min(took, processor) <= LIMIT, f"{GUESTS} guests took {took:.1f} s")
+    expect(f"{GUESTS} guests" in text, text)
+    expect_in_time(min(took, processor) <= LIMIT, f"{GUESTS} guests took {took:.1f} s")
 
 
 def spent() -> float:

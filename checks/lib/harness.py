@@ -11,7 +11,7 @@ import traceback
 from concurrent.futures import ThreadPoolExecutor
 from dataclasses import dataclass
 
-from checks.lib.tally import Failure, LeftOut, Tally, expect, left_out
+from checks.lib.tally import Failure, Late, LeftOut, Tally, expect, left_out
 from precopy_dev.tree import TOP, program
 
 SECONDS = 120
@@ -68,30 +68,28 @@ def draws(name: object) -> random.Random:
 # ---- Cases.
 
 
-def outcome(case, words: tuple) -> str | LeftOut | None:
+def outcome(case, words: tuple) -> Failure | None:
     """What is wrong with a case in a folder of its own, or why it is left out; None if it passes."""
     with tempfile.TemporaryDirectory() as folder:
         try:
             case(*words, folder)
-        except LeftOut as why:
-            return why
-        except (Failure, AssertionError) as wrong:
-            return str(wrong) or traceback.format_exc()
+        except Failure as wrong:
+            return wrong
         except Exception:
-            return traceback.format_exc()
+            return Failure(traceback.format_exc())
     return None
 
 
-def run_cases(tally: Tally, cases, *words, at_once: int = 1, clocks=(), only=None) -> None:
-    """Runs cases, which are functions of these words and of a folder. Those that look at a clock, and failed beside
-    others, are tried once more, alone: if they pass then, both outputs are told."""
+def run_cases(tally: Tally, cases, *words, at_once: int = 1, only=None) -> None:
+    """Runs cases, which are functions of these words and of a folder. One in which something was late beside others is
+    tried once more, alone: if it passes then, both outputs are told."""
     cases = [case for case in cases if not only or case.__name__ in only]
     again = []
 
     def add(case, wrong, is_last):
         if isinstance(wrong, LeftOut):
             left_out(case.__name__, wrong)
-        elif wrong is not None and case in clocks and not is_last:
+        elif isinstance(wrong, Late) and not is_last:
             again.append((case, wrong))
         else:
             tally.add(wrong is None, f"{case.__name__}: {wrong}")

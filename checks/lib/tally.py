@@ -29,9 +29,19 @@ class LeftOut(Failure):
     """Why a case cannot be tried here."""
 
 
+class Late(Failure):
+    """Something was not in time, which other work on this machine may cause."""
+
+
 def expect(holds: object, told: object) -> None:
     if not holds:
         raise Failure(str(told))
+
+
+def expect_in_time(holds: object, told: object) -> None:
+    """The same of what hangs on a clock alone."""
+    if not holds:
+        raise Late(str(told))
 
 
 def left_out(what: str, why: object) -> None:

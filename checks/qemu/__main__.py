@@ -13,7 +13,7 @@ import os
 import re
 
 from checks.lib.harness import expect, run, run_cases, run_main
-from checks.lib.tally import LeftOut, need
+from checks.lib.tally import LeftOut, expect_in_time, need
 from checks.lib.traces import Trace
 from precopy_dev.tree import TOP
 
@@ -37,7 +37,9 @@ def migrated(program, folder):
     for name in ("pages sent", "time, ms"):
         numbers = re.search(rf"^{name} +([\d,]+) +([\d,]+)", told, re.M)
         planned, real = (int(number.replace(",", "")) for number in numbers.groups())
-        expect(real and abs(planned / real - 1) <= MOST_APART / 100, f"{name}: planned {planned}, QEMU {real}\n{told}")
+        expect_in_time(
+            real and abs(planned / real - 1) <= MOST_APART / 100, f"{name}: planned {planned}, QEMU {real}\n{told}"
+        )
     trace = Trace.at(path)
     expect(trace.records and trace.last > 5_000, f"{len(trace.records)} writes up to tick {trace.last}")
     image = run([program, "image"], trace.text)
@@ -46,7 +48,7 @@ def migrated(program, folder):
 
 
 def check(tally, given):
-    run_cases(tally, [migrated], given.precopy, clocks={migrated}, only=given.only)
+    run_cases(tally, [migrated], given.precopy, only=given.only)
 
 
 if __name__ == "__main__":

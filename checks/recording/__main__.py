@@ -4,8 +4,8 @@
 
 precopy makes the image of each trace, which must be the memory that was recorded; precopy-view plans. The process that
 writes is checks/recording/known_writes.py. It takes two to five minutes. If the kernel reports no writes, or root is
-needed for it, cases that need them are left out. Cases that look at a clock are tried once more, alone, if they fail
-beside others.
+needed for it, cases that need them are left out. A case in which something was late beside others is tried once
+more, alone.
 """
 
 import functools
@@ -22,7 +22,7 @@ import threading
 import time
 
 from checks.lib.harness import expect, run_cases, run_main
-from checks.lib.tally import LeftOut
+from checks.lib.tally import LeftOut, expect_in_time
 from checks.lib.traces import Trace
 from checks.recording import compare_cases, forecast_cases, memory_cases, sample_cases, scan_cases, series_cases
 from checks.recording.known_writes import LATER_PAGES, PACE, PAGE, PAGES, STEPS, ended, step
@@ -62,12 +62,12 @@ def expect_times(known, found, looks):
     """Each change stands at the first look after it: not before it was written, and behind no look that could have seen
     it. All may be apart by one shift, since the recorder's clock is not known exactly."""
     ticks = sorted(set(found))
-    expect(len(ticks) >= looks - IDLE_LOOKS, f"the steps stand at {len(ticks)} ticks of {looks} looks")
+    expect_in_time(len(ticks) >= looks - IDLE_LOOKS, f"the steps stand at {len(ticks)} ticks of {looks} looks")
     before = dict(zip(ticks, [1000, *ticks]))
     least = max(before[tick] - written for written, tick in zip(known, found)) - LATE
     most = min(tick - written for written, tick in zip(known, found)) + LATE
     told = f"written at {[round(it) for it in known]}, found at {found}"
-    expect(max(least, -SLACK) <= min(most, SLACK), f"shifts from {least:.0f} to {most:.0f}: {told}")
+    expect_in_time(max(least, -SLACK) <= min(most, SLACK), f"shifts from {least:.0f} to {most:.0f}: {told}")
 
 
 def a_file_compact(program, folder):
@@ -128,7 +128,7 @@ def signal_in_the_middle(program, folder, number=signal.SIGINT):
         time.sleep(STEPS * PACE / 2)
         recording.end(number)
     _, behind = expect_whole(program, recording)
-    expect(0 < len(behind) < STEPS, f"{len(behind)} of {STEPS} steps")
+    expect_in_time(0 < len(behind) < STEPS, f"{len(behind)} of {STEPS} steps")
 
 
 def terminated_in_the_middle(program, folder):
@@ -142,7 +142,7 @@ def given_length(program, folder):
         recording.end()
     trace, _ = expect_whole(program, recording)
     last = int(re.search(r"ticks 0 to (\d+)", recording.output)[1])
-    expect(4000 <= last < 4000 + 10 * SLACK, f"300 ms end at tick {last} of 100 us")
+    expect_in_time(4000 <= last < 4000 + 10 * SLACK, f"300 ms end at tick {last} of 100 us")
     expect(trace.writes > 0, "nothing was recorded")
 
 
@@ -211,7 +211,7 @@ def limited(program, folder, option, most, said, *words):
         recording.end()
     trace, behind = expect_whole(program, recording, 3)
     expect(said in recording.faults, recording.faults)
-    expect(0 < len(behind) < STEPS, f"{len(behind)} of {STEPS} steps")
+    expect_in_time(0 < len(behind) < STEPS, f"{len(behind)} of {STEPS} steps")
     return trace
 
 
@@ -426,11 +426,6 @@ CASES = [
 ]
 
 
-CLOCKS = {a_file, a_file_compact, given_length, signal_in_the_middle, terminated_in_the_middle, shown_on_a_terminal}
-CLOCKS |= {most_writes, most_bytes, most_pages, memory_cases.plugged_in_meanwhile, memory_cases.hostile_sockets}
-CLOCKS |= {series_cases.kept_segments, series_cases.nothing_lost, series_cases.values_of_a_series}
-
-
 def check(tally, given):
     forecast_cases.VIEW[:] = [given.precopy_view]
     parts = sample_cases, memory_cases, series_cases, scan_cases
@@ -446,7 +441,7 @@ def check(tally, given):
         return instead if cause and case in need_writes else case
 
     cases = list(map(case_of, CASES))
-    run_cases(tally, cases, given.precopy, at_once=AT_ONCE, clocks=CLOCKS, only=given.only)
+    run_cases(tally, cases, given.precopy, at_once=AT_ONCE, only=given.only)
 
 
 if __name__ == "__main__":

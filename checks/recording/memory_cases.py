@@ -16,6 +16,7 @@ import uuid
 from checks.lib import harness
 from checks.lib.amount_texts import size_text
 from checks.lib.harness import expect
+from checks.lib.tally import expect_in_time
 from checks.recording import known_guest
 from checks.recording.recorder_runs import RECORD, SECONDS, TOP, read_until_recording
 from checks.recording.sample_runs import Drawn
@@ -374,7 +375,7 @@ def hostile_sockets(_, folder):
         except qmp.Fault as fault:
             said = str(fault)
         expect(said, f"{name}: not refused")
-        expect(time.monotonic() - begun < 5, f"{name}: {time.monotonic() - begun:.1f} s")
+        expect_in_time(time.monotonic() - begun < 5, f"{name}: {time.monotonic() - begun:.1f} s")
         os.unlink(path)
         if says is not None and not isinstance(says, tuple):
             hostile_server(path, says)

@@ -11,7 +11,7 @@ import uuid
 
 from checks.lib import harness
 from checks.lib.harness import expect
-from checks.lib.tally import LeftOut
+from checks.lib.tally import LeftOut, expect_in_time
 from checks.recording.memory_cases import Known, virsh_in
 from checks.recording.recorder_runs import RECORD, SECONDS, TOP, Started, read_until_recording
 from checks.recording.sample_runs import PAGE, PAGES, Pages
@@ -118,12 +118,12 @@ def nothing_lost(_, folder):
     for seed in range(2):
         with tempfile.TemporaryDirectory(dir=folder) as each:
             _, found = exact_series(each, harness.draws(f"series {seed}"))
-            expect(len(found) >= 3, f"{len(found)} segments")
+            expect_in_time(len(found) >= 3, f"{len(found)} segments")
     # Also in the milliseconds in which one segment ends and the next one begins.
     with tempfile.TemporaryDirectory(dir=folder) as each:
         one_by_one = {"steps": 6000, "size": 1, "pauses": (0.0004, 0.0006), "count": 1 << 14}
         _, found = exact_series(each, harness.draws("one by one"), **one_by_one)
-        expect(len(found) >= 4, f"{len(found)} segments")
+        expect_in_time(len(found) >= 4, f"{len(found)} segments")
 
 
 def full_segments(_, folder):
@@ -186,7 +186,7 @@ def kept_segments(_, folder):
         run = Segments(folder, pages.source, "--keep", "2", "--for", "5200ms")
         run.end()
     expect(run.status == 0, f"{run.status}, {run.faults!r}")
-    expect(len(run.told()) >= 3, run.output)
+    expect_in_time(len(run.told()) >= 3, run.output)
     wanted = {*OTHERS}
     for name in run.told()[-2:]:
         wanted |= {name, samples.path_beside(name)}
@@ -228,7 +228,7 @@ def values_of_a_series(_, folder):
     counts = [sample.sampled_nonzero for *_, sample in found]
     expect(counts == sorted(counts) and counts[0] <= 1 and counts[-1] >= 20, f"{counts}")
     later = sum(1 for _, _, written, _ in found for tick, _ in written if tick > 1000)
-    expect(later == 30, f"{later} changes of 30")
+    expect_in_time(later == 30, f"{later} changes of 30")
 
 
 def no_room_left(_, folder):
